@@ -1,0 +1,4 @@
+pub mod Addresses
+pub mod NumberLaws
+pub mod Numbers
+pub mod SectionNames

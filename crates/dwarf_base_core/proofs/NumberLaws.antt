@@ -1,0 +1,73 @@
+-- What the number of a list of bytes tells: how large it can be, and the bytes.
+use Rattle.std.proofs.Common.{◌/◌, ◌%◌, ◌≡◌, ℕ, suc, ◌+◌, ◌*◌, ◌^◌, ◌<◌, ◌≤◌, true, false, List, [], ◌∷◌, length, refl, sym, ◌∙◌, arith}
+use Rattle.std.specs.Prelude.{All}
+use Rattle.std.proofs.Math.Nat.{mul-le-mul_left, mul-le-mul_right, pow-succ'}
+use Rattle.std.proofs.lemmas.Nat.{div-mul-add, mod-mul-add}
+use Rattle.dwarf_base_core.specs.Number.{big_number, little_number, NumberIsBounded, NumberTellsBytes}
+use Rattle.dwarf_base_core.proofs.Numbers.{big_number-cons}
+
+-- the bytes after the first
+after_first : (x : ℕ) (xs : List ℕ) → All (λ b. b < 256) (x ∷ xs) → All (λ b. b < 256) xs
+after_first x xs bytes k d small = bytes (suc k) d (omega arith)
+
+-- the first byte
+first : (x : ℕ) (xs : List ℕ) → All (λ b. b < 256) (x ∷ xs) → x < 256
+first x xs bytes = bytes 0 0 (omega arith)
+
+little_number-lt : (xs : List ℕ) → All (λ b. b < 256) xs → little_number xs < 256 ^ length xs
+little_number-lt [] bytes = omega arith
+little_number-lt (x ∷ xs) bytes =
+    let low = first x xs bytes in
+    let high = little_number-lt xs (after_first x xs bytes) in
+    let room : 256 * (little_number xs + 1) ≤ 256 * 256 ^ length xs = mul-le-mul_left 256 (omega arith) in
+    rw (pow-succ' 256 (length xs)) (omega arith)
+
+big_number-lt : (xs : List ℕ) → All (λ b. b < 256) xs → big_number xs < 256 ^ length xs
+big_number-lt [] bytes = omega arith
+big_number-lt (x ∷ xs) bytes =
+    let high = first x xs bytes in
+    let low = big_number-lt xs (after_first x xs bytes) in
+    let room : (x + 1) * 256 ^ length xs ≤ 256 * 256 ^ length xs = mul-le-mul_right (256 ^ length xs) (omega arith) in
+    rw (big_number-cons x xs, pow-succ' 256 (length xs)) (grind arith)
+
+pub number_is_bounded : NumberIsBounded
+number_is_bounded true xs bytes = big_number-lt xs bytes
+number_is_bounded false xs bytes = little_number-lt xs bytes
+
+little_number-tells : (xs ys : List ℕ) → All (λ b. b < 256) xs → All (λ b. b < 256) ys → length xs ≡ length ys
+    → little_number xs ≡ little_number ys → xs ≡ ys
+little_number-tells [] [] of_xs of_ys long same = refl
+little_number-tells [] (y ∷ ys) of_xs of_ys long same = absurd (omega arith)
+little_number-tells (x ∷ xs) [] of_xs of_ys long same = absurd (omega arith)
+little_number-tells (x ∷ xs) (y ∷ ys) of_xs of_ys long same =
+    let low_x = first x xs of_xs in
+    let low_y = first y ys of_ys in
+    let heads : x ≡ y = omega arith in
+    let rest : little_number xs ≡ little_number ys = omega arith in
+    let tails = little_number-tells xs ys (after_first x xs of_xs) (after_first y ys of_ys) (omega arith) rest in
+    cc
+
+-- the quotient and the rest of a number whose highest byte is x
+split_high : (x c r n : ℕ) → r < c → n ≡ x * c + r → (n / c ≡ x) × (n % c ≡ r)
+split_high x c r n small is = rw is (div-mul-add x c r small, mod-mul-add x c r small)
+
+big_number-tells : (xs ys : List ℕ) → All (λ b. b < 256) xs → All (λ b. b < 256) ys → length xs ≡ length ys
+    → big_number xs ≡ big_number ys → xs ≡ ys
+big_number-tells [] [] of_xs of_ys long same = refl
+big_number-tells [] (y ∷ ys) of_xs of_ys long same = absurd (omega arith)
+big_number-tells (x ∷ xs) [] of_xs of_ys long same = absurd (omega arith)
+big_number-tells (x ∷ xs) (y ∷ ys) of_xs of_ys long same =
+    let short : length xs ≡ length ys = omega arith in
+    let low_x = big_number-lt xs (after_first x xs of_xs) in
+    let low_y : big_number ys < 256 ^ length xs = rw short (big_number-lt ys (after_first y ys of_ys)) in
+    let at_y : big_number (x ∷ xs) ≡ y * 256 ^ length xs + big_number ys = same ∙ rw short (big_number-cons y ys) in
+    let parts_x = split_high x (256 ^ length xs) (big_number xs) _ low_x (big_number-cons x xs) in
+    let parts_y = split_high y (256 ^ length xs) (big_number ys) _ low_y at_y in
+    let heads : x ≡ y = sym parts_x.0 ∙ parts_y.0 in
+    let rest : big_number xs ≡ big_number ys = sym parts_x.1 ∙ parts_y.1 in
+    let tails = big_number-tells xs ys (after_first x xs of_xs) (after_first y ys of_ys) short rest in
+    cc
+
+pub number_tells_bytes : NumberTellsBytes
+number_tells_bytes true xs ys of_xs of_ys long same = big_number-tells xs ys of_xs of_ys long same
+number_tells_bytes false xs ys of_xs of_ys long same = little_number-tells xs ys of_xs of_ys long same

@@ -1,0 +1,66 @@
+-- That a section's name tells the section.
+use Rattle.std.proofs.Common.{◌≡◌, ℕ, ◌==◌, List, ap, refl, sym, ◌∙◌}
+use Rattle.std.specs.Prelude.{if◌then◌else◌, codes}
+use lib.Pointwise.{pointwise}
+use Rattle.dwarf_base_core.specs.declared.common.SectionId.{SectionId}
+use Rattle.dwarf_base_core.specs.declared.common.SectionId.TheVariants.{DebugAbbrev, DebugAddr, DebugAranges, DebugCuIndex, DebugFrame, EhFrame, EhFrameHdr, DebugGnuPubNames, DebugGnuPubTypes, DebugInfo, DebugLine, DebugLineStr, DebugLoc, DebugLocLists, DebugMacinfo, DebugMacro, DebugNames, DebugPubNames, DebugPubTypes, DebugRanges, DebugRngLists, DebugStr, DebugStrOffsets, DebugTuIndex, DebugTypes}
+use Rattle.dwarf_base_core.specs.Section.{section_names, NamesAreDistinct}
+
+-- the section of a name
+abbrev section_of : List ℕ → SectionId
+section_of name =
+    if pointwise ◌==◌ name (codes ".debug_abbrev") then DebugAbbrev else
+    if pointwise ◌==◌ name (codes ".debug_addr") then DebugAddr else
+    if pointwise ◌==◌ name (codes ".debug_aranges") then DebugAranges else
+    if pointwise ◌==◌ name (codes ".debug_cu_index") then DebugCuIndex else
+    if pointwise ◌==◌ name (codes ".debug_frame") then DebugFrame else
+    if pointwise ◌==◌ name (codes ".eh_frame") then EhFrame else
+    if pointwise ◌==◌ name (codes ".eh_frame_hdr") then EhFrameHdr else
+    if pointwise ◌==◌ name (codes ".debug_gnu_pubnames") then DebugGnuPubNames else
+    if pointwise ◌==◌ name (codes ".debug_gnu_pubtypes") then DebugGnuPubTypes else
+    if pointwise ◌==◌ name (codes ".debug_info") then DebugInfo else
+    if pointwise ◌==◌ name (codes ".debug_line") then DebugLine else
+    if pointwise ◌==◌ name (codes ".debug_line_str") then DebugLineStr else
+    if pointwise ◌==◌ name (codes ".debug_loc") then DebugLoc else
+    if pointwise ◌==◌ name (codes ".debug_loclists") then DebugLocLists else
+    if pointwise ◌==◌ name (codes ".debug_macinfo") then DebugMacinfo else
+    if pointwise ◌==◌ name (codes ".debug_macro") then DebugMacro else
+    if pointwise ◌==◌ name (codes ".debug_names") then DebugNames else
+    if pointwise ◌==◌ name (codes ".debug_pubnames") then DebugPubNames else
+    if pointwise ◌==◌ name (codes ".debug_pubtypes") then DebugPubTypes else
+    if pointwise ◌==◌ name (codes ".debug_ranges") then DebugRanges else
+    if pointwise ◌==◌ name (codes ".debug_rnglists") then DebugRngLists else
+    if pointwise ◌==◌ name (codes ".debug_str") then DebugStr else
+    if pointwise ◌==◌ name (codes ".debug_str_offsets") then DebugStrOffsets else
+    if pointwise ◌==◌ name (codes ".debug_tu_index") then DebugTuIndex else
+    DebugTypes
+
+section_of-name : (id : SectionId) → section_of (section_names id).name ≡ id
+section_of-name DebugAbbrev = refl
+section_of-name DebugAddr = refl
+section_of-name DebugAranges = refl
+section_of-name DebugCuIndex = refl
+section_of-name DebugFrame = refl
+section_of-name EhFrame = refl
+section_of-name EhFrameHdr = refl
+section_of-name DebugGnuPubNames = refl
+section_of-name DebugGnuPubTypes = refl
+section_of-name DebugInfo = refl
+section_of-name DebugLine = refl
+section_of-name DebugLineStr = refl
+section_of-name DebugLoc = refl
+section_of-name DebugLocLists = refl
+section_of-name DebugMacinfo = refl
+section_of-name DebugMacro = refl
+section_of-name DebugNames = refl
+section_of-name DebugPubNames = refl
+section_of-name DebugPubTypes = refl
+section_of-name DebugRanges = refl
+section_of-name DebugRngLists = refl
+section_of-name DebugStr = refl
+section_of-name DebugStrOffsets = refl
+section_of-name DebugTuIndex = refl
+section_of-name DebugTypes = refl
+
+pub names_are_distinct : NamesAreDistinct
+names_are_distinct x y same = sym (section_of-name x) ∙ ap section_of same ∙ section_of-name y

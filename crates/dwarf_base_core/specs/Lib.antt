@@ -1,0 +1,9 @@
+pub mod Address
+pub mod Checked
+pub mod Endian
+pub mod ErrorText
+pub mod Format
+pub mod Hashes
+pub mod Number
+pub mod Offset
+pub mod Section

@@ -1,0 +1,17 @@
+//! Laws of the definitions that the contracts cite, each a clause of a function that does nothing.
+
+ghost use Rattle.dwarf_base_core.specs.Number.{NumberIsBounded, NumberTellsBytes};
+ghost use Rattle.dwarf_base_core.specs.Section.{NamesAreDistinct};
+
+/// The number of n bytes, in either order, is below 256^n and tells the bytes.
+///
+/// So a contract that gives the number of written bytes gives the bytes.
+pub fn numbers_of_bytes()
+    ensures bounded { NumberIsBounded }
+    ensures told { NumberTellsBytes }
+{}
+
+/// No two sections have the same name.
+pub fn names_of_sections()
+    ensures { NamesAreDistinct }
+{}
