@@ -379,8 +379,8 @@ impl From<AllocError> for Error {
 
     ghost from_gives = { λ _ error. error ≡ OutOfMemory };
 
-    fn from(_refused: AllocError) -> Error {
-        Error::OutOfMemory
+    fn from(_refused: AllocError) -> Self {
+        Self::OutOfMemory
     }
 }
 
@@ -391,7 +391,7 @@ impl<T: Drop> From<AllocFailed<T>> for Error {
 
     ghost from_gives = { λ _ error. error ≡ OutOfMemory };
 
-    fn from(refused: AllocFailed<T>) -> Error {
-        Error::from(AllocError::from(refused))
+    fn from(refused: AllocFailed<T>) -> Self {
+        Self::from(AllocError::from(refused))
     }
 }
