@@ -40,9 +40,9 @@ pub trait ReaderOffset: Debug
     + Eq
     + Ord
     + Hash
-    + Add<Self, Output = Self>
-    + AddAssign<Self>
-    + Sub<Self, Output = Self> {
+    + Add<Output = Self>
+    + AddAssign
+    + Sub<Output = Self> {
     /// The greatest number that is an offset of this type.
     const GREATEST: u64;
 
