@@ -1,0 +1,129 @@
+-- The values and names of the constants of `DwTag`, and what it prints.
+use Rattle.std.specs.Prelude.{ℕ, List, [], ◌∷◌, codes}
+use Rattle.dwarf_const_core.specs.Names.{text_of}
+
+-- each value and its name, by rising value
+unfoldable pub tag_names : List (ℕ × List ℕ)
+tag_names =
+    (0x00, codes "DW_TAG_null") ∷
+    (0x01, codes "DW_TAG_array_type") ∷
+    (0x02, codes "DW_TAG_class_type") ∷
+    (0x03, codes "DW_TAG_entry_point") ∷
+    (0x04, codes "DW_TAG_enumeration_type") ∷
+    (0x05, codes "DW_TAG_formal_parameter") ∷
+    (0x06, codes "DW_TAG_global_subroutine") ∷
+    (0x07, codes "DW_TAG_global_variable") ∷
+    (0x08, codes "DW_TAG_imported_declaration") ∷
+    (0x0a, codes "DW_TAG_label") ∷
+    (0x0b, codes "DW_TAG_lexical_block") ∷
+    (0x0c, codes "DW_TAG_local_variable") ∷
+    (0x0d, codes "DW_TAG_member") ∷
+    (0x0f, codes "DW_TAG_pointer_type") ∷
+    (0x10, codes "DW_TAG_reference_type") ∷
+    (0x11, codes "DW_TAG_compile_unit") ∷
+    (0x12, codes "DW_TAG_string_type") ∷
+    (0x13, codes "DW_TAG_structure_type") ∷
+    (0x14, codes "DW_TAG_subroutine") ∷
+    (0x15, codes "DW_TAG_subroutine_type") ∷
+    (0x16, codes "DW_TAG_typedef") ∷
+    (0x17, codes "DW_TAG_union_type") ∷
+    (0x18, codes "DW_TAG_unspecified_parameters") ∷
+    (0x19, codes "DW_TAG_variant") ∷
+    (0x1a, codes "DW_TAG_common_block") ∷
+    (0x1b, codes "DW_TAG_common_inclusion") ∷
+    (0x1c, codes "DW_TAG_inheritance") ∷
+    (0x1d, codes "DW_TAG_inlined_subroutine") ∷
+    (0x1e, codes "DW_TAG_module") ∷
+    (0x1f, codes "DW_TAG_ptr_to_member_type") ∷
+    (0x20, codes "DW_TAG_set_type") ∷
+    (0x21, codes "DW_TAG_subrange_type") ∷
+    (0x22, codes "DW_TAG_with_stmt") ∷
+    (0x23, codes "DW_TAG_access_declaration") ∷
+    (0x24, codes "DW_TAG_base_type") ∷
+    (0x25, codes "DW_TAG_catch_block") ∷
+    (0x26, codes "DW_TAG_const_type") ∷
+    (0x27, codes "DW_TAG_constant") ∷
+    (0x28, codes "DW_TAG_enumerator") ∷
+    (0x29, codes "DW_TAG_file_type") ∷
+    (0x2a, codes "DW_TAG_friend") ∷
+    (0x2b, codes "DW_TAG_namelist") ∷
+    (0x2c, codes "DW_TAG_namelist_item") ∷
+    (0x2d, codes "DW_TAG_packed_type") ∷
+    (0x2e, codes "DW_TAG_subprogram") ∷
+    (0x2f, codes "DW_TAG_template_type_parameter") ∷
+    (0x30, codes "DW_TAG_template_value_parameter") ∷
+    (0x31, codes "DW_TAG_thrown_type") ∷
+    (0x32, codes "DW_TAG_try_block") ∷
+    (0x33, codes "DW_TAG_variant_part") ∷
+    (0x34, codes "DW_TAG_variable") ∷
+    (0x35, codes "DW_TAG_volatile_type") ∷
+    (0x36, codes "DW_TAG_dwarf_procedure") ∷
+    (0x37, codes "DW_TAG_restrict_type") ∷
+    (0x38, codes "DW_TAG_interface_type") ∷
+    (0x39, codes "DW_TAG_namespace") ∷
+    (0x3a, codes "DW_TAG_imported_module") ∷
+    (0x3b, codes "DW_TAG_unspecified_type") ∷
+    (0x3c, codes "DW_TAG_partial_unit") ∷
+    (0x3d, codes "DW_TAG_imported_unit") ∷
+    (0x3f, codes "DW_TAG_condition") ∷
+    (0x40, codes "DW_TAG_shared_type") ∷
+    (0x41, codes "DW_TAG_type_unit") ∷
+    (0x42, codes "DW_TAG_rvalue_reference_type") ∷
+    (0x43, codes "DW_TAG_template_alias") ∷
+    (0x44, codes "DW_TAG_coarray_type") ∷
+    (0x45, codes "DW_TAG_generic_subrange") ∷
+    (0x46, codes "DW_TAG_dynamic_type") ∷
+    (0x47, codes "DW_TAG_atomic_type") ∷
+    (0x48, codes "DW_TAG_call_site") ∷
+    (0x49, codes "DW_TAG_call_site_parameter") ∷
+    (0x4a, codes "DW_TAG_skeleton_unit") ∷
+    (0x4b, codes "DW_TAG_immutable_type") ∷
+    (0x4080, codes "DW_TAG_lo_user") ∷
+    (0x4081, codes "DW_TAG_MIPS_loop") ∷
+    (0x4090, codes "DW_TAG_HP_array_descriptor") ∷
+    (0x4091, codes "DW_TAG_HP_Bliss_field") ∷
+    (0x4092, codes "DW_TAG_HP_Bliss_field_set") ∷
+    (0x4101, codes "DW_TAG_format_label") ∷
+    (0x4102, codes "DW_TAG_function_template") ∷
+    (0x4103, codes "DW_TAG_class_template") ∷
+    (0x4104, codes "DW_TAG_GNU_BINCL") ∷
+    (0x4105, codes "DW_TAG_GNU_EINCL") ∷
+    (0x4106, codes "DW_TAG_GNU_template_template_param") ∷
+    (0x4107, codes "DW_TAG_GNU_template_parameter_pack") ∷
+    (0x4108, codes "DW_TAG_GNU_formal_parameter_pack") ∷
+    (0x4109, codes "DW_TAG_GNU_call_site") ∷
+    (0x410a, codes "DW_TAG_GNU_call_site_parameter") ∷
+    (0x4200, codes "DW_TAG_APPLE_property") ∷
+    (0x4201, codes "DW_TAG_SUN_function_template") ∷
+    (0x4202, codes "DW_TAG_SUN_class_template") ∷
+    (0x4203, codes "DW_TAG_SUN_struct_template") ∷
+    (0x4204, codes "DW_TAG_SUN_union_template") ∷
+    (0x4205, codes "DW_TAG_SUN_indirect_inheritance") ∷
+    (0x4206, codes "DW_TAG_SUN_codeflags") ∷
+    (0x4207, codes "DW_TAG_SUN_memop_info") ∷
+    (0x4208, codes "DW_TAG_SUN_omp_child_func") ∷
+    (0x4209, codes "DW_TAG_SUN_rtti_descriptor") ∷
+    (0x420a, codes "DW_TAG_SUN_dtor_info") ∷
+    (0x420b, codes "DW_TAG_SUN_dtor") ∷
+    (0x420c, codes "DW_TAG_SUN_f90_interface") ∷
+    (0x420d, codes "DW_TAG_SUN_fortran_vax_structure") ∷
+    (0x5101, codes "DW_TAG_ALTIUM_circ_type") ∷
+    (0x5102, codes "DW_TAG_ALTIUM_mwa_circ_type") ∷
+    (0x5103, codes "DW_TAG_ALTIUM_rev_carry_type") ∷
+    (0x5111, codes "DW_TAG_ALTIUM_rom") ∷
+    (0x8765, codes "DW_TAG_upc_shared_type") ∷
+    (0x8766, codes "DW_TAG_upc_strict_type") ∷
+    (0x8767, codes "DW_TAG_upc_relaxed_type") ∷
+    (0xa000, codes "DW_TAG_PGI_kanji_type") ∷
+    (0xa020, codes "DW_TAG_PGI_interface_block") ∷
+    (0xb000, codes "DW_TAG_BORLAND_property") ∷
+    (0xb001, codes "DW_TAG_BORLAND_Delphi_string") ∷
+    (0xb002, codes "DW_TAG_BORLAND_Delphi_dynamic_array") ∷
+    (0xb003, codes "DW_TAG_BORLAND_Delphi_set") ∷
+    (0xb004, codes "DW_TAG_BORLAND_Delphi_variant") ∷
+    (0xffff, codes "DW_TAG_hi_user") ∷
+    []
+
+-- what `{}` writes for a value
+abbrev pub tag_text : ℕ → List ℕ
+tag_text = text_of tag_names (codes "DwTag")

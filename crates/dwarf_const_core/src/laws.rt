@@ -1,0 +1,19 @@
+//! Laws of the definitions: what is proved of them for every reader of a contract.
+
+ghost use Rattle.dwarf_const_core.specs.DwAt.{attribute_names};
+ghost use Rattle.dwarf_const_core.specs.DwForm.{form_names};
+ghost use Rattle.dwarf_const_core.specs.DwIdx.{index_attribute_names};
+ghost use Rattle.dwarf_const_core.specs.DwLang.{language_names};
+ghost use Rattle.dwarf_const_core.specs.DwLnct.{line_content_names};
+ghost use Rattle.dwarf_const_core.specs.DwTag.{tag_names};
+ghost use Rattle.dwarf_const_core.specs.Names.{HasDistinctValues};
+
+/// In each list of names no value stands twice, so a value has one name at most.
+pub fn names_are_distinct()
+    ensures attribute { HasDistinctValues attribute_names }
+    ensures form { HasDistinctValues form_names }
+    ensures index_attribute { HasDistinctValues index_attribute_names }
+    ensures language { HasDistinctValues language_names }
+    ensures line_content { HasDistinctValues line_content_names }
+    ensures tag { HasDistinctValues tag_names }
+{}

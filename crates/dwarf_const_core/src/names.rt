@@ -1,0 +1,72 @@
+//! Names of constants by value: a table that is searched, and the text of a value that has no name.
+
+ghost use Rattle.std.specs.Prelude.{◌≡◌, ◌≤◌, IsTrue, length, option_map, unwrap_or};
+ghost use Rattle.std.specs.Fmt.{WritesOnOk, WritesStyledOnOk, formatter_spec, padded};
+ghost use Rattle.dwarf_const_core.specs.Names.{is_rising, unknown_text};
+
+use std::fmt;
+use std::fmt::{InlineText, Write};
+
+/// The longest name of a type that `pad_name` takes, in bytes.
+pub const MAX_TYPE_NAME_LEN: usize = 32;
+
+// Room for the name of a type, twenty digits, and the words between.
+const MAX_LEN: usize = 64;
+
+/// The names of the constants of one type, by rising value. The macro `names!` writes such a table.
+#[derive(Clone, Copy)]
+pub struct Names {
+    /// The values, each above the one before.
+    pub values: &'static [u64],
+    /// The name of each value, in the same place.
+    pub names: &'static [&'static str],
+    ghost rising: { IsTrue (is_rising values.now) },
+    ghost paired: { length values.now ≡ length names.now },
+}
+
+impl Names {
+    ghost use Rattle.dwarf_const_core.specs.Names.{name_of};
+    ghost use Rattle.dwarf_const_core.specs.Table.{entries};
+
+    /// The name of `value`, or `None` if the table doesn't have the value. The search halves the
+    /// table at each step.
+    pub fn find(&self, value: u64) -> Option<&'static str>
+        ensures { option_map (λ s. s.now) result ≡ name_of (entries self.now) value }
+    {
+        match self.values.binary_search(&value) {
+            Ok(place) => Some(self.names[place]),
+            Err(_) => None,
+        }
+    }
+}
+
+/// Writes `name`, or `Unknown TYPE: VALUE` where there is none, with the value in decimal and with
+/// the width, fill and alignment that `f` asks for. It takes no memory, and fails only where `f`
+/// does.
+pub fn pad_name<W: fmt::Write>(
+    f: &mut fmt::Formatter<W>,
+    name: Option<&'static str>,
+    type_name: &str,
+    value: u64,
+) -> fmt::Result
+    requires { length type_name.now ≤ MAX_TYPE_NAME_LEN }
+    ensures writes { let text = unwrap_or (option_map (λ s. s.now) name.entry) (unknown_text type_name.now value) in
+        WritesOnOk W.write_str_gives f.old result text f.new }
+    ensures styled { let text = unwrap_or (option_map (λ s. s.now) name.entry) (unknown_text type_name.now value) in
+        WritesStyledOnOk W.write_str_gives f.old result (padded (formatter_spec f.old) text) f.new }
+{
+    match name {
+        Some(name) => f.pad(name),
+        None => pad_unknown(f, type_name, value),
+    }
+}
+
+fn pad_unknown<W: fmt::Write>(f: &mut fmt::Formatter<W>, type_name: &str, value: u64) -> fmt::Result
+    ensures writes { WritesOnOk W.write_str_gives f.old result (unknown_text type_name.now value) f.new }
+    ensures styled { WritesStyledOnOk W.write_str_gives f.old result
+        (padded (formatter_spec f.old) (unknown_text type_name.now value)) f.new }
+{
+    let mut text = InlineText::<MAX_LEN>::new();
+    write!(text, "Unknown {type_name}: {value}")?;
+    f.pad(text.as_str())
+}
