@@ -1,0 +1,38 @@
+-- The ten places of an encoding that is being written.
+use Rattle.std.proofs.Common.{◌≡◌, ℕ, ◌+◌, ◌-◌, ◌<◌, List, [], ◌∷◌, ◌++◌, length, take, drop, set, replicate, sym, ap, ◌∙◌, arith}
+use Rattle.std.proofs.lemmas.List.{take_more_set, drop-set-lt, drop-drop, drop-replicate, append_assoc, length-set}
+use Rattle.dwarf_reader_core.proofs.Shortest.{IsSpelled, IsEncoding-from}
+use Rattle.dwarf_reader_core.specs.Shortest.{IsPadded}
+
+-- a buffer with a free place: zeros stand from there on
+pub record HasRoom (bytes : List ℕ) (len : ℕ) : Type 0 where
+  pub places : length bytes ≡ 10
+  pub room : len < 10
+  pub zeros : drop len bytes ≡ replicate (10 - len) 0
+
+zeros-more : (bytes : List ℕ) (len b : ℕ) → HasRoom bytes len → drop (len + 1) (set bytes len b) ≡ replicate (10 - (len + 1)) 0
+zeros-more bytes len b has_room =
+    let one_less : 10 - len - 1 ≡ 10 - (len + 1) = omega arith in
+    drop-set-lt (len + 1) bytes len b (omega arith) ∙ sym (drop-drop 1 len bytes) ∙ ap (drop 1) has_room.zeros ∙ drop-replicate 1 (10 - len) 0 ∙ ap (λ n. replicate n 0) one_less
+
+pub HasRoom-more : (bytes : List ℕ) (len b : ℕ) → HasRoom bytes len → len + 1 < 10 → HasRoom (set bytes len b) (len + 1)
+HasRoom-more bytes len b has_room more = record {
+  places = length-set bytes len b ∙ has_room.places;
+  room = more;
+  zeros = zeros-more bytes len b has_room;
+}
+
+pub take-placed : (bytes : List ℕ) (len b : ℕ) → HasRoom bytes len → take (len + 1) (set bytes len b) ≡ take len bytes ++ b ∷ []
+take-placed bytes len b has_room = take_more_set bytes len b (rw has_room.places has_room.room)
+
+pub take-placed-append : (bytes : List ℕ) (len b : ℕ) (tail : List ℕ) → HasRoom bytes len → take (len + 1) (set bytes len b) ++ tail ≡ take len bytes ++ b ∷ tail
+take-placed-append bytes len b tail has_room = ap (λ front. front ++ tail) (take-placed bytes len b has_room) ∙ append_assoc (take len bytes) (b ∷ []) tail
+
+-- the last byte of an encoding is placed
+pub IsPadded-last : (bytes : List ℕ) (len b : ℕ) → HasRoom bytes len → IsSpelled (take len bytes ++ b ∷ []) → IsPadded record { bytes = set bytes len b; len = len + 1 }
+IsPadded-last bytes len b has_room spelled = record {
+  places = length-set bytes len b ∙ has_room.places;
+  within = omega arith;
+  zeros = zeros-more bytes len b has_room;
+  encoding = rw (take-placed bytes len b has_room) (IsEncoding-from _ spelled);
+}

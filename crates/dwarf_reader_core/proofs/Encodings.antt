@@ -1,0 +1,80 @@
+-- Lemmas on encodings of LEB128 numbers.
+use Rattle.std.proofs.Common.{◌≡◌, ℕ, zero, suc, ◌+◌, ◌-◌, ◌*◌, ◌%◌, ◌^◌, ◌<◌, ◌≤◌, List, [], ◌∷◌, ◌++◌, length, take, refl, arith, lit<, ℤ, pos, negsuc, IsTrue, nat_le, FitsSigned, w64}
+use Rattle.std.proofs.lemmas.Bool.Decides.{nat_tests}
+use Rattle.std.proofs.lemmas.Bool.{le-leb}
+use Rattle.std.proofs.Math.Nat.{pow-suc, pow-le-pow_right}
+use Rattle.std.proofs.lemmas.List.{length-take-le}
+use Rattle.dwarf_reader_core.proofs.Bits.{pow_digits}
+use Rattle.dwarf_reader_core.specs.Leb128.{IsEncoding, NoneIsLast, unsigned_value, is_negative, is_in_range, signed64}
+
+-- one more byte that isn't the last
+pub NoneIsLast-push : (xs : List ℕ) (b : ℕ) → NoneIsLast xs → 128 ≤ b → NoneIsLast (xs ++ b ∷ [])
+NoneIsLast-push [] b none h = (h, tt)
+NoneIsLast-push (x ∷ xs) b none h = (none.0, NoneIsLast-push xs b none.1 h)
+
+-- the last byte completes the encoding
+pub IsEncoding-push : (xs : List ℕ) (b : ℕ) → NoneIsLast xs → b < 128 → IsEncoding (xs ++ b ∷ [])
+IsEncoding-push [] b none h = h
+IsEncoding-push (x ∷ []) b none h = (none.0, h)
+IsEncoding-push (x ∷ y ∷ xs) b none h = (none.0, IsEncoding-push (y ∷ xs) b none.1 h)
+
+-- the last byte of an encoding is below 128
+pub IsEncoding-last : (xs : List ℕ) (b : ℕ) → IsEncoding (xs ++ b ∷ []) → b < 128
+IsEncoding-last [] b encoding = encoding
+IsEncoding-last (x ∷ []) b encoding = encoding.1
+IsEncoding-last (x ∷ y ∷ xs) b encoding = IsEncoding-last (y ∷ xs) b encoding.1
+
+-- one more digit
+pub unsigned_value-push : (xs : List ℕ) (b : ℕ) → unsigned_value (xs ++ b ∷ []) ≡ unsigned_value xs + b % 128 * 128 ^ length xs
+unsigned_value-push [] b = omega arith
+unsigned_value-push (x ∷ xs) b = rw pow-suc (omega (arith, unsigned_value-push xs b))
+
+-- digits are worth less than the next place
+pub unsigned_value-lt : (xs : List ℕ) → unsigned_value xs < 128 ^ length xs
+unsigned_value-lt [] = omega arith
+unsigned_value-lt (x ∷ xs) = omega (arith, unsigned_value-lt xs, pow-suc 128 (length xs))
+
+-- an encoding ends past bytes of which none is the last
+pub past_none : (bytes : List ℕ) (k n : ℕ) → k ≤ length bytes → NoneIsLast (take k bytes) → IsEncoding (take n bytes) → k < n
+past_none bytes zero zero enough none encoding = absurd encoding
+past_none bytes zero (suc n) enough none encoding = omega arith
+past_none [] (suc k) n enough none encoding = absurd (omega arith)
+past_none (b ∷ bs) (suc k) zero enough none encoding = absurd encoding
+past_none (b ∷ bs) (suc k) (suc zero) enough none encoding = absurd (omega (arith, none.0, encoding))
+past_none (b ∷ []) (suc k) (suc (suc n)) enough none encoding = absurd (omega (arith, none.0, encoding))
+past_none (b ∷ c ∷ bs) (suc k) (suc (suc n)) enough none encoding = omega (arith, past_none (c ∷ bs) k (suc n) (omega arith) none.1 encoding.1)
+
+-- n digits are worth less than a place from n on
+pub worth_below : (bytes : List ℕ) (n m : ℕ) → n ≤ length bytes → n ≤ m → unsigned_value (take n bytes) < 2 ^ (7 * m)
+worth_below bytes n m enough within =
+    let below = unsigned_value-lt (take n bytes) in
+    let places : 128 ^ n ≤ 128 ^ m = pow-le-pow_right {n = 128} (lit< tt) within in
+    rw pow_digits (omega (arith, rw (length-take-le n bytes enough) at below, places))
+
+-- the last byte has the sign
+pub is_negative-push : (xs : List ℕ) (b : ℕ) → is_negative (xs ++ b ∷ []) ≡ nat_le 64 (b % 128)
+is_negative-push [] b = refl
+is_negative-push (x ∷ []) b = refl
+is_negative-push (x ∷ y ∷ xs) b = is_negative-push (y ∷ xs) b
+
+-- an i64 is in the range of its kind
+pub in_range_i64 : (v : ℤ) → FitsSigned w64 v → IsTrue (is_in_range signed64 v)
+in_range_i64 (pos n) fits = le-leb n (2 ^ 63 - 1) (omega (arith, fits.sfits))
+in_range_i64 (negsuc n) fits = rw (le-leb n (2 ^ 63 - 1) (omega (arith, fits.sfits))) refl
+
+-- a number in the range of the kind is an i64
+pub fits_i64 : (v : ℤ) → IsTrue (is_in_range signed64 v) → FitsSigned w64 v
+fits_i64 (pos n) has = record { sfits = grind (arith, nat_tests) }
+fits_i64 (negsuc n) has = record { sfits = grind (arith, nat_tests) }
+
+-- no encoding begins another
+pub same_encoding : (a b x y : List ℕ) → IsEncoding a → IsEncoding b → a ++ x ≡ b ++ y → (a ≡ b) × (x ≡ y)
+same_encoding [] b x y is_a is_b same = absurd is_a
+same_encoding (p ∷ ps) [] x y is_a is_b same = absurd is_b
+same_encoding (p ∷ []) (q ∷ []) x y is_a is_b same = (cc, cc)
+same_encoding (p ∷ []) (q ∷ d ∷ ds) x y is_a is_b same = let equal : p ≡ q = cc in absurd (omega arith)
+same_encoding (p ∷ c ∷ cs) (q ∷ []) x y is_a is_b same = let equal : p ≡ q = cc in absurd (omega arith)
+same_encoding (p ∷ c ∷ cs) (q ∷ d ∷ ds) x y is_a is_b same =
+    let tails : (c ∷ cs) ++ x ≡ (d ∷ ds) ++ y = cc in
+    let rest = same_encoding (c ∷ cs) (d ∷ ds) x y is_a.1 is_b.1 tails in
+    (cc, rest.1)

@@ -1,0 +1,12 @@
+pub mod Encodings
+pub mod Bits
+pub mod Reading
+pub mod Outcomes
+pub mod Numbers
+pub mod Shortest
+pub mod ShortestUnsigned
+pub mod ShortestSigned
+pub mod SignedBits
+pub mod Buffers
+pub mod Bytes
+pub mod Once

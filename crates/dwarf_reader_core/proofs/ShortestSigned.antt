@@ -1,0 +1,130 @@
+-- The shortest encodings of signed numbers.
+use Rattle.std.proofs.Common.{◌≡◌, ◌≢◌, ℕ, zero, suc, ◌+◌, ◌-◌, ◌*◌, ◌%◌, ◌^◌, ◌<◌, ◌≤◌, Bool, true, false, cond, List, [], ◌∷◌, length, ap, sym, subst, ◌∙◌, ⊎_elim, bit_and, bit_or, to_z, w64, sub-one, arith}
+use Rattle.std.specs.Prelude.{ℤ, pos, negsuc, ◌+ℤ◌, ◌-ℤ◌, ◌*ℤ◌, ◌≤ℤ◌, ◌<ℤ◌, nat_le}
+use Rattle.std.proofs.lemmas.Int.{ints}
+use Rattle.std.proofs.lemmas.Bool.{cases_lt}
+use Rattle.std.proofs.lemmas.Bool.Decides.{nat_tests}
+use Rattle.std.proofs.Math.IntN.{nat_abs}
+use Rattle.std.proofs.Math.Nat.{pow-suc}
+use Rattle.dwarf_reader_core.specs.Leb128.{unsigned_value, signed_value, is_negative}
+use Rattle.dwarf_reader_core.proofs.Shortest.{IsSpelled, IsLeast}
+use Rattle.dwarf_reader_core.proofs.ShortestUnsigned.{IsSpelled-cons}
+use Rattle.dwarf_reader_core.proofs.Bytes.{continued}
+use Rattle.dwarf_reader_core.proofs.SignedBits.{low_digit_signed, rest_of, split}
+
+-- what one byte is enough for
+abbrev pub FitsByte : ℤ → Type 0
+FitsByte v = (negsuc 63 ≤ℤ v) × (v ≤ℤ pos 63)
+
+below_or_above : {P : Type 0} (b : ℕ) → (b < 64 → P) → (64 ≤ b → P) → P
+below_or_above b below above = ⊎_elim below above (cases_lt b 64)
+
+signed_value-low : (b : ℕ) → b < 64 → signed_value (b ∷ []) ≡ pos b
+signed_value-low b low =
+    let clear : nat_le 64 (b % 128) ≡ false = grind (arith, nat_tests) in
+    rw clear (omega (arith, ints))
+
+signed_value-high : (b : ℕ) → 64 ≤ b → b < 128 → signed_value (b ∷ []) +ℤ pos 128 ≡ pos b
+signed_value-high b high small =
+    let set : nat_le 64 (b % 128) ≡ true = grind (arith, nat_tests) in
+    rw set (omega (arith, ints))
+
+with_digit : (negative : Bool) (digit above weight : ℕ) → pos (digit + 128 * above) -ℤ pos (cond negative (weight * 128) 0) ≡ pos digit +ℤ (pos 128 *ℤ (pos above -ℤ pos (cond negative weight 0)))
+with_digit true digit above weight = omega (arith, ints)
+with_digit false digit above weight = omega (arith, ints)
+
+pub signed_value-cons : (b c : ℕ) (bytes : List ℕ) → signed_value (b ∷ c ∷ bytes) ≡ pos (b % 128) +ℤ (pos 128 *ℤ signed_value (c ∷ bytes))
+signed_value-cons b c bytes =
+    rw (pow-suc 128 (length (c ∷ bytes))) (with_digit (is_negative (c ∷ bytes)) (b % 128) (unsigned_value (c ∷ bytes)) (128 ^ length (c ∷ bytes)))
+
+FitsByte-last : (b : ℕ) → b < 128 → FitsByte (signed_value (b ∷ []))
+FitsByte-last b small =
+    below_or_above b
+    (λ low. rw (signed_value-low b low) (omega (arith, ints), omega (arith, ints)))
+    (λ high. let is = signed_value-high b high small in (omega (arith, ints), omega (arith, ints)))
+
+-- two digits with what stands above them
+same_digit : (digit other : ℕ) (above above' : ℤ) → digit < 128 → other < 128 → pos digit +ℤ (pos 128 *ℤ above) ≡ pos other +ℤ (pos 128 *ℤ above') → (digit ≡ other) × (above ≡ above')
+same_digit digit other above above' small small' same = (omega (arith, ints), omega (arith, ints))
+
+same_byte : (b d : ℕ) → b < 128 → d < 128 → signed_value (b ∷ []) ≡ signed_value (d ∷ []) → b ≡ d
+same_byte b d small small' same =
+    below_or_above b
+    (λ low. below_or_above d
+    (λ low'. let is = signed_value-low b low in let is' = signed_value-low d low' in omega (arith, ints, is, is', same))
+    (λ high'. let is = signed_value-low b low in let is' = signed_value-high d high' small' in omega (arith, ints, is, is', same)))
+    (λ high. below_or_above d
+    (λ low'. let is = signed_value-high b high small in let is' = signed_value-low d low' in omega (arith, ints, is, is', same))
+    (λ high'. let is = signed_value-high b high small in let is' = signed_value-high d high' small' in omega (arith, ints, is, is', same)))
+
+no_other_last : (v : ℤ) (b : ℕ) → b < 128 → signed_value (b ∷ []) ≡ v → (other : List ℕ) → IsSpelled other → signed_value other ≡ v → other ≢ (b ∷ []) → 1 < length other
+no_other_last v b small v_is [] spelled same apart = absurd spelled
+no_other_last v b small v_is (d ∷ []) spelled same apart = let d_is : d ≡ b = same_byte d b spelled small (same ∙ sym v_is) in absurd (apart (ap (λ x. x ∷ []) d_is))
+no_other_last v b small v_is (d ∷ c ∷ bytes) spelled same apart = omega arith
+
+no_other_more : (v : ℤ) (digit : ℕ) (rest : ℤ) (tail : List ℕ) → digit < 128 → (FitsByte v → ⊥) → v ≡ pos digit +ℤ (pos 128 *ℤ rest) → IsLeast signed_value rest tail
+    → (other : List ℕ) → IsSpelled other → signed_value other ≡ v → other ≢ ((digit + 128) ∷ tail) → length ((digit + 128) ∷ tail) < length other
+no_other_more v digit rest tail small wide v_is shortest [] spelled same apart = absurd spelled
+no_other_more v digit rest tail small wide v_is shortest (b ∷ []) spelled same apart = absurd (wide (subst FitsByte same (FitsByte-last b spelled)))
+no_other_more v digit rest tail small wide v_is shortest (b ∷ c ∷ bytes) spelled same apart =
+    let parts = same_digit (b % 128) digit (signed_value (c ∷ bytes)) rest (omega arith) small (sym (signed_value-cons b c bytes) ∙ same ∙ v_is) in
+    let b_is : b ≡ digit + 128 = omega arith in
+    let longer : length tail < length (c ∷ bytes) = shortest.shorter (c ∷ bytes) spelled.2 parts.1 (λ tail_is. apart cc) in
+    omega arith
+
+-- a number of one signed byte is that byte
+pub IsLeast-last : (v : ℤ) (b : ℕ) → b < 128 → signed_value (b ∷ []) ≡ v → IsLeast signed_value v (b ∷ [])
+IsLeast-last v b small v_is = record {
+  is_spelled = small;
+  has_value = v_is;
+  shorter = no_other_last v b small v_is;
+}
+
+signed_value-more : (digit : ℕ) (tail : List ℕ) → digit < 128 → IsSpelled tail → signed_value ((digit + 128) ∷ tail) ≡ pos digit +ℤ (pos 128 *ℤ signed_value tail)
+signed_value-more digit [] small spelled = absurd spelled
+signed_value-more digit (c ∷ bytes) small spelled =
+    let digit_is : (digit + 128) % 128 ≡ digit = omega arith in
+    signed_value-cons (digit + 128) c bytes ∙ ap (λ d. pos d +ℤ (pos 128 *ℤ signed_value (c ∷ bytes))) digit_is
+
+-- the lowest digit goes before the shortest encoding of what stands above it
+pub IsLeast-more : (v : ℤ) (digit : ℕ) (rest : ℤ) (tail : List ℕ) → digit < 128 → (FitsByte v → ⊥) → v ≡ pos digit +ℤ (pos 128 *ℤ rest) → IsLeast signed_value rest tail → IsLeast signed_value v ((digit + 128) ∷ tail)
+IsLeast-more v digit rest tail small wide v_is shortest = record {
+  is_spelled = IsSpelled-cons (digit + 128) tail (omega arith) (omega arith) shortest.is_spelled;
+  has_value = signed_value-more digit tail small shortest.is_spelled ∙ ap (λ above. pos digit +ℤ (pos 128 *ℤ above)) shortest.has_value ∙ sym v_is;
+  shorter = no_other_more v digit rest tail small wide v_is shortest;
+}
+
+-- the only byte of a number that fits it
+signed_value-only : (v up : ℤ) (digit : ℕ) → digit < 128 → FitsByte v → v ≡ pos digit +ℤ (pos 128 *ℤ up) → signed_value (digit ∷ []) ≡ v
+signed_value-only v up digit small fits v_is =
+    below_or_above digit
+    (λ low. let is = signed_value-low digit low in omega (arith, ints, is, v_is))
+    (λ high. let is = signed_value-high digit high small in omega (arith, ints, is, v_is))
+
+-- within what an encoding of `left + 1` bytes can say
+abbrev pub FitsBytes : ℕ → ℤ → Type 0
+FitsBytes left v = (pos 0 ≤ℤ (v +ℤ pos (64 * 128 ^ left))) × (v <ℤ pos (64 * 128 ^ left))
+
+-- a number that needs more than one byte leaves room for the next
+room_left : (left : ℕ) (v up : ℤ) (digit : ℕ) → digit < 128 → (FitsByte v → ⊥) → v ≡ pos digit +ℤ (pos 128 *ℤ up) → FitsBytes left v → (0 < left) × FitsBytes (left - 1) up
+room_left zero v up digit small wide v_is fits = absurd (wide (omega (arith, ints, fits.0), omega (arith, ints, fits.1)))
+room_left (suc left) v up digit small wide v_is fits =
+    let low = rw (pow-suc 128 left) at fits.0 in
+    let high = rw (pow-suc 128 left) at fits.1 in
+    rw sub-one (omega arith, (omega (arith, ints, low, v_is), omega (arith, ints, high, v_is)))
+
+pub room_for_more : (len : ℕ) (v up : ℤ) (digit : ℕ) → len < 10 → digit < 128 → (FitsByte v → ⊥) → v ≡ pos digit +ℤ (pos 128 *ℤ up) → FitsBytes (9 - len) v → (len + 1 < 10) × FitsBytes (9 - (len + 1)) up
+room_for_more len v up digit room small wide v_is fits =
+    let more = room_left (9 - len) v up digit small wide v_is fits in
+    let left_is : 9 - len - 1 ≡ 9 - (len + 1) = omega arith in
+    (omega (arith, more.0), rw (← left_is) more.1)
+
+-- the two, as the code computes the bytes
+pub IsLeast-last_of : (bits : ℕ) → bits < 2 ^ 64 → FitsByte (to_z w64 bits) → IsLeast signed_value (to_z w64 bits) (nat_abs (to_z w64 (bit_and bits 127)) ∷ [])
+IsLeast-last_of bits range fits =
+    rw (low_digit_signed bits) (IsLeast-last (to_z w64 bits) (bits % 128) (omega arith) (signed_value-only (to_z w64 bits) (rest_of bits) (bits % 128) (omega arith) fits (split bits range)))
+
+pub IsLeast-more_of : (bits : ℕ) (tail : List ℕ) → bits < 2 ^ 64 → (FitsByte (to_z w64 bits) → ⊥) → IsLeast signed_value (rest_of bits) tail
+    → IsLeast signed_value (to_z w64 bits) (bit_or (nat_abs (to_z w64 (bit_and bits 127))) 128 ∷ tail)
+IsLeast-more_of bits tail range wide shortest =
+    rw (low_digit_signed bits, continued (bits % 128) (omega arith)) (IsLeast-more (to_z w64 bits) (bits % 128) (rest_of bits) tail (omega arith) wide (split bits range) shortest)

@@ -1,0 +1,5 @@
+use Rattle.dwarf_reader_core.proofs.Once.{one_length as len, one_fault, length_or_none}
+use Rattle.dwarf_reader_core.proofs.laws.one_length.Goals as goal
+
+pub returns : goal.returns
+returns c = record { taken = len; refused = one_fault; either = length_or_none }

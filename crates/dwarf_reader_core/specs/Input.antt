@@ -1,0 +1,72 @@
+-- What a reader stands for, and what a call takes from it.
+use Rattle.std.specs.Prelude.{◌≡◌, ◌≢◌, ℕ, ◌+◌, ◌<◌, ◌≤◌, ◌^◌, Bool, List, length, take, drop, All, slice_index, ℤ}
+use Rattle.dwarf_base_core.specs.Number.{number_of, signed_number}
+
+-- the bytes that are left, the position of the first of them, and whether the highest byte of a number comes first
+pub record Input : Type 0 where
+  pub bytes : List ℕ
+  pub position : ℕ
+  pub is_big : Bool
+
+-- what holds of every reader: positions are below 2 ^ 64, lengths are offsets, and bytes are bytes
+pub record IsBounded (greatest : ℕ) (input : Input) : Type 0 where
+  pub positions : input.position + length input.bytes < 2 ^ 64
+  pub lengths : length input.bytes ≤ greatest
+  pub bytes : All (λ b. b < 256) input.bytes
+
+-- the position after the last byte
+abbrev pub end_of : Input → ℕ
+end_of input = input.position + length input.bytes
+
+-- what is left once n bytes are taken
+abbrev pub after : ℕ → Input → Input
+after n input = record input { bytes = drop n input.bytes; position = input.position + n }
+
+-- the first n bytes alone
+abbrev pub first : ℕ → Input → Input
+first n input = record input { bytes = take n input.bytes }
+
+-- n bytes are taken
+pub record Takes (n : ℕ) (old new : Input) : Type 0 where
+  pub enough : n ≤ length old.bytes
+  pub left : new ≡ after n old
+
+-- a byte is taken
+pub record TakesByte (old : Input) (byte : ℕ) (new : Input) : Type 0 where
+  pub enough : 1 ≤ length old.bytes
+  pub is : byte ≡ slice_index old.bytes 0
+  pub left : new ≡ after 1 old
+
+-- the number that n bytes are is taken
+pub record TakesNumber (n : ℕ) (old : Input) (x : ℕ) (new : Input) : Type 0 where
+  pub enough : n ≤ length old.bytes
+  pub is : x ≡ number_of old.is_big (take n old.bytes)
+  pub left : new ≡ after n old
+
+-- the signed number that n bytes are is taken
+pub record TakesSigned (n : ℕ) (old : Input) (x : ℤ) (new : Input) : Type 0 where
+  pub enough : n ≤ length old.bytes
+  pub is : x ≡ signed_number n (number_of old.is_big (take n old.bytes))
+  pub left : new ≡ after n old
+
+-- the byte is at the index, and not before
+pub record IsFirst (byte : ℕ) (bytes : List ℕ) (index : ℕ) : Type 0 where
+  pub within : index < length bytes
+  pub here : slice_index bytes index ≡ byte
+  pub before : All (λ b. b ≢ byte) (take index bytes)
+
+-- the string up to the first zero byte is taken, with that byte
+pub record TakesString (old string new : Input) : Type 0 where
+  pub len : ℕ
+  pub ends : IsFirst 0 old.bytes len
+  pub is : string ≡ first len old
+  pub left : new ≡ after (len + 1) old
+
+-- the place from its position to its end lies within the other's
+pub record IsPartOf (part whole : Input) : Type 0 where
+  pub starts : whole.position ≤ part.position
+  pub ends : end_of part ≤ end_of whole
+
+-- the position is one of its own, or that of its end
+abbrev pub Covers : Input → ℕ → Type 0
+Covers input id = (input.position ≤ id) × (id ≤ end_of input)

@@ -1,0 +1,148 @@
+-- LEB128 numbers (DWARF 5, 7.6): the bytes that encode one, and what a reading of bytes comes to.
+use Rattle.std.specs.Prelude.{◌≡◌, ℕ, ◌+◌, ◌*◌, ◌-◌, ◌%◌, ◌^◌, ◌<◌, ◌≤◌, List, [], ◌∷◌, length, take, Bool, false, IsTrue, nat_lt, nat_le, ◌&&◌, ℤ, pos, negsuc, ◌-ℤ◌, int_le, if◌then◌else◌, ◌⊎◌}
+use Rattle.std.specs.List.{AllByRecursion}
+use Rattle.dwarf_base_core.specs.declared.error.Error.{Error}
+use Rattle.dwarf_base_core.specs.declared.error.Error.TheVariants.{BadUnsignedLeb128, BadSignedLeb128}
+use Rattle.dwarf_reader_core.specs.Input.{Input, after}
+use Rattle.dwarf_reader_core.specs.Faults.{end_fault}
+
+-- bytes that encode a number: all but the last are from 128, the last is below 128
+abbrev pub IsEncoding : List ℕ → Type 0
+IsEncoding [] = ⊥
+IsEncoding (b ∷ []) = b < 128
+IsEncoding (b ∷ c ∷ bytes) = (128 ≤ b) × IsEncoding (c ∷ bytes)
+
+-- none of the bytes is the last of an encoding
+abbrev pub NoneIsLast : List ℕ → Type 0
+NoneIsLast bytes = AllByRecursion (λ b. 128 ≤ b) bytes
+
+-- byte i, from 0, carries the digit b % 128, worth 128 ^ i
+abbrev pub unsigned_value : List ℕ → ℕ
+unsigned_value [] = 0
+unsigned_value (b ∷ bytes) = b % 128 + 128 * unsigned_value bytes
+
+-- bit 6 of the last byte is set
+abbrev pub is_negative : List ℕ → Bool
+is_negative [] = false
+is_negative (b ∷ []) = nat_le 64 (b % 128)
+is_negative (b ∷ c ∷ bytes) = is_negative (c ∷ bytes)
+
+-- n bytes are worth their digits, less 128 ^ n where they are negative
+abbrev pub signed_value : List ℕ → ℤ
+signed_value bytes = pos (unsigned_value bytes) -ℤ pos (if is_negative bytes then 128 ^ length bytes else 0)
+
+-- the kinds of number that are read
+pub data Kind : Type 0 where
+  unsigned64 : Kind
+  unsigned16 : Kind
+  signed64 : Kind
+
+abbrev pub Number : Kind → Type 0
+Number unsigned64 = ℕ
+Number unsigned16 = ℕ
+Number signed64 = ℤ
+
+-- how many bytes an encoding of the kind may have
+abbrev pub limit : Kind → ℕ
+limit unsigned64 = 10
+limit unsigned16 = 3
+limit signed64 = 10
+
+-- what bytes are worth
+abbrev pub value : (k : Kind) → List ℕ → Number k
+value unsigned64 bytes = unsigned_value bytes
+value unsigned16 bytes = unsigned_value bytes
+value signed64 bytes = signed_value bytes
+
+abbrev pub is_in_range : (k : Kind) → Number k → Bool
+is_in_range unsigned64 n = nat_lt n (2 ^ 64)
+is_in_range unsigned16 n = nat_lt n (2 ^ 16)
+is_in_range signed64 n = int_le (negsuc (2 ^ 63 - 1)) n && int_le n (pos (2 ^ 63 - 1))
+
+-- what bytes that are no number of the kind are refused with
+abbrev pub refusal : Kind → Error
+refusal unsigned64 = BadUnsignedLeb128
+refusal unsigned16 = BadUnsignedLeb128
+refusal signed64 = BadSignedLeb128
+
+-- the bytes encode this number of the kind, within its limit
+pub record IsNumber (k : Kind) (bytes : List ℕ) (number : Number k) : Type 0 where
+  pub encoding : IsEncoding bytes
+  pub within : length bytes ≤ limit k
+  pub means : value k bytes ≡ number
+  pub in_range : IsTrue (is_in_range k number)
+
+-- the first n bytes encode the number
+pub record HasNumber (k : Kind) (bytes : List ℕ) (number : Number k) (n : ℕ) : Type 0 where
+  pub enough : n ≤ length bytes
+  pub is_number : IsNumber k (take n bytes) number
+
+-- the bytes end before the limit, and before a last byte
+pub record IsCut (k : Kind) (bytes : List ℕ) : Type 0 where
+  pub short : length bytes < limit k
+  pub unended : NoneIsLast bytes
+
+-- the bytes begin with no number of the kind, and not because they end
+pub record IsBad (k : Kind) (bytes : List ℕ) : Type 0 where
+  pub no_number : (number : Number k) (n : ℕ) → HasNumber k bytes number n → ⊥
+  pub not_cut : IsCut k bytes → ⊥
+
+-- what a reading of bytes comes to
+pub data Outcome (k : Kind) : Type 0 where
+  -- a number, by so many bytes
+  Value : Number k → ℕ → Outcome k
+  -- the bytes end before the number does
+  End : Outcome k
+  -- no number of the kind
+  Bad : Outcome k
+
+abbrev pub HasOutcome : (k : Kind) → List ℕ → Outcome k → Type 0
+HasOutcome k bytes (Value number n) = HasNumber k bytes number n
+HasOutcome k bytes End = IsCut k bytes
+HasOutcome k bytes Bad = IsBad k bytes
+
+-- the bytes have an outcome, and no other
+abbrev pub HasOneOutcome : Kind → List ℕ → Type 0
+HasOneOutcome k bytes = (o : Outcome k) × HasOutcome k bytes o × ((p : Outcome k) → HasOutcome k bytes p → o ≡ p)
+
+-- the number is taken, with its bytes
+pub record ReadsNumber (k : Kind) (old : Input) (number : Number k) (new : Input) : Type 0 where
+  pub len : ℕ
+  pub is : HasNumber k old.bytes number len
+  pub left : new ≡ after len old
+
+-- the bytes end before the number does, and all were taken
+pub record EndsInNumber (k : Kind) (old : Input) (e : Error) (new : Input) : Type 0 where
+  pub cut : IsCut k old.bytes
+  pub left : new ≡ after (length old.bytes) old
+  pub fault : e ≡ end_fault new
+
+-- the bytes are bad, and as many as the limit were taken
+pub record IsNoNumber (k : Kind) (old : Input) (e : Error) (new : Input) : Type 0 where
+  pub bad : IsBad k old.bytes
+  pub left : new ≡ after (limit k) old
+  pub fault : e ≡ refusal k
+
+-- no number is read
+abbrev pub RefusesNumber : Kind → Input → Error → Input → Type 0
+RefusesNumber k old e new = EndsInNumber k old e new ⊎ IsNoNumber k old e new
+
+-- an encoding is taken, of whatever length
+pub record TakesEncoding (old new : Input) : Type 0 where
+  pub len : ℕ
+  pub enough : len ≤ length old.bytes
+  pub is : IsEncoding (take len old.bytes)
+  pub left : new ≡ after len old
+
+-- no encoding begins the bytes: all were taken, and the end fault is there
+pub record LacksEncoding (old : Input) (e : Error) (new : Input) : Type 0 where
+  pub none : NoneIsLast old.bytes
+  pub left : new ≡ after (length old.bytes) old
+  pub fault : e ≡ end_fault new
+
+-- a number was taken that is from bound on
+pub record IsOver (bound : ℕ) (old : Input) (e : Error) (new : Input) : Type 0 where
+  pub number : ℕ
+  pub taken : ReadsNumber unsigned64 old number new
+  pub over : bound ≤ number
+  pub fault : e ≡ BadUnsignedLeb128

@@ -1,0 +1,5 @@
+pub mod Input
+pub mod Faults
+pub mod Leb128
+pub mod InitialLength
+pub mod Shortest

@@ -1,0 +1,384 @@
+//! A reader of borrowed bytes.
+
+ghost use Rattle.std.specs.Prelude.{◌≡◌, ◌+◌, ◌<◌, ◌≤◌, ◌^◌, ◌-◌, ◌≢◌, ◌↔◌, ◌⊎◌, [], length, All, true, ⊤, IsOk, OnOk, IfOk, IfErr, IfSome, IfNone};
+ghost use Rattle.std.specs.Cow.{cow_slice_items, cow_str_bytes};
+ghost use Rattle.std.specs.Str.{IsUtf8};
+ghost use Rattle.std.specs.Str.Lossy.{utf8_lossy};
+ghost use Rattle.std.proofs.Common.{arith};
+ghost use Rattle.dwarf_base_core.specs.declared.error.Error.TheVariants.{BadUtf8, OutOfMemory};
+ghost use Rattle.dwarf_reader_core.specs.Input.{after, first, IsFirst, IsPartOf};
+
+use crate::reader::Reader;
+use bstr::ByteSlice;
+use dwarf_base_core::endianity::Endianity;
+use dwarf_base_core::error::{Error, Result};
+use dwarf_base_core::reader_offset::ReaderOffsetId;
+use std::alloc::{AllocError, Global};
+use std::borrow::{CowSlice, CowStr};
+use std::ops::{Range, RangeFrom, RangeTo};
+
+/// A [`Reader`] of borrowed bytes.
+///
+/// It copies no bytes, and cloning or splitting it takes no memory. Two are equal where their bytes
+/// and byte orders are, whatever their positions.
+#[derive(Debug)]
+#[derive_where(PartialEq, Eq, Hash; Endian)]
+pub struct EndianSlice<'input, Endian: Endianity> {
+    slice: &'input [u8],
+    endian: Endian,
+    // The position after the last byte. It stays as bytes are taken, so that a byte costs no second
+    // store.
+    #[derive_where(skip(EqHashOrd))]
+    end: u64,
+    ghost starts: { length slice.now ≤ end },
+    ghost ends: { end < 2 ^ 64 },
+    ghost bytes: { All (λ b. b < 256) slice.now },
+}
+
+impl<'input, Endian: Endianity> Clone for EndianSlice<'input, Endian> {
+    ghost is_clone = { λ a b. (b.slice.now ≡ a.slice.now) × (b.endian ≡ a.endian) × (b.end ≡ a.end) };
+
+    ghost is_infallible = { λ _. ⊤ };
+
+    #[inline]
+    fn clone(&self) -> std::result::Result<Self, AllocError> {
+        Ok(EndianSlice {
+            slice: self.slice,
+            endian: self.endian,
+            end: self.end,
+        })
+    }
+}
+
+impl<'input, Endian: Endianity> Copy for EndianSlice<'input, Endian> {}
+
+impl<'input, Endian: Endianity> Default for EndianSlice<'input, Endian> {
+    ghost is_default = { λ s. (s.slice.now ≡ []) × (s.end ≡ 0) × Endian.is_default s.endian };
+
+    fn default() -> EndianSlice<'input, Endian> {
+        EndianSlice {
+            slice: &[],
+            endian: Endian::default(),
+            end: 0,
+        }
+    }
+}
+
+impl<'input, Endian: Endianity> EndianSlice<'input, Endian> {
+    /// A reader of these bytes, at position 0.
+    #[inline]
+    pub fn new(slice: &'input [u8], endian: Endian) -> EndianSlice<'input, Endian>
+        ensures { ⟦<EndianSlice<'input, Endian> as Reader>⟧.view result ≡ record { bytes = slice.now; position = 0; is_big = Endian.is_big endian } }
+    {
+        EndianSlice {
+            slice,
+            endian,
+            end: slice.len() as u64,
+        }
+    }
+
+    /// A reader of these bytes, at the position that `first` names, so that sections read side by
+    /// side have identifiers of their own.
+    #[inline]
+    pub fn with_first_id(
+        slice: &'input [u8],
+        endian: Endian,
+        first: ReaderOffsetId,
+    ) -> EndianSlice<'input, Endian>
+        requires { first.0 + length slice.now < 2 ^ 64 }
+        ensures { ⟦<EndianSlice<'input, Endian> as Reader>⟧.view result ≡ record { bytes = slice.now; position = first.0; is_big = Endian.is_big endian } }
+    {
+        EndianSlice {
+            slice,
+            endian,
+            end: first.0 + slice.len() as u64,
+        }
+    }
+
+    /// The bytes that are left.
+    #[inline]
+    pub fn slice(&self) -> &'input [u8]
+        ensures { result.now ≡ (⟦<EndianSlice<'input, Endian> as Reader>⟧.view self.now).bytes }
+    {
+        self.slice
+    }
+
+    /// The bytes that are left, borrowed from the reader.
+    #[inline]
+    pub fn as_slice(&self) -> &[u8]
+        ensures { result.now ≡ (⟦<EndianSlice<'input, Endian> as Reader>⟧.view self.now).bytes }
+    {
+        self.slice()
+    }
+
+    /// The first `idx` bytes that are left, and those behind them.
+    #[inline]
+    pub fn split_at(&self, idx: usize) -> (EndianSlice<'input, Endian>, EndianSlice<'input, Endian>)
+        requires { idx ≤ length (⟦<EndianSlice<'input, Endian> as Reader>⟧.view self.now).bytes }
+        ensures front { ⟦<EndianSlice<'input, Endian> as Reader>⟧.view result.0
+            ≡ first idx (⟦<EndianSlice<'input, Endian> as Reader>⟧.view self.now) }
+        ensures rest { ⟦<EndianSlice<'input, Endian> as Reader>⟧.view result.1
+            ≡ after idx (⟦<EndianSlice<'input, Endian> as Reader>⟧.view self.now) }
+    {
+        (self.range_to(..idx), self.range_from(idx..))
+    }
+
+    /// The offset, from the position, of the first byte of this value, or `None`.
+    #[inline]
+    pub fn find(&self, byte: u8) -> Option<usize>
+        ensures found { IfSome result (IsFirst byte (⟦<EndianSlice<'input, Endian> as Reader>⟧.view self.now).bytes) }
+        ensures none { IfNone result (All (λ b. b ≢ byte) (⟦<EndianSlice<'input, Endian> as Reader>⟧.view self.now).bytes) }
+    {
+        find_byte(self.slice, byte)
+    }
+
+    /// How many bytes the position lies behind that of `base`, which covers what is left here.
+    #[inline]
+    pub fn offset_from(&self, base: EndianSlice<'input, Endian>) -> usize
+        requires { IsPartOf (⟦<EndianSlice<'input, Endian> as Reader>⟧.view self.now) (⟦<EndianSlice<'input, Endian> as Reader>⟧.view base) }
+        ensures { result + (⟦<EndianSlice<'input, Endian> as Reader>⟧.view base.entry).position
+            ≡ (⟦<EndianSlice<'input, Endian> as Reader>⟧.view self.now).position }
+    {
+        Reader::offset_from(self, &base)
+    }
+
+    /// The bytes that are left, as text.
+    ///
+    /// Answers [`Error::BadUtf8`] exactly where they aren't UTF-8.
+    #[inline]
+    pub fn to_string(&self) -> Result<&'input str>
+        ensures ok { IfOk result (λ text. text.now ≡ (⟦<EndianSlice<'input, Endian> as Reader>⟧.view self.now).bytes) }
+        ensures utf8 { IsOk result ↔ IsUtf8 (⟦<EndianSlice<'input, Endian> as Reader>⟧.view self.now).bytes }
+        ensures err { IfErr result (λ e. e ≡ BadUtf8) }
+    {
+        str::from_utf8(self.slice).map_err(|_| Error::BadUtf8)
+    }
+
+    /// The bytes that are left, as text, with one U+FFFD for each incomplete beginning of a
+    /// sequence, taken as long as it can be, and else for each bad byte.
+    ///
+    /// Takes memory, and can answer [`Error::OutOfMemory`], only where they aren't UTF-8.
+    #[inline]
+    pub fn to_string_lossy(&self, mem: Global) -> Result<CowStr<'input>>
+        ensures ok { IfOk result (λ text. cow_str_bytes text ≡ utf8_lossy (⟦<EndianSlice<'input, Endian> as Reader>⟧.view self.now).bytes) }
+        ensures free { IsUtf8 (⟦<EndianSlice<'input, Endian> as Reader>⟧.view self.now).bytes → IsOk result }
+        ensures err { IfErr result (λ e. e ≡ OutOfMemory) }
+    {
+        match self.slice.to_str_lossy(mem) {
+            Ok(text) => Ok(text),
+            Err(_) => Err(Error::OutOfMemory),
+        }
+    }
+
+    /// The bytes from `range.start` up to `range.end`, counted from the position.
+    #[inline]
+    pub fn range(&self, range: Range<usize>) -> EndianSlice<'input, Endian>
+        requires ordered { range.start ≤ range.end }
+        requires within { range.end ≤ length (⟦<EndianSlice<'input, Endian> as Reader>⟧.view self.now).bytes }
+        ensures { ⟦<EndianSlice<'input, Endian> as Reader>⟧.view result
+            ≡ first (range.end - range.start) (after range.start (⟦<EndianSlice<'input, Endian> as Reader>⟧.view self.now)) }
+    {
+        EndianSlice {
+            slice: &self.slice[range.start..range.end],
+            endian: self.endian,
+            end: self.end - (self.slice.len() - range.end) as u64,
+        }
+    }
+
+    /// The bytes from `range.start` on, counted from the position.
+    #[inline]
+    pub fn range_from(&self, range: RangeFrom<usize>) -> EndianSlice<'input, Endian>
+        requires { range.start ≤ length (⟦<EndianSlice<'input, Endian> as Reader>⟧.view self.now).bytes }
+        ensures { ⟦<EndianSlice<'input, Endian> as Reader>⟧.view result
+            ≡ after range.start (⟦<EndianSlice<'input, Endian> as Reader>⟧.view self.now) }
+    {
+        self.range(range.start..self.slice.len())
+    }
+
+    /// The bytes up to `range.end`, counted from the position.
+    #[inline]
+    pub fn range_to(&self, range: RangeTo<usize>) -> EndianSlice<'input, Endian>
+        requires { range.end ≤ length (⟦<EndianSlice<'input, Endian> as Reader>⟧.view self.now).bytes }
+        ensures { ⟦<EndianSlice<'input, Endian> as Reader>⟧.view result
+            ≡ first range.end (⟦<EndianSlice<'input, Endian> as Reader>⟧.view self.now) }
+    {
+        self.range(0..range.end)
+    }
+
+    #[inline]
+    fn position(&self) -> u64
+        ensures { result ≡ (⟦<EndianSlice<'input, Endian> as Reader>⟧.view self.now).position }
+    {
+        self.end - self.slice.len() as u64
+    }
+
+    // `CLONE_IS_FREE`, as contracts have it.
+    const fn is_clone_free() -> bool
+        ensures { result ≡ ⟦<EndianSlice<'input, Endian> as Reader>⟧.clone_is_free }
+    {
+        true
+    }
+}
+
+impl<'input, Endian: Endianity> Reader for EndianSlice<'input, Endian> {
+    type Endian = Endian;
+
+    type Offset = usize;
+
+    const CLONE_IS_FREE: bool = EndianSlice::<'input, Endian>::is_clone_free();
+
+    ghost clone_is_free = { true };
+
+    ghost view = { λ s. record { bytes = s.slice.now; position = s.end - length s.slice.now; is_big = Endian.is_big s.endian } };
+
+    ghost within = { λ s. record { positions = Prim.omega (arith, s.starts, s.ends); lengths = Prim.omega (arith, s.starts, s.ends); bytes = s.bytes } };
+
+    #[inline]
+    fn try_clone(&self) -> Result<Self> {
+        Ok(EndianSlice {
+            slice: self.slice,
+            endian: self.endian,
+            end: self.end,
+        })
+    }
+
+    #[inline]
+    fn endian(&self) -> Endian {
+        self.endian
+    }
+
+    #[inline]
+    fn len(&self) -> usize {
+        self.slice.len()
+    }
+
+    #[inline]
+    fn empty(&mut self) {
+        *self = self.range_to(..0);
+    }
+
+    #[inline]
+    fn truncate(&mut self, len: usize) -> Result<()> {
+        let front = self.split(len)?;
+        *self = front;
+        Ok(())
+    }
+
+    #[inline]
+    fn offset_from(&self, base: &Self) -> usize {
+        (self.position() - base.position()) as usize
+    }
+
+    #[inline]
+    fn offset_id(&self) -> ReaderOffsetId {
+        ReaderOffsetId(self.position())
+    }
+
+    #[inline]
+    fn lookup_offset_id(&self, id: ReaderOffsetId) -> Option<usize> {
+        if id.0 >= self.position() && id.0 <= self.end {
+            Some((id.0 - self.position()) as usize)
+        } else {
+            None
+        }
+    }
+
+    #[inline]
+    fn find(&self, byte: u8) -> Result<usize> {
+        match self.find(byte) {
+            Some(index) => Ok(index),
+            None => Err(Error::UnexpectedEof(self.offset_id())),
+        }
+    }
+
+    #[inline]
+    fn skip(&mut self, len: usize) -> Result<()> {
+        self.split(len)?;
+        Ok(())
+    }
+
+    #[inline]
+    fn split(&mut self, len: usize) -> Result<Self> {
+        if self.slice.len() < len {
+            return Err(Error::UnexpectedEof(self.offset_id()));
+        }
+        let (front, rest) = self.slice.split_at(len);
+        let part = EndianSlice {
+            slice: front,
+            endian: self.endian,
+            end: self.end - rest.len() as u64,
+        };
+        *self = EndianSlice {
+            slice: rest,
+            endian: self.endian,
+            end: self.end,
+        };
+        Ok(part)
+    }
+
+    /// All bytes that are left, borrowed, so that it takes no memory.
+    #[inline]
+    fn to_slice(&self) -> Result<CowSlice<'_, u8>>
+        ensures ok { IfOk result (λ bytes. cow_slice_items bytes ≡ (⟦<EndianSlice<'input, Endian> as Reader>⟧.view self.now).bytes) }
+        ensures err { IfErr result (λ e. e ≡ OutOfMemory) }
+        ensures free { IsOk result }
+    {
+        Ok(CowSlice::Borrowed(self.slice))
+    }
+
+    /// All bytes that are left, as borrowed text, so that it takes no memory.
+    ///
+    /// Answers [`Error::BadUtf8`] exactly where they aren't UTF-8.
+    #[inline]
+    fn to_string(&self) -> Result<CowStr<'_>>
+        ensures ok { IfOk result (λ text. cow_str_bytes text ≡ (⟦<EndianSlice<'input, Endian> as Reader>⟧.view self.now).bytes) }
+        ensures utf8 { OnOk result (IsUtf8 (⟦<EndianSlice<'input, Endian> as Reader>⟧.view self.now).bytes) }
+        ensures err { IfErr result (λ e. (¬ (IsUtf8 (⟦<EndianSlice<'input, Endian> as Reader>⟧.view self.now).bytes) × (e ≡ BadUtf8)) ⊎ (e ≡ OutOfMemory)) }
+        ensures free { IfErr result (λ e. e ≡ BadUtf8) }
+    {
+        Ok(CowStr::Borrowed(self.to_string()?))
+    }
+
+    /// As the trait's call; takes memory only where the bytes aren't UTF-8.
+    #[inline]
+    fn to_string_lossy(&self, mem: Global) -> Result<CowStr<'_>>
+        ensures ok { IfOk result (λ text. cow_str_bytes text ≡ utf8_lossy (⟦<EndianSlice<'input, Endian> as Reader>⟧.view self.now).bytes) }
+        ensures free { IsUtf8 (⟦<EndianSlice<'input, Endian> as Reader>⟧.view self.now).bytes → IsOk result }
+        ensures err { IfErr result (λ e. e ≡ OutOfMemory) }
+    {
+        self.to_string_lossy(mem)
+    }
+
+    #[inline]
+    fn read_slice(&mut self, buf: &mut [u8]) -> Result<()> {
+        let front = self.split(buf.len())?;
+        buf.copy_from_slice(front.slice);
+        Ok(())
+    }
+
+    #[inline]
+    fn read_u8(&mut self) -> Result<u8> {
+        let Some((byte, rest)) = self.slice.split_first() else {
+            return Err(Error::UnexpectedEof(self.offset_id()));
+        };
+        *self = EndianSlice {
+            slice: rest,
+            endian: self.endian,
+            end: self.end,
+        };
+        Ok(*byte)
+    }
+}
+
+// The index of the first byte of this value.
+pub(crate) fn find_byte(bytes: &[u8], byte: u8) -> Option<usize>
+    ensures found { IfSome result (IsFirst byte bytes.now) }
+    ensures none { IfNone result (All (λ b. b ≢ byte) bytes.now) }
+{
+    for (index, b) in bytes.iter().enumerate() {
+        if *b == byte {
+            return Some(index);
+        }
+    }
+    None
+}

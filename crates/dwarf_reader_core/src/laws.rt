@@ -1,0 +1,46 @@
+//! What holds of the definitions that the contracts cite.
+
+ghost use Rattle.std.specs.Prelude.{◌≡◌, ◌≤◌, ◌++◌, ℕ, List, length, IsTrue};
+ghost use Rattle.dwarf_base_core.specs.declared.common.Format.{Format};
+ghost use Rattle.dwarf_base_core.specs.declared.error.Error.{Error};
+ghost use Rattle.dwarf_reader_core.specs.Input.{Input, TakesString};
+ghost use Rattle.dwarf_reader_core.specs.Faults.{Lacks};
+ghost use Rattle.dwarf_reader_core.specs.InitialLength.{TakesLength, RefusesLength};
+ghost use Rattle.dwarf_reader_core.specs.Leb128.{unsigned64, unsigned16, signed64, HasNumber, HasOneOutcome, IsEncoding, Kind, Number, is_in_range, limit};
+ghost use Rattle.dwarf_reader_core.specs.Shortest.{Encodes, IsShortest};
+
+/// Bytes begin with one number of each kind, or end before one does, or are bad, and only one of
+/// these.
+pub fn one_outcome()
+    ensures unsigned { (bytes : List ℕ) → HasOneOutcome unsigned64 bytes }
+    ensures short { (bytes : List ℕ) → HasOneOutcome unsigned16 bytes }
+    ensures signed { (bytes : List ℕ) → HasOneOutcome signed64 bytes }
+{}
+
+/// No encoding begins another.
+pub fn no_encoding_begins_another()
+    ensures { (a b x y : List ℕ) → IsEncoding a → IsEncoding b → a ++ x ≡ b ++ y → (a ≡ b) × (x ≡ y) }
+{}
+
+/// A number has one shortest encoding at most.
+pub fn one_shortest()
+    ensures { (k : Kind) (number : Number k) (a b : List ℕ) → IsShortest k number a → IsShortest k number b → a ≡ b }
+{}
+
+/// What encodes a number, within the limit of its kind, is read as the number, whatever follows.
+pub fn written_is_read()
+    ensures { (k : Kind) (number : Number k) (bytes rest : List ℕ) → Encodes k bytes number → length bytes ≤ limit k → IsTrue (is_in_range k number) → HasNumber k (bytes ++ rest) number (length bytes) }
+{}
+
+/// Bytes begin with one string, or have no zero byte.
+pub fn one_string()
+    ensures taken { (old s t x y : Input) → TakesString old s x → TakesString old t y → (s ≡ t) × (x ≡ y) }
+    ensures either { (old s x : Input) (e : Error) → TakesString old s x → Lacks 0 old e → ⊥ }
+{}
+
+/// Bytes begin with one initial length, or are refused for one reason.
+pub fn one_length()
+    ensures taken { (greatest m n : ℕ) (old x y : Input) (f g : Format) → TakesLength greatest old m f x → TakesLength greatest old n g y → (m ≡ n) × (f ≡ g) × (x ≡ y) }
+    ensures refused { (greatest : ℕ) (old x y : Input) (d e : Error) → RefusesLength greatest old d x → RefusesLength greatest old e y → (d ≡ e) × (x ≡ y) }
+    ensures either { (greatest n : ℕ) (old x y : Input) (f : Format) (e : Error) → TakesLength greatest old n f x → RefusesLength greatest old e y → ⊥ }
+{}

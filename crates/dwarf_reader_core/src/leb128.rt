@@ -1,0 +1,64 @@
+//! LEB128 numbers (DWARF 5, 7.6): a byte carries seven bits of the number, the lowest first, and
+//! its highest bit says whether another byte follows.
+
+ghost use Rattle.std.specs.Prelude.{◌≡◌, ◌≤◌, ◌<◌, ◌*◌, ◌+◌, ◌%◌, ◌^◌, ◌↔◌, IsTrue, ℕ, pos, ◌-ℤ◌, if◌then◌else◌};
+
+pub mod read;
+#[cfg(test)]
+mod tests;
+pub mod write;
+
+const CONTINUATION_BIT: u8 = 1 << 7;
+
+const SIGN_BIT: u8 = 1 << 6;
+
+// The greatest tenth byte of an unsigned number of 64 bits: it has room for bit 63 alone.
+pub(crate) const MAX_TENTH_BYTE: u8 = 0x01;
+
+// The greatest third byte of an unsigned number of 16 bits: it has room for bits 14 and 15 alone.
+pub(crate) const MAX_THIRD_BYTE: u8 = 0x03;
+
+// The seven bits of the number that a byte carries.
+#[inline]
+fn low_bits_of_byte(byte: u8) -> u8
+    ensures { result ≡ byte % 128 }
+{
+    byte & !CONTINUATION_BIT
+}
+
+// Whether another byte follows.
+#[inline]
+pub(crate) fn has_continuation_bit(byte: u8) -> bool
+    ensures { IsTrue result ↔ (128 ≤ byte) }
+{
+    byte & CONTINUATION_BIT != 0
+}
+
+// Whether a number that ends with this byte is negative.
+#[inline]
+pub(crate) fn has_sign_bit(byte: u8) -> bool
+    ensures { IsTrue result ↔ (64 ≤ byte % 128) }
+{
+    byte & SIGN_BIT != 0
+}
+
+// The signed number of `bits` bits: a negative one has ones from there on.
+#[inline]
+pub(crate) fn with_sign(value: u64, is_negative: bool, bits: u32) -> i64
+    requires bits { bits < 64 }
+    requires below { value < 2 ^ bits }
+    ensures { result ≡ pos value -ℤ pos (if is_negative then 2 ^ bits else 0) }
+{
+    let sign = if is_negative { u64::MAX << bits } else { 0 };
+    (value | sign).cast_signed()
+}
+
+// The number with the bits of a further byte.
+#[inline]
+pub(crate) fn with_digit(value: u64, byte: u8, shift: u32) -> u64
+    requires bits { shift ≤ 56 }
+    requires below { value < 2 ^ shift }
+    ensures { result ≡ value + byte % 128 * 2 ^ shift }
+{
+    value | u64::from(low_bits_of_byte(byte)) << shift
+}
