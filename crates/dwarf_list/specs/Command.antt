@@ -1,0 +1,35 @@
+-- The commands, and the words that name them.
+use Rattle.std.specs.Prelude.{◌≡◌, ℕ, Bool, true, false, IsTrue, List, [], ◌∷◌, Option, None, IsSomeAnd, codes, if◌then◌else◌}
+use Rattle.std.specs.Option.{option_map}
+use Rattle.std.specs.Str.{bytes_eq}
+use Rattle.dwarf_list.specs.Number.{signed_of, unsigned_of}
+use Rattle.dwarf_list.specs.declared.command.Command.{Command}
+use Rattle.dwarf_list.specs.declared.command.Command.TheVariants.{Abbrev, Str, Uleb, Sleb}
+
+-- the command that a name and its argument give
+abbrev pub named_command : List ℕ → List ℕ → Option Command
+named_command name argument =
+    if bytes_eq name (codes "abbrev") then option_map Abbrev (unsigned_of argument) else (
+    if bytes_eq name (codes "str") then option_map Str (unsigned_of argument) else (
+    if bytes_eq name (codes "uleb") then option_map Uleb (unsigned_of argument) else (
+    if bytes_eq name (codes "sleb") then option_map Sleb (signed_of argument) else None)))
+
+-- the command that the words give
+abbrev pub command_of : List (List ℕ) → Option Command
+command_of (name ∷ argument ∷ []) = named_command name argument
+command_of _ = None
+
+-- whether the command reads the input
+abbrev pub reads_input : Command → Bool
+reads_input (Abbrev _) = true
+reads_input (Str _) = true
+reads_input (Uleb _) = false
+reads_input (Sleb _) = false
+
+-- the words name no command
+abbrev pub IsUsage : List (List ℕ) → Type 0
+IsUsage words = command_of words ≡ None
+
+-- the words name a command that reads the input
+abbrev pub ReadsInput : List (List ℕ) → Type 0
+ReadsInput words = IsSomeAnd (command_of words) (λ command. IsTrue (reads_input command))

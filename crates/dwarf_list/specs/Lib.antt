@@ -1,0 +1,4 @@
+pub mod Command
+pub mod Fault
+pub mod Listing
+pub mod Number

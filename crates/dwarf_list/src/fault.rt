@@ -1,0 +1,85 @@
+//! Why a listing failed, what is said of it, and the status that the program ends with.
+
+ghost use Rattle.std.specs.Prelude.{◌≡◌};
+
+use dwarf_read_core::Error;
+use std::alloc::AllocError;
+use std::fmt;
+
+/// Why the program lists nothing.
+#[derive(Clone, Copy, Debug, PartialEq, Eq)]
+pub enum Fault {
+    /// The section is at fault, or memory ran out.
+    Section(Error),
+    /// The words name no command.
+    Usage,
+    /// The input could not be read.
+    Read,
+    /// The output could not be written.
+    Write,
+}
+
+impl Fault {
+    ghost use Rattle.dwarf_list.specs.Fault.{fault_status};
+
+    /// Want of memory.
+    pub fn out_of_memory() -> Fault
+        ensures { result ≡ Fault.Section Error.OutOfMemory }
+    {
+        Fault::Section(Error::OutOfMemory)
+    }
+
+    /// The status of the program: 1 for a section, 2 for the words, 3 for input and output.
+    pub fn status(&self) -> u8
+        ensures { result ≡ fault_status self.now }
+    {
+        match self {
+            Fault::Section(_) => 1,
+            Fault::Usage => 2,
+            Fault::Read | Fault::Write => 3,
+        }
+    }
+}
+
+/// The line on standard error, without its end.
+impl fmt::Display for Fault {
+    ghost use Rattle.std.specs.Prelude.{Some};
+    ghost use Rattle.dwarf_list.specs.Fault.{fault_text};
+
+    ghost output = { λ fault. Some (fault_text fault) };
+
+    fn fmt<W: fmt::Write>(&self, f: &mut fmt::Formatter<W>) -> fmt::Result {
+        match self {
+            Fault::Section(error) => write!(f, "error: {error}"),
+            Fault::Usage => write!(
+                f,
+                "usage: dwarf_list abbrev OFFSET | str OFFSET | addr le|be | uleb N | sleb N"
+            ),
+            Fault::Read => write!(f, "error: cannot read input"),
+            Fault::Write => write!(f, "error: cannot write output"),
+        }
+    }
+}
+
+impl From<Error> for Fault {
+    ghost use Rattle.dwarf_list.specs.declared.fault.Fault.TheVariants.{Section};
+    ghost use Rattle.std.specs.Prelude.{◌≡◌};
+
+    ghost from_gives = { λ error fault. fault ≡ Section error };
+
+    fn from(error: Error) -> Fault {
+        Fault::Section(error)
+    }
+}
+
+impl From<AllocError> for Fault {
+    ghost use Rattle.dwarf_list.specs.declared.fault.Fault.TheVariants.{Section};
+    ghost use Rattle.dwarf_read_core.specs.declared.Error.TheVariants.{OutOfMemory};
+    ghost use Rattle.std.specs.Prelude.{◌≡◌};
+
+    ghost from_gives = { λ _ fault. fault ≡ Section OutOfMemory };
+
+    fn from(_refused: AllocError) -> Fault {
+        Fault::out_of_memory()
+    }
+}

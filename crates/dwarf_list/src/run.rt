@@ -1,0 +1,86 @@
+//! The whole of a run: words, input, answer, output.
+
+ghost use Rattle.std.specs.Prelude.{◌≡◌, ◌≢◌, List, ℕ, ◌↔◌, Ok, Err, IfOk, IfErr, OnOk, IfSome, map, string_bytes};
+ghost use Rattle.std.specs.Io.KnownBytes.{Appends, IsAtEnd};
+ghost use Rattle.dwarf_read_core.specs.declared.Error.TheVariants.{OutOfMemory};
+ghost use Rattle.dwarf_list.specs.Fault.{IsReadFault};
+ghost use Rattle.dwarf_list.specs.Command.{IsUsage, ReadsInput};
+ghost use Rattle.dwarf_list.specs.Listing.{IsText};
+
+#[cfg(test)]
+mod tests;
+
+use crate::command::{parse_command, reads_input};
+use crate::fault::Fault;
+use crate::listing::listing;
+use std::alloc::Global;
+use std::io::{ErrorKind, Read, Write};
+
+/// Does what the words of the command line ask for.
+///
+/// The words are judged first. Then the input is read to its end, if the command lists a part of
+/// it, and the text is built whole, written and flushed. Only an `Ok` and a fault of writing leave anything written.
+pub fn run<I: Read, O: Write>(
+    mem: Global,
+    words: &[String],
+    input: &mut I,
+    output: &mut O,
+) -> Result<(), Fault>
+    // What was written, and nothing else.
+    ensures written { OnOk result (IfSome (I.remaining input.old) (λ bytes. (text : List ℕ)
+        × IsText (map string_bytes words.now) bytes (Ok text)
+        × Appends (O.contents output.old) (O.contents output.new) text)) }
+    ensures unwritten { IfErr result (λ fault. fault ≢ Fault.Write → output.new ≡ output.old) }
+    ensures unread { ¬ ReadsInput (map string_bytes words.now) → input.new ≡ input.old }
+    ensures end { OnOk result (ReadsInput (map string_bytes words.now) → IsAtEnd (I.remaining input.new)) }
+
+    // When each fault comes.
+    ensures usage { (result ≡ Err Fault.Usage) ↔ IsUsage (map string_bytes words.now) }
+    ensures section { (error : _) → result ≡ Err (Fault.Section error) → error ≢ OutOfMemory
+        → IfSome (I.remaining input.old) (λ bytes.
+        IsText (map string_bytes words.now) bytes (Err (Fault.Section error))) }
+    ensures read { result ≡ Err Fault.Read → ReadsInput (map string_bytes words.now) }
+    ensures write { result ≡ Err Fault.Write → IfSome (I.remaining input.old) (λ bytes.
+        (text : List ℕ) × IsText (map string_bytes words.now) bytes (Ok text)) }
+{
+    let command = parse_command(words).ok_or(Fault::Usage)?;
+    let bytes = if reads_input(command) {
+        read_input(mem, input)?
+    } else {
+        Vec::new(mem)
+    };
+    let text = listing(mem, command, &bytes)?;
+    write_output(output, &text)
+}
+
+// All of the input. A call that was interrupted is made again.
+fn read_input<I: Read>(mem: Global, input: &mut I) -> Result<Vec<u8>, Fault>
+    ensures whole { IfOk result (λ bytes. IfSome (I.remaining input.old) (λ left. bytes.items ≡ left)) }
+    ensures end { OnOk result (IsAtEnd (I.remaining input.new)) }
+    ensures faults { IfErr result IsReadFault }
+{
+    let mut bytes = Vec::new(mem);
+    let mut buffer = [0; 4096];
+    for _ in 0..u64::MAX {
+        match input.read(&mut buffer) {
+            Ok(0) => return Ok(bytes),
+            Ok(count) => bytes.extend_from_slice(&buffer[..count])?,
+            Err(error) => {
+                if error.kind() != ErrorKind::Interrupted {
+                    return Err(Fault::Read);
+                }
+            }
+        }
+    }
+    Err(Fault::Read)
+}
+
+fn write_output<O: Write>(output: &mut O, text: &[u8]) -> Result<(), Fault>
+    ensures written { OnOk result (Appends (O.contents output.old) (O.contents output.new) text.now) }
+    ensures fault { IfErr result (λ fault. fault ≡ Fault.Write) }
+{
+    if output.write_all(text).is_err() || output.flush().is_err() {
+        return Err(Fault::Write);
+    }
+    Ok(())
+}

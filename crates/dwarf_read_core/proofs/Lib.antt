@@ -1,0 +1,13 @@
+pub mod Steps
+pub mod Numbers
+pub mod Specifications
+pub mod Attributes
+pub mod Sequences
+pub mod Tables
+pub mod Declarations
+pub mod Again
+pub mod Whole
+pub mod Stable
+pub mod Bound
+pub mod Parts
+pub mod StringLemmas

@@ -1,0 +1,49 @@
+-- A declaration read part by part: what each part's outcome makes of the whole.
+use Rattle.std.proofs.Common.{◌≡◌, ◌≢◌, ℕ, Bool, false, List, [], ◌∷◌, length, Option, Some, None, Result, Ok, Err, refl, ap, ◌∙◌, sym}
+use Rattle.std.proofs.lemmas.Bool.{ne_eqb}
+use Rattle.std.proofs.lemmas.List.{nil_from_length}
+use Rattle.dwarf_base_core.specs.declared.error.Error.{Error}
+use Rattle.dwarf_reader_core.specs.Leb128.{unsigned64}
+use Rattle.dwarf_read_core.specs.Grammar.{Declaration, Specification}
+use Rattle.dwarf_read_core.specs.Reading.{◌>>=◌, number_at, tag_at, children_at, attributes_in, declared_at, declaration_at}
+use Rattle.dwarf_read_core.proofs.Steps.{bind_ok}
+
+abbrev Entry : Type 0
+Entry = Result (Option Declaration × List ℕ) Error
+
+-- the code can't be read
+pub code_fails : (end : ℕ) (bytes : List ℕ) (e : Error) → bytes ≢ [] → number_at unsigned64 end bytes ≡ Err e → declaration_at end bytes ≡ Err e
+unfolding declaration_at
+code_fails end bytes e some q = rw (ne_eqb (length bytes) 0 (λ h. some (nil_from_length bytes h)), q) refl
+
+-- the code is not 0, so that a declaration stands there
+pub record IsCoded (end : ℕ) (bytes : List ℕ) (code : ℕ) (after : List ℕ) : Type 0 where
+  pub read : declaration_at end bytes ≡ (declared_at end code after >>= λ d. Ok (Some d.0, d.1))
+
+pub coded : (end : ℕ) (bytes : List ℕ) (code : ℕ) (after : List ℕ) → bytes ≢ [] → number_at unsigned64 end bytes ≡ Ok (code, after) → code ≢ 0 → IsCoded end bytes code after
+unfolding declaration_at
+coded end bytes code after some q nonzero = record { read = rw (ne_eqb (length bytes) 0 (λ h. some (nil_from_length bytes h)), q, ne_eqb code 0 nonzero) refl }
+
+-- so a declaration is read, or a fault
+pub is_some : {end : ℕ} {bytes : List ℕ} {code : ℕ} {after : List ℕ} → IsCoded end bytes code after → (rest : List ℕ) → declaration_at end bytes ≢ Ok (None, rest)
+is_some {end} {bytes} {code} {after} h rest e =
+    let b = bind_ok (declared_at end code after) (λ d. Ok (Some d.0, d.1)) (None, rest) (sym h.read ∙ e) in
+    ok_some b.0.0 b.0.1 rest b.2
+  where
+    ok_some : (d : Declaration) (x y : List ℕ) → let one : Entry = Ok (Some d, x) in let two : Entry = Ok (None, y) in one ≢ two
+    ok_some d x y q =
+        let p : ◌≡◌ {A = Option Declaration × List ℕ} (Some d, x) (None, y) = cc in
+        let none : ◌≡◌ {A = Option Declaration} (Some d) None = ap (λ (z : Option Declaration × List ℕ). z.0) p in
+        cc
+
+pub tag_fails : {end : ℕ} {bytes : List ℕ} {code : ℕ} {after : List ℕ} {e : Error} → IsCoded end bytes code after → tag_at end after ≡ Err e → declaration_at end bytes ≡ Err e
+unfolding declared_at
+tag_fails h q = h.read ∙ rw q refl
+
+pub children_fail : {end : ℕ} {bytes : List ℕ} {code : ℕ} {after : List ℕ} {tag : ℕ} {behind : List ℕ} {e : Error} → IsCoded end bytes code after → tag_at end after ≡ Ok (tag, behind) → children_at end behind ≡ Err e → declaration_at end bytes ≡ Err e
+unfolding declared_at
+children_fail h t q = h.read ∙ rw (t, q) refl
+
+pub attributes_fail : {end : ℕ} {bytes : List ℕ} {code : ℕ} {after : List ℕ} {tag : ℕ} {behind : List ℕ} {children : Bool} {others : List ℕ} {e : Error} → IsCoded end bytes code after → tag_at end after ≡ Ok (tag, behind) → children_at end behind ≡ Ok (children, others) → attributes_in end others ≡ Err e → declaration_at end bytes ≡ Err e
+unfolding declared_at
+attributes_fail h t c q = h.read ∙ rw (t, c, q) refl

@@ -1,0 +1,22 @@
+use Rattle.std.proofs.Common.{◌∙◌}
+use Rattle.dwarf_read_core.proofs.Steps.{gives_err}
+use Rattle.dwarf_read_core.proofs.Attributes.{goes_on, ends, fails}
+use Rattle.dwarf_read_core.proofs.read.abbrev.Abbreviation.parse_attributes.Goals as goal
+
+pub loop-attribute-preserved : goal.loop-attribute-preserved
+loop-attribute-preserved g c =
+    let loop = c.loop-attribute in
+    record {
+      told = rw c.in_ok-push.ensures.items (goes_on _ _ _ c.in-Some.attribute _ _ (rw (loop.invariant.stays, c.in-Some.is) at c.in_ok-attribute.ensures.read) loop.invariant.told);
+      stays = c.in_ok-attribute.ensures.stays ∙ loop.invariant.stays;
+    }
+
+pub returns-in_err-attribute-clause-read : goal.returns-in_err-attribute-clause-read
+returns-in_err-attribute-clause-read g c =
+    let loop = c.loop-attribute in
+    gives_err _ _ c.from_residual.ensures.1 (λ memory. fails _ _ _ _ _ (rw loop.invariant.stays at (c.in_err-attribute.ensures.read memory)) loop.invariant.told)
+
+pub returns-clause-read : goal.returns-clause-read
+returns-clause-read g c =
+    let loop = c.loop-attribute in
+    rw (c.in_ok-from_slice.ensures.items, c.as_slice.ensures.value) (ends _ _ _ _ _ _ (rw loop.invariant.stays at c.in_ok-attribute.ensures.read) c.in_default.is loop.invariant.told)

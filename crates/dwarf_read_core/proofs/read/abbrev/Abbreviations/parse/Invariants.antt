@@ -1,0 +1,21 @@
+use Rattle.std.proofs.Common.{◌≡◌, ℕ, List, length, None, Ok}
+use Rattle.std.specs.FinMap.{empty}
+use Rattle.dwarf_reader_core.specs.Input.{end_of}
+use Rattle.dwarf_read_core.specs.Grammar.{by_end}
+use Rattle.dwarf_read_core.specs.Reading.{declaration_at, table_in}
+use Rattle.dwarf_read_core.proofs.read.abbrev.Abbreviations.parse.Given as goal
+
+-- what is still read, beside the declarations so far, is the whole table
+abbrev pub invariant-declarations : goal.invariant-declarations
+invariant-declarations g l =
+    let view = g.R.Reader.view in
+    let end = end_of (view l.initial.input) in
+    record {
+      told : table_in end l.abbreviations.by_code (view l.input).bytes ≡ table_in end empty (view l.initial.input).bytes;
+      unclosed : l.abbreviations.close ≡ by_end;
+      first : (rest : List ℕ) → declaration_at end (view l.initial.input).bytes ≡ Ok (None, rest) → (view l.input).bytes ≡ (view l.initial.input).bytes;
+      stays : end_of (view l.input) ≡ end;
+    }
+
+abbrev pub decreases-declarations : goal.decreases-declarations
+decreases-declarations g l = length (g.R.Reader.view l.input).bytes

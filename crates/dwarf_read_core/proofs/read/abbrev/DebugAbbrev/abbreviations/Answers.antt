@@ -1,0 +1,36 @@
+use Rattle.std.proofs.Common.{◌≡◌, ℕ, ◌+◌, ◌*◌, ◌≤◌, length, drop, ap, subst, sym, ◌∙◌}
+use Rattle.std.specs.Prelude.{IfOk}
+use Rattle.std.specs.FinMap.{len}
+use Rattle.std.proofs.lemmas.Result.{err_from_is_err_and}
+use Rattle.dwarf_base_core.specs.declared.error.Error.TheVariants.{OutOfMemory}
+use Rattle.dwarf_reader_core.specs.Input.{Input, end_of, Takes}
+use Rattle.dwarf_reader_core.specs.Faults.{EndsBefore}
+use Rattle.dwarf_read_core.specs.Grammar.{attribute_count}
+use Rattle.dwarf_read_core.specs.Sections.{debug_abbrev_reader}
+use Rattle.dwarf_read_core.proofs.Whole.{outside_of, nothing_declared, ok_is_no_error}
+use Rattle.dwarf_read_core.proofs.Bound.{bounded_read}
+use Rattle.dwarf_read_core.proofs.read.abbrev.DebugAbbrev.abbreviations.Goals as goal
+
+pub returns-in_err-skip-clause-answer : goal.returns-in_err-skip-clause-answer
+returns-in_err-skip-clause-answer g c =
+    let p = err_from_is_err_and c.from_residual-in_err-skip.result c.from_residual-in_err-skip.ensures.1 in
+    let view = g.R.Reader.view in
+    let same : view c.in_ok-input.input ≡ view (debug_abbrev_reader c.args.self.now) = c.in_ok-input.ensures.ok in
+    rw (p.1, p.2) (λ memory. outside_of _ _ _ _ (rw same at c.in_err-skip.ensures.err))
+
+pub returns-clause-bound : goal.returns-clause-bound
+returns-clause-bound g c =
+    let view = g.R.Reader.view in
+    let same : view c.in_ok-input.input ≡ view (debug_abbrev_reader c.args.self.now) = c.in_ok-input.ensures.ok in
+    bounded_read c.parse.result (view (debug_abbrev_reader c.args.self.now)) (g.R.Offset.ReaderOffset.value c.args.offset.0) _ (rw same at c.in_ok-skip.ensures.ok) c.parse.ensures.read
+
+pub returns-clause-memory : goal.returns-clause-memory
+returns-clause-memory g c =
+    let view = g.R.Reader.view in
+    let rest = view c.skip.new.self in
+    let same : view c.in_ok-input.input ≡ view (debug_abbrev_reader c.args.self.now) = c.in_ok-input.ensures.ok in
+    let offset = g.R.Offset.ReaderOffset.value c.args.offset.0 in
+    let behind : rest.bytes ≡ drop offset (view (debug_abbrev_reader c.args.self.now)).bytes = ap (λ (i : Input). i.bytes) c.in_ok-skip.ensures.ok.left ∙ ap (λ (i : Input). drop offset i.bytes) same in
+    λ free nothing failed.
+    let none = nothing_declared (end_of rest) (view (debug_abbrev_reader c.args.self.now)) offset rest.bytes nothing behind in
+    ok_is_no_error c.parse.result OutOfMemory (c.parse.ensures.ends none.0 none.1) failed

@@ -1,0 +1,13 @@
+pub mod Answer
+pub mod Grammar
+pub mod Reading
+pub mod Sections
+pub mod Strings
+pub mod Views
+pub use Rattle.dwarf_base_core.specs.ErrorText
+pub use Rattle.dwarf_const_core.specs.DwAt
+pub use Rattle.dwarf_const_core.specs.DwForm
+pub use Rattle.dwarf_const_core.specs.DwTag
+pub use Rattle.dwarf_reader_core.specs.Input
+pub use Rattle.dwarf_reader_core.specs.Leb128
+pub use Rattle.dwarf_reader_core.specs.Shortest

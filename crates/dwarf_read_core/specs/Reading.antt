@@ -1,0 +1,112 @@
+-- Reading from the front, by functions: what is read and the bytes behind it, or the first fault.
+use Rattle.std.specs.Prelude.{◌≡◌, ◌≢◌, ℕ, zero, suc, ◌+◌, Bool, true, false, ℤ, List, [], ◌∷◌, ◌++◌, length, drop, Option, Some, None, Result, Ok, Err, nat_lt, ◌==◌, if◌then◌else◌}
+use Rattle.std.specs.FinMap.{contains_key, insert, empty}
+use Rattle.dwarf_base_core.specs.declared.error.Error.{Error}
+use Rattle.dwarf_base_core.specs.declared.error.Error.TheVariants.{AbbreviationTagZero, InvalidAbbreviationChildren, AttributeNameZero, AttributeFormZero, DuplicateAbbreviationCode, OutOfMemory}
+use Rattle.dwarf_reader_core.specs.Leb128.{Kind, Number, unsigned64, unsigned16, signed64, limit, value, is_in_range, refusal}
+use Rattle.dwarf_reader_core.specs.Faults.{eof, end_fault}
+use Rattle.dwarf_reader_core.specs.Input.{Input, end_of}
+use Rattle.dwarf_read_core.specs.Grammar.{Specification, Declaration, implicit_const, ByCode, Table, closed, Close, by_null, by_end}
+
+infixl 10 ◌>>=◌
+abbrev pub ◌>>=◌ : {A B : Type 0} → Result A Error → (A → Result B Error) → Result B Error
+(Ok x) >>= f = f x
+(Err e) >>= f = Err e
+
+-- what a function returned, seen by view, is what reading gives, unless memory ran out
+abbrev pub Gives : {X Y : Type 0} → (X → Y) → Result X Error → Result Y Error → Type 0
+Gives view (Ok x) read = read ≡ Ok (view x)
+Gives view (Err e) read = e ≢ OutOfMemory → read ≡ Err e
+
+abbrev pub with_byte : ℕ → Option (List ℕ × List ℕ) → Option (List ℕ × List ℕ)
+with_byte b None = None
+with_byte b (Some x) = Some (b ∷ x.0, x.1)
+
+-- the bytes up to the first below 128, of at most so many, and the bytes behind
+unfoldable pub encoding_at : ℕ → List ℕ → Option (List ℕ × List ℕ)
+encoding_at zero bytes = None
+encoding_at (suc n) [] = None
+encoding_at (suc n) (b ∷ bytes) = if nat_lt b 128 then Some (b ∷ [], bytes) else with_byte b (encoding_at n bytes)
+
+abbrev pub number_from : (k : Kind) → ℕ → List ℕ → Option (List ℕ × List ℕ) → Result (Number k × List ℕ) Error
+number_from k end bytes None = if nat_lt (length bytes) (limit k) then Err (eof end) else Err (refusal k)
+number_from k end bytes (Some x) = if is_in_range k (value k x.0) then Ok (value k x.0, x.1) else Err (refusal k)
+
+unfoldable pub number_at : (k : Kind) → ℕ → List ℕ → Result (Number k × List ℕ) Error
+number_at k end bytes = number_from k end bytes (encoding_at (limit k) bytes)
+
+-- a tag, which is not 0
+unfoldable pub tag_at : ℕ → List ℕ → Result (ℕ × List ℕ) Error
+tag_at end bytes = do
+  tag ← number_at unsigned16 end bytes
+  if tag.0 == 0 then Err AbbreviationTagZero else Ok tag
+
+unfoldable pub children_at : ℕ → List ℕ → Result (Bool × List ℕ) Error
+children_at end [] = Err (eof end)
+children_at end (b ∷ bytes) = if b == 0 then Ok (false, bytes) else if b == 1 then Ok (true, bytes) else Err (InvalidAbbreviationChildren (record { 0 = b }))
+
+-- the value behind a form
+unfoldable pub value_at : ℕ → ℕ → List ℕ → Result (Option ℤ × List ℕ) Error
+value_at end form bytes = if form == implicit_const then (number_at signed64 end bytes >>= λ v. Ok (Some v.0, v.1)) else Ok (None, bytes)
+
+abbrev pub specification_of : ℕ → ℕ → Option ℤ → Specification
+specification_of name form value = record { name = name; form = form; value = value }
+
+-- a specification, or None for the null one
+unfoldable pub specification_at : ℕ → List ℕ → Result (Option Specification × List ℕ) Error
+specification_at end bytes = do
+  name ← number_at unsigned16 end bytes
+  form ← number_at unsigned16 end name.1
+  if name.0 == 0 then (if form.0 == 0 then Ok (None, form.1) else Err AttributeNameZero) else if form.0 == 0 then Err AttributeFormZero else (value_at end form.0 form.1 >>= λ value. Ok (Some (specification_of name.0 form.0 value.0), value.1))
+
+abbrev pub and_others : Option Specification → List ℕ → Result (List Specification × List ℕ) Error → Result (List Specification × List ℕ) Error
+and_others None bytes others = Ok ([], bytes)
+and_others (Some s) bytes others = others >>= λ x. Ok (s ∷ x.0, x.1)
+
+-- specifications up to the null one, of fewer than so many bytes
+unfoldable pub attributes_at : ℕ → ℕ → List ℕ → Result (List Specification × List ℕ) Error
+attributes_at zero end bytes = Err (eof end)
+attributes_at (suc n) end bytes = specification_at end bytes >>= λ first. and_others first.0 first.1 (attributes_at n end first.1)
+
+-- specifications up to the null one
+unfoldable pub attributes_in : ℕ → List ℕ → Result (List Specification × List ℕ) Error
+attributes_in end bytes = attributes_at (length bytes + 1) end bytes
+
+-- those before, and those that are read
+abbrev pub with_front : List Specification → Result (List Specification × List ℕ) Error → Result (List Specification × List ℕ) Error
+with_front front read = read >>= λ x. Ok (front ++ x.0, x.1)
+
+abbrev pub declaration_of : ℕ → ℕ → Bool → List Specification → Declaration
+declaration_of code tag children attributes = record { code = code; tag = tag; children = children; attributes = attributes }
+
+-- what is behind a code
+unfoldable pub declared_at : ℕ → ℕ → List ℕ → Result (Declaration × List ℕ) Error
+declared_at end code bytes = do
+  tag ← tag_at end bytes
+  children ← children_at end tag.1
+  attributes ← attributes_in end children.1
+  Ok (declaration_of code tag.0 children.0 attributes.0, attributes.1)
+
+-- a declaration, or None where the table ends
+unfoldable pub declaration_at : ℕ → List ℕ → Result (Option Declaration × List ℕ) Error
+declaration_at end bytes = if length bytes == 0 then Ok (None, bytes) else (number_at unsigned64 end bytes >>= λ code. if code.0 == 0 then Ok (None, code.1) else (declared_at end code.0 code.1 >>= λ d. Ok (Some d.0, d.1)))
+
+abbrev pub close_of : List ℕ → Close
+close_of bytes = if length bytes == 0 then by_end else by_null
+
+abbrev pub and_declared : Close → ByCode → Option Declaration → (ByCode → Result Table Error) → Result Table Error
+and_declared close t None others = Ok (closed t close)
+and_declared close t (Some d) others = if contains_key t d.code then Err (DuplicateAbbreviationCode d.code) else others (insert t d.code d)
+
+-- the declarations at the front of fewer than so many bytes, beside those of a table
+unfoldable pub table_at : ℕ → ℕ → ByCode → List ℕ → Result Table Error
+table_at zero end t bytes = Err (eof end)
+table_at (suc n) end t bytes = declaration_at end bytes >>= λ first. and_declared (close_of bytes) t first.0 (λ more. table_at n end more first.1)
+
+-- the declarations at the front, beside those of a table
+unfoldable pub table_in : ℕ → ByCode → List ℕ → Result Table Error
+table_in end t bytes = table_at (length bytes + 1) end t bytes
+
+-- the table at an offset of a section
+unfoldable pub answer_at : Input → ℕ → Result Table Error
+answer_at section offset = if nat_lt (length section.bytes) offset then Err (end_fault section) else table_in (end_of section) empty (drop offset section.bytes)

@@ -1,0 +1,44 @@
+-- What contracts see of an abbreviation and its parts.
+use Rattle.std.specs.Prelude.{◌≡◌, ◌≢◌, ℕ, ℤ, pos, Option, Some, None, unwrap_or, if◌then◌else◌, ◌==◌, refl}
+use Rattle.std.proofs.Common.{Bool, true, false, sym, ap}
+use Rattle.std.proofs.lemmas.Bool.{eqb-false}
+use Rattle.dwarf_read_core.specs.Grammar.{Specification, Declaration, Table, closed, close_from, implicit_const}
+use Rattle.std.specs.Prelude.{◌<◌}
+use Rattle.std.specs.Ordering.{nat_cmp}
+use Rattle.std.specs.Map.{lookup}
+use Rattle.std.specs.BTreeMap.{is_at}
+use Rattle.dwarf_read_core.specs.declared.read.abbrev.AttributeSpecification.TheInside.{Inside}
+use Rattle.dwarf_read_core.specs.declared.read.abbrev.Abbreviation.TheInside as abbreviation
+use Rattle.dwarf_read_core.specs.declared.read.abbrev.Abbreviations.TheInside as abbreviations
+use Rattle.std.specs.FinMap.{from_entries}
+
+abbrev pub specification_view : Inside → Specification
+specification_view a = record { name = a.name.0; form = a.form.0; value = if a.form.0 == implicit_const then Some a.implicit_const_value else None }
+
+-- with no value the field is 0
+abbrev pub IsCanonical : Inside → Type 0
+IsCanonical a = a.form.0 ≢ implicit_const → a.implicit_const_value ≡ pos 0
+
+abbrev pub specification_fields : Specification → Inside
+specification_fields s = record { name = record { 0 = s.name }; form = record { 0 = s.form }; implicit_const_value = unwrap_or s.value (pos 0) }
+
+value_again : (form : ℕ) (v : ℤ) → (form ≢ implicit_const → v ≡ pos 0) → unwrap_or (if form == implicit_const then Some v else None) (pos 0) ≡ v
+value_again form v h = go (form == implicit_const) refl
+  where
+    go : (b : Bool) → (form == implicit_const) ≡ b → unwrap_or (if b then Some v else None) (pos 0) ≡ v
+    go true e = refl
+    go false e = sym (h (eqb-false form implicit_const e))
+
+pub fields_again : (a : Inside) → IsCanonical a → specification_fields (specification_view a) ≡ a
+fields_again a h = ap (λ (v : ℤ). record { name = a.name; form = a.form; implicit_const_value = v }) (value_again a.form.0 a.implicit_const_value h)
+
+abbrev pub abbreviation_view : abbreviation.Inside → Declaration
+abbreviation_view a = record { code = a.code; tag = a.tag.0; children = a.has_children.0 == 1; attributes = a.attributes.items }
+
+-- a table in memory, by its map and by what closed it
+abbrev pub abbreviations_view : abbreviations.Inside → Table
+abbreviations_view a = closed (from_entries a.map.entries) (close_from a.closed_by_null)
+
+-- each key is the code of its declaration, and not 0
+abbrev pub AreKeyed : abbreviations.Inside → Type 0
+AreKeyed a = (code : ℕ) (d : Declaration) → lookup (is_at (nat_cmp code)) a.map.entries ≡ Some d → (d.code ≡ code) × (0 < code)

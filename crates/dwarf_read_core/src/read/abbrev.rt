@@ -1,0 +1,471 @@
+//! Abbreviation tables: the `.debug_abbrev` section (DWARF 5, 7.5.3).
+//!
+//! A compilation unit stores each debugging information entry as a code and the values of its
+//! attributes. The unit's table of abbreviations says what a code stands for: the tag of the entry,
+//! whether it has children, and which attributes follow in which forms.
+
+ghost use Rattle.std.specs.Prelude.{◌≡◌, ◌≢◌, ◌↔◌, ◌==◌, ◌+◌, ◌*◌, ◌≤◌, ◌<◌, length, true, false, IsTrue, IsSome, IsOk, IsErrOf, IfOk, IfSome, OnOk, IfErr, option_copied, ℕ, List};
+ghost use Rattle.std.specs.FinMap as finite;
+ghost use Rattle.std.specs.Iterator.{YieldsFirstRef, item_count};
+ghost use Rattle.dwarf_reader_core.specs.Input.{end_of};
+ghost use Rattle.dwarf_read_core.specs.Grammar.{implicit_const, by_end, attribute_count};
+ghost use Rattle.dwarf_read_core.specs.Answer.{Answers, IsFinal, TakesNoMemory, followed_by};
+ghost use Rattle.dwarf_read_core.specs.Reading.{Gives, tag_at, children_at, specification_at, attributes_in, declaration_at, table_in};
+
+use dwarf_base_core::{DebugAbbrevOffset, Endianity, Error, Result};
+use dwarf_code_core::children::{DW_CHILDREN_no, DW_CHILDREN_yes, DwChildren};
+use dwarf_const_core::attribute::DwAt;
+use dwarf_const_core::form::{DW_FORM_implicit_const, DwForm};
+use dwarf_const_core::tag::DwTag;
+use dwarf_reader_core::{EndianSlice, Reader};
+use std::alloc::Global;
+use std::collections::BTreeMap;
+use std::collections::btree_map::Values;
+use std::marker::Model;
+
+#[cfg(test)]
+mod tests;
+
+/// The `.debug_abbrev` section (DWARF 5, 7.5.3): tables of abbreviations, one behind the other.
+///
+/// A unit's header says at which offset its table begins.
+#[derive(Debug, Default, Clone, Copy, Drop)]
+pub struct DebugAbbrev<R> {
+    debug_abbrev_section: R,
+}
+
+impl<'input, Endian: Endianity> DebugAbbrev<EndianSlice<'input, Endian>> {
+    ghost use Rattle.dwarf_read_core.specs.Sections.{debug_abbrev_reader};
+
+    /// The section with these bytes, whose first byte has position 0.
+    ///
+    /// ```
+    /// let section = DebugAbbrev::new(&bytes, LittleEndian);
+    /// let table = section.abbreviations(mem, DebugAbbrevOffset(0))?;
+    /// let tag = table.get(1).map(|abbreviation| abbreviation.tag());
+    /// ```
+    pub fn new(debug_abbrev_section: &'input [u8], endian: Endian) -> Self
+        ensures { ⟦<EndianSlice<'input, Endian> as Reader>⟧.view (debug_abbrev_reader result)
+            ≡ record { bytes = debug_abbrev_section.now; position = 0; is_big = Endian.is_big endian } }
+    {
+        Self::from(EndianSlice::new(debug_abbrev_section, endian))
+    }
+}
+
+impl<R> From<R> for DebugAbbrev<R> {
+    ghost use Rattle.dwarf_read_core.specs.Sections.{debug_abbrev_reader};
+
+    ghost from_gives = { λ reader section. debug_abbrev_reader section ≡ reader };
+
+    fn from(debug_abbrev_section: R) -> Self {
+        DebugAbbrev {
+            debug_abbrev_section,
+        }
+    }
+}
+
+impl<R: Reader> DebugAbbrev<R> {
+    ghost use Rattle.dwarf_read_core.specs.Sections.{debug_abbrev_reader};
+
+    /// The table of abbreviations at `offset`, in bytes from the section's start.
+    ///
+    /// A table is a row of declarations with distinct codes. A code of value 0 closes it, and
+    /// so does the section's end where a declaration could begin. An offset equal to the
+    /// section's length answers an empty table.
+    ///
+    /// # Errors
+    ///
+    /// Bytes that begin no table answer their first fault:
+    ///
+    /// - `UnexpectedEof`, at the section's start where `offset` is past its end, and at the
+    ///   section's end where a declaration is cut short;
+    /// - `BadUnsignedLeb128` or `BadSignedLeb128` for a number that is too long or too large;
+    /// - `AbbreviationTagZero`, `InvalidAbbreviationChildren`, `AttributeNameZero`,
+    ///   `AttributeFormZero` for a field that no declaration has;
+    /// - `DuplicateAbbreviationCode` for a whole declaration whose code was there before.
+    ///
+    /// `OutOfMemory` is answered where memory for the table, or for a clone of the reader,
+    /// was refused.
+    #[tactic(auto, using(crate::proofs::Whole::answered, crate::proofs::Stable::stays, crate::proofs::Bound::bounded_read))]
+    pub fn abbreviations(
+        &self,
+        mem: Global,
+        offset: DebugAbbrevOffset<R::Offset>,
+    ) -> Result<Abbreviations>
+        ensures answer { Answers result (R.view (debug_abbrev_reader self.now)) (R.Offset.value offset.0) }
+
+        // A declaration takes five bytes at least, and an attribute two.
+        ensures bound { IfOk result (λ table. 5 * finite.len table.by_code + 2 * attribute_count table.by_code + R.Offset.value offset.0 ≤ length (R.view (debug_abbrev_reader self.now)).bytes) }
+
+        // Memory is wanted only by a declaration, or by a clone that takes some.
+        ensures memory { R.clone_is_free ≡ true → TakesNoMemory (R.view (debug_abbrev_reader self.now)) (R.Offset.value offset.0) → IsErrOf result Error.OutOfMemory → ⊥ }
+
+        // Bytes behind the section change nothing, where the answer doesn't tell of its end.
+        ensures stable { IsFinal result → (more : List ℕ) → Answers result (followed_by (R.view (debug_abbrev_reader self.now)) more) (R.Offset.value offset.0) }
+    {
+        let mut input = self.debug_abbrev_section.try_clone()?;
+        input.skip(offset.0)?;
+        Abbreviations::parse(mem, &mut input)
+    }
+}
+
+/// A table of abbreviations, by their codes.
+#[derive(Debug, Drop)]
+pub struct Abbreviations {
+    map: BTreeMap<u64, Abbreviation>,
+    closed_by_null: bool,
+}
+
+impl Model for Abbreviations {
+    ghost use Rattle.dwarf_read_core.specs.Grammar.{Table, table_code};
+
+    ghost Value = { Table };
+
+    ghost coded = { table_code };
+
+    ghost use Rattle.dwarf_read_core.specs.Views.{abbreviations_view, AreKeyed};
+
+    ghost view = { abbreviations_view };
+
+    ghost invariant = { AreKeyed };
+}
+
+impl Abbreviations {
+    /// The table with no abbreviations. It takes memory only where one is added.
+    pub fn empty(mem: Global) -> Abbreviations
+        ensures none { result.by_code ≡ finite.empty }
+        ensures close { result.close ≡ by_end }
+    {
+        Abbreviations {
+            map: BTreeMap::new(mem),
+            closed_by_null: false,
+        }
+    }
+
+    // Adds an abbreviation, or answers `DuplicateAbbreviationCode` where its code is there.
+    #[tactic(auto, using(crate::proofs::Tables::get_is_lookup, crate::proofs::Tables::inserted))]
+    fn insert(&mut self, abbreviation: Abbreviation) -> Result<()>
+        requires { 0 < abbreviation.code }
+        ensures ok { OnOk result ((finite.contains_key self.old.by_code abbreviation.code ≡ false)
+            × (self.new.by_code ≡ finite.insert self.old.by_code abbreviation.code abbreviation)) }
+        ensures close { OnOk result (self.new.close ≡ self.old.close) }
+        ensures repeated { IfErr result (λ e. e ≢ Error.OutOfMemory
+            → (finite.contains_key self.old.by_code abbreviation.code ≡ true) × (e ≡ Error.DuplicateAbbreviationCode abbreviation.code)) }
+    {
+        let code = abbreviation.code();
+        if self.map.insert(code, abbreviation)?.is_some() {
+            return Err(Error::DuplicateAbbreviationCode(code));
+        }
+        Ok(())
+    }
+
+    /// The abbreviation with this code, if the table has one. No abbreviation has code 0.
+    #[tactic(auto, using(crate::proofs::Tables::get_is_lookup))]
+    pub fn get(&self, code: u64) -> Option<&Abbreviation>
+        ensures found { option_copied result ≡ finite.get self.now.by_code code }
+        ensures coded { IfSome result (λ abbreviation. (abbreviation.now.code ≡ code) × (0 < code)) }
+    {
+        self.map.get(&code)
+    }
+
+    /// How many abbreviations there are.
+    #[tactic(auto, using(crate::proofs::Tables::len_kept))]
+    pub fn len(&self) -> usize
+        ensures { result ≡ finite.len self.now.by_code }
+    {
+        self.map.len()
+    }
+
+    /// Whether the table has no abbreviations.
+    pub fn is_empty(&self) -> bool
+        ensures { IsTrue result ↔ (finite.len self.now.by_code ≡ 0) }
+    {
+        self.len() == 0
+    }
+
+    /// The abbreviations, by rising code.
+    #[tactic(auto, using(crate::proofs::Tables::entries_kept))]
+    pub fn iter(&self) -> AbbreviationsIter<'_>
+        ensures { result ≡ finite.values self.now.by_code }
+    {
+        AbbreviationsIter {
+            values: self.map.values(),
+        }
+    }
+
+    // Reads a table, and the code of value 0 that closes it, if there is one.
+    #[tactic(auto, using(crate::proofs::Whole::table_fails, crate::proofs::Whole::table_ends, crate::proofs::Whole::table_repeats, crate::proofs::Whole::table_goes_on, crate::proofs::Declarations::declaration_shorter))]
+    fn parse<R: Reader>(mem: Global, input: &mut R) -> Result<Abbreviations>
+        ensures ends { (rest : List ℕ) → declaration_at (end_of (R.view input.old)) (R.view input.old).bytes ≡ Ok (None, rest) → IsOk result }
+        ensures read { Gives (λ t. t) result (table_in (end_of (R.view input.old)) finite.empty (R.view input.old).bytes) }
+    {
+        let mut abbreviations = Abbreviations::empty(mem);
+        // Each declaration's attributes are collected here, and copied once into a list of
+        // their own.
+        let mut scratch = Vec::new(mem);
+        'declarations: while !input.is_empty() {
+            let Some(abbreviation) = Abbreviation::parse(mem, input, &mut scratch)? else {
+                abbreviations.closed_by_null = true;
+                return Ok(abbreviations);
+            };
+            abbreviations.insert(abbreviation)?;
+        }
+        Ok(abbreviations)
+    }
+}
+
+/// The abbreviations of a table, by rising code.
+#[derive(Debug, Drop)]
+pub struct AbbreviationsIter<'table> {
+    values: Values<'table, u64, Abbreviation>,
+}
+
+impl<'table> Model for AbbreviationsIter<'table> {
+    ghost use Rattle.std.specs.Prelude.{List};
+    ghost use Rattle.dwarf_read_core.specs.Grammar.{Declaration};
+
+    ghost Value = { List Declaration };
+
+    ghost view = { λ it. it.values };
+}
+
+impl<'table> Iterator for AbbreviationsIter<'table> {
+    type Item = &'table Abbreviation;
+
+    ghost next_gives = { YieldsFirstRef (λ rest. rest) };
+
+    ghost remaining = { item_count (λ rest. rest) };
+
+    fn next(&mut self) -> Option<&'table Abbreviation> {
+        self.values.next()
+    }
+}
+
+/// An abbreviation: the shape of the debugging information entries that have its code.
+#[derive(Debug, Drop)]
+pub struct Abbreviation {
+    code: u64,
+    tag: DwTag,
+    has_children: DwChildren,
+    attributes: Vec<AttributeSpecification>,
+}
+
+impl Model for Abbreviation {
+    ghost use Rattle.dwarf_read_core.specs.Grammar.{Declaration, declaration_code};
+
+    ghost Value = { Declaration };
+
+    ghost coded = { declaration_code };
+
+    ghost use Rattle.dwarf_read_core.specs.Views.{abbreviation_view};
+
+    ghost view = { abbreviation_view };
+}
+
+impl Abbreviation {
+    fn new(
+        code: u64,
+        tag: DwTag,
+        has_children: DwChildren,
+        attributes: Vec<AttributeSpecification>,
+    ) -> Abbreviation
+        ensures { result ≡ record { code = code; tag = tag.0; children = has_children.0 == 1; attributes = attributes.items } }
+    {
+        Abbreviation {
+            code,
+            tag,
+            has_children,
+            attributes,
+        }
+    }
+
+    /// The code by which entries name this abbreviation. It is not 0.
+    pub fn code(&self) -> u64
+        ensures { result ≡ self.now.code }
+    {
+        self.code
+    }
+
+    /// The tag of the entries.
+    pub fn tag(&self) -> DwTag
+        ensures { result.0 ≡ self.now.tag }
+    {
+        self.tag
+    }
+
+    /// Whether an entry is followed by its children.
+    pub fn has_children(&self) -> bool
+        ensures { result ≡ self.now.children }
+    {
+        self.has_children == DW_CHILDREN_yes
+    }
+
+    /// The attributes of the entries, in the order of their values.
+    pub fn attributes(&self) -> &[AttributeSpecification]
+        ensures { result.now ≡ self.now.attributes }
+    {
+        self.attributes.as_slice()
+    }
+
+    #[tactic(auto, using(crate::proofs::Declarations::DeclarationFound, crate::proofs::Again::end_again, crate::proofs::Numbers::number_read, crate::proofs::Numbers::refused, crate::proofs::Numbers::end_stays), unfolding(crate::specs::Reading::tag_at))]
+    fn parse_tag<R: Reader>(input: &mut R) -> Result<DwTag>
+        ensures read { Gives (λ t. (t.0, (R.view input.new).bytes)) result (tag_at (end_of (R.view input.old)) (R.view input.old).bytes) }
+        ensures stays { OnOk result (end_of (R.view input.new) ≡ end_of (R.view input.old)) }
+    {
+        let value = input.read_uleb128_u16()?;
+        if value == 0 {
+            Err(Error::AbbreviationTagZero)
+        } else {
+            Ok(DwTag(value))
+        }
+    }
+
+    #[tactic(auto, unfolding(crate::specs::Reading::children_at))]
+    fn parse_has_children<R: Reader>(input: &mut R) -> Result<DwChildren>
+        ensures read { Gives (λ c. (c.0 == 1, (R.view input.new).bytes)) result (children_at (end_of (R.view input.old)) (R.view input.old).bytes) }
+        ensures stays { OnOk result (end_of (R.view input.new) ≡ end_of (R.view input.old)) }
+    {
+        let value = DwChildren(input.read_u8()?);
+        if value == DW_CHILDREN_no || value == DW_CHILDREN_yes {
+            Ok(value)
+        } else {
+            Err(Error::InvalidAbbreviationChildren(value))
+        }
+    }
+
+    #[tactic(auto, using(crate::proofs::Attributes::goes_on, crate::proofs::Attributes::ends, crate::proofs::Attributes::fails, crate::proofs::Attributes::begins, crate::proofs::Specifications::specification_shorter))]
+    fn parse_attributes<R: Reader>(
+        mem: Global,
+        input: &mut R,
+        scratch: &mut Vec<AttributeSpecification>,
+    ) -> Result<Vec<AttributeSpecification>>
+        ensures read { Gives (λ v. (v.items, (R.view input.new).bytes)) result (attributes_in (end_of (R.view input.old)) (R.view input.old).bytes) }
+        ensures stays { OnOk result (end_of (R.view input.new) ≡ end_of (R.view input.old)) }
+    {
+        scratch.clear();
+        while let Some(attribute) = AttributeSpecification::parse(input)? {
+            scratch.push(attribute)?;
+        }
+        Ok(Vec::from_slice(mem, scratch.as_slice())?)
+    }
+
+    #[tactic(auto, using(crate::proofs::Numbers::number_read, crate::proofs::Numbers::refused, crate::proofs::Numbers::end_stays), unfolding(crate::specs::Reading::declaration_at, crate::specs::Reading::declared_at))]
+    fn parse<R: Reader>(
+        mem: Global,
+        input: &mut R,
+        scratch: &mut Vec<AttributeSpecification>,
+    ) -> Result<Option<Abbreviation>>
+        ensures coded { IfOk result (λ o. IfSome o (λ d. 0 < d.code)) }
+        ensures ends { (rest : List ℕ) → declaration_at (end_of (R.view input.old)) (R.view input.old).bytes ≡ Ok (None, rest) → IsOk result }
+        ensures read { Gives (λ d. (d, (R.view input.new).bytes)) result (declaration_at (end_of (R.view input.old)) (R.view input.old).bytes) }
+        ensures stays { OnOk result (end_of (R.view input.new) ≡ end_of (R.view input.old)) }
+    {
+        if input.is_empty() {
+            return Ok(None);
+        }
+        let code = input.read_uleb128()?;
+        if code == 0 {
+            return Ok(None);
+        }
+        let tag = Self::parse_tag(input)?;
+        let has_children = Self::parse_has_children(input)?;
+        let attributes = Self::parse_attributes(mem, input, scratch)?;
+        Ok(Some(Abbreviation::new(code, tag, has_children, attributes)))
+    }
+}
+
+/// An attribute of an abbreviation: its name, and the form in which its value stands.
+///
+/// The value of an attribute in the form `DW_FORM_implicit_const` stands in the table itself,
+/// and not in the entries (DWARF 5, 7.5.3).
+#[derive(Clone, Copy, Debug, PartialEq, Eq)]
+pub struct AttributeSpecification {
+    name: DwAt,
+    form: DwForm,
+    implicit_const_value: i64,
+}
+
+impl Model for AttributeSpecification {
+    ghost use Rattle.dwarf_read_core.specs.Grammar.{Specification, specification_code};
+
+    ghost Value = { Specification };
+
+    ghost coded = { specification_code };
+
+    ghost use Rattle.dwarf_read_core.specs.Views.{specification_view, specification_fields, IsCanonical, fields_again};
+
+    ghost view = { specification_view };
+
+    ghost invariant = { IsCanonical };
+
+    ghost inverse = { specification_fields };
+
+    ghost inverse_ok = { fields_again };
+}
+
+impl AttributeSpecification {
+    /// The attribute with this name and form. It has a value of its own exactly where the form
+    /// is `DW_FORM_implicit_const`.
+    pub fn new(
+        name: DwAt,
+        form: DwForm,
+        implicit_const_value: Option<i64>,
+    ) -> AttributeSpecification
+        requires { IsSome implicit_const_value ↔ (form.0 ≡ implicit_const) }
+        ensures { result ≡ record { name = name.0; form = form.0; value = implicit_const_value } }
+    {
+        AttributeSpecification {
+            name,
+            form,
+            implicit_const_value: implicit_const_value.unwrap_or(0),
+        }
+    }
+
+    /// The name of the attribute.
+    pub fn name(&self) -> DwAt
+        ensures { result.0 ≡ self.now.name }
+    {
+        self.name
+    }
+
+    /// The form of the attribute's value.
+    pub fn form(&self) -> DwForm
+        ensures { result.0 ≡ self.now.form }
+    {
+        self.form
+    }
+
+    /// The value of an attribute in the form `DW_FORM_implicit_const`, and else `None`.
+    pub fn implicit_const_value(&self) -> Option<i64>
+        ensures { result ≡ self.now.value }
+    {
+        if self.form == DW_FORM_implicit_const {
+            Some(self.implicit_const_value)
+        } else {
+            None
+        }
+    }
+
+    #[tactic(auto, using(crate::proofs::Numbers::number_read, crate::proofs::Numbers::refused, crate::proofs::Numbers::end_stays), unfolding(crate::specs::Reading::specification_at, crate::specs::Reading::value_at))]
+    fn parse<R: Reader>(input: &mut R) -> Result<Option<AttributeSpecification>>
+        ensures read { Gives (λ s. (s, (R.view input.new).bytes)) result (specification_at (end_of (R.view input.old)) (R.view input.old).bytes) }
+        ensures stays { OnOk result (end_of (R.view input.new) ≡ end_of (R.view input.old)) }
+    {
+        let name = input.read_uleb128_u16()?;
+        let form = input.read_uleb128_u16()?;
+        match (name, form) {
+            (0, 0) => return Ok(None),
+            (0, _) => return Err(Error::AttributeNameZero),
+            (_, 0) => return Err(Error::AttributeFormZero),
+            (_, _) => {}
+        }
+        let name = DwAt(name);
+        let form = DwForm(form);
+        let implicit_const_value = if form == DW_FORM_implicit_const {
+            Some(input.read_sleb128()?)
+        } else {
+            None
+        };
+        Ok(Some(AttributeSpecification::new(name, form, implicit_const_value)))
+    }
+}
