@@ -3,6 +3,7 @@
 #![tactic(auto)]
 
 pub mod endian_slice;
+pub mod examples;
 pub mod laws;
 pub mod leb128;
 pub mod reader;

@@ -5,6 +5,7 @@ mod owned;
 ghost use Rattle.std.specs.Prelude.{◌≡◌, false};
 
 use crate::endian_slice::EndianSlice;
+use crate::examples::split_ten;
 use crate::reader::{Reader, read_u8_array};
 use dwarf_base_core::common::Format;
 use dwarf_base_core::endianity::{BigEndian, LittleEndian, RunTimeEndian};
@@ -190,6 +191,9 @@ fn parts(rt: HostRuntime) {
     assert_eq!(rt; rest.range_to(..2).slice(), [3, 4].as_slice());
     assert_eq!(rt; middle.find(5), Some(1));
     assert_eq!(rt; middle.find(6), None);
+    let (three, seven) = split_ten(&[0, 1, 2, 3, 4, 5, 6, 7, 8, 9]);
+    assert_eq!(rt; three, front.slice());
+    assert_eq!(rt; seven, rest.slice());
 }
 
 fn hash_of<T: Hash>(x: &T) -> u64 {
