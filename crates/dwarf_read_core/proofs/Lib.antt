@@ -11,3 +11,5 @@ pub mod Stable
 pub mod Bound
 pub mod Parts
 pub mod StringLemmas
+pub mod Ranges
+pub mod Words

@@ -1,9 +1,12 @@
 pub mod Answer
+pub mod Forms
 pub mod Grammar
+pub mod Ranges
 pub mod Reading
 pub mod Sections
 pub mod Strings
 pub mod Views
+pub mod Words
 pub use Rattle.dwarf_base_core.specs.ErrorText
 pub use Rattle.dwarf_const_core.specs.DwAt
 pub use Rattle.dwarf_const_core.specs.DwForm

@@ -33,9 +33,10 @@ pub use dwarf_base_core::{
 
 // Readers, sections and tables, and the errors of reading.
 pub use read::{
-    Abbreviation, Abbreviations, AbbreviationsIter, AttributeSpecification, DebugAbbrev, DebugStr,
-    EndianSlice, Error, Reader, ReaderAddress, ReaderOffset, ReaderOffsetId, Result, StoreOnHeap,
-    UnitOffset, read_u8_array,
+    Abbreviation, Abbreviations, AbbreviationsCacheStrategy, AbbreviationsIter,
+    AttributeSpecification, DebugAbbrev, DebugAddr, DebugLineStr, DebugStr, DebugStrOffsets,
+    EndianSlice, Error, Reader, ReaderAddress, ReaderOffset, ReaderOffsetId, Result, Section,
+    StoreOnHeap, UnitOffset, read_u8_array,
 };
 
 // Attributes: what a value of an entry is about.

@@ -1,13 +1,20 @@
-//! Reading: readers, the sections that hold abbreviations and strings, and the errors of reading.
+//! Reading: readers, the sections that hold abbreviations, addresses and strings, and the errors of
+//! reading.
 
 mod abbrev;
+mod addr;
+mod indexed;
+mod section;
 mod str;
 
 pub use abbrev::{
-    Abbreviation, Abbreviations, AbbreviationsIter, AttributeSpecification, DebugAbbrev,
+    Abbreviation, Abbreviations, AbbreviationsCacheStrategy, AbbreviationsIter,
+    AttributeSpecification, DebugAbbrev,
 };
+pub use addr::DebugAddr;
 pub use dwarf_base_core::{
     Error, ReaderAddress, ReaderOffset, ReaderOffsetId, Result, StoreOnHeap, UnitOffset,
 };
 pub use dwarf_reader_core::{EndianSlice, Reader, read_u8_array};
-pub use str::DebugStr;
+pub use section::Section;
+pub use str::{DebugLineStr, DebugStr, DebugStrOffsets};

@@ -6,16 +6,27 @@
 
 ghost use Rattle.std.specs.Prelude.{◌≡◌, ◌≢◌, ◌↔◌, ◌==◌, ◌+◌, ◌*◌, ◌≤◌, ◌<◌, length, true, false, IsTrue, IsSome, IsOk, IsErrOf, IfOk, IfSome, OnOk, IfErr, option_copied, ℕ, List};
 ghost use Rattle.std.specs.FinMap as finite;
+ghost use Rattle.std.specs.Fn.{CalledAt, TakesAt};
 ghost use Rattle.std.specs.Iterator.{YieldsFirstRef, item_count};
+ghost use Rattle.dwarf_base_core.specs.declared.common.SectionId.TheVariants.{DebugAbbrev as debug_abbrev};
 ghost use Rattle.dwarf_reader_core.specs.Input.{end_of};
+ghost use Rattle.dwarf_read_core.specs.Forms.{form_size};
 ghost use Rattle.dwarf_read_core.specs.Grammar.{implicit_const, by_end, attribute_count};
 ghost use Rattle.dwarf_read_core.specs.Answer.{Answers, IsFinal, TakesNoMemory, followed_by};
 ghost use Rattle.dwarf_read_core.specs.Reading.{Gives, tag_at, children_at, specification_at, attributes_in, declaration_at, table_in};
 
-use dwarf_base_core::{DebugAbbrevOffset, Endianity, Error, Result};
+use super::section::Section;
+use dwarf_base_core::{DebugAbbrevOffset, Encoding, Endianity, Error, Result, SectionId};
 use dwarf_code_core::children::{DW_CHILDREN_no, DW_CHILDREN_yes, DwChildren};
 use dwarf_const_core::attribute::DwAt;
-use dwarf_const_core::form::{DW_FORM_implicit_const, DwForm};
+use dwarf_const_core::form::{
+    DW_FORM_GNU_ref_alt, DW_FORM_GNU_strp_alt, DW_FORM_addr, DW_FORM_addrx1, DW_FORM_addrx2,
+    DW_FORM_addrx3, DW_FORM_addrx4, DW_FORM_data1, DW_FORM_data2, DW_FORM_data4, DW_FORM_data8,
+    DW_FORM_data16, DW_FORM_flag, DW_FORM_flag_present, DW_FORM_implicit_const, DW_FORM_line_strp,
+    DW_FORM_ref_addr, DW_FORM_ref_sig8, DW_FORM_ref_sup4, DW_FORM_ref_sup8, DW_FORM_ref1,
+    DW_FORM_ref2, DW_FORM_ref4, DW_FORM_ref8, DW_FORM_sec_offset, DW_FORM_strp, DW_FORM_strp_sup,
+    DW_FORM_strx1, DW_FORM_strx2, DW_FORM_strx3, DW_FORM_strx4, DwForm,
+};
 use dwarf_const_core::tag::DwTag;
 use dwarf_reader_core::{EndianSlice, Reader};
 use std::alloc::Global;
@@ -107,6 +118,15 @@ impl<R: Reader> DebugAbbrev<R> {
         input.skip(offset.0)?;
         Abbreviations::parse(mem, &mut input)
     }
+}
+
+/// Which tables a cache of abbreviations keeps.
+#[derive(Debug, Clone, Copy, PartialEq, Eq)]
+pub enum AbbreviationsCacheStrategy {
+    /// Those that more than one unit uses.
+    Duplicates,
+    /// Those that any unit uses.
+    All,
 }
 
 /// A table of abbreviations, by their codes.
@@ -446,6 +466,14 @@ impl AttributeSpecification {
         }
     }
 
+    /// How many bytes a value of this attribute has in a unit with this encoding, where the form
+    /// tells it (DWARF 5, 7.5.6), and else `None`.
+    pub fn size(&self, encoding: Encoding) -> Option<usize>
+        ensures { result ≡ form_size self.now.form encoding }
+    {
+        get_attribute_size(self.form, encoding).map(usize::from)
+    }
+
     #[tactic(auto, using(crate::proofs::Numbers::number_read, crate::proofs::Numbers::refused, crate::proofs::Numbers::end_stays), unfolding(crate::specs::Reading::specification_at, crate::specs::Reading::value_at))]
     fn parse<R: Reader>(input: &mut R) -> Result<Option<AttributeSpecification>>
         ensures read { Gives (λ s. (s, (R.view input.new).bytes)) result (specification_at (end_of (R.view input.old)) (R.view input.old).bytes) }
@@ -467,5 +495,68 @@ impl AttributeSpecification {
             None
         };
         Ok(Some(AttributeSpecification::new(name, form, implicit_const_value)))
+    }
+}
+
+impl<T> DebugAbbrev<T> {
+    ghost use Rattle.dwarf_read_core.specs.Sections.{debug_abbrev_reader};
+
+    /// The section over the reader that `borrow` makes of a reference to the data of this one.
+    pub fn borrow<'a, F, R>(&'a self, mut borrow: F) -> DebugAbbrev<R>
+    where
+        F: FnMut(&'a T) -> R + Drop,
+        requires { TakesAt F.FnMut borrow (debug_abbrev_reader self.now) }
+        ensures { (after : F) × CalledAt F.FnMut borrow (debug_abbrev_reader self.now) (debug_abbrev_reader result) after }
+    {
+        borrow(&self.debug_abbrev_section).into()
+    }
+}
+
+impl<R> Section<R> for DebugAbbrev<R> {
+    ghost use Rattle.dwarf_read_core.specs.Sections.{debug_abbrev_reader};
+
+    ghost section_id = { debug_abbrev };
+
+    ghost section_reader = { debug_abbrev_reader };
+
+    fn id() -> SectionId {
+        SectionId::DebugAbbrev
+    }
+
+    fn reader(&self) -> &R {
+        &self.debug_abbrev_section
+    }
+
+    ghost holds_reader = { λ reader section h. h };
+}
+
+#[inline]
+#[tactic(auto, unfolding(crate::specs::Forms::form_sizes))]
+fn get_attribute_size(form: DwForm, encoding: Encoding) -> Option<u8>
+    ensures { result ≡ form_size form.0 encoding }
+{
+    match form {
+        DW_FORM_addr => Some(encoding.address_size),
+        DW_FORM_implicit_const | DW_FORM_flag_present => Some(0),
+        DW_FORM_data1 | DW_FORM_flag | DW_FORM_strx1 | DW_FORM_ref1 | DW_FORM_addrx1 => Some(1),
+        DW_FORM_data2 | DW_FORM_ref2 | DW_FORM_addrx2 | DW_FORM_strx2 => Some(2),
+        DW_FORM_addrx3 | DW_FORM_strx3 => Some(3),
+        DW_FORM_data4 | DW_FORM_ref_sup4 | DW_FORM_ref4 | DW_FORM_strx4 | DW_FORM_addrx4 => Some(4),
+        DW_FORM_data8 | DW_FORM_ref8 | DW_FORM_ref_sig8 | DW_FORM_ref_sup8 => Some(8),
+        DW_FORM_data16 => Some(16),
+        DW_FORM_sec_offset
+        | DW_FORM_GNU_ref_alt
+        | DW_FORM_strp
+        | DW_FORM_strp_sup
+        | DW_FORM_GNU_strp_alt
+        | DW_FORM_line_strp => Some(encoding.format.word_size()),
+        DW_FORM_ref_addr => {
+            if encoding.version == 2 {
+                Some(encoding.address_size)
+            } else {
+                Some(encoding.format.word_size())
+            }
+        }
+        _ => None,
     }
 }

@@ -1,6 +1,7 @@
 use super::{Abbreviation, Abbreviations, AttributeSpecification, DebugAbbrev};
 use dwarf_base_core::{
-    BigEndian, DebugAbbrevOffset, Error, LittleEndian, ReaderOffsetId, Result, RunTimeEndian,
+    BigEndian, DebugAbbrevOffset, Encoding, Error, Format, LittleEndian, ReaderOffsetId, Result,
+    RunTimeEndian,
 };
 use dwarf_code_core::children::{DW_CHILDREN_no, DW_CHILDREN_yes, DwChildren};
 use dwarf_const_core::attribute::{DW_AT_name, DwAt};
@@ -289,6 +290,97 @@ fn declarations(rt: HostRuntime) -> std::result::Result<(), Fail> {
     assert_eq!(rt; table.get(1).map(|a| a.tag()), Some(DW_TAG_compile_unit));
     assert_eq!(rt; input.slice(), b"\x05\x06\x07\x08".as_slice());
     Ok(())
+}
+
+// With every request for memory refused in turn, an answer is the whole table or want of memory.
+#[test]
+fn refused_memory(rt: HostRuntime) {
+    let cases: [(&[u8], usize); 4] = [
+        (b"", 0),
+        (b"\x80\0\xaa", 0),
+        (b"\x01\x11\0\0\0\x03\x11\0\0\0\x02\x11\0\0\0\0", 3),
+        (
+            b"\x01\x11\0\x03\x08\x03\x08\x03\x08\x03\x08\x03\x08\x03\x08\0\0\0",
+            1,
+        ),
+    ];
+    for (bytes, len) in cases {
+        let section = DebugAbbrev::new(bytes, LittleEndian);
+        match section.abbreviations(rt.alloc(), DebugAbbrevOffset(0)) {
+            Ok(table) => assert_eq!(rt; table.len(), len),
+            Err(error) => {
+                assert_eq!(rt; error, Error::OutOfMemory);
+                assert!(rt; len > 0);
+            }
+        }
+    }
+}
+
+// The forms whose values have a size, and the sizes with addresses of four bytes: in the 32-bit
+// format in version 2 and later, and in the 64-bit format in version 2 and later.
+static SIZES: [(u16, [usize; 4]); 31] = [
+    (0x01, [4, 4, 4, 4]),
+    (0x05, [2, 2, 2, 2]),
+    (0x06, [4, 4, 4, 4]),
+    (0x07, [8, 8, 8, 8]),
+    (0x0b, [1, 1, 1, 1]),
+    (0x0c, [1, 1, 1, 1]),
+    (0x0e, [4, 4, 8, 8]),
+    (0x10, [4, 4, 4, 8]),
+    (0x11, [1, 1, 1, 1]),
+    (0x12, [2, 2, 2, 2]),
+    (0x13, [4, 4, 4, 4]),
+    (0x14, [8, 8, 8, 8]),
+    (0x17, [4, 4, 8, 8]),
+    (0x19, [0, 0, 0, 0]),
+    (0x1c, [4, 4, 4, 4]),
+    (0x1d, [4, 4, 8, 8]),
+    (0x1e, [16, 16, 16, 16]),
+    (0x1f, [4, 4, 8, 8]),
+    (0x20, [8, 8, 8, 8]),
+    (0x21, [0, 0, 0, 0]),
+    (0x24, [8, 8, 8, 8]),
+    (0x25, [1, 1, 1, 1]),
+    (0x26, [2, 2, 2, 2]),
+    (0x27, [3, 3, 3, 3]),
+    (0x28, [4, 4, 4, 4]),
+    (0x29, [1, 1, 1, 1]),
+    (0x2a, [2, 2, 2, 2]),
+    (0x2b, [3, 3, 3, 3]),
+    (0x2c, [4, 4, 4, 4]),
+    (0x1f20, [4, 4, 8, 8]),
+    (0x1f21, [4, 4, 8, 8]),
+];
+
+fn size_of_form(form: u16, format: Format, version: u16) -> Option<usize> {
+    let value = if form == 0x21 { Some(0) } else { None };
+    let attribute = AttributeSpecification::new(DW_AT_name, DwForm(form), value);
+    attribute.size(Encoding {
+        address_size: 4,
+        format,
+        version,
+    })
+}
+
+#[test]
+fn sizes(rt: HostRuntime) {
+    for form in 0..0x2000u16 {
+        let row = SIZES.iter().find(|row| row.0 == form);
+        for version in 2..6u16 {
+            let short = row.map(|row| if version == 2 { row.1[0] } else { row.1[1] });
+            let long = row.map(|row| if version == 2 { row.1[2] } else { row.1[3] });
+            assert_eq!(rt;
+                size_of_form(form, Format::Dwarf32, version),
+                short,
+                "{form}"
+            );
+            assert_eq!(rt;
+                size_of_form(form, Format::Dwarf64, version),
+                long,
+                "{form}"
+            );
+        }
+    }
 }
 
 const ALPHABET: [u8; 8] = [0x00, 0x01, 0x02, 0x11, 0x21, 0x7f, 0x80, 0xff];

@@ -1,0 +1,7 @@
+-- The one call is at the section's data, and the new section holds what it answered.
+use Rattle.std.proofs.Common.{sym}
+use Rattle.std.proofs.lemmas.Fn.{called_at}
+use Rattle.dwarf_read_core.proofs.read.abbrev.DebugAbbrev.borrow.Goals as goal
+
+pub returns : goal.returns
+returns g c = (_, called_at g.F.FnMut c.borrow.ensures (sym c.into.ensures))

@@ -1,0 +1,60 @@
+-- How many bytes a value of a form has, where the form tells it (DWARF 5, 7.5.6).
+use Rattle.std.specs.Prelude.{ℕ, List, [], ◌∷◌, ◌==◌, Option, Some, None, if◌then◌else◌}
+use Rattle.std.specs.Map.{lookup}
+use Rattle.dwarf_base_core.specs.Format.{word_size}
+use Rattle.dwarf_base_core.specs.declared.common.Encoding.{Encoding}
+
+-- the address size, a word of the format, or the one that DWARF 2 gave to references between units
+pub data Size : Type 0 where
+  Bytes : ℕ → Size
+  Address : Size
+  Word : Size
+  Reference : Size
+
+-- each form whose value has a size, and that size
+unfoldable pub form_sizes : List (ℕ × Size)
+form_sizes =
+    (0x01, Address) ∷
+    (0x05, Bytes 2) ∷
+    (0x06, Bytes 4) ∷
+    (0x07, Bytes 8) ∷
+    (0x0b, Bytes 1) ∷
+    (0x0c, Bytes 1) ∷
+    (0x0e, Word) ∷
+    (0x10, Reference) ∷
+    (0x11, Bytes 1) ∷
+    (0x12, Bytes 2) ∷
+    (0x13, Bytes 4) ∷
+    (0x14, Bytes 8) ∷
+    (0x17, Word) ∷
+    (0x19, Bytes 0) ∷
+    (0x1c, Bytes 4) ∷
+    (0x1d, Word) ∷
+    (0x1e, Bytes 16) ∷
+    (0x1f, Word) ∷
+    (0x20, Bytes 8) ∷
+    (0x21, Bytes 0) ∷
+    (0x24, Bytes 8) ∷
+    (0x25, Bytes 1) ∷
+    (0x26, Bytes 2) ∷
+    (0x27, Bytes 3) ∷
+    (0x28, Bytes 4) ∷
+    (0x29, Bytes 1) ∷
+    (0x2a, Bytes 2) ∷
+    (0x2b, Bytes 3) ∷
+    (0x2c, Bytes 4) ∷
+    (0x1f20, Word) ∷
+    (0x1f21, Word) ∷
+    []
+
+-- the size in an encoding
+abbrev pub size_in : Encoding → Option Size → Option ℕ
+size_in e None = None
+size_in e (Some (Bytes n)) = Some n
+size_in e (Some Address) = Some e.address_size
+size_in e (Some Word) = Some (word_size e.format)
+size_in e (Some Reference) = Some (if e.version == 2 then e.address_size else word_size e.format)
+
+-- how many bytes a value of the form has
+abbrev pub form_size : ℕ → Encoding → Option ℕ
+form_size form e = size_in e (lookup (λ f. f == form) form_sizes)

@@ -1,0 +1,45 @@
+//! Places in a section that are counted in numbers of one width from a base on.
+
+ghost use Rattle.std.specs.Prelude.{◌+◌, ◌*◌, OnOk, IfErr};
+ghost use Rattle.dwarf_base_core.specs.Checked.{OkBelow};
+ghost use Rattle.dwarf_reader_core.specs.Input.{Takes};
+ghost use Rattle.dwarf_read_core.specs.Words.{slot, place, IsPlaced, Misplaced};
+
+use dwarf_base_core::{Error, ReaderOffset, Result};
+use dwarf_reader_core::Reader;
+
+/// The length of `index` numbers of `width` bytes each, or `UnsupportedOffset` where it is no
+/// offset.
+#[inline]
+fn length_before<Offset: ReaderOffset>(index: Offset, width: u8) -> Result<Offset>
+    ensures { OkBelow (Offset.GREATEST + 1) Offset.value (Offset.value index * width) Error.UnsupportedOffset result }
+{
+    let length = index
+        .into_u64()
+        .checked_mul(u64::from(width))
+        .ok_or(Error::UnsupportedOffset)?;
+    Offset::from_u64(length)
+}
+
+/// Takes the bytes before the number of this index: those before `base`, then `index` numbers of
+/// `width` bytes each.
+///
+/// # Errors
+///
+/// `UnexpectedEof` here where `base` is past the end, and at `base` where the number is;
+/// `UnsupportedOffset` where the number lies too far from `base` for an offset.
+#[inline]
+#[tactic(auto, using(crate::proofs::Words::no_base, crate::proofs::Words::too_far_off, crate::proofs::Words::past_end, crate::proofs::Words::skipped, crate::proofs::Words::placed))]
+pub(crate) fn skip_to_index<R: Reader>(
+    input: &mut R,
+    base: R::Offset,
+    index: R::Offset,
+    width: u8,
+) -> Result<()>
+    ensures placed { OnOk result (IsPlaced R.Offset.GREATEST (R.view input.old) (slot (R.Offset.value base) (R.Offset.value index) width)) }
+    ensures ok { OnOk result (Takes (place (slot (R.Offset.value base) (R.Offset.value index) width)) (R.view input.old) (R.view input.new)) }
+    ensures err { IfErr result (Misplaced R.Offset.GREATEST (R.view input.old) (slot (R.Offset.value base) (R.Offset.value index) width)) }
+{
+    input.skip(base)?;
+    input.skip(length_before(index, width)?)
+}

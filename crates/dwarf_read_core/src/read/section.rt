@@ -1,0 +1,115 @@
+//! What the sections have in common: an identifier, names, and the reader of their bytes.
+
+ghost use Rattle.std.specs.Prelude.{◌≡◌, ◌+◌, ◌⊎◌, ◌↔◌, IfOk, IfErr, IfSome, IsSome, Ok, Err, option_map};
+ghost use Rattle.dwarf_base_core.specs.declared.common.SectionId.{SectionId};
+ghost use Rattle.dwarf_base_core.specs.Section.{section_names};
+ghost use Rattle.dwarf_reader_core.specs.Input.{Covers};
+ghost use Rattle.dwarf_reader_core.specs.Faults.{WantsMemory};
+ghost use Rattle.dwarf_read_core.specs.Ranges.{RangeAt};
+
+use dwarf_base_core::{ReaderOffset, ReaderOffsetId, Result, SectionId};
+use dwarf_reader_core::Reader;
+
+#[cfg(test)]
+mod tests;
+
+/// A section of DWARF over a reader `R` of its bytes.
+///
+/// A section is made from its reader by `From`, or loaded:
+///
+/// ```
+/// let debug_str = DebugStr::load(|id| find_section(id.name()))?;
+/// ```
+pub trait Section<R>: From<R> + Sized {
+    ghost section_id: { SectionId };
+
+    ghost section_reader: { Self → R };
+
+    /// Which section this is.
+    fn id() -> SectionId
+        ensures { result ≡ section_id };
+
+    /// The section's name in an ELF object, such as `.debug_abbrev`.
+    fn section_name() -> &'static str
+        ensures { result.now ≡ (section_names section_id).name }
+    {
+        Self::id().name()
+    }
+
+    /// The section's name in a split object or a package, such as `.debug_abbrev.dwo`, or `None`
+    /// where it stands in neither.
+    fn dwo_section_name() -> Option<&'static str>
+        ensures { option_map (λ name. name.now) result ≡ (section_names section_id).dwo_name }
+    {
+        Self::id().dwo_name()
+    }
+
+    /// The section's name in an XCOFF object, such as `.dwabrev`, or `None` where XCOFF has no name
+    /// for it.
+    fn xcoff_section_name() -> Option<&'static str>
+        ensures { option_map (λ name. name.now) result ≡ (section_names section_id).xcoff_name }
+    {
+        Self::id().xcoff_name()
+    }
+
+    /// The section over the reader that `f` answers for its identifier; `f` is called once.
+    ///
+    /// # Errors
+    ///
+    /// The error that `f` answers, as it is.
+    fn load<F, E>(f: F) -> std::result::Result<Self, E>
+    where
+        F: FnOnce(SectionId) -> std::result::Result<R, E>,
+        requires { F.pre f section_id }
+        ensures ok { IfOk result (λ section. F.post f section_id (Ok (section_reader section))) }
+        ensures err { IfErr result (λ e. F.post f section_id (Err e)) }
+    {
+        match f(Self::id()) {
+            Ok(reader) => Ok(Self::from(reader)),
+            Err(e) => Err(e),
+        }
+    }
+
+    /// The reader of the section's bytes.
+    fn reader(&self) -> &R
+    where
+        R: Reader,
+        ensures { result.now ≡ section_reader self.now };
+
+    /// The `size` bytes from `offset` on, as a section of their own; the first keeps its position.
+    ///
+    /// The index of a package gives offset and size of what belongs to one unit.
+    ///
+    /// # Errors
+    ///
+    /// `UnexpectedEof` at the section's start where `offset` is past its end, and at the range's
+    /// start where the range ends past it. `OutOfMemory` where a clone of the reader was refused.
+    #[tactic(auto, using(crate::proofs::Ranges::range_taken, crate::proofs::Ranges::range_cut, crate::proofs::Ranges::range_outside))]
+    fn dwp_range(&self, offset: u32, size: u32) -> Result<Self>
+    where
+        R: Reader,
+        ensures ok { IfOk result (λ section. RangeAt (R.view (section_reader self.now)) offset size (Ok (R.view (section_reader section)))) }
+        ensures err { IfErr result (λ e. RangeAt (R.view (section_reader self.now)) offset size (Err e) ⊎ WantsMemory R.clone_is_free e) }
+    {
+        let mut data = self.reader().try_clone()?;
+        data.skip(R::Offset::from_u32(offset))?;
+        data.truncate(R::Offset::from_u32(size))?;
+        Ok(data.into())
+    }
+
+    /// The section's identifier and the offset of the place that `id` names, or `None` where it is
+    /// neither one of the section's bytes nor its end.
+    fn lookup_offset_id(&self, id: ReaderOffsetId) -> Option<(SectionId, R::Offset)>
+    where
+        R: Reader,
+        ensures found { IfSome result (λ found. (found.0 ≡ section_id) × ((R.view (section_reader self.now)).position + R.Offset.value found.1 ≡ id.0)) }
+        ensures covered { IsSome result ↔ Covers (R.view (section_reader self.now)) id.0 }
+    {
+        self.reader()
+            .lookup_offset_id(id)
+            .map(|offset| (Self::id(), offset))
+    }
+
+    // A section that is made from a reader holds it.
+    ghost holds_reader: { (reader : R) (section : Self) → Self.from_gives reader section → section_reader section ≡ reader };
+}
