@@ -9,6 +9,7 @@ ghost use Rattle.std.specs.Prelude.{◌≡◌, ◌^◌, ◌↔◌, ◌⊎◌, Is
 ghost use Rattle.dwarf_base_core.specs.Checked.{OkBelow};
 
 use crate::error::{Error, Result};
+use crate::reader_offset::ReaderOffset;
 
 /// Whether a unit's lengths and offsets have 4 bytes or 8.
 ///
@@ -207,6 +208,29 @@ pub struct DebugStrOffset<T>(pub T);
 /// An offset from the start of `.debug_str_offsets`, where the first entry of a set stands.
 #[derive(Debug, Clone, Copy, PartialEq, Eq)]
 pub struct DebugStrOffsetsBase<T>(pub T);
+
+impl<Offset: ReaderOffset> DebugStrOffsetsBase<Offset> {
+    ghost use Rattle.dwarf_base_core.specs.Format.{default_str_offsets_base};
+
+    /// The base of a unit that has no `DW_AT_str_offsets_base`.
+    ///
+    /// A split object of version 5 has one set of entries and no such attribute, so the base is
+    /// the length of that set's header (DWARF 5, 7.26): 8 bytes, or 16 in the 64-bit format.
+    /// Everywhere else it is 0.
+    pub fn default_for_encoding_and_file(
+        encoding: Encoding,
+        file_type: DwarfFileType,
+    ) -> DebugStrOffsetsBase<Offset>
+        ensures { Offset.value result.0 ≡ default_str_offsets_base encoding.version encoding.format file_type }
+    {
+        if encoding.version >= 5 && file_type == DwarfFileType::Dwo {
+            // The header has an initial length, a version and two bytes of padding.
+            DebugStrOffsetsBase(Offset::from_u8(encoding.format.initial_length_size() + 2 + 2))
+        } else {
+            DebugStrOffsetsBase(Offset::from_u8(0))
+        }
+    }
+}
 
 /// The place of an entry in its set in `.debug_str_offsets`, counted in entries from 0.
 #[derive(Debug, Clone, Copy, PartialEq, Eq)]

@@ -2,10 +2,10 @@
 //! texts, and each generic body at a type.
 
 use crate::{
-    BigEndian, DebugAbbrevOffset, DebugFrameOffset, DebugInfoOffset, DwarfFileType, EhFrameOffset,
-    Encoding, Endianity, Error, Format, LineEncoding, LittleEndian, NativeEndian, ReaderAddress,
-    ReaderOffset, ReaderOffsetId, Register, RunTimeEndian, SectionId, StoreOnHeap, UnitOffset,
-    Vendor,
+    BigEndian, DebugAbbrevOffset, DebugFrameOffset, DebugInfoOffset, DebugStrOffsetsBase,
+    DwarfFileType, EhFrameOffset, Encoding, Endianity, Error, Format, LineEncoding, LittleEndian,
+    NativeEndian, ReaderAddress, ReaderOffset, ReaderOffsetId, Register, RunTimeEndian, SectionId,
+    StoreOnHeap, UnitOffset, Vendor,
 };
 use dwarf_code_core::call_frame::DwCfa;
 use dwarf_code_core::children::DwChildren;
@@ -628,4 +628,27 @@ fn plain_types(rt: HostRuntime) {
     assert!(rt; DebugInfoOffset(1u64) < DebugInfoOffset(2) && UnitOffset(3u8) < UnitOffset(4));
     assert_eq!(rt; Error::from(AllocError), Error::OutOfMemory);
     assert_eq!(rt; Error::from(AllocFailed { value: 5u8 }), Error::OutOfMemory);
+}
+
+#[test]
+fn default_string_offset_bases(rt: HostRuntime) {
+    let cases = [
+        (5, Format::Dwarf32, DwarfFileType::Dwo, 8usize),
+        (5, Format::Dwarf64, DwarfFileType::Dwo, 16),
+        (6, Format::Dwarf32, DwarfFileType::Dwo, 8),
+        (4, Format::Dwarf32, DwarfFileType::Dwo, 0),
+        (4, Format::Dwarf64, DwarfFileType::Dwo, 0),
+        (5, Format::Dwarf32, DwarfFileType::Main, 0),
+        (5, Format::Dwarf64, DwarfFileType::Main, 0),
+        (4, Format::Dwarf64, DwarfFileType::Main, 0),
+    ];
+    for (version, format, file_type, want) in cases {
+        let encoding = Encoding {
+            address_size: 8,
+            format,
+            version,
+        };
+        let base = DebugStrOffsetsBase::default_for_encoding_and_file(encoding, file_type);
+        assert_eq!(rt; base, DebugStrOffsetsBase(want));
+    }
 }

@@ -1,3 +1,4 @@
 pub mod Commands
 pub mod Hexadecimal
 pub mod Numbers
+pub mod Texts

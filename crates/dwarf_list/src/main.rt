@@ -5,6 +5,7 @@
 
 mod command;
 mod fault;
+mod laws;
 mod listing;
 mod number;
 mod run;

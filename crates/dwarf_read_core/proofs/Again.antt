@@ -1,14 +1,14 @@
 -- What the grammar has at the front is read, and each fault is met.
-use Rattle.std.proofs.Common.{◌≡◌, ◌≢◌, ℕ, zero, suc, ◌+◌, ◌<◌, ◌≤◌, Bool, true, false, cond, eqb, List, [], ◌∷◌, ◌++◌, length, Option, Some, None, Result, Ok, Err, refl, sym, ap, subst, ◌∙◌, append_assoc, arith, ◌⊎◌, inl, inr}
-use Rattle.std.proofs.lemmas.Bool.{eqb-true, eqb-false, eq-eqb, ne_eqb}
+use Rattle.std.proofs.Common.{◌≡◌, ◌≢◌, ℕ, ◌<◌, Bool, true, false, eqb, List, [], ◌∷◌, ◌++◌, length, Option, Some, None, Result, Ok, Err, refl, sym, ap, ◌∙◌, append_assoc, arith}
+use Rattle.std.proofs.lemmas.Bool.{ne_eqb}
 use Rattle.std.proofs.lemmas.List.{length-append, append-nil, nil_from_length}
 use Rattle.dwarf_base_core.specs.declared.error.Error.{Error}
-use Rattle.dwarf_base_core.specs.declared.error.Error.TheVariants.{AbbreviationTagZero, InvalidAbbreviationChildren, AttributeNameZero, AttributeFormZero}
-use Rattle.dwarf_reader_core.specs.Leb128.{Kind, Number, unsigned64, unsigned16, signed64, refusal, IsEncoding, IsNumber, IsCut, IsBad}
+use Rattle.dwarf_base_core.specs.declared.error.Error.TheVariants.{AttributeNameZero, AttributeFormZero}
+use Rattle.dwarf_reader_core.specs.Leb128.{Kind, unsigned64, unsigned16, signed64, refusal, IsNumber}
 use Rattle.dwarf_reader_core.specs.Faults.{eof}
-use Rattle.dwarf_read_core.specs.Grammar.{Specification, Declaration, implicit_const, Sequence, children_byte, IsSpecification, IsNull, IsCode, IsHead, IsFront, IsDeclaration}
+use Rattle.dwarf_read_core.specs.Grammar.{Declaration, implicit_const, children_byte, IsCode, IsHead, IsFront, IsDeclaration}
 use Rattle.dwarf_read_core.specs.Answer.{IsBeginning, before_code, before_tag, before_name, before_form, before_value, IsFaulty, number_cut, number_bad, children_cut, tag_zero, children_bad, name_zero, form_zero}
-use Rattle.dwarf_read_core.specs.Reading.{◌>>=◌, number_at, value_at, specification_of, specification_at, attributes_in, with_front, tag_at, children_at, declaration_of, declared_at, declaration_at}
+use Rattle.dwarf_read_core.specs.Reading.{◌>>=◌, number_at, value_at, specification_at, attributes_in, with_front, tag_at, children_at, declaration_of, declared_at, declaration_at}
 use Rattle.dwarf_read_core.proofs.Numbers.{number_at-string, number_at-cut, number_at-bad}
 use Rattle.dwarf_read_core.proofs.Specifications.{nonempty}
 use Rattle.dwarf_read_core.proofs.Attributes.{Read, attributes_fail, attributes_again, attributes_end}

@@ -1,8 +1,8 @@
 -- Reading specifications up to the null one, as a loop does and as the grammar says.
-use Rattle.std.proofs.Common.{◌≡◌, ◌≢◌, ℕ, zero, suc, ◌+◌, ◌<◌, ◌≤◌, List, [], ◌∷◌, ◌++◌, length, Option, Some, None, Result, Ok, Err, refl, sym, ap, subst, ◌∙◌, append_assoc, arith, ◌⊎◌, inl, inr}
-use Rattle.std.proofs.lemmas.List.{length-append, append-nil}
+use Rattle.std.proofs.Common.{◌≡◌, ℕ, zero, suc, ◌+◌, ◌<◌, List, [], ◌∷◌, ◌++◌, length, Option, Some, None, Result, Ok, Err, refl, sym, ap, subst, ◌∙◌, append_assoc, arith, inl, inr}
+use Rattle.std.proofs.lemmas.List.{append-nil}
 use Rattle.dwarf_base_core.specs.declared.error.Error.{Error}
-use Rattle.dwarf_read_core.specs.Grammar.{Specification, Declaration, Sequence, children_byte, IsSpecification, IsNull, IsHead, IsFront}
+use Rattle.dwarf_read_core.specs.Grammar.{Specification, Declaration, Sequence, IsSpecification, IsNull, IsFront}
 use Rattle.dwarf_read_core.specs.Answer.{IsFaulty}
 use Rattle.dwarf_read_core.specs.Reading.{◌>>=◌, specification_at, and_others, attributes_at, attributes_in, with_front, declaration_of}
 use Rattle.dwarf_read_core.proofs.Sequences.{Sequence-push}

@@ -1,22 +1,22 @@
 -- A table has no more declarations and attributes than its bytes have room for.
-use Rattle.std.proofs.Common.{◌≡◌, ◌≢◌, ℕ, zero, suc, ◌+◌, ◌*◌, ◌<◌, ◌≤◌, Bool, true, false, cond, List, [], ◌∷◌, ◌++◌, length, drop, map, Option, Some, None, Result, Ok, Err, refl, sym, ap, subst, ◌∙◌, arith, inl, inr}
+use Rattle.std.proofs.Common.{◌≡◌, ℕ, ◌+◌, ◌*◌, ◌≤◌, false, cond, List, [], ◌∷◌, ◌++◌, length, map, Some, Result, Ok, Err, sym, ap, ◌∙◌, arith}
 use Rattle.std.specs.Prelude.{IfOk, is_some}
 use Rattle.std.specs.List.{sum_by}
 use Rattle.std.specs.Ordering.{nat_cmp, is_eq}
 use Rattle.std.specs.declared.cmp.Ordering.{Ordering}
 use Rattle.std.specs.declared.cmp.Ordering.TheVariants.{Less, Equal, Greater}
 use Rattle.std.specs.Cmp.{nat_cmp_total}
-use Rattle.std.specs.FinMap.{find, get, insert, contains_key, empty, len, values, entries, from_entries, get-from_entries, entries-insert, len-insert, len-empty, len-entries, get-entries}
+use Rattle.std.specs.FinMap.{find, empty, len, entries, entries-insert, len-insert, len-empty, len-entries, get-entries}
 use Rattle.std.specs.FinMap.Entries.{put, by_order}
 use Rattle.std.proofs.lemmas.List.{length-append, length-drop, nil_from_length}
 use Rattle.std.proofs.lemmas.List.Sums.{sum_by-cons}
 use Rattle.dwarf_base_core.specs.declared.error.Error.{Error}
-use Rattle.dwarf_read_core.specs.Grammar.{Specification, Declaration, Sequence, children_byte, IsSpecification, IsDeclaration, AreDistinct, AreDeclarations, ByCode, Table, by_code_of, attribute_count, Close, IsTable, closed_by_null, closed_by_end}
+use Rattle.dwarf_read_core.specs.Grammar.{Specification, Declaration, Sequence, children_byte, IsSpecification, IsDeclaration, AreDistinct, Table, by_code_of, attribute_count, IsTable, closed_by_null, closed_by_end}
 use Rattle.dwarf_reader_core.specs.Input.{Input, Takes, end_of}
 use Rattle.dwarf_read_core.specs.Reading.{Gives, table_in}
-use Rattle.dwarf_read_core.specs.Answer.{Answer, outside, table, fault, Answers}
+use Rattle.dwarf_read_core.specs.Answer.{Answer, table, Answers}
 use Rattle.dwarf_read_core.proofs.Specifications.{nonempty, specification_long, null_long}
-use Rattle.dwarf_read_core.proofs.Whole.{entries_of, fresh_code, answered}
+use Rattle.dwarf_read_core.proofs.Whole.{fresh_code, answered}
 
 attributes : Declaration → ℕ
 attributes d = length d.attributes

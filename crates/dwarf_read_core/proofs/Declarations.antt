@@ -1,18 +1,18 @@
 -- Reading one declaration is the grammar's.
-use Rattle.std.proofs.Common.{◌≡◌, ◌≢◌, ℕ, zero, suc, ◌+◌, ◌<◌, ◌≤◌, Bool, true, false, cond, eqb, List, [], ◌∷◌, ◌++◌, length, Option, Some, None, Result, Ok, Err, refl, sym, ap, subst, ◌∙◌, append_assoc, arith, ◌⊎◌, inl, inr}
-use Rattle.std.proofs.lemmas.Bool.{eqb-true, eqb-false, eq-eqb, ne_eqb}
+use Rattle.std.proofs.Common.{◌≡◌, ◌≢◌, ℕ, ◌<◌, ◌≤◌, Bool, true, false, cond, eqb, List, [], ◌∷◌, ◌++◌, length, Option, Some, None, Result, Ok, Err, refl, sym, ap, subst, ◌∙◌, append_assoc, arith, inl, inr}
+use Rattle.std.proofs.lemmas.Bool.{eqb-true, eqb-false}
 use Rattle.std.proofs.lemmas.List.{length-append, append-nil, nil_from_length}
 use Rattle.dwarf_base_core.specs.declared.error.Error.{Error}
-use Rattle.dwarf_base_core.specs.declared.error.Error.TheVariants.{AbbreviationTagZero, InvalidAbbreviationChildren, AttributeNameZero, AttributeFormZero}
-use Rattle.dwarf_reader_core.specs.Leb128.{Kind, Number, unsigned64, unsigned16, signed64, refusal, IsEncoding, IsNumber, IsCut, IsBad}
+use Rattle.dwarf_base_core.specs.declared.error.Error.TheVariants.{AbbreviationTagZero, InvalidAbbreviationChildren}
+use Rattle.dwarf_reader_core.specs.Leb128.{unsigned64, unsigned16, IsNumber}
 use Rattle.dwarf_reader_core.specs.Faults.{eof}
-use Rattle.dwarf_read_core.specs.Grammar.{Specification, Declaration, implicit_const, Sequence, children_byte, IsSpecification, IsNull, IsCode, IsHead, IsFront, IsDeclaration}
-use Rattle.dwarf_read_core.specs.Answer.{IsBeginning, before_code, before_tag, before_name, before_form, before_value, IsFaulty, number_cut, number_bad, children_cut, tag_zero, children_bad, name_zero, form_zero}
-use Rattle.dwarf_read_core.specs.Reading.{◌>>=◌, number_at, value_at, specification_of, specification_at, attributes_in, with_front, tag_at, children_at, declaration_of, declared_at, declaration_at}
+use Rattle.dwarf_read_core.specs.Grammar.{Specification, Declaration, children_byte, IsCode, IsHead, IsFront, IsDeclaration}
+use Rattle.dwarf_read_core.specs.Answer.{before_code, before_tag, IsFaulty, children_cut, tag_zero, children_bad}
+use Rattle.dwarf_read_core.specs.Reading.{◌>>=◌, number_at, attributes_in, tag_at, children_at, declaration_of, declared_at, declaration_at}
 use Rattle.dwarf_read_core.proofs.Steps.{bind_ok, bind_err, chosen}
-use Rattle.dwarf_read_core.proofs.Numbers.{number_at-string, number_at-ok, number_at-err, number_at-cut, number_at-bad, Found}
+use Rattle.dwarf_read_core.proofs.Numbers.{number_at-ok, Found}
 use Rattle.dwarf_read_core.proofs.Specifications.{nonempty, positive, number_fault}
-use Rattle.dwarf_read_core.proofs.Attributes.{Read, attributes_found, attributes_fault, attributes_fail, attributes_again, attributes_end}
+use Rattle.dwarf_read_core.proofs.Attributes.{attributes_found, attributes_fault}
 
 abbrev children_by : Bool → Bool → ℕ → List ℕ → Result (Bool × List ℕ) Error
 children_by s t b bytes = cond s (Ok (false, bytes)) (cond t (Ok (true, bytes)) (Err (InvalidAbbreviationChildren (record { 0 = b }))))

@@ -1,10 +1,10 @@
 -- A declaration read part by part: what each part's outcome makes of the whole.
-use Rattle.std.proofs.Common.{◌≡◌, ◌≢◌, ℕ, Bool, false, List, [], ◌∷◌, length, Option, Some, None, Result, Ok, Err, refl, ap, ◌∙◌, sym}
+use Rattle.std.proofs.Common.{◌≡◌, ◌≢◌, ℕ, Bool, List, [], length, Option, Some, None, Result, Ok, Err, refl, ap, ◌∙◌, sym}
 use Rattle.std.proofs.lemmas.Bool.{ne_eqb}
 use Rattle.std.proofs.lemmas.List.{nil_from_length}
 use Rattle.dwarf_base_core.specs.declared.error.Error.{Error}
 use Rattle.dwarf_reader_core.specs.Leb128.{unsigned64}
-use Rattle.dwarf_read_core.specs.Grammar.{Declaration, Specification}
+use Rattle.dwarf_read_core.specs.Grammar.{Declaration}
 use Rattle.dwarf_read_core.specs.Reading.{◌>>=◌, number_at, tag_at, children_at, attributes_in, declared_at, declaration_at}
 use Rattle.dwarf_read_core.proofs.Steps.{bind_ok}
 

@@ -1,11 +1,10 @@
 -- Reading one specification is the grammar's.
-use Rattle.std.proofs.Common.{◌≡◌, ◌≢◌, ℕ, zero, suc, ◌+◌, ◌<◌, ◌≤◌, Bool, true, false, cond, eqb, ℤ, List, [], ◌∷◌, ◌++◌, length, Option, Some, None, Result, Ok, Err, refl, sym, ap, subst, ◌∙◌, append_assoc, arith, ◌⊎◌, inl, inr}
+use Rattle.std.proofs.Common.{◌≡◌, ℕ, ◌<◌, ◌≤◌, Bool, true, false, cond, eqb, ℤ, List, [], ◌∷◌, ◌++◌, length, Option, Some, None, Result, Ok, Err, refl, sym, ap, subst, ◌∙◌, append_assoc, arith, inl, inr}
 use Rattle.std.proofs.lemmas.Bool.{eqb-true, eqb-false, eq-eqb, ne_eqb}
-use Rattle.std.proofs.lemmas.List.{length-append, append-nil}
+use Rattle.std.proofs.lemmas.List.{length-append}
 use Rattle.dwarf_base_core.specs.declared.error.Error.{Error}
 use Rattle.dwarf_base_core.specs.declared.error.Error.TheVariants.{AttributeNameZero, AttributeFormZero}
-use Rattle.dwarf_reader_core.specs.Leb128.{Kind, Number, unsigned64, unsigned16, signed64, refusal, IsEncoding, IsNumber, IsCut, IsBad}
-use Rattle.dwarf_reader_core.specs.Faults.{eof}
+use Rattle.dwarf_reader_core.specs.Leb128.{Kind, unsigned16, signed64, IsEncoding, IsNumber}
 use Rattle.dwarf_read_core.specs.Grammar.{Specification, Declaration, implicit_const, IsImplicit, IsSpecification, IsNull, IsFront}
 use Rattle.dwarf_read_core.specs.Answer.{IsBeginning, before_name, before_form, before_value, IsFaulty, number_cut, number_bad, name_zero, form_zero}
 use Rattle.dwarf_read_core.specs.Reading.{◌>>=◌, number_at, value_at, specification_of, specification_at}

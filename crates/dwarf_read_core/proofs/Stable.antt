@@ -1,13 +1,13 @@
 -- Bytes that are appended change no answer that is final.
-use Rattle.std.proofs.Common.{◌≡◌, ◌≢◌, ℕ, zero, suc, ◌+◌, ◌<◌, ◌≤◌, List, [], ◌∷◌, ◌++◌, length, take, drop, Result, Ok, Err, refl, sym, ap, subst, ◌∙◌, append_assoc, arith, ◌⊎◌, inl, inr}
+use Rattle.std.proofs.Common.{◌≡◌, ◌≢◌, ℕ, List, [], ◌∷◌, ◌++◌, length, take, drop, Result, Ok, Err, refl, sym, ap, subst, append_assoc, arith}
 use Rattle.std.proofs.lemmas.List.{length-append, drop-append-le, take-append-drop}
 use Rattle.dwarf_reader_core.specs.Input.{Input, end_of}
 use Rattle.dwarf_read_core.proofs.Numbers.{found_has}
 use Rattle.dwarf_base_core.specs.declared.error.Error.{Error}
 use Rattle.dwarf_base_core.specs.declared.error.Error.TheVariants.{AbbreviationTagZero, InvalidAbbreviationChildren, AttributeNameZero, AttributeFormZero, DuplicateAbbreviationCode}
-use Rattle.dwarf_reader_core.specs.Leb128.{Kind, Number, limit, refusal, IsEncoding, NoneIsLast, IsNumber, HasNumber, IsCut, IsBad}
+use Rattle.dwarf_reader_core.specs.Leb128.{Kind, Number, refusal, IsEncoding, NoneIsLast, IsNumber, IsBad}
 use Rattle.dwarf_reader_core.specs.Faults.{eof}
-use Rattle.dwarf_read_core.specs.Grammar.{Declaration, ByCode, Table, closed, by_code_of, Close, by_null, by_end, IsTable, closed_by_null, closed_by_end}
+use Rattle.dwarf_read_core.specs.Grammar.{Table, closed, by_code_of, by_null, IsTable, closed_by_null, closed_by_end}
 use Rattle.dwarf_read_core.specs.Answer.{IsFaulty, number_cut, number_bad, children_cut, tag_zero, children_bad, name_zero, form_zero, IsFault, in_declaration, repeated, Answer, outside, table, fault, followed_by, IsFinal, Answers}
 
 -- ---- bad numbers

@@ -6,7 +6,7 @@ use Rattle.std.proofs.lemmas.List.Elements.{All-nil, All-cons, All-head, All-tai
 use Rattle.std.specs.Prelude.{slice_index, IfErr}
 use Rattle.dwarf_base_core.specs.declared.error.Error.{Error}
 use Rattle.dwarf_reader_core.specs.Faults.{eof, end_fault, EndsBefore, Lacks, WantsMemory}
-use Rattle.dwarf_reader_core.specs.Input.{Input, after, first, Takes, TakesString}
+use Rattle.dwarf_reader_core.specs.Input.{Input, first, Takes, TakesString}
 use Rattle.dwarf_read_core.specs.Strings.{HasNoZero, StringAt, HasOneString, outside, string, unended}
 use Rattle.dwarf_read_core.specs.Answer.{followed_by}
 

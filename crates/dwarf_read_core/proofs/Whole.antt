@@ -4,22 +4,20 @@ use Rattle.std.specs.Prelude.{is_some, IsOk, IsErrOf}
 use Rattle.std.specs.Ordering.{nat_cmp, eq_by_cmp}
 use Rattle.std.proofs.lemmas.Bool.Decides.{nat_tests}
 use Rattle.std.specs.Cmp.{nat_cmp_total}
-use Rattle.std.specs.FinMap.{find, get-empty, get, insert, contains_key, empty, from_entries, from_entries_push, get-from_entries, nat_cmp-IsAntisymmetric}
-use Rattle.std.proofs.lemmas.Bool.{eqb-true, eqb-false, eq-eqb, ne_eqb, lt-ltb, le-ltb, ltb-true, ltb-false, true≢false}
+use Rattle.std.specs.FinMap.{find, insert, contains_key, empty, from_entries, from_entries_push, get-from_entries, nat_cmp-IsAntisymmetric}
+use Rattle.std.proofs.lemmas.Bool.{eqb-true, eqb-false, ne_eqb, lt-ltb, le-ltb, ltb-true, ltb-false, true≢false}
 use Rattle.std.proofs.lemmas.List.{length-append, length-drop, append-nil, nil_from_length, map_push}
 use Rattle.dwarf_base_core.specs.declared.error.Error.{Error}
 use Rattle.dwarf_base_core.specs.declared.error.Error.TheVariants.{DuplicateAbbreviationCode}
-use Rattle.dwarf_reader_core.specs.Leb128.{unsigned64, IsNumber}
-use Rattle.dwarf_reader_core.specs.Input.{Input, end_of, after, Takes}
-use Rattle.dwarf_reader_core.specs.Faults.{eof, end_fault, EndsBefore}
+use Rattle.dwarf_reader_core.specs.Input.{Input, end_of, Takes}
+use Rattle.dwarf_reader_core.specs.Faults.{end_fault, EndsBefore}
 use Rattle.dwarf_read_core.proofs.Numbers.{end_after}
 use Rattle.dwarf_read_core.specs.Grammar.{Declaration, Sequence, IsDeclaration, Declares, AreDistinct, AreDeclarations, ByCode, Table, closed, by_code_of, Close, by_null, by_end, IsTable, closed_by_null, closed_by_end}
-use Rattle.dwarf_read_core.specs.Answer.{IsFaulty, IsFault, in_declaration, repeated, Answer, Answers, HasOneAnswer, TakesNoMemory, outside, table, fault}
+use Rattle.dwarf_read_core.specs.Answer.{IsFault, in_declaration, repeated, Answer, Answers, HasOneAnswer, TakesNoMemory, outside, table, fault}
 use Rattle.dwarf_read_core.specs.Reading.{◌>>=◌, Gives, declaration_at, close_of, and_declared, table_at, table_in, answer_at}
-use Rattle.dwarf_read_core.proofs.Steps.{bind_ok, bind_err, chosen}
 use Rattle.dwarf_read_core.proofs.Sequences.{Sequence-push}
 use Rattle.dwarf_read_core.proofs.Specifications.{nonempty}
-use Rattle.dwarf_read_core.proofs.Declarations.{DeclarationFound, ZeroFound, EndFound, at_end, at_zero, declaration_found, declaration_fault, declaration_shorter, front_long}
+use Rattle.dwarf_read_core.proofs.Declarations.{DeclarationFound, EndFound, at_end, at_zero, declaration_found, declaration_fault, declaration_shorter}
 use Rattle.dwarf_read_core.proofs.Again.{declaration_again, zero_again, end_again, fault_again}
 
 abbrev pub Read : Type 0

@@ -1,12 +1,12 @@
 -- A number that is taken behind a place is the one of the slot.
-use Rattle.std.proofs.Common.{◌≡◌, ◌≢◌, ℕ, ◌+◌, ◌-◌, ◌*◌, ◌^◌, ◌<◌, ◌≤◌, List, ◌++◌, length, take, drop, Result, Ok, Err, refl, sym, ap, subst, ◌∙◌, arith, ◌⊎◌, inl, inr, Bool, true, false, length-append, length-drop}
+use Rattle.std.proofs.Common.{◌≡◌, ℕ, ◌+◌, ◌<◌, ◌≤◌, List, length, take, drop, Result, Ok, Err, refl, sym, ap, subst, ◌∙◌, arith, ◌⊎◌, inl, inr, Bool, true, false, length-append, length-drop}
 use Rattle.std.proofs.lemmas.Bool.{cases_lt}
 use Rattle.std.proofs.lemmas.List.{take-append-le, drop-append-le, drop-drop}
 use Rattle.std.specs.Prelude.{IsTrue, IfOk, IfErr}
 use Rattle.dwarf_base_core.specs.declared.error.Error.{Error}
 use Rattle.dwarf_base_core.specs.declared.error.Error.TheVariants.{UnsupportedOffset, UnsupportedAddressSize}
 use Rattle.dwarf_base_core.specs.Number.{number_of}
-use Rattle.dwarf_reader_core.specs.Faults.{eof, end_fault, EndsBefore, IsNoOffset, IsNoSize, RefusesAddress, WantsMemory, is_number_size}
+use Rattle.dwarf_reader_core.specs.Faults.{eof, end_fault, EndsBefore, IsNoOffset, RefusesAddress, WantsMemory, is_number_size}
 use Rattle.dwarf_reader_core.specs.Input.{Input, after, Takes, TakesNumber}
 use Rattle.dwarf_read_core.specs.Answer.{followed_by}
 use Rattle.dwarf_read_core.specs.Words

@@ -1,11 +1,11 @@
 -- The one answer to where a table is looked for: the table, or the first fault.
-use Rattle.std.specs.Prelude.{◌≡◌, ◌≢◌, ℕ, ◌+◌, ◌<◌, ◌≤◌, ◌⊎◌, List, [], ◌∷◌, ◌++◌, length, drop, Result, Ok, Err}
+use Rattle.std.specs.Prelude.{◌≡◌, ◌≢◌, ℕ, ◌<◌, ◌≤◌, ◌⊎◌, List, [], ◌∷◌, ◌++◌, length, drop, Result, Ok, Err}
 use Rattle.dwarf_base_core.specs.declared.error.Error.{Error}
 use Rattle.dwarf_base_core.specs.declared.error.Error.TheVariants.{AbbreviationTagZero, InvalidAbbreviationChildren, AttributeNameZero, AttributeFormZero, DuplicateAbbreviationCode, OutOfMemory}
 use Rattle.dwarf_reader_core.specs.Leb128.{Kind, unsigned64, unsigned16, signed64, refusal, IsNumber, IsCut, IsBad}
 use Rattle.dwarf_reader_core.specs.Faults.{eof, end_fault}
 use Rattle.dwarf_reader_core.specs.Input.{Input, end_of}
-use Rattle.dwarf_read_core.specs.Grammar.{Declaration, implicit_const, ByCode, Table, Close, by_null, IsCode, IsHead, IsFront, IsDeclaration, Declares, AreDeclarations, IsTable}
+use Rattle.dwarf_read_core.specs.Grammar.{Declaration, implicit_const, Table, by_null, IsCode, IsHead, IsFront, IsDeclaration, Declares, AreDeclarations, IsTable}
 
 -- a declaration that is cut before a number of this kind
 pub data IsBeginning : List ℕ → Kind → Type 0 where

@@ -1,5 +1,5 @@
 -- What contracts see of an abbreviation and its parts.
-use Rattle.std.specs.Prelude.{◌≡◌, ◌≢◌, ℕ, ℤ, pos, Option, Some, None, unwrap_or, if◌then◌else◌, ◌==◌, refl}
+use Rattle.std.specs.Prelude.{◌≡◌, ◌≢◌, ℕ, ℤ, pos, Some, None, unwrap_or, if◌then◌else◌, ◌==◌, refl}
 use Rattle.std.proofs.Common.{Bool, true, false, sym, ap}
 use Rattle.std.proofs.lemmas.Bool.{eqb-false}
 use Rattle.dwarf_read_core.specs.Grammar.{Specification, Declaration, Table, closed, close_from, implicit_const}

@@ -9,6 +9,10 @@ ghost use Rattle.dwarf_read_core.specs.Ranges.{HasOneRange};
 ghost use Rattle.dwarf_read_core.specs.Strings.{HasOneString};
 ghost use Rattle.dwarf_read_core.specs.Words.{AddressAt, HasOneAddress, HasOneWord, IsSettled, Slot, WordAt};
 
+pub use dwarf_reader_core::laws::{
+    no_encoding_begins_another, one_outcome, one_shortest, written_is_read,
+};
+
 /// Every section has exactly one answer at every offset: a table, or the first fault.
 #[tactic(auto, using(crate::proofs::Whole::one_answer))]
 pub fn exactly_one_answer()

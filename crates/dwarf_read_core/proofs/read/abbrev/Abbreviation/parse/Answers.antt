@@ -1,4 +1,4 @@
-use Rattle.std.proofs.Common.{rules, ◌≡◌, ◌≢◌, ℕ, List, [], Ok, Err, Some, None, ◌∙◌, sym}
+use Rattle.std.proofs.Common.{rules, ◌≡◌, ◌≢◌, [], Ok, Err, None, ◌∙◌, sym}
 use Rattle.dwarf_reader_core.specs.Input.{end_of}
 use Rattle.dwarf_read_core.proofs.Steps.{gives_err}
 use Rattle.dwarf_read_core.proofs.Numbers.{refused, number_read, end_stays}

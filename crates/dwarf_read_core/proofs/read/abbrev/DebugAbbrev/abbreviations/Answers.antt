@@ -1,11 +1,7 @@
-use Rattle.std.proofs.Common.{◌≡◌, ℕ, ◌+◌, ◌*◌, ◌≤◌, length, drop, ap, subst, sym, ◌∙◌}
-use Rattle.std.specs.Prelude.{IfOk}
-use Rattle.std.specs.FinMap.{len}
+use Rattle.std.proofs.Common.{◌≡◌, drop, ap, ◌∙◌}
 use Rattle.std.proofs.lemmas.Result.{err_from_is_err_and}
 use Rattle.dwarf_base_core.specs.declared.error.Error.TheVariants.{OutOfMemory}
-use Rattle.dwarf_reader_core.specs.Input.{Input, end_of, Takes}
-use Rattle.dwarf_reader_core.specs.Faults.{EndsBefore}
-use Rattle.dwarf_read_core.specs.Grammar.{attribute_count}
+use Rattle.dwarf_reader_core.specs.Input.{Input, end_of}
 use Rattle.dwarf_read_core.specs.Sections.{debug_abbrev_reader}
 use Rattle.dwarf_read_core.proofs.Whole.{outside_of, nothing_declared, ok_is_no_error}
 use Rattle.dwarf_read_core.proofs.Bound.{bounded_read}

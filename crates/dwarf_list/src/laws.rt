@@ -1,0 +1,17 @@
+//! What holds of the definition of the program's text.
+
+ghost use Rattle.std.specs.Prelude.{◌≡◌, ℕ, List, Result as Outcome};
+ghost use Rattle.dwarf_read_core.specs.declared.Error.{Error as SectionError};
+ghost use Rattle.dwarf_list.specs.Listing.{Lists};
+
+use dwarf_read_core::laws;
+
+/// A command lists one text of an input at most, or has one error.
+pub fn one_listing()
+    ensures { (command : _) (input : List ℕ) (one other : Outcome (List ℕ) SectionError)
+        → Lists command input one → Lists command input other → other ≡ one }
+{
+    laws::exactly_one_answer();
+    laws::exactly_one_string();
+    laws::one_shortest();
+}
