@@ -13,3 +13,7 @@ pub mod Parts
 pub mod StringLemmas
 pub mod Ranges
 pub mod Words
+pub mod FaithfulCache
+pub mod NoWant
+pub mod Shown
+pub mod Kept

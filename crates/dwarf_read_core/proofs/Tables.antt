@@ -10,6 +10,8 @@ use Rattle.std.specs.List.{AllByRecursion}
 use Rattle.std.specs.List.Sorted.{IsStrictlySortedBy}
 use Rattle.std.specs.declared.cmp.Ordering.TheVariants.{Less}
 use Rattle.std.proofs.lemmas.List.{nil_from_length}
+use Rattle.std.specs.List.{AllZip}
+use Rattle.std.proofs.lemmas.List.Elements.{same_from_all_zip}
 use Rattle.dwarf_read_core.specs.Grammar.{Declaration}
 
 find_is_lookup : (es : List (ℕ × Declaration)) (q : ℕ) → find nat_cmp q es ≡ lookup (is_at (nat_cmp q)) es
@@ -39,3 +41,7 @@ entries_kept (e ∷ es) h =
 
 pub len_kept : (es : List (ℕ × Declaration)) → IsStrictlySortedBy nat_cmp (map (λ e. e.0) es) → len (from_entries {R = nat_cmp} es) ≡ length es
 len_kept es h = len-entries (from_entries {R = nat_cmp} es) ∙ ap length (entries_kept es h)
+
+-- entries that were copied are the same
+pub copied : (es fs : List (ℕ × Declaration)) → AllZip (λ p q. (q.0 ≡ p.0) × (q.1 ≡ p.1)) es fs → fs ≡ es
+copied es fs h = same_from_all_zip (λ (p q : ℕ × Declaration). (q.0 ≡ p.0) × (q.1 ≡ p.1)) es fs h (λ x y e. ap (λ (k : ℕ). let p : ℕ × Declaration = (k, y.1) in p) e.0 ∙ ap (λ (d : Declaration). let p : ℕ × Declaration = (x.0, d) in p) e.1)

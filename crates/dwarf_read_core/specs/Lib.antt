@@ -1,4 +1,5 @@
 pub mod Answer
+pub mod Cache
 pub mod Forms
 pub mod Grammar
 pub mod Ranges

@@ -33,7 +33,7 @@ pub use dwarf_base_core::{
 
 // Readers, sections and tables, and the errors of reading.
 pub use read::{
-    Abbreviation, Abbreviations, AbbreviationsCacheStrategy, AbbreviationsIter,
+    Abbreviation, Abbreviations, AbbreviationsCache, AbbreviationsCacheStrategy, AbbreviationsIter,
     AttributeSpecification, DebugAbbrev, DebugAddr, DebugLineStr, DebugStr, DebugStrOffsets,
     EndianSlice, Error, Reader, ReaderAddress, ReaderOffset, ReaderOffsetId, Result, Section,
     StoreOnHeap, UnitOffset, read_u8_array,

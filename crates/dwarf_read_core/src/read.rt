@@ -8,7 +8,7 @@ mod section;
 mod str;
 
 pub use abbrev::{
-    Abbreviation, Abbreviations, AbbreviationsCacheStrategy, AbbreviationsIter,
+    Abbreviation, Abbreviations, AbbreviationsCache, AbbreviationsCacheStrategy, AbbreviationsIter,
     AttributeSpecification, DebugAbbrev,
 };
 pub use addr::DebugAddr;

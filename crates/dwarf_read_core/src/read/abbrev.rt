@@ -29,13 +29,16 @@ use dwarf_const_core::form::{
 };
 use dwarf_const_core::tag::DwTag;
 use dwarf_reader_core::{EndianSlice, Reader};
-use std::alloc::Global;
+use std::alloc::{AllocError, Global};
 use std::collections::BTreeMap;
 use std::collections::btree_map::Values;
 use std::marker::Model;
 
+mod cache;
 #[cfg(test)]
 mod tests;
+
+pub use cache::AbbreviationsCache;
 
 /// The `.debug_abbrev` section (DWARF 5, 7.5.3): tables of abbreviations, one behind the other.
 ///
@@ -129,6 +132,20 @@ pub enum AbbreviationsCacheStrategy {
     All,
 }
 
+impl AbbreviationsCacheStrategy {
+    ghost use Rattle.dwarf_read_core.specs.Cache.{least_count};
+
+    // How often an offset has to occur for its table to be kept.
+    fn least_count(self) -> usize
+        ensures { result ≡ least_count self }
+    {
+        match self {
+            AbbreviationsCacheStrategy::Duplicates => 2,
+            AbbreviationsCacheStrategy::All => 1,
+        }
+    }
+}
+
 /// A table of abbreviations, by their codes.
 #[derive(Debug, Drop)]
 pub struct Abbreviations {
@@ -160,6 +177,22 @@ impl Abbreviations {
             map: BTreeMap::new(mem),
             closed_by_null: false,
         }
+    }
+
+    /// The same table once more.
+    ///
+    /// # Errors
+    ///
+    /// `OutOfMemory` where memory for the table was refused.
+    #[tactic(auto, using(crate::proofs::Tables::copied))]
+    pub fn try_clone(&self) -> Result<Abbreviations>
+        ensures ok { IfOk result (λ copy. copy ≡ self.now) }
+        ensures err { IfErr result (λ e. e ≡ Error.OutOfMemory) }
+    {
+        Ok(Abbreviations {
+            map: self.map.clone()?,
+            closed_by_null: self.closed_by_null,
+        })
     }
 
     // Adds an abbreviation, or answers `DuplicateAbbreviationCode` where its code is there.
@@ -282,6 +315,20 @@ impl Model for Abbreviation {
     ghost view = { abbreviation_view };
 }
 
+impl Clone for Abbreviation {
+    ghost is_clone = { λ abbreviation copy. copy ≡ abbreviation };
+
+    fn clone(&self) -> std::result::Result<Self, AllocError> {
+        let mem = *self.attributes.allocator();
+        Ok(Abbreviation {
+            code: self.code,
+            tag: self.tag,
+            has_children: self.has_children,
+            attributes: Vec::from_slice(mem, self.attributes.as_slice())?,
+        })
+    }
+}
+
 impl Abbreviation {
     fn new(
         code: u64,
@@ -297,6 +344,18 @@ impl Abbreviation {
             has_children,
             attributes,
         }
+    }
+
+    /// The same abbreviation once more.
+    ///
+    /// # Errors
+    ///
+    /// `OutOfMemory` where memory for the attributes was refused.
+    pub fn try_clone(&self) -> Result<Abbreviation>
+        ensures ok { IfOk result (λ copy. copy ≡ self.now) }
+        ensures err { IfErr result (λ e. e ≡ Error.OutOfMemory) }
+    {
+        Ok(self.clone()?)
     }
 
     /// The code by which entries name this abbreviation. It is not 0.

@@ -1,0 +1,44 @@
+-- A cache's entries against the finite map that they show.
+use Rattle.std.proofs.Common.{◌≡◌, ℕ, List, [], ◌∷◌, Bool, true, false, cond, Option, Some, Result, option_map, refl, sym, ap, ◌∙◌}
+use Rattle.std.specs.BTreeMap.{is_at}
+use Rattle.std.specs.Cmp.{nat_cmp_total, eq_by_cmp_equiv}
+use Rattle.std.specs.FinMap.{find, get, insert, from_entries, get-from_entries, get-insert, same_map, nat_cmp-IsAntisymmetric}
+use Rattle.std.specs.Map.{lookup}
+use Rattle.std.specs.Ordering.{nat_cmp}
+use Rattle.std.specs.declared.rc.Rc.{Rc}
+use Rattle.dwarf_base_core.specs.declared.error.Error.{Error}
+use Rattle.dwarf_read_core.specs.Grammar.{Table}
+use Rattle.dwarf_read_core.specs.Cache.{Cache, answer_of, shown_entries}
+
+mapped_choice : {X Y : Type 0} (f : X → Y) (b : Bool) (x : X) (o : Option X) → cond b (Some (f x)) (option_map f o) ≡ option_map f (cond b (Some x) o)
+mapped_choice f true x o = refl
+mapped_choice f false x o = refl
+
+-- the entries of a cache, with their tables shared
+abbrev pub Entries : Type 0 → Type 0
+Entries Z = List (ℕ × Result (Rc Table Z) Error)
+
+module _ {Z : Type 0} where
+  abbrev pub shown : Entries Z → Cache
+  shown entries = from_entries (shown_entries entries)
+
+  find-shown : (entries : Entries Z) (key : ℕ) → find nat_cmp key (shown_entries entries) ≡ option_map answer_of (lookup (is_at (nat_cmp key)) entries)
+  find-shown [] key = refl
+  find-shown (e ∷ es) key =
+      ap (cond (is_at (nat_cmp key) e.0) (Some (answer_of e.1))) (find-shown es key)
+      ∙ mapped_choice answer_of (is_at (nat_cmp key) e.0) e.1 _
+
+  -- what the map has at a key
+  pub get-shown : (entries : Entries Z) (key : ℕ) → get (shown entries) key ≡ option_map answer_of (lookup (is_at (nat_cmp key)) entries)
+  get-shown entries key = get-from_entries nat_cmp_total (shown_entries entries) key ∙ find-shown entries key
+
+  -- entries that differ at one key show maps that differ there
+  pub shown-insert : (es fs : Entries Z) (key : ℕ) (v : Result (Rc Table Z) Error)
+      → ((q : ℕ) → lookup (is_at (nat_cmp q)) fs ≡ cond (is_at (nat_cmp key) q) (Some v) (lookup (is_at (nat_cmp q)) es))
+      → shown fs ≡ insert (shown es) key (answer_of v)
+  shown-insert es fs key v h = same_map nat_cmp_total nat_cmp-IsAntisymmetric _ _ (λ q.
+      get-shown fs q ∙ ap (option_map answer_of) (h q) ∙ sym (mapped_choice answer_of (is_at (nat_cmp key) q) v _)
+      ∙ ap (λ b. cond b (Some (answer_of v)) (option_map answer_of (lookup (is_at (nat_cmp q)) es))) ((eq_by_cmp_equiv nat_cmp_total).symm key q)
+      ∙ sym (get-insert nat_cmp_total (shown es) key (answer_of v) q ∙ ap (cond (is_at (nat_cmp q) key) (Some (answer_of v))) (get-shown es q)))
+
+pub ruleset shown_gets = (get-shown)

@@ -1,0 +1,71 @@
+-- What a cache of abbreviation tables keeps.
+use Rattle.std.specs.Prelude.{◌≡◌, ◌≢◌, ◌==◌, ℕ, ◌<◌, ◌≤◌, List, map, count_by, Option, Some, None, MatchOption, IfSome, Result, Ok, Err, MatchResult, ⊤}
+use Rattle.std.specs.FinMap as finite
+use Rattle.std.specs.Iterator.{YieldsThen}
+use Rattle.std.specs.Ordering.{nat_cmp}
+use Rattle.std.specs.declared.rc.Rc.{Rc}
+use Rattle.dwarf_base_core.specs.declared.error.Error.{Error}
+use Rattle.dwarf_base_core.specs.declared.error.Error.TheVariants.{OutOfMemory}
+use Rattle.dwarf_reader_core.specs.Input.{Input}
+use Rattle.dwarf_read_core.specs.Answer.{Answer}
+use Rattle.dwarf_read_core.specs.Grammar.{Table}
+use Rattle.dwarf_read_core.specs.declared.read.abbrev.AbbreviationsCacheStrategy.{AbbreviationsCacheStrategy}
+use Rattle.dwarf_read_core.specs.declared.read.abbrev.AbbreviationsCacheStrategy.TheVariants.{Duplicates, All}
+
+-- an answer whose table is shared
+abbrev pub answer_of : {Z : Type 0} → Result (Rc Table Z) Error → Result Table Error
+answer_of (Ok shared) = Ok shared.value
+answer_of (Err fault) = Err fault
+
+-- the entries of a cache, whose tables are shared
+abbrev pub shown_entries : {Z : Type 0} → List (ℕ × Result (Rc Table Z) Error) → List (ℕ × Result Table Error)
+shown_entries entries = map (λ entry. (entry.0, answer_of entry.1)) entries
+
+-- the answers by offset
+abbrev pub Cache : Type 0
+Cache = finite.FinMap nat_cmp (Result Table Error)
+
+-- no want of memory is kept
+abbrev pub KeepsNoWant : Cache → Type 0
+KeepsNoWant cache = (key : ℕ) → finite.get cache key ≢ Some (Err OutOfMemory)
+
+-- how often an offset has to occur to be kept
+abbrev pub least_count : AbbreviationsCacheStrategy → ℕ
+least_count Duplicates = 2
+least_count All = 1
+
+-- how often an offset occurs
+abbrev pub occurrences : ℕ → List ℕ → ℕ
+occurrences key offsets = count_by (λ offset. offset == key) offsets
+
+-- exactly the offsets that occur often enough are kept, each with its answer
+abbrev pub KeepsAnswers : ℕ → Input → List ℕ → (ℕ → Option (Result Table Error)) → Type 0
+KeepsAnswers least section offsets kept =
+    (key : ℕ) → MatchOption (kept key) (occurrences key offsets < least) (λ answer. (least ≤ occurrences key offsets) × Answer section key answer)
+
+-- each kept answer is that of the section
+abbrev pub IsFaithful : Cache → Input → Type 0
+IsFaithful cache section = (key : ℕ) → IfSome (finite.get cache key) (Answer section key)
+
+-- nothing, or an error that is not want of memory
+abbrev pub EndsItems : {T : Type 0} → Option (Result T Error) → Type 0
+EndsItems None = ⊤
+EndsItems (Some item) = MatchResult item (λ _. ⊥) (λ fault. fault ≢ OutOfMemory)
+
+-- calls of `next` gave these items, each as an `Ok`, and then the end or a first error
+pub record GivesBeforeError {S T : Type 0} (steps : S → Option (Result T Error) → S → Type 0) (from : S) (items : List T) : Type 0 where
+  pub last : Option (Result T Error)
+  pub left : S
+  pub given : YieldsThen steps from (map (λ item. Ok item) items) last left
+  pub ends : EndsItems last
+
+-- the numbers of the offsets that come before the first error
+pub record NamesOffsets {S T : Type 0} (steps : S → Option (Result T Error) → S → Type 0) (number : T → ℕ) (from : S) (offsets : List ℕ) : Type 0 where
+  pub items : List T
+  pub given : GivesBeforeError steps from items
+  pub numbers : offsets ≡ map number items
+
+-- a kept answer is handed out as it is; sharing a table may find no room
+abbrev pub HandsOut : {Z : Type 0} → Result Table Error → Result (Rc Table Z) Error → Type 0
+HandsOut kept result =
+    MatchResult kept (λ table. MatchResult result (λ shared. shared.value ≡ table) (λ fault. fault ≡ OutOfMemory)) (λ fault. result ≡ Err fault)

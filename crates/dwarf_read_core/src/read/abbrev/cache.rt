@@ -1,0 +1,220 @@
+//! A cache of abbreviation tables, which units share.
+
+ghost use Rattle.std.specs.Prelude.{◌≡◌, ◌≢◌, ◌⊎◌, Some, List, ℕ, IfOk, IfErr, OnOk, OnErr, MatchOption, Ok, Err, ◌+◌, ◌<◌, ◌^◌, ◌==◌, if◌then◌else◌, unwrap_or, map, option_map};
+ghost use Rattle.std.specs.BTreeMap.{get};
+ghost use Rattle.std.specs.FinMap as finite;
+ghost use Rattle.std.specs.Iterator.{IsFinite};
+ghost use Rattle.std.specs.Ordering.{nat_cmp};
+ghost use Rattle.dwarf_read_core.specs.Answer.{Answer, Answers};
+ghost use Rattle.dwarf_read_core.specs.Cache.{answer_of, KeepsAnswers, least_count, NamesOffsets, GivesBeforeError, IsFaithful, HandsOut};
+ghost use Rattle.dwarf_read_core.specs.Sections.{debug_abbrev_reader};
+
+use super::{Abbreviations, AbbreviationsCacheStrategy, DebugAbbrev};
+use dwarf_base_core::{DebugAbbrevOffset, Error, ReaderOffset, Result};
+use dwarf_reader_core::Reader;
+use std::alloc::Global;
+use std::collections::BTreeMap;
+use std::marker::Model;
+use std::rc::Rc;
+
+#[cfg(test)]
+mod tests;
+
+type Entries = BTreeMap<u64, Result<Rc<Abbreviations>>>;
+
+/// Tables of abbreviations by their offsets, kept so that units which share one read it once.
+///
+/// A cache keeps what it was populated with from one section, an error as well as a table; asked
+/// for another offset, it reads afresh and keeps nothing.
+///
+/// ```
+/// let mut cache = AbbreviationsCache::new(mem);
+/// cache.populate(AbbreviationsCacheStrategy::Duplicates, &debug_abbrev, offsets)?;
+/// let table = cache.get(&debug_abbrev, DebugAbbrevOffset(0))?;
+/// ```
+#[derive(Debug, Drop)]
+pub struct AbbreviationsCache {
+    abbreviations: BTreeMap<u64, Result<Rc<Abbreviations>>>,
+    mem: Global,
+}
+
+impl Model for AbbreviationsCache {
+    ghost use Rattle.std.specs.FinMap as finite;
+    ghost use Rattle.std.specs.Ordering.{nat_cmp};
+    ghost use Rattle.std.specs.Coded.{coded_ℕ, coded_result};
+    ghost use Rattle.dwarf_read_core.specs.Grammar.{table_code};
+    ghost use Rattle.dwarf_read_core.specs.Cache.{Cache, KeepsNoWant, shown_entries};
+    ghost use Rattle.dwarf_base_core.specs.contracts.error.Error as error;
+
+    ghost Value = { Cache };
+
+    ghost coded = { finite.code coded_ℕ (coded_result table_code error.the_row.coded) };
+
+    ghost view = { λ a. finite.from_entries (shown_entries a.abbreviations.entries) };
+
+    ghost invariant = { λ a. KeepsNoWant (finite.from_entries (shown_entries a.abbreviations.entries)) };
+}
+
+impl AbbreviationsCache {
+    /// A cache that keeps nothing yet.
+    pub fn new(mem: Global) -> Self
+        ensures { result ≡ finite.empty }
+    {
+        AbbreviationsCache {
+            abbreviations: BTreeMap::new(mem),
+            mem,
+        }
+    }
+
+    /// Keeps, in place of all it kept before, the answers at the offsets that `strategy` chooses
+    /// among `units`: those that occur twice or more, or all of them. Each is read once.
+    ///
+    /// An error ends the offsets, and is not answered. A table's error is kept as its answer.
+    ///
+    /// # Errors
+    ///
+    /// `OutOfMemory` where memory was refused, or where `units` answers that. The cache is then
+    /// unchanged.
+    pub fn populate<R: Reader, I: Iterator<Item = Result<DebugAbbrevOffset<R::Offset>>>>(
+        &mut self,
+        strategy: AbbreviationsCacheStrategy,
+        debug_abbrev: &DebugAbbrev<R>,
+        units: I,
+    ) -> Result<()>
+        requires can { I.can_next units }
+        requires ends { IsFinite (I.remaining units) }
+        ensures ok { OnOk result ((offsets : List ℕ) × NamesOffsets I.next_gives (λ o. R.Offset.value o.0) units offsets × KeepsAnswers (least_count strategy) (R.view (debug_abbrev_reader debug_abbrev.now)) offsets (finite.get self.new)) }
+        ensures faithful { OnOk result (IsFaithful self.new (R.view (debug_abbrev_reader debug_abbrev.now))) }
+        ensures err { IfErr result (λ fault. fault ≡ Error.OutOfMemory) }
+        ensures unchanged { OnErr result (self.new ≡ self.old) }
+    {
+        let offsets = before_error(self.mem, units)?;
+        let entries = entries_kept(self.mem, strategy, debug_abbrev, &offsets)?;
+        self.abbreviations = entries;
+        Ok(())
+    }
+
+    /// Keeps this table at an offset, in place of what was kept there.
+    ///
+    /// # Errors
+    ///
+    /// `OutOfMemory` where memory was refused. The cache is then unchanged.
+    pub fn set<R: Reader>(
+        &mut self,
+        offset: DebugAbbrevOffset<R::Offset>,
+        abbreviations: Rc<Abbreviations>,
+    ) -> Result<()>
+        ensures ok { OnOk result (self.new ≡ finite.insert self.old (R.Offset.value offset.0) (Ok abbreviations.value)) }
+        ensures err { IfErr result (λ fault. fault ≡ Error.OutOfMemory) }
+        ensures unchanged { OnErr result (self.new ≡ self.old) }
+    {
+        self.abbreviations
+            .insert(offset.0.into_u64(), Ok(abbreviations))?;
+        Ok(())
+    }
+
+    /// What is kept at an offset, and else a fresh reading of `debug_abbrev`, which isn't kept.
+    ///
+    /// # Errors
+    ///
+    /// Those of [`DebugAbbrev::abbreviations`], kept or fresh, and `OutOfMemory` where memory to
+    /// share a table was refused.
+    #[tactic(auto, using(crate::proofs::Shown::shown_gets))]
+    pub fn get<R: Reader>(
+        &self,
+        debug_abbrev: &DebugAbbrev<R>,
+        offset: DebugAbbrevOffset<R::Offset>,
+    ) -> Result<Rc<Abbreviations>>
+        ensures never_want { finite.get self.now (R.Offset.value offset.0) ≢ Some (Err Error.OutOfMemory) }
+        ensures answer { MatchOption (finite.get self.now (R.Offset.value offset.0)) (Answers (answer_of result) (R.view (debug_abbrev_reader debug_abbrev.now)) (R.Offset.value offset.0)) (λ kept. HandsOut kept result) }
+        ensures faithful { IsFaithful self.now (R.view (debug_abbrev_reader debug_abbrev.now)) → Answers (answer_of result) (R.view (debug_abbrev_reader debug_abbrev.now)) (R.Offset.value offset.0) }
+    {
+        match self.abbreviations.get(&offset.0.into_u64()) {
+            Some(Ok(table)) => Ok(table.clone()?),
+            Some(Err(fault)) => Err(*fault),
+            None => Ok(Rc::new(self.mem, debug_abbrev.abbreviations(self.mem, offset)?)?),
+        }
+    }
+}
+
+// The items before the first error.
+fn before_error<T: Drop, I: Iterator<Item = Result<T>>>(mem: Global, items: I) -> Result<Vec<T>>
+    requires can { I.can_next items }
+    requires ends { IsFinite (I.remaining items) }
+    ensures ok { IfOk result (λ taken. GivesBeforeError I.next_gives items taken.items) }
+    ensures err { IfErr result (λ fault. fault ≡ Error.OutOfMemory) }
+{
+    let mut taken = Vec::new(mem);
+    for item in items {
+        match item {
+            Ok(item) => taken.push(item)?,
+            Err(Error::OutOfMemory) => return Err(Error::OutOfMemory),
+            Err(_) => return Ok(taken),
+        }
+    }
+    Ok(taken)
+}
+
+// The answer at an offset, with a table that can be shared.
+fn shared_answer<R: Reader>(
+    mem: Global,
+    debug_abbrev: &DebugAbbrev<R>,
+    offset: DebugAbbrevOffset<R::Offset>,
+) -> Result<Result<Rc<Abbreviations>>>
+    ensures ok { IfOk result (λ answer. Answer (R.view (debug_abbrev_reader debug_abbrev.now)) (R.Offset.value offset.0) (answer_of answer)) }
+    ensures err { IfErr result (λ fault. fault ≡ Error.OutOfMemory) }
+{
+    match debug_abbrev.abbreviations(mem, offset) {
+        Ok(table) => Ok(Ok(Rc::new(mem, table)?)),
+        Err(Error::OutOfMemory) => Err(Error::OutOfMemory),
+        Err(fault) => Ok(Err(fault)),
+    }
+}
+
+// The answers at the offsets that occur often enough.
+fn entries_kept<R: Reader>(
+    mem: Global,
+    strategy: AbbreviationsCacheStrategy,
+    debug_abbrev: &DebugAbbrev<R>,
+    offsets: &[DebugAbbrevOffset<R::Offset>],
+) -> Result<Entries>
+    ensures ok { IfOk result (λ entries. KeepsAnswers (least_count strategy) (R.view (debug_abbrev_reader debug_abbrev.now)) (map (λ o. R.Offset.value o.0) offsets.now) (λ key. option_map answer_of (get nat_cmp entries key))) }
+    ensures err { IfErr result (λ fault. fault ≡ Error.OutOfMemory) }
+{
+    let mut counts = BTreeMap::new(mem);
+    let mut entries = BTreeMap::new(mem);
+    for offset in offsets {
+        let key = offset.0.into_u64();
+        let count = count_once_more(&mut counts, key)?;
+        if count == strategy.least_count() {
+            keep(
+                &mut entries,
+                key,
+                shared_answer(mem, debug_abbrev, *offset)?,
+            )?;
+        }
+    }
+    Ok(entries)
+}
+
+// Counts a key once more, and answers how often it has been counted.
+fn count_once_more(counts: &mut BTreeMap<u64, usize>, key: u64) -> Result<usize>
+    requires { unwrap_or (get nat_cmp counts.old key) 0 + 1 < 2 ^ 64 }
+    ensures count { IfOk result (λ count. count ≡ unwrap_or (get nat_cmp counts.old key) 0 + 1) }
+    ensures counted { OnOk result ((q : ℕ) → unwrap_or (get nat_cmp counts.new q) 0 ≡ unwrap_or (get nat_cmp counts.old q) 0 + (if key == q then 1 else 0)) }
+    ensures err { IfErr result (λ fault. fault ≡ Error.OutOfMemory) }
+{
+    let count = counts.entry(key)?.or_insert(0);
+    *count += 1;
+    Ok(*count)
+}
+
+// Keeps an answer under a key.
+fn keep(entries: &mut Entries, key: u64, answer: Result<Rc<Abbreviations>>) -> Result<()>
+    ensures kept { OnOk result ((q : ℕ) → option_map answer_of (get nat_cmp entries.new q)
+        ≡ (if q == key then Some (answer_of answer) else option_map answer_of (get nat_cmp entries.old q))) }
+    ensures err { IfErr result (λ fault. fault ≡ Error.OutOfMemory) }
+{
+    entries.insert(key, answer)?;
+    Ok(())
+}
