@@ -1,3 +1,4 @@
+-- The byte order that is chosen at run time.
 use Rattle.std.specs.Prelude.{Bool, true, false}
 use Rattle.dwarf_base_core.specs.declared.endianity.RunTimeEndian.{RunTimeEndian}
 use Rattle.dwarf_base_core.specs.declared.endianity.RunTimeEndian.TheVariants.{Little, Big}

@@ -179,8 +179,6 @@ pub enum Error {
     InvalidNameAttributeIndex(u64),
     /// Memory was refused.
     OutOfMemory,
-    /// A table of abbreviations ends with its section, at this place, and not with a code 0.
-    UnterminatedAbbreviations(ReaderOffsetId),
 }
 
 /// What a read answers.
@@ -364,7 +362,6 @@ impl fmt::Display for Error {
                 "invalid index in name attribute: 0x{value:x}"
             ),
             Error::OutOfMemory => write!(f, "out of memory"),
-            Error::UnterminatedAbbreviations(_) => write!(f, "unterminated abbreviation table"),
         }
     }
 }

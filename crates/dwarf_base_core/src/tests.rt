@@ -405,15 +405,11 @@ const TEXTS: &[(Error, &str)] = &[
         "invalid index in name attribute: 0x10000",
     ),
     (Error::OutOfMemory, "out of memory"),
-    (
-        Error::UnterminatedAbbreviations(ReaderOffsetId(5)),
-        "unterminated abbreviation table",
-    ),
 ];
 
 #[test]
 fn error_texts(rt: HostRuntime) -> Result<(), Fail> {
-    assert_eq!(rt; TEXTS.len(), 79);
+    assert_eq!(rt; TEXTS.len(), 78);
     for (error, text) in TEXTS {
         let plain = format!(in rt.alloc(); "{error}")?;
         assert_eq!(rt; plain.as_str(), *text);

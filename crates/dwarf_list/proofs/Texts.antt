@@ -1,20 +1,21 @@
 -- Words and an input have one text, or one fault, at most.
 use Rattle.std.proofs.Common.{◌≡◌, ℕ, List, Result, Ok, Err, sym, ap, ◌∙◌}
 use Rattle.dwarf_read_core.specs.declared.Error.{Error}
-use Rattle.dwarf_read_core.specs.Answer.{Answer, HasOneAnswer}
+use Rattle.dwarf_read_core.specs.Answer.{Answer}
+use Rattle.dwarf_read_core.specs.Once.{HasOne}
 use Rattle.dwarf_read_core.specs.Grammar.{Table}
 use Rattle.dwarf_read_core.specs.Input.{Input}
 use Rattle.dwarf_read_core.specs.Leb128.{Kind, Number, unsigned64, signed64}
 use Rattle.dwarf_read_core.specs.Shortest.{IsShortest}
-use Rattle.dwarf_read_core.specs.Strings.{StringAt, HasOneString}
+use Rattle.dwarf_read_core.specs.Strings.{StringAt}
 use Rattle.dwarf_list.specs.Listing.{Lists, section_of, table_text, line, hex_text}
 use Rattle.dwarf_list.specs.declared.command.Command.{Command}
 use Rattle.dwarf_list.specs.declared.command.Command.TheVariants.{Abbrev, Str, Uleb, Sleb}
 
 -- what the sections' laws say
 pub record AreLaws : Type 0 where
-  pub answers : (section : Input) (offset : ℕ) → HasOneAnswer section offset
-  pub strings : (section : Input) (offset : ℕ) → HasOneString section offset
+  pub answers : (section : Input) (offset : ℕ) → HasOne (Answer section offset)
+  pub strings : (section : Input) (offset : ℕ) → HasOne (StringAt section offset)
   pub encodings : (k : Kind) (number : Number k) (a b : List ℕ) → IsShortest k number a → IsShortest k number b → a ≡ b
 
 module _ (laws : AreLaws) where

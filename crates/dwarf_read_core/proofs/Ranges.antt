@@ -5,7 +5,8 @@ use Rattle.std.specs.Prelude.{IfErr, IsErrAnd}
 use Rattle.dwarf_base_core.specs.declared.error.Error.{Error}
 use Rattle.dwarf_reader_core.specs.Faults.{eof, end_fault, EndsBefore}
 use Rattle.dwarf_reader_core.specs.Input.{Input, after, first, Takes}
-use Rattle.dwarf_read_core.specs.Ranges.{RangeAt, HasOneRange, outside, cut, range}
+use Rattle.dwarf_reader_core.specs.Once.{HasOne}
+use Rattle.dwarf_read_core.specs.Ranges.{RangeAt, outside, cut, range}
 
 -- what `?` hands on
 pub handed_on : {X : Type 0} (P : Error → Type 0) {e : Error} (result : Result X Error) → IsErrAnd result (λ x. x ≡ e) → P e → IfErr result P
@@ -50,7 +51,7 @@ some_range section offset size =
       ]
     ]
 
-pub one_range : (section : Input) (offset size : ℕ) → HasOneRange section offset size
+pub one_range : (section : Input) (offset size : ℕ) → HasOne (RangeAt section offset size)
 one_range section offset size =
     let some = some_range section offset size in
     (some.0, some.1, λ other a. only_range some.1 a)

@@ -7,7 +7,8 @@ use Rattle.std.specs.Prelude.{slice_index, IfErr}
 use Rattle.dwarf_base_core.specs.declared.error.Error.{Error}
 use Rattle.dwarf_reader_core.specs.Faults.{eof, end_fault, EndsBefore, Lacks, WantsMemory}
 use Rattle.dwarf_reader_core.specs.Input.{Input, first, Takes, TakesString}
-use Rattle.dwarf_read_core.specs.Strings.{HasNoZero, StringAt, HasOneString, outside, string, unended}
+use Rattle.dwarf_reader_core.specs.Once.{HasOne}
+use Rattle.dwarf_read_core.specs.Strings.{HasNoZero, StringAt, outside, string, unended}
 use Rattle.dwarf_read_core.specs.Answer.{followed_by}
 
 -- a list round an item
@@ -95,7 +96,7 @@ some_string section offset =
       | inr le ↦ found_string section offset le
     ]
 
-pub one_string : (section : Input) (offset : ℕ) → HasOneString section offset
+pub one_string : (section : Input) (offset : ℕ) → HasOne (StringAt section offset)
 one_string section offset =
     let some = some_string section offset in
     (some.0, some.1, λ other a. only_string some.1 a)

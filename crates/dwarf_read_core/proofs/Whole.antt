@@ -13,7 +13,8 @@ use Rattle.dwarf_reader_core.specs.Input.{Input, end_of, Takes}
 use Rattle.dwarf_reader_core.specs.Faults.{end_fault, EndsBefore}
 use Rattle.dwarf_read_core.proofs.Numbers.{end_after}
 use Rattle.dwarf_read_core.specs.Grammar.{Declaration, Sequence, IsDeclaration, Declares, AreDistinct, AreDeclarations, ByCode, Table, closed, by_code_of, Close, by_null, by_end, IsTable, closed_by_null, closed_by_end}
-use Rattle.dwarf_read_core.specs.Answer.{IsFault, in_declaration, repeated, Answer, Answers, HasOneAnswer, TakesNoMemory, outside, table, fault}
+use Rattle.dwarf_reader_core.specs.Once.{HasOne}
+use Rattle.dwarf_read_core.specs.Answer.{IsFault, in_declaration, repeated, Answer, Answers, TakesNoMemory, outside, table, fault}
 use Rattle.dwarf_read_core.specs.Reading.{◌>>=◌, Gives, declaration_at, close_of, and_declared, table_at, table_in, answer_at}
 use Rattle.dwarf_read_core.proofs.Sequences.{Sequence-push}
 use Rattle.dwarf_read_core.proofs.Specifications.{nonempty}
@@ -250,7 +251,7 @@ answered r section offset rest takes given = go r (subst (λ (read : Read). Give
     go (Ok t) h = subst (Answer section offset) h (is_answer section offset)
     go (Err e) h = λ memory. subst (Answer section offset) (h memory) (is_answer section offset)
 
-pub one_answer : (section : Input) (offset : ℕ) → HasOneAnswer section offset
+pub one_answer : (section : Input) (offset : ℕ) → HasOne (Answer section offset)
 one_answer section offset = (answer_at section offset, is_answer section offset, λ s a. sym (only_answer a))
 
 -- an offset past the end

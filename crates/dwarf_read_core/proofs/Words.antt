@@ -10,7 +10,8 @@ use Rattle.dwarf_reader_core.specs.Faults.{eof, end_fault, EndsBefore, IsNoOffse
 use Rattle.dwarf_reader_core.specs.Input.{Input, after, Takes, TakesNumber}
 use Rattle.dwarf_read_core.specs.Answer.{followed_by}
 use Rattle.dwarf_read_core.specs.Words
-use Rattle.dwarf_read_core.specs.Words.{Slot, distance, place, number_at, IsPlaced, Misplaced, base_outside, too_far, place_outside, WordAt, AddressAt, IsSettled, HasOneWord, HasOneAddress}
+use Rattle.dwarf_reader_core.specs.Once.{HasOne}
+use Rattle.dwarf_read_core.specs.Words.{Slot, distance, place, number_at, IsPlaced, Misplaced, base_outside, too_far, place_outside, WordAt, AddressAt, IsSettled}
 use Rattle.dwarf_read_core.proofs.Ranges.{length_left}
 
 -- ---- going to the place
@@ -157,7 +158,7 @@ some_word greatest section s =
       ]
     ]
 
-pub one_word : (greatest : ℕ) (section : Input) (s : Slot) → HasOneWord greatest section s
+pub one_word : (greatest : ℕ) (section : Input) (s : Slot) → HasOne (WordAt greatest section s)
 one_word greatest section s =
     let some = some_word greatest section s in
     (some.0, some.1, λ other a. only_word some.1 a)
@@ -200,7 +201,7 @@ some_address greatest section s =
       ]
     ]
 
-pub one_address : (greatest : ℕ) (section : Input) (s : Slot) → HasOneAddress greatest section s
+pub one_address : (greatest : ℕ) (section : Input) (s : Slot) → HasOne (AddressAt greatest section s)
 one_address greatest section s =
     let some = some_address greatest section s in
     (some.0, some.1, λ other a. only_address some.1 a)

@@ -41,10 +41,6 @@ abbrev pub Answers : Result Table Error → Input → ℕ → Type 0
 Answers (Ok t) section offset = Answer section offset (Ok t)
 Answers (Err e) section offset = e ≢ OutOfMemory → Answer section offset (Err e)
 
--- exactly one answer
-abbrev pub HasOneAnswer : Input → ℕ → Type 0
-HasOneAnswer section offset = (answer : Result Table Error) × Answer section offset answer × ((other : Result Table Error) → Answer section offset other → other ≡ answer)
-
 -- a section with more bytes behind it
 abbrev pub followed_by : Input → List ℕ → Input
 followed_by section more = record section { bytes = section.bytes ++ more }

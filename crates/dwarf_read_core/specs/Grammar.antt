@@ -24,6 +24,7 @@ specification_code = code_by (ℕ × (ℕ × Option ℤ)) (coded× coded_ℕ (co
 abbrev pub declaration_code : Coded Declaration
 declaration_code = code_by (ℕ × (ℕ × (Bool × List Specification))) (coded× coded_ℕ (coded× coded_ℕ (coded× coded_bool (coded_list specification_code)))) (λ d. (d.code, (d.tag, (d.children, d.attributes)))) (λ p. record { code = p.0; tag = p.1.0; children = p.1.1.0; attributes = p.1.1.1 }) (λ _. refl)
 
+-- DW_FORM_implicit_const
 abbrev pub implicit_const : ℕ
 implicit_const = 0x21
 

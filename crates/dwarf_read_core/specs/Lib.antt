@@ -14,4 +14,5 @@ pub use Rattle.dwarf_const_core.specs.DwForm
 pub use Rattle.dwarf_const_core.specs.DwTag
 pub use Rattle.dwarf_reader_core.specs.Input
 pub use Rattle.dwarf_reader_core.specs.Leb128
+pub use Rattle.dwarf_reader_core.specs.Once
 pub use Rattle.dwarf_reader_core.specs.Shortest

@@ -9,7 +9,3 @@ pub data RangeAt (section : Input) (offset size : ℕ) : Result Input Error → 
   outside : length section.bytes < offset → RangeAt section offset size (Err (end_fault section))
   cut : offset ≤ length section.bytes → length section.bytes < offset + size → RangeAt section offset size (Err (eof (section.position + offset)))
   range : offset + size ≤ length section.bytes → RangeAt section offset size (Ok (first size (after offset section)))
-
--- exactly one answer
-abbrev pub HasOneRange : Input → ℕ → ℕ → Type 0
-HasOneRange section offset size = (answer : Result Input Error) × RangeAt section offset size answer × ((other : Result Input Error) → RangeAt section offset size other → other ≡ answer)

@@ -13,7 +13,3 @@ pub data StringAt (section : Input) (offset : ℕ) : Result Input Error → Type
   outside : length section.bytes < offset → StringAt section offset (Err (end_fault section))
   string : (bytes rest : List ℕ) → offset ≤ length section.bytes → drop offset section.bytes ≡ bytes ++ 0 ∷ rest → HasNoZero bytes → StringAt section offset (Ok (record section { bytes = bytes; position = section.position + offset }))
   unended : offset ≤ length section.bytes → HasNoZero (drop offset section.bytes) → StringAt section offset (Err (eof (section.position + offset)))
-
--- exactly one answer
-abbrev pub HasOneString : Input → ℕ → Type 0
-HasOneString section offset = (answer : Result Input Error) × StringAt section offset answer × ((other : Result Input Error) → StringAt section offset other → other ≡ answer)

@@ -56,10 +56,3 @@ pub data AddressAt (greatest : ℕ) (section : Input) (s : Slot) : Result ℕ Er
 -- an answer that doesn't say that bytes are missing
 abbrev pub IsSettled : Result ℕ Error → Type 0
 IsSettled answer = (position : ℕ) → answer ≢ Err (eof position)
-
--- exactly one answer
-abbrev pub HasOneWord : ℕ → Input → Slot → Type 0
-HasOneWord greatest section s = (answer : Result ℕ Error) × WordAt greatest section s answer × ((other : Result ℕ Error) → WordAt greatest section s other → other ≡ answer)
-
-abbrev pub HasOneAddress : ℕ → Input → Slot → Type 0
-HasOneAddress greatest section s = (answer : Result ℕ Error) × AddressAt greatest section s answer × ((other : Result ℕ Error) → AddressAt greatest section s other → other ≡ answer)

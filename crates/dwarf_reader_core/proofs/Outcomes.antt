@@ -2,7 +2,8 @@
 use Rattle.std.proofs.Common.{◌≡◌, ℕ, zero, suc, ◌<◌, ◌≤◌, List, [], ◌∷◌, length, take, drop, refl, sym, ap, ◌∙◌, arith, inl, inr, ◌⊎◌, ⊎_elim, Bool, true, false}
 use Rattle.std.proofs.lemmas.Bool.{cases_lt}
 use Rattle.std.proofs.lemmas.List.{take_all, length-take-le, take-append-drop}
-use Rattle.dwarf_reader_core.specs.Leb128.{IsEncoding, NoneIsLast, Kind, Number, value, limit, is_in_range, Outcome, Value, End, Bad, IsNumber, HasNumber, IsCut, HasOutcome, HasOneOutcome}
+use Rattle.dwarf_reader_core.specs.Leb128.{IsEncoding, NoneIsLast, Kind, Number, value, limit, is_in_range, Outcome, Value, End, Bad, IsNumber, HasNumber, IsCut, HasOutcome}
+use Rattle.dwarf_reader_core.specs.Once.{HasOne}
 use Rattle.dwarf_reader_core.proofs.Encodings.{past_none, same_encoding}
 
 IsEncoding-cons : (b : ℕ) (s : List ℕ) → 128 ≤ b → IsEncoding s → IsEncoding (b ∷ s)
@@ -102,5 +103,5 @@ module _ (k : Kind) (bytes : List ℕ) where
       r)
       (three_ways (limit k) bytes)
 
-  pub one_outcome_of : HasOneOutcome k bytes
-  one_outcome_of = (some.0, some.1, λ p h. unique some.0 p some.1 h)
+  pub one_outcome_of : HasOne (HasOutcome k bytes)
+  one_outcome_of = (some.0, some.1, λ p h. unique p some.0 h some.1)

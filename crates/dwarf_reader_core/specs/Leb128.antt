@@ -101,10 +101,6 @@ HasOutcome k bytes (Value number n) = HasNumber k bytes number n
 HasOutcome k bytes End = IsCut k bytes
 HasOutcome k bytes Bad = IsBad k bytes
 
--- the bytes have an outcome, and no other
-abbrev pub HasOneOutcome : Kind → List ℕ → Type 0
-HasOneOutcome k bytes = (o : Outcome k) × HasOutcome k bytes o × ((p : Outcome k) → HasOutcome k bytes p → o ≡ p)
-
 -- the number is taken, with its bytes
 pub record ReadsNumber (k : Kind) (old : Input) (number : Number k) (new : Input) : Type 0 where
   pub len : ℕ

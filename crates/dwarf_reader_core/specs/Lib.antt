@@ -1,3 +1,4 @@
+pub mod Once
 pub mod Input
 pub mod Faults
 pub mod Leb128

@@ -6,15 +6,16 @@ ghost use Rattle.dwarf_base_core.specs.declared.error.Error.{Error};
 ghost use Rattle.dwarf_reader_core.specs.Input.{Input, TakesString};
 ghost use Rattle.dwarf_reader_core.specs.Faults.{Lacks};
 ghost use Rattle.dwarf_reader_core.specs.InitialLength.{TakesLength, RefusesLength};
-ghost use Rattle.dwarf_reader_core.specs.Leb128.{unsigned64, unsigned16, signed64, HasNumber, HasOneOutcome, IsEncoding, Kind, Number, is_in_range, limit};
+ghost use Rattle.dwarf_reader_core.specs.Leb128.{unsigned64, unsigned16, signed64, HasNumber, HasOutcome, IsEncoding, Kind, Number, is_in_range, limit};
+ghost use Rattle.dwarf_reader_core.specs.Once.{HasOne};
 ghost use Rattle.dwarf_reader_core.specs.Shortest.{Encodes, IsShortest};
 
 /// Bytes begin with one number of each kind, or end before one does, or are bad, and only one of
 /// these.
 pub fn one_outcome()
-    ensures unsigned { (bytes : List ℕ) → HasOneOutcome unsigned64 bytes }
-    ensures short { (bytes : List ℕ) → HasOneOutcome unsigned16 bytes }
-    ensures signed { (bytes : List ℕ) → HasOneOutcome signed64 bytes }
+    ensures unsigned { (bytes : List ℕ) → HasOne (HasOutcome unsigned64 bytes) }
+    ensures short { (bytes : List ℕ) → HasOne (HasOutcome unsigned16 bytes) }
+    ensures signed { (bytes : List ℕ) → HasOne (HasOutcome signed64 bytes) }
 {}
 
 /// No encoding begins another.

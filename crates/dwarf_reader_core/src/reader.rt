@@ -408,6 +408,7 @@ pub trait Reader: Debug + Drop + Sized {
     #[inline]
     fn read_initial_length(&mut self) -> Result<(Self::Offset, Format)>
         ensures ok { IfOk result (λ found. TakesLength Self.Offset.GREATEST (view self.old) (Self.Offset.value found.0) found.1 (view self.new)) }
+        ensures in_range { IfOk result (λ found. Self.Offset.value found.0 ≤ Self.Offset.GREATEST) }
         ensures err { IfErr result (λ e. RefusesLength Self.Offset.GREATEST (view self.old) e (view self.new)) }
     {
         const FIRST_RESERVED: u32 = 0xffff_fff0;
@@ -465,6 +466,7 @@ pub trait Reader: Debug + Drop + Sized {
     #[inline]
     fn read_word(&mut self, format: Format) -> Result<Self::Offset>
         ensures ok { IfOk result (λ x. TakesNumber (word_size format) (view self.old) (Self.Offset.value x) (view self.new)) }
+        ensures in_range { IfOk result (λ x. Self.Offset.value x ≤ Self.Offset.GREATEST) }
         ensures err { IfErr result (λ e. EndsBefore (word_size format) (view self.old) e (view self.new)
             ⊎ IsNoOffset Self.Offset.GREATEST (word_size format) (view self.old) e (view self.new)) }
     {
@@ -479,6 +481,7 @@ pub trait Reader: Debug + Drop + Sized {
     #[inline]
     fn read_length(&mut self, format: Format) -> Result<Self::Offset>
         ensures ok { IfOk result (λ x. TakesNumber (word_size format) (view self.old) (Self.Offset.value x) (view self.new)) }
+        ensures in_range { IfOk result (λ x. Self.Offset.value x ≤ Self.Offset.GREATEST) }
         ensures err { IfErr result (λ e. EndsBefore (word_size format) (view self.old) e (view self.new)
             ⊎ IsNoOffset Self.Offset.GREATEST (word_size format) (view self.old) e (view self.new)) }
     {
@@ -489,6 +492,7 @@ pub trait Reader: Debug + Drop + Sized {
     #[inline]
     fn read_offset(&mut self, format: Format) -> Result<Self::Offset>
         ensures ok { IfOk result (λ x. TakesNumber (word_size format) (view self.old) (Self.Offset.value x) (view self.new)) }
+        ensures in_range { IfOk result (λ x. Self.Offset.value x ≤ Self.Offset.GREATEST) }
         ensures err { IfErr result (λ e. EndsBefore (word_size format) (view self.old) e (view self.new)
             ⊎ IsNoOffset Self.Offset.GREATEST (word_size format) (view self.old) e (view self.new)) }
     {
@@ -503,6 +507,7 @@ pub trait Reader: Debug + Drop + Sized {
     #[inline]
     fn read_sized_offset(&mut self, size: u8) -> Result<Self::Offset>
         ensures ok { IfOk result (λ x. TakesNumber size (view self.old) (Self.Offset.value x) (view self.new) × IsTrue (is_number_size size)) }
+        ensures in_range { IfOk result (λ x. Self.Offset.value x ≤ Self.Offset.GREATEST) }
         ensures err { IfErr result (λ e. RefusesOffset Self.Offset.GREATEST size (view self.old) e (view self.new)) }
     {
         let number = match size {

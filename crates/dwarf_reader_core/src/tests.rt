@@ -247,6 +247,22 @@ fn texts(rt: HostRuntime) -> std::result::Result<(), Fail> {
     Ok(())
 }
 
+// With requests for memory that are refused, an answer is the text or want of memory.
+#[test]
+fn refused_memory(rt: HostRuntime) {
+    let texts: [(&[u8], &str); 2] = [(b"ab", "ab"), (&[0x61, 0xff], "a\u{fffd}")];
+    for (bytes, text) in texts {
+        match little(bytes).to_string_lossy(rt.alloc()) {
+            Ok(lossy) => assert_eq!(rt; lossy.as_str(), text),
+            Err(error) => assert_eq!(rt; error, Error::OutOfMemory),
+        }
+        match Reader::to_string_lossy(&little(bytes), rt.alloc()) {
+            Ok(lossy) => assert_eq!(rt; lossy.as_str(), text),
+            Err(error) => assert_eq!(rt; error, Error::OutOfMemory),
+        }
+    }
+}
+
 #[test]
 fn strings(rt: HostRuntime) -> std::result::Result<(), Fail> {
     let mut strings = little(b"one\0two");

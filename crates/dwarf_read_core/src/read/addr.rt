@@ -52,8 +52,8 @@ impl<R: Reader> DebugAddr<R> {
         ensures err { IfErr result (λ e. AddressAt R.Offset.GREATEST (R.view (debug_addr_reader self.now)) (slot (R.Offset.value base.0) (R.Offset.value index.0) address_size) (Err e) ⊎ WantsMemory R.clone_is_free e) }
 
         // Bytes behind the section change no answer, but that bytes are missing.
-        ensures stays { IfOk result (λ address. (more : List ℕ) → AddressAt R.Offset.GREATEST (followed_by (R.view (debug_addr_reader self.now)) more) (slot (R.Offset.value base.0) (R.Offset.value index.0) address_size) (Ok address)) }
-        ensures fault_stays { IfErr result (λ e. IsSettled (Err e) → (more : List ℕ) → AddressAt R.Offset.GREATEST (followed_by (R.view (debug_addr_reader self.now)) more) (slot (R.Offset.value base.0) (R.Offset.value index.0) address_size) (Err e) ⊎ WantsMemory R.clone_is_free e) }
+        ensures stable { IfOk result (λ address. (more : List ℕ) → AddressAt R.Offset.GREATEST (followed_by (R.view (debug_addr_reader self.now)) more) (slot (R.Offset.value base.0) (R.Offset.value index.0) address_size) (Ok address)) }
+        ensures stable_fault { IfErr result (λ e. IsSettled (Err e) → (more : List ℕ) → AddressAt R.Offset.GREATEST (followed_by (R.view (debug_addr_reader self.now)) more) (slot (R.Offset.value base.0) (R.Offset.value index.0) address_size) (Err e) ⊎ WantsMemory R.clone_is_free e) }
     {
         let input = &mut self.section.try_clone()?;
         skip_to_index(input, base.0, index.0, address_size)?;

@@ -141,15 +141,12 @@ impl<R: Reader> DebugStrOffsets<R> {
         ensures err { IfErr result (λ e. WordAt R.Offset.GREATEST (R.view (debug_str_offsets_reader self.now)) (slot (R.Offset.value base.0) (R.Offset.value index.0) (word_size format)) (Err e) ⊎ WantsMemory R.clone_is_free e) }
 
         // Bytes behind the section change no answer, but that bytes are missing.
-        ensures stays { IfOk result (λ offset. (more : List ℕ) → WordAt R.Offset.GREATEST (followed_by (R.view (debug_str_offsets_reader self.now)) more) (slot (R.Offset.value base.0) (R.Offset.value index.0) (word_size format)) (Ok (R.Offset.value offset.0))) }
-        ensures fault_stays { IfErr result (λ e. IsSettled (Err e) → (more : List ℕ) → WordAt R.Offset.GREATEST (followed_by (R.view (debug_str_offsets_reader self.now)) more) (slot (R.Offset.value base.0) (R.Offset.value index.0) (word_size format)) (Err e) ⊎ WantsMemory R.clone_is_free e) }
+        ensures stable { IfOk result (λ offset. (more : List ℕ) → WordAt R.Offset.GREATEST (followed_by (R.view (debug_str_offsets_reader self.now)) more) (slot (R.Offset.value base.0) (R.Offset.value index.0) (word_size format)) (Ok (R.Offset.value offset.0))) }
+        ensures stable_fault { IfErr result (λ e. IsSettled (Err e) → (more : List ℕ) → WordAt R.Offset.GREATEST (followed_by (R.view (debug_str_offsets_reader self.now)) more) (slot (R.Offset.value base.0) (R.Offset.value index.0) (word_size format)) (Err e) ⊎ WantsMemory R.clone_is_free e) }
     {
         let input = &mut self.section.try_clone()?;
         skip_to_index(input, base.0, index.0, format.word_size())?;
-        let offset = input.read_offset(format)?;
-        // An offset is told to be within its bounds where it becomes a number.
-        offset.into_u64();
-        Ok(DebugStrOffset(offset))
+        Ok(DebugStrOffset(input.read_offset(format)?))
     }
 }
 

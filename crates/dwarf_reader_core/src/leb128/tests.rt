@@ -222,7 +222,7 @@ fn numbers_are_read(rt: HostRuntime) {
 
 #[test]
 fn single_bytes(rt: HostRuntime) {
-    for i in 0..127u8 {
+    for i in 0..128u8 {
         assert_eq!(rt; low_bits_of_byte(i), i);
         assert_eq!(rt; low_bits_of_byte(i + 128), i);
         assert_eq!(rt; has_continuation_bit(i), false);

@@ -75,7 +75,7 @@ impl<Endian: Endianity> OwnedReader<Endian> {
         if self.depth == 0 {
             return Err(Error::OutOfMemory);
         }
-        let bytes = copy_of(self.alloc, &self.rest()[..len])?;
+        let bytes = self.rest()[..len].to_vec(self.alloc)?;
         Ok(OwnedReader {
             alloc: self.alloc,
             bytes,
@@ -198,16 +198,4 @@ impl<Endian: Endianity> Reader for OwnedReader<Endian> {
         self.advance(len);
         Ok(())
     }
-}
-
-// A copy of the bytes.
-fn copy_of(alloc: Global, bytes: &[u8]) -> Result<Vec<u8>>
-    ensures ok { IfOk result (λ copy. copy.items ≡ bytes.now) }
-    ensures err { IfErr result (λ e. e ≡ OutOfMemory) }
-{
-    bytes
-        .iter()
-        .copied()
-        .collect(alloc)
-        .map_err(|_| Error::OutOfMemory)
 }
