@@ -17,3 +17,8 @@ pub mod FaithfulCache
 pub mod NoWant
 pub mod Shown
 pub mod Kept
+pub mod Items
+pub mod SetReading
+pub mod Sets
+pub mod AddressSets
+pub mod Entries

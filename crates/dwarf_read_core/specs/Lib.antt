@@ -1,10 +1,15 @@
 pub mod Answer
 pub mod Cache
+pub mod Entries
 pub mod Forms
 pub mod Grammar
+pub mod Headers
+pub mod Items
 pub mod Ranges
 pub mod Reading
 pub mod Sections
+pub mod SetReading
+pub mod Sets
 pub mod Strings
 pub mod Views
 pub mod Words

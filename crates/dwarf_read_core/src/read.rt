@@ -11,7 +11,7 @@ pub use abbrev::{
     Abbreviation, Abbreviations, AbbreviationsCache, AbbreviationsCacheStrategy, AbbreviationsIter,
     AttributeSpecification, DebugAbbrev,
 };
-pub use addr::DebugAddr;
+pub use addr::{AddrEntryIter, AddrHeader, AddrHeaderIter, DebugAddr};
 pub use dwarf_base_core::{
     Error, ReaderAddress, ReaderOffset, ReaderOffsetId, Result, StoreOnHeap, UnitOffset,
 };

@@ -1,16 +1,27 @@
 //! Addresses: the section `.debug_addr` (DWARF 5, 7.27).
 
-ghost use Rattle.std.specs.Prelude.{◌≡◌, ◌⊎◌, ℕ, List, Ok, Err, IfOk, IfErr};
+ghost use Rattle.std.specs.Prelude.{◌≡◌, ◌+◌, ◌≤◌, ◌⊎◌, ℕ, List, [], Ok, Err, true, length, IsTrue, IfOk, IfErr, IfSome, OnOk, OnErr, IsOk};
 ghost use Rattle.std.specs.Fn.{CalledAt, TakesAt};
 ghost use Rattle.dwarf_base_core.specs.declared.common.SectionId.TheVariants.{DebugAddr as debug_addr};
-ghost use Rattle.dwarf_reader_core.specs.Faults.{WantsMemory};
+ghost use Rattle.std.specs.Result.{result_transpose};
+ghost use Rattle.dwarf_reader_core.specs.Faults.{WantsMemory, is_number_size};
+ghost use Rattle.dwarf_reader_core.specs.Input.{end_of};
 ghost use Rattle.dwarf_read_core.specs.Answer.{followed_by};
+ghost use Rattle.dwarf_read_core.specs.Entries.{StandsForAddresses};
+ghost use Rattle.dwarf_read_core.specs.Items.{GivesFirst, StaysFirst};
+ghost use Rattle.dwarf_read_core.specs.SetReading.{address_header_at, set_at};
+ghost use Rattle.dwarf_read_core.specs.Sets.{StandsForAddressSets, addresses_of, followed_headers};
 ghost use Rattle.dwarf_read_core.specs.Words.{AddressAt, IsSettled, slot};
 
 use super::indexed::skip_to_index;
 use super::section::Section;
-use dwarf_base_core::{DebugAddrBase, DebugAddrIndex, Result, SectionId};
+use dwarf_base_core::{
+    DebugAddrBase, DebugAddrIndex, DebugAddrOffset, Encoding, Error, ReaderOffset, Result,
+    SectionId,
+};
 use dwarf_reader_core::Reader;
+use std::alloc::AllocError;
+use std::marker::Model;
 
 #[cfg(test)]
 mod tests;
@@ -59,6 +70,21 @@ impl<R: Reader> DebugAddr<R> {
         skip_to_index(input, base.0, index.0, address_size)?;
         input.read_address(address_size)
     }
+
+    /// The sets of addresses, one behind the other from the section's start.
+    ///
+    /// # Errors
+    ///
+    /// `OutOfMemory` where a clone of the reader was refused.
+    pub fn headers(&self) -> Result<AddrHeaderIter<R>>
+        ensures ok { IfOk result (λ headers. headers ≡ record { offset = 0; rest = R.view (debug_addr_reader self.now) }) }
+        ensures err { IfErr result (WantsMemory R.clone_is_free) }
+    {
+        Ok(AddrHeaderIter {
+            input: self.section.try_clone()?,
+            offset: DebugAddrOffset(R::Offset::from_u8(0)),
+        })
+    }
 }
 
 impl<T> DebugAddr<T> {
@@ -100,5 +126,300 @@ impl<R> From<R> for DebugAddr<R> {
 
     fn from(section: R) -> Self {
         DebugAddr { section }
+    }
+}
+
+/// The sets of addresses that are left of a section, each by its header.
+///
+/// ```
+/// let mut headers = section.headers()?;
+/// while let Some(header) = headers.next()? {
+///     let mut entries = header.entries()?;
+///     while let Some(address) = entries.next()? {
+///         println!(rt; "{:#x}", address)?;
+///     }
+/// }
+/// ```
+#[derive(Debug, Drop)]
+pub struct AddrHeaderIter<R: Reader> {
+    input: R,
+    offset: DebugAddrOffset<R::Offset>,
+}
+
+impl<R: Reader> Model for AddrHeaderIter<R> {
+    ghost use Rattle.std.specs.Prelude.{◌+◌, ◌≤◌, length};
+    ghost use Rattle.dwarf_read_core.specs.Sets.{Headers};
+
+    ghost Value = { Headers };
+
+    ghost view = { λ headers. record { offset = R.Offset.value headers.offset.0; rest = R.view headers.input } };
+
+    ghost invariant = { λ headers. R.Offset.value headers.offset.0 + length (R.view headers.input).bytes ≤ R.Offset.GREATEST };
+}
+
+impl<R: Reader> AddrHeaderIter<R> {
+    ghost use Rattle.dwarf_read_core.specs.Headers.{set_of};
+
+    /// The header of the next set, or `None` where no bytes are left.
+    ///
+    /// A set has eight bytes at least.
+    ///
+    /// # Errors
+    ///
+    /// The first fault of the bytes that are left, where they don't begin with a set. Positions
+    /// are those of the section.
+    ///
+    /// - `UnexpectedEof` at the set where its length is cut short in the first four bytes, and
+    ///   behind these where it is cut later;
+    /// - `UnknownReservedLength` where the first four bytes are reserved;
+    /// - `UnsupportedOffset` where the length is no offset;
+    /// - `UnexpectedEof` behind the length where fewer bytes are left, or where the set has no
+    ///   room for the version;
+    /// - `UnknownVersion` for another version than 5;
+    /// - `UnexpectedEof` where the set ends before the address size or the segment size;
+    /// - `UnsupportedAddressSize` for another size than 1, 2, 4 or 8;
+    /// - `UnsupportedSegmentSize` for another size than 0.
+    ///
+    /// `OutOfMemory` where memory for a reader of the set was refused. After any error the
+    /// answer is `Ok(None)`.
+    #[tactic(auto, using(crate::proofs::AddressSets::no_sets))]
+    pub fn next(&mut self) -> Result<Option<AddrHeader<R>>>
+        ensures first { GivesFirst (StandsForAddressSets R.Offset.GREATEST) (set_of R.view R.Offset.value) R.clone_is_free self.old (result_transpose result) self.new }
+        ensures failed { OnErr result (self.new.rest.bytes ≡ []) }
+        ensures bound { IfOk result (λ item. IfSome item (λ _. length self.new.rest.bytes + 8 ≤ length self.old.rest.bytes)) }
+        ensures some { OnErr result (1 ≤ length self.old.rest.bytes) }
+
+        // Bytes behind those that are left change neither a set nor a fault, but that bytes are missing.
+        ensures stable { StaysFirst (StandsForAddressSets R.Offset.GREATEST) (set_of R.view R.Offset.value) R.clone_is_free followed_headers self.old (result_transpose result) self.new }
+    {
+        if self.input.is_empty() {
+            return Ok(None);
+        }
+        let len = self.input.len();
+        match AddrHeader::parse(&mut self.input, self.offset) {
+            Ok(header) => {
+                self.offset.0 += len - self.input.len();
+                Ok(Some(header))
+            }
+            Err(error) => {
+                self.input.empty();
+                Err(error)
+            }
+        }
+    }
+}
+
+impl<R: Reader> Iterator for AddrHeaderIter<R> {
+    type Item = Result<AddrHeader<R>>;
+
+    ghost use Rattle.std.specs.Prelude.{length};
+    ghost use Rattle.std.specs.Iterator.{at_most};
+    ghost use Rattle.dwarf_read_core.specs.Headers.{set_of};
+    ghost use Rattle.dwarf_read_core.specs.Items.{GivesFirst};
+    ghost use Rattle.dwarf_read_core.specs.Sets.{StandsForAddressSets};
+
+    ghost next_gives = { GivesFirst (StandsForAddressSets R.Offset.GREATEST) (set_of R.view R.Offset.value) R.clone_is_free };
+
+    ghost remaining = { λ headers. at_most (length headers.rest.bytes) };
+
+    fn next(&mut self) -> Option<Result<AddrHeader<R>>> {
+        self.next().transpose()
+    }
+}
+
+impl<R: Reader + Clone> Clone for AddrHeaderIter<R> {
+    ghost is_clone = { λ headers copy. copy ≡ headers };
+
+    fn clone(&self) -> std::result::Result<Self, AllocError> {
+        match self.input.try_clone() {
+            Ok(input) => Ok(AddrHeaderIter {
+                input,
+                offset: self.offset,
+            }),
+            Err(_) => Err(AllocError),
+        }
+    }
+}
+
+/// The header of a set of addresses, and the addresses behind it.
+#[derive(Debug, Drop, PartialEq, Eq)]
+pub struct AddrHeader<R: Reader> {
+    offset: DebugAddrOffset<R::Offset>,
+    encoding: SetEncoding,
+    length: R::Offset,
+    entries: R,
+}
+
+// The encoding of a set of addresses.
+#[derive(Clone, Copy, Debug, PartialEq, Eq)]
+struct SetEncoding {
+    encoding: Encoding,
+    ghost sized: { IsTrue (is_number_size encoding.address_size) },
+    ghost known: { encoding.version ≡ 5 },
+}
+
+impl<R: Reader + Clone> Clone for AddrHeader<R> {
+    ghost use Rattle.dwarf_read_core.specs.Headers.{set_of};
+
+    ghost is_clone = { λ header copy. set_of R.view R.Offset.value copy ≡ set_of R.view R.Offset.value header };
+
+    fn clone(&self) -> std::result::Result<Self, AllocError> {
+        match self.entries.try_clone() {
+            Ok(entries) => Ok(AddrHeader {
+                offset: self.offset,
+                encoding: self.encoding,
+                length: self.length,
+                entries,
+            }),
+            Err(_) => Err(AllocError),
+        }
+    }
+}
+
+impl<R: Reader> AddrHeader<R> {
+    ghost use Rattle.dwarf_read_core.specs.Headers.{set_of};
+
+    fn parse(input: &mut R, offset: DebugAddrOffset<R::Offset>) -> Result<AddrHeader<R>>
+        ensures ok { IfOk result (λ header. set_at (address_header_at (R.view input.old).is_big) R.Offset.GREATEST (R.view input.old).is_big (R.Offset.value offset.0) (R.view input.old).position (R.view input.old).bytes
+            ≡ Ok (set_of R.view R.Offset.value header, (R.view input.new).bytes)) }
+        ensures err { IfErr result (λ e. (set_at (address_header_at (R.view input.old).is_big) R.Offset.GREATEST (R.view input.old).is_big (R.Offset.value offset.0) (R.view input.old).position (R.view input.old).bytes ≡ Err e)
+            ⊎ WantsMemory R.clone_is_free e) }
+        ensures bound { OnOk result (length (R.view input.new).bytes + 8 ≤ length (R.view input.old).bytes) }
+        ensures end { OnOk result (end_of (R.view input.new) ≡ end_of (R.view input.old)) }
+        ensures order { OnOk result ((R.view input.new).is_big ≡ (R.view input.old).is_big) }
+    {
+        let (length, format) = input.read_initial_length()?;
+        let mut rest = input.split(length)?;
+        let version = rest.read_u16()?;
+        if version != 5 {
+            return Err(Error::UnknownVersion(u64::from(version)));
+        }
+        let address_size = rest.read_address_size()?;
+        let segment_size = rest.read_u8()?;
+        if segment_size != 0 {
+            return Err(Error::UnsupportedSegmentSize(segment_size));
+        }
+        Ok(AddrHeader {
+            offset,
+            encoding: SetEncoding {
+                encoding: Encoding {
+                    address_size,
+                    format,
+                    version,
+                },
+            },
+            length,
+            entries: rest,
+        })
+    }
+
+    /// Where the set begins, in bytes from the section's start.
+    pub fn offset(&self) -> DebugAddrOffset<R::Offset>
+        ensures { R.Offset.value result.0 ≡ (set_of R.view R.Offset.value self.now).offset }
+    {
+        self.offset
+    }
+
+    /// How many bytes of the set follow its initial length: the rest of the header, and the
+    /// addresses.
+    pub fn length(&self) -> R::Offset
+        ensures { R.Offset.value result ≡ (set_of R.view R.Offset.value self.now).unit_length }
+    {
+        self.length
+    }
+
+    /// The set's format and address size; the version is 5.
+    pub fn encoding(&self) -> Encoding
+        ensures { result ≡ record { address_size = (set_of R.view R.Offset.value self.now).header; format = (set_of R.view R.Offset.value self.now).format; version = 5 } }
+    {
+        self.encoding.encoding
+    }
+
+    /// The addresses of the set.
+    ///
+    /// # Errors
+    ///
+    /// `OutOfMemory` where a clone of the reader was refused.
+    pub fn entries(&self) -> Result<AddrEntryIter<R>>
+        ensures ok { IfOk result (λ entries. entries ≡ addresses_of (set_of R.view R.Offset.value self.now)) }
+        ensures err { IfErr result (WantsMemory R.clone_is_free) }
+    {
+        Ok(AddrEntryIter {
+            input: self.entries.try_clone()?,
+            encoding: self.encoding,
+        })
+    }
+}
+
+/// The addresses that are left of a set.
+#[derive(Debug, Drop)]
+pub struct AddrEntryIter<R: Reader> {
+    input: R,
+    encoding: SetEncoding,
+}
+
+impl<R: Reader> Model for AddrEntryIter<R> {
+    ghost use Rattle.dwarf_read_core.specs.Entries.{Entries};
+
+    ghost Value = { Entries };
+
+    ghost view = { λ entries. record { width = entries.encoding.encoding.address_size; rest = R.view entries.input } };
+}
+
+impl<R: Reader> AddrEntryIter<R> {
+    /// The next address, or `None` where no bytes are left.
+    ///
+    /// # Errors
+    ///
+    /// `UnexpectedEof` at the bytes that are left where they are fewer than an address has. After
+    /// it the answer is `Ok(None)`. It takes no memory.
+    #[tactic(auto, using(crate::proofs::Entries::no_entries, crate::proofs::Entries::address_first, crate::proofs::Entries::address_fault))]
+    pub fn next(&mut self) -> Result<Option<u64>>
+        ensures first { GivesFirst StandsForAddresses (λ address. address) true self.old (result_transpose result) self.new }
+        ensures failed { OnErr result (self.new.rest.bytes ≡ []) }
+        ensures bound { IfOk result (λ item. IfSome item (λ _. (1 ≤ self.old.width) × (length self.new.rest.bytes + self.old.width ≤ length self.old.rest.bytes))) }
+        ensures some { OnErr result (1 ≤ length self.old.rest.bytes) }
+    {
+        if self.input.is_empty() {
+            return Ok(None);
+        }
+        match self.input.read_address(self.encoding.encoding.address_size) {
+            Ok(entry) => Ok(Some(entry)),
+            Err(error) => {
+                self.input.empty();
+                Err(error)
+            }
+        }
+    }
+}
+
+impl<R: Reader> Iterator for AddrEntryIter<R> {
+    type Item = Result<u64>;
+
+    ghost use Rattle.std.specs.Prelude.{length, true};
+    ghost use Rattle.std.specs.Iterator.{at_most};
+    ghost use Rattle.dwarf_read_core.specs.Entries.{StandsForAddresses};
+    ghost use Rattle.dwarf_read_core.specs.Items.{GivesFirst};
+
+    ghost next_gives = { GivesFirst StandsForAddresses (λ address. address) true };
+
+    ghost remaining = { λ entries. at_most (length entries.rest.bytes) };
+
+    fn next(&mut self) -> Option<Result<u64>> {
+        self.next().transpose()
+    }
+}
+
+impl<R: Reader + Clone> Clone for AddrEntryIter<R> {
+    ghost is_clone = { λ entries copy. copy ≡ entries };
+
+    fn clone(&self) -> std::result::Result<Self, AllocError> {
+        match self.input.try_clone() {
+            Ok(input) => Ok(AddrEntryIter {
+                input,
+                encoding: self.encoding,
+            }),
+            Err(_) => Err(AllocError),
+        }
     }
 }
