@@ -1,6 +1,7 @@
 -- Sets of addresses: their header, and what a call of `next` gives.
 use Rattle.std.proofs.Common.{◌≡◌, ◌≢◌, ℕ, zero, suc, ◌+◌, ◌-◌, ◌*◌, ◌<◌, ◌≤◌, take, drop, Bool, true, false, List, [], ◌∷◌, ◌++◌, length, Result, Ok, Err, refl, sym, ap, subst, ◌∙◌, append_assoc, arith, inl, inr, ◌⊎◌}
 use Rattle.std.specs.Prelude.{IsTrue, All}
+use Rattle.std.specs.List.{sum_by}
 use Rattle.std.proofs.lemmas.Bool.{cases_lt, cases_eq, ne_eqb}
 use Rattle.std.proofs.lemmas.List.{append-nil, length-append, take-append-drop}
 use Rattle.std.proofs.lemmas.List.Elements.{All-append}
@@ -12,11 +13,11 @@ use Rattle.dwarf_reader_core.specs.Input.{Input, end_of}
 use Rattle.dwarf_reader_core.specs.Once.{HasOne}
 use Rattle.dwarf_read_core.specs.Answer.{followed_by}
 use Rattle.dwarf_read_core.specs.Entries.{IsFixed}
-use Rattle.dwarf_read_core.specs.Items.{ComesFirst}
+use Rattle.dwarf_read_core.specs.Items.{ComesFirst, least_taken}
 use Rattle.dwarf_read_core.specs.Reading.{◌>>=◌}
 use Rattle.dwarf_read_core.specs.SetReading.{fixed_at, byte_at, check, address_header_at, set_at}
 use Rattle.dwarf_read_core.specs.Sets.{HeaderKind, Set, AreSets, none, set, faulty, IsAddressHeader, IsAddressHeaderFault, version_cut, version_unknown, address_size_cut, address_size_bad, segment_size_cut, segment_size_bad, address_kind, Headers, StandsForAddressSets, followed_headers}
-use Rattle.dwarf_read_core.proofs.Sets.{IsRead, fixed_again, fixed_front, fixed_short, one_list, takes_set, TakesSet, fault_found, fault_stays}
+use Rattle.dwarf_read_core.proofs.Sets.{IsRead, fixed_again, fixed_front, fixed_short, one_list, takes_set, TakesSet, fault_found, bounded, same_items, first_stays, faulty_stays}
 
 module _ (is_big : Bool) where
   -- ---- the header
@@ -82,6 +83,9 @@ module _ (greatest : ℕ) where
   pub one_list_of_sets : (headers : Headers) → All (λ b. b < 256) headers.rest.bytes → HasOne (StandsForAddressSets greatest headers)
   one_list_of_sets headers small = one_list (address_kind headers.rest.is_big) (address_header_at headers.rest.is_big) (address_header_read headers.rest.is_big) greatest headers.rest.is_big headers.offset headers.rest.position headers.rest.bytes small
 
+  pub same_list : (headers : Headers) (items others : List (Result (Set ℕ) Error)) → StandsForAddressSets greatest headers items → StandsForAddressSets greatest headers others → items ≡ others
+  same_list headers items others a b = same_items (address_kind headers.rest.is_big) (address_header_at headers.rest.is_big) (address_header_read headers.rest.is_big) greatest headers.rest.is_big items others a b
+
   pub no_sets : (headers : Headers) → headers.rest.bytes ≡ [] → StandsForAddressSets greatest headers []
   no_sets headers e = subst (λ (bytes : List ℕ). AreSets (address_kind headers.rest.is_big) greatest headers.rest.is_big headers.offset headers.rest.position bytes []) (sym e) none
 
@@ -120,24 +124,37 @@ module _ (greatest : ℕ) where
       pub set_stays : (more : List ℕ) → All (λ b. b < 256) more → ComesFirst (StandsForAddressSets greatest) (followed_headers more old) (Ok s) (followed_headers more new)
       set_stays more bytes =
           let others = one_list_of_sets (followed_headers more new) (All-append (λ b. b < 256) new.rest.bytes more fine bytes) in
-          (others.0, others.1, behind more others.0 others.1)
+          ((others.0, others.1), behind more)
 
       pub set_first : ComesFirst (StandsForAddressSets greatest) old (Ok s) new
       set_first =
           let others = one_list_of_sets new fine in
-          let items = others.0 in
-          (items, others.1, alone old (Ok s ∷ items) (behind [] items (with_nothing new items others.1)))
+          ((others.0, others.1), λ items h. alone old (Ok s ∷ items) (behind [] items (with_nothing new items h)))
 
   module _ (old : Headers) (e : Error) (small : All (λ b. b < 256) old.rest.bytes) (r : read old ≡ Err e) where
     pub set_fault : (left : Headers) → old.rest.bytes ≢ [] → left.rest.bytes ≡ [] → ComesFirst (StandsForAddressSets greatest) old (Err e) left
-    set_fault left some empty =
-        ([], no_sets left empty, faulty old.rest.bytes e some (fault_found (address_kind old.rest.is_big) (address_header_at old.rest.is_big) (address_header_read old.rest.is_big) greatest old.rest.is_big old.offset old.rest.position old.rest.bytes e small r))
+    set_fault left full empty = (([], no_sets left empty), behind)
+      where
+        last : StandsForAddressSets greatest old (Err e ∷ [])
+        last = faulty old.rest.bytes e full (fault_found (address_kind old.rest.is_big) (address_header_at old.rest.is_big) (address_header_read old.rest.is_big) greatest old.rest.is_big old.offset old.rest.position old.rest.bytes e small r)
+
+        behind : (items : List (Result (Set ℕ) Error)) → StandsForAddressSets greatest left items → StandsForAddressSets greatest old (Err e ∷ items)
+        behind items others = rw (same_list left items [] others (no_sets left empty)) last
 
     pub set_fault_stays : old.rest.bytes ≢ [] → ((place : ℕ) → e ≢ eof place) → (more : List ℕ) → StandsForAddressSets greatest (followed_headers more old) (Err e ∷ [])
     set_fault_stays some settled more =
         let fault = fault_found (address_kind old.rest.is_big) (address_header_at old.rest.is_big) (address_header_read old.rest.is_big) greatest old.rest.is_big old.offset old.rest.position old.rest.bytes e small r in
-        faulty (old.rest.bytes ++ more) e (λ none. some (nothing old.rest.bytes more none)) (fault_stays (address_kind old.rest.is_big) (address_header_at old.rest.is_big) (address_header_read old.rest.is_big) greatest old.rest.is_big fault settled more)
-      where
-        nothing : (a b : List ℕ) → a ++ b ≡ [] → a ≡ []
-        nothing [] b e = refl
-        nothing (x ∷ a) b e = absurd cc
+        faulty_stays (address_kind old.rest.is_big) (address_header_at old.rest.is_big) (address_header_read old.rest.is_big) greatest old.rest.is_big (faulty old.rest.bytes e some fault) settled more
+
+  -- ---- laws
+
+  pub sets_bounded : (headers : Headers) (items : List (Result (Set ℕ) Error)) → StandsForAddressSets greatest headers items → sum_by (least_taken 8) items ≤ length headers.rest.bytes
+  sets_bounded headers items stands = bounded (address_kind headers.rest.is_big) (address_header_at headers.rest.is_big) (address_header_read headers.rest.is_big) greatest headers.rest.is_big stands
+
+  pub set_more : (headers : Headers) (s : Set ℕ) (items : List (Result (Set ℕ) Error)) → StandsForAddressSets greatest headers (Ok s ∷ items) → (more : List ℕ) (others : List (Result (Set ℕ) Error)) → StandsForAddressSets greatest (followed_headers more headers) others → (rest : List (Result (Set ℕ) Error)) × (others ≡ Ok s ∷ rest)
+  set_more headers s items stands more others h =
+      first_stays (address_kind headers.rest.is_big) (address_header_at headers.rest.is_big) (address_header_read headers.rest.is_big) greatest headers.rest.is_big stands more others h
+
+  pub fault_more : (headers : Headers) (e : Error) → StandsForAddressSets greatest headers (Err e ∷ []) → ((place : ℕ) → e ≢ eof place) → (more : List ℕ) → StandsForAddressSets greatest (followed_headers more headers) (Err e ∷ [])
+  fault_more headers e stands settled more =
+      faulty_stays (address_kind headers.rest.is_big) (address_header_at headers.rest.is_big) (address_header_read headers.rest.is_big) greatest headers.rest.is_big stands settled more

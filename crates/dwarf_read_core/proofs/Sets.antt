@@ -1,6 +1,8 @@
 -- Bytes stand for one list of sets, whatever the kind of header.
 use Rattle.std.proofs.Common.{◌≡◌, ◌≢◌, ℕ, zero, suc, ◌+◌, ◌*◌, ◌<◌, ◌≤◌, take, drop, Bool, true, false, List, [], ◌∷◌, ◌++◌, length, Result, Ok, Err, refl, sym, ap, subst, ◌∙◌, append_assoc, arith, inl, inr, ◌⊎◌}
-use Rattle.std.specs.Prelude.{IsTrue, All}
+use Rattle.std.specs.Prelude.{All}
+use Rattle.std.specs.List.{sum_by}
+use Rattle.std.proofs.lemmas.List.Sums.{sum_by-cons}
 use Rattle.std.proofs.Math.Seq.{take-append_seam, drop-append_seam}
 use Rattle.std.proofs.lemmas.Bool.{cases_lt, cases_eq, lt-ltb, le-ltb, ne_eqb}
 use Rattle.std.proofs.lemmas.List.{append-nil, length-append, length-take-le, length-drop, take-append-drop}
@@ -15,7 +17,9 @@ use Rattle.dwarf_reader_core.specs.Faults.{eof}
 use Rattle.dwarf_reader_core.specs.Input.{Input}
 use Rattle.dwarf_reader_core.specs.Once.{HasOne}
 use Rattle.dwarf_read_core.specs.Entries.{IsFixed}
+use Rattle.dwarf_read_core.specs.Items.{least_taken}
 use Rattle.dwarf_read_core.specs.Reading.{◌>>=◌}
+use Rattle.dwarf_read_core.proofs.Entries.{some_bytes}
 use Rattle.dwarf_read_core.specs.SetReading.{fixed_at, length_at, part_at, set_at}
 use Rattle.dwarf_read_core.specs.Sets.{IsInitialLength, of_32, of_64, HeaderKind, Set, IsSet, IsSetFault, length_cut, length_reserved, long_length_cut, length_unfit, set_cut, in_header, AreSets, none, set, faulty}
 
@@ -96,7 +100,7 @@ module _ {H : Type 0} (kind : HeaderKind H) (header_at : ℕ → List ℕ → Re
       let enough : s.unit_length ≤ length (unit ++ rest) = omega (arith, length-append unit rest, wide) in
       let place : s.entries.position ≡ position + initial_length_size s.format + 4 = is.placed ∙ (let a = l.size in let b = law.four is.header s.header is.is_header in omega (arith, a, b)) in
       rw (whole, l.read position (unit ++ rest), le-ltb greatest s.unit_length fits, le-ltb (length (unit ++ rest)) s.unit_length enough, take_front s.unit_length unit rest wide, drop_front s.unit_length unit rest wide, law.again (position + initial_length_size s.format) is.header s.entries.bytes s.header is.is_header)
-          (ap (λ (x : Set H). let r : Read = Ok (x, rest) in r) (same_set s offset (position + initial_length_size s.format + 4) is.begins place is.ordered))
+      (ap (λ (x : Set H). let r : Read = Ok (x, rest) in r) (same_set s offset (position + initial_length_size s.format + 4) is.begins place is.ordered))
 
   pub fault_again : {position : ℕ} {bytes : List ℕ} {e : Error} (offset : ℕ) → IsSetFault kind greatest is_big position bytes e → read offset position bytes ≡ Err e
   unfolding set_at part_at length_at
@@ -241,6 +245,9 @@ module _ {H : Type 0} (kind : HeaderKind H) (header_at : ℕ → List ℕ → Re
       let same : d ≡ c = cc in
       rw same refl
 
+  pub same_items : {offset position : ℕ} {bytes : List ℕ} (items others : Items) → AreSets kind greatest is_big offset position bytes items → AreSets kind greatest is_big offset position bytes others → items ≡ others
+  same_items {bytes = bytes} items others a b = one a bytes others refl b
+
   -- in at least as many steps as there are bytes
   some : (steps offset position : ℕ) (bytes : List ℕ) → All (λ b. b < 256) bytes → length bytes ≤ steps → (items : Items) × AreSets kind greatest is_big offset position bytes items
   some steps offset position [] small few = ([], none)
@@ -291,3 +298,36 @@ module _ {H : Type 0} (kind : HeaderKind H) (header_at : ℕ → List ℕ → Re
   fault_stays {position} (length_unfit initial rest f n is over) settled more = subst (λ (b : List ℕ). IsSetFault kind greatest is_big position b UnsupportedOffset) (sym (append_assoc initial rest more)) (length_unfit initial (rest ++ more) f n is over)
   fault_stays {position} (set_cut initial rest f n is fits short) settled more = absurd (settled (position + length initial) refl)
   fault_stays {position} (in_header initial unit rest f e is fits fault) settled more = subst (λ (b : List ℕ). IsSetFault kind greatest is_big position b e) (sym (append_assoc (initial ++ unit) rest more)) (in_header initial unit (rest ++ more) f e is fits fault)
+
+  -- ---- how many there are
+
+  pub bounded : {offset position : ℕ} {bytes : List ℕ} {items : Items} → AreSets kind greatest is_big offset position bytes items → sum_by (least_taken 8) items ≤ length bytes
+  bounded none = omega arith
+  bounded (set b r s items is f rest) = rw (sum_by-cons (least_taken 8) (Ok s) items) (let more = bounded rest in let q = eight is in omega (arith, length-append b r, more, q))
+  bounded (faulty b e full fault) = rw (sum_by-cons (least_taken 8) (Err e) []) (omega (arith, some_bytes b full))
+
+  -- ---- more bytes
+
+  -- a set that comes first comes first also where more bytes follow
+  pub first_stays : {offset position : ℕ} {bytes : List ℕ} {s : Set H} {items : Items} → AreSets kind greatest is_big offset position bytes (Ok s ∷ items) → (more : List ℕ) (others : Items) → AreSets kind greatest is_big offset position (bytes ++ more) others → (rest : Items) × (others ≡ Ok s ∷ rest)
+  first_stays {offset} {position} (set b r s items is f rest) more others stands = go stands refl
+    where
+      here : read offset position ((b ++ r) ++ more) ≡ Ok (s, r ++ more)
+      here = ap (read offset position) (append_assoc b r more) ∙ set_again (r ++ more) is f
+
+      go : {bytes : List ℕ} {others : Items} → AreSets kind greatest is_big offset position bytes others → bytes ≡ (b ++ r) ++ more → (rest : Items) × (others ≡ Ok s ∷ rest)
+      go none e = absurd (let h = ap length e in let q = eight is in omega (arith, length-append (b ++ r) more, length-append b r, h, q))
+      go (set c x t others j g behind) e =
+          let both : ◌≡◌ {A = Read} (Ok (t, x)) (Ok (s, r ++ more)) = sym (set_again x j g) ∙ ap (read offset position) e ∙ here in
+          let pair : ◌≡◌ {A = Set H × List ℕ} (t, x) (s, r ++ more) = cc in
+          let same : t ≡ s = ap (λ (p : Set H × List ℕ). p.0) pair in
+          (others, rw same refl)
+      go (faulty c d some fault) e =
+          absurd (let both : ◌≡◌ {A = Read} (Err d) (Ok (s, r ++ more)) = sym (fault_again offset fault) ∙ ap (read offset position) e ∙ here in cc)
+
+  pub faulty_stays : {offset position : ℕ} {bytes : List ℕ} {e : Error} → AreSets kind greatest is_big offset position bytes (Err e ∷ []) → ((place : ℕ) → e ≢ eof place) → (more : List ℕ) → AreSets kind greatest is_big offset position (bytes ++ more) (Err e ∷ [])
+  faulty_stays (faulty b e some fault) settled more = faulty (b ++ more) e (λ none. some (nothing b more none)) (fault_stays fault settled more)
+    where
+      nothing : (a b : List ℕ) → a ++ b ≡ [] → a ≡ []
+      nothing [] b e = refl
+      nothing (x ∷ a) b e = absurd cc

@@ -34,9 +34,9 @@ pub use dwarf_base_core::{
 // Readers, sections and tables, and the errors of reading.
 pub use read::{
     Abbreviation, Abbreviations, AbbreviationsCache, AbbreviationsCacheStrategy, AbbreviationsIter,
-    AttributeSpecification, DebugAbbrev, DebugAddr, DebugLineStr, DebugStr, DebugStrOffsets,
-    EndianSlice, Error, Reader, ReaderAddress, ReaderOffset, ReaderOffsetId, Result, Section,
-    StoreOnHeap, UnitOffset, read_u8_array,
+    AddrEntryIter, AddrHeader, AddrHeaderIter, AttributeSpecification, DebugAbbrev, DebugAddr,
+    DebugLineStr, DebugStr, DebugStrOffsets, EndianSlice, Error, Reader, ReaderAddress,
+    ReaderOffset, ReaderOffsetId, Result, Section, StoreOnHeap, UnitOffset, read_u8_array,
 };
 
 // Attributes: what a value of an entry is about.
