@@ -1,3 +1,5 @@
+pub mod AddressLines
+pub mod AddressTexts
 pub mod Commands
 pub mod Hexadecimal
 pub mod Numbers

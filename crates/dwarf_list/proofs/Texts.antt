@@ -1,21 +1,26 @@
 -- Words and an input have one text, or one fault, at most.
-use Rattle.std.proofs.Common.{◌≡◌, ℕ, List, Result, Ok, Err, sym, ap, ◌∙◌}
+use Rattle.std.proofs.Common.{◌≡◌, ◌<◌, ℕ, List, Result, Ok, Err, sym, ap, ◌∙◌}
 use Rattle.dwarf_read_core.specs.declared.Error.{Error}
 use Rattle.dwarf_read_core.specs.Answer.{Answer}
 use Rattle.dwarf_read_core.specs.Once.{HasOne}
+use Rattle.dwarf_read_core.specs.Entries.{Entries, StandsForAddresses}
 use Rattle.dwarf_read_core.specs.Grammar.{Table}
 use Rattle.dwarf_read_core.specs.Input.{Input}
 use Rattle.dwarf_read_core.specs.Leb128.{Kind, Number, unsigned64, signed64}
+use Rattle.dwarf_read_core.specs.Sets.{Headers, Set, StandsForAddressSets}
 use Rattle.dwarf_read_core.specs.Shortest.{IsShortest}
 use Rattle.dwarf_read_core.specs.Strings.{StringAt}
-use Rattle.dwarf_list.specs.Listing.{Lists, section_of, table_text, line, hex_text}
+use Rattle.dwarf_list.proofs.AddressTexts.{one_addresses}
+use Rattle.dwarf_list.specs.Listing.{Lists, address_section, section_of, table_text, line, hex_text}
 use Rattle.dwarf_list.specs.declared.command.Command.{Command}
-use Rattle.dwarf_list.specs.declared.command.Command.TheVariants.{Abbrev, Str, Uleb, Sleb}
+use Rattle.dwarf_list.specs.declared.command.Command.TheVariants.{Abbrev, Str, Addr, Uleb, Sleb}
 
 -- what the sections' laws say
 pub record AreLaws : Type 0 where
   pub answers : (section : Input) (offset : ℕ) → HasOne (Answer section offset)
   pub strings : (section : Input) (offset : ℕ) → HasOne (StringAt section offset)
+  pub entries : (e : Entries) → 0 < e.width → HasOne (StandsForAddresses e)
+  pub sets : (greatest : ℕ) (headers : Headers) (items others : List (Result (Set ℕ) Error)) → StandsForAddressSets greatest headers items → StandsForAddressSets greatest headers others → items ≡ others
   pub encodings : (k : Kind) (number : Number k) (a b : List ℕ) → IsShortest k number a → IsShortest k number b → a ≡ b
 
 module _ (laws : AreLaws) where
@@ -47,6 +52,7 @@ module _ (laws : AreLaws) where
       let same = same_string (section_of input) offset (Err d) (Err e) a b in
       let errors : e ≡ d = cc in
       ap (λ (x : Error). let r : Result (List ℕ) Error = Err x in r) errors
+  one_listing (Addr endian) input one other a b = one_addresses laws.entries laws.sets (address_section endian input) one other a b
   one_listing (Uleb value) input (Ok x) (Ok y) a b =
       ap (λ (t : List ℕ). let r : Result (List ℕ) Error = Ok t in r) (b.2 ∙ ap (λ (s : List ℕ). line (hex_text s)) (laws.encodings unsigned64 value b.0 a.0 b.1 a.1) ∙ sym a.2)
   one_listing (Uleb value) input (Ok x) (Err e) a b = absurd b

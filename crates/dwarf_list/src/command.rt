@@ -1,9 +1,10 @@
 //! The commands, and the words of the command line that name them.
 
 ghost use Rattle.std.specs.Prelude.{◌≡◌, map, string_bytes};
-ghost use Rattle.dwarf_list.specs.Command.{command_of, named_command, reads_input};
+ghost use Rattle.dwarf_list.specs.Command.{command_of, endian_of, named_command, reads_input};
 
 use crate::number::{parse_signed, parse_unsigned};
+use dwarf_read_core::RunTimeEndian;
 
 /// What the program is asked to list.
 #[derive(Clone, Copy, Debug, PartialEq, Eq)]
@@ -12,6 +13,8 @@ pub enum Command {
     Abbrev(u64),
     /// The string at an offset, in bytes from the start of `.debug_str` or `.debug_line_str`.
     Str(u64),
+    /// The sets of addresses of a whole `.debug_addr` in a byte order.
+    Addr(RunTimeEndian),
     /// The shortest LEB128 encoding of an unsigned number.
     Uleb(u64),
     /// The shortest LEB128 encoding of a signed number.
@@ -34,8 +37,19 @@ fn named_command(name: &str, argument: &str) -> Option<Command>
     match name {
         "abbrev" => parse_unsigned(argument).map(Command::Abbrev),
         "str" => parse_unsigned(argument).map(Command::Str),
+        "addr" => parse_endian(argument).map(Command::Addr),
         "uleb" => parse_unsigned(argument).map(Command::Uleb),
         "sleb" => parse_signed(argument).map(Command::Sleb),
+        _ => None,
+    }
+}
+
+fn parse_endian(name: &str) -> Option<RunTimeEndian>
+    ensures { result ≡ endian_of name.now }
+{
+    match name {
+        "le" => Some(RunTimeEndian::Little),
+        "be" => Some(RunTimeEndian::Big),
         _ => None,
     }
 }
@@ -45,7 +59,7 @@ pub fn reads_input(command: Command) -> bool
     ensures { result ≡ reads_input command }
 {
     match command {
-        Command::Abbrev(_) | Command::Str(_) => true,
+        Command::Abbrev(_) | Command::Str(_) | Command::Addr(_) => true,
         Command::Uleb(_) | Command::Sleb(_) => false,
     }
 }

@@ -13,5 +13,7 @@ pub fn one_listing()
 {
     laws::exactly_one_answer();
     laws::exactly_one_string();
+    laws::exactly_one_list_of_sets();
+    laws::exactly_one_list_of_entries();
     laws::one_shortest();
 }

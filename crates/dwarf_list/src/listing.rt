@@ -1,13 +1,18 @@
 //! The text of a listing, built whole before any of it is written.
 
-ghost use Rattle.std.specs.Prelude.{◌≡◌, ◌≢◌, ◌++◌, Ok, Err, IfOk, OnOk, MatchResult, string_bytes};
-ghost use Rattle.dwarf_list.specs.Listing.{Lists, attribute_line, declaration_lines, hex_byte, hex_text, line, table_text};
+ghost use Rattle.std.specs.Prelude.{◌≡◌, ◌≢◌, ◌++◌, ◌∷◌, ℕ, List, [], Ok, Err, IfOk, IfErr, OnOk, MatchResult, string_bytes};
+ghost use Rattle.std.specs.List.{flat_map};
+ghost use Rattle.dwarf_read_core.specs.Entries.{StandsForAddresses};
+ghost use Rattle.dwarf_read_core.specs.Headers.{set_of};
+ghost use Rattle.dwarf_read_core.specs.Sets.{addresses_of};
+ghost use Rattle.dwarf_list.specs.Listing.{Lists, address_line, attribute_line, declaration_lines, header_line, hex_byte, hex_text, line, set_lines, table_text, without_error};
 
 use crate::command::Command;
 use dwarf_read_core::leb128::write::Leb128;
 use dwarf_read_core::{
-    Abbreviation, Abbreviations, AttributeSpecification, DebugAbbrev, DebugAbbrevOffset, DebugStr,
-    DebugStrOffset, Error, LittleEndian,
+    Abbreviation, Abbreviations, AddrEntryIter, AddrHeader, AttributeSpecification, DebugAbbrev,
+    DebugAbbrevOffset, DebugAddr, DebugStr, DebugStrOffset, EndianSlice, Error, LittleEndian,
+    Reader, ReaderOffset, RunTimeEndian,
 };
 use std::alloc::{AllocError, Global};
 
@@ -19,6 +24,7 @@ pub fn listing(mem: Global, command: Command, input: &[u8]) -> Result<Vec<u8>, E
     match command {
         Command::Abbrev(offset) => abbreviations(mem, offset, input),
         Command::Str(offset) => string(mem, offset, input),
+        Command::Addr(endian) => addresses(mem, endian, input),
         Command::Uleb(value) => Ok(hex_line(mem, Leb128::unsigned(value).bytes())?),
         Command::Sleb(value) => Ok(hex_line(mem, Leb128::signed(value).bytes())?),
     }
@@ -42,6 +48,65 @@ fn string(mem: Global, offset: u64, input: &[u8]) -> Result<Vec<u8>, Error>
     let mut text = Vec::from_slice(mem, string.slice())?;
     text.push(b'\n')?;
     Ok(text)
+}
+
+fn addresses(mem: Global, endian: RunTimeEndian, input: &[u8]) -> Result<Vec<u8>, Error>
+    ensures { MatchResult result (λ text. Lists (Command.Addr endian) input.now (Ok text.items))
+        (λ error. error ≢ Error.OutOfMemory → Lists (Command.Addr endian) input.now (Err error)) }
+{
+    let section = DebugAddr::from(EndianSlice::new(input, endian));
+    let mut text = String::new(mem);
+    let mut headers = section.headers()?;
+    while let Some(header) = headers.next()? {
+        push_set(&mut text, &header)?;
+    }
+    Ok(text.into_bytes())
+}
+
+fn push_set<R: Reader>(text: &mut String, header: &AddrHeader<R>) -> Result<(), Error>
+    ensures ok { OnOk result ((numbers : List ℕ) × StandsForAddresses (addresses_of (set_of R.view R.Offset.value header.now)) (without_error numbers)
+        × (string_bytes text.new ≡ string_bytes text.old ++ set_lines (set_of R.view R.Offset.value header.now) numbers)) }
+    ensures err { IfErr result (λ error. error ≢ Error.OutOfMemory → (numbers : List ℕ)
+        × StandsForAddresses (addresses_of (set_of R.view R.Offset.value header.now)) (without_error numbers ++ Err error ∷ [])) }
+{
+    let (offset, length) = (header.offset().0.into_u64(), header.length().into_u64());
+    let encoding = header.encoding();
+    let (bits, size) = (encoding.format.word_size() * 8, encoding.address_size);
+    push_header(text, offset, length, bits, size)?;
+    push_addresses(text, header.entries()?)
+}
+
+fn push_header(
+    text: &mut String,
+    offset: u64,
+    length: u64,
+    bits: u8,
+    size: u8,
+) -> Result<(), AllocError>
+    ensures { OnOk result (string_bytes text.new ≡ string_bytes text.old ++ header_line offset length bits size) }
+{
+    writeln!(
+        text,
+        "set {offset}: length {length}, {bits}-bit, address size {size}"
+    )
+}
+
+fn push_addresses<R: Reader>(text: &mut String, mut entries: AddrEntryIter<R>) -> Result<(), Error>
+    ensures ok { OnOk result ((numbers : List ℕ) × StandsForAddresses entries (without_error numbers)
+        × (string_bytes text.new ≡ string_bytes text.old ++ flat_map address_line numbers)) }
+    ensures err { IfErr result (λ error. error ≢ Error.OutOfMemory → (numbers : List ℕ)
+        × StandsForAddresses entries (without_error numbers ++ Err error ∷ [])) }
+{
+    while let Some(address) = entries.next()? {
+        push_address(text, address)?;
+    }
+    Ok(())
+}
+
+fn push_address(text: &mut String, address: u64) -> Result<(), AllocError>
+    ensures { OnOk result (string_bytes text.new ≡ string_bytes text.old ++ address_line address) }
+{
+    writeln!(text, "  0x{address:x}")
 }
 
 fn hex_line(mem: Global, bytes: &[u8]) -> Result<Vec<u8>, AllocError>

@@ -19,7 +19,8 @@ use std::io::{ErrorKind, Read, Write};
 /// Does what the words of the command line ask for.
 ///
 /// The words are judged first. Then the input is read to its end, if the command lists a part of
-/// it, and the text is built whole, written and flushed. Only an `Ok` and a fault of writing leave anything written.
+/// it, and the text is built whole, written and flushed. Only an `Ok` and a fault of writing leave
+/// anything written.
 pub fn run<I: Read, O: Write>(
     mem: Global,
     words: &[String],
@@ -61,6 +62,7 @@ fn read_input<I: Read>(mem: Global, input: &mut I) -> Result<Vec<u8>, Fault>
 {
     let mut bytes = Vec::new(mem);
     let mut buffer = [0; 4096];
+    // No input has so many calls; the bound shows that the loop ends.
     for _ in 0..u64::MAX {
         match input.read(&mut buffer) {
             Ok(0) => return Ok(bytes),

@@ -13,10 +13,13 @@ pub mod Sets
 pub mod Strings
 pub mod Views
 pub mod Words
+pub use Rattle.dwarf_base_core.specs.Endian
 pub use Rattle.dwarf_base_core.specs.ErrorText
+pub use Rattle.dwarf_base_core.specs.Format
 pub use Rattle.dwarf_const_core.specs.DwAt
 pub use Rattle.dwarf_const_core.specs.DwForm
 pub use Rattle.dwarf_const_core.specs.DwTag
+pub use Rattle.dwarf_reader_core.specs.Faults
 pub use Rattle.dwarf_reader_core.specs.Input
 pub use Rattle.dwarf_reader_core.specs.Leb128
 pub use Rattle.dwarf_reader_core.specs.Once

@@ -91,7 +91,7 @@ fn text_of(mem: Global, texts: &[&str], input: &[u8]) -> Result<Vec<u8>, Fault> 
 fn lists(rt: HostRuntime) -> Result<(), Fail> {
     let mem = rt.alloc();
     let strings: &[u8] = b"one\0two\0\0";
-    let cases: [(&[&str], &[u8], &[u8]); 12] = [
+    let cases: [(&[&str], &[u8], &[u8]); 16] = [
         (
             &["abbrev", "0"],
             b"\x01\x11\x01\x03\x08\0\0\0\xff",
@@ -124,6 +124,25 @@ fn lists(rt: HostRuntime) -> Result<(), Fail> {
         (&["str", "4"], strings, b"two\n"),
         (&["str", "0008"], strings, b"\n"),
         (&["str", "0"], b"\xff\xfe\0", b"\xff\xfe\n"),
+        (
+            &["addr", "le"],
+            b"\x0c\0\0\0\x05\0\x04\0\x78\x56\x34\x12\xef\xbe\xad\xde\
+              \xff\xff\xff\xff\x14\0\0\0\0\0\0\0\x05\0\x08\0\
+              \xf0\xde\xbc\x9a\x78\x56\x34\x12\xef\xbe\xad\xde\xef\xbe\xad\xde",
+            b"set 0: length 12, 32-bit, address size 4\n  0x12345678\n  0xdeadbeef\n\
+              set 16: length 20, 64-bit, address size 8\n  0x123456789abcdef0\n  0xdeadbeefdeadbeef\n",
+        ),
+        (
+            &["addr", "be"],
+            b"\0\0\0\x08\0\x05\x04\0\x12\x34\x56\x78",
+            b"set 0: length 8, 32-bit, address size 4\n  0x12345678\n",
+        ),
+        (
+            &["addr", "le"],
+            b"\x05\0\0\0\x05\0\x01\0\0",
+            b"set 0: length 5, 32-bit, address size 1\n  0x0\n",
+        ),
+        (&["addr", "le"], b"", b""),
     ];
     for (texts, input, want) in cases {
         let text = text_of(mem, texts, input)?;
@@ -167,7 +186,7 @@ fn writes_numbers(rt: HostRuntime) -> Result<(), Fail> {
 #[test]
 fn tells_the_first_fault(rt: HostRuntime) -> Result<(), Fail> {
     let mem = rt.alloc();
-    let cases: [(&[&str], &[u8], &str); 8] = [
+    let cases: [(&[&str], &[u8], &str); 11] = [
         (
             &["abbrev", "0"],
             b"\x01\0\x02",
@@ -200,6 +219,22 @@ fn tells_the_first_fault(rt: HostRuntime) -> Result<(), Fail> {
             "error: unexpected end of input",
         ),
         (&["str", "3"], b"one", "error: unexpected end of input"),
+        (
+            &["addr", "le"],
+            b"\x09\0\0\0\x05\0\x04\0\x78\x56\x34\x12\xaa",
+            "error: unexpected end of input",
+        ),
+        // The faults of a set's addresses come before that of the next header.
+        (
+            &["addr", "le"],
+            b"\x05\0\0\0\x05\0\x04\0\xaa\x04\0\0\0\x04\0\x08\0",
+            "error: unexpected end of input",
+        ),
+        (
+            &["addr", "le"],
+            b"\x04\0\0\0\x05\0\x08\0\x04\0\0\0\x04\0\x08\0",
+            "error: unknown DWARF version: 4",
+        ),
     ];
     for (texts, input, want) in cases {
         let mut output = Vec::new(mem);
@@ -218,7 +253,7 @@ fn tells_the_first_fault(rt: HostRuntime) -> Result<(), Fail> {
 #[test]
 fn refuses_words(rt: HostRuntime) -> Result<(), Fail> {
     let mem = rt.alloc();
-    let cases: [&[&str]; 27] = [
+    let cases: [&[&str]; 29] = [
         &[],
         &["abbrev"],
         &["abbrev", "x"],
@@ -233,7 +268,9 @@ fn refuses_words(rt: HostRuntime) -> Result<(), Fail> {
         &["abbrev", "\u{661}"],
         &["abbrev", "18446744073709551616"],
         &["str", "+1"],
-        &["addr", "le"],
+        &["addr"],
+        &["addr", "LE"],
+        &["addr", "0"],
         &["uleb", "18446744073709551616"],
         &["uleb", ""],
         &["uleb", "-1"],
@@ -368,7 +405,7 @@ impl Write for ArrayWriter {
 #[test]
 fn refused_memory(rt: HostRuntime) -> Result<(), Fail> {
     let mem = rt.alloc();
-    let cases: [(&[&str], &[u8], &[u8]); 4] = [
+    let cases: [(&[&str], &[u8], &[u8]); 5] = [
         (&["str", "4"], b"one\0two\0", b"two\n"),
         (&["uleb", "12857"], b"", b"b9 64\n"),
         (&["sleb", "-65"], b"", b"bf 7f\n"),
@@ -376,6 +413,11 @@ fn refused_memory(rt: HostRuntime) -> Result<(), Fail> {
             &["abbrev", "0"],
             b"\x01\x11\x01\x03\x08\0\0\0",
             b"1 DW_TAG_compile_unit yes\n  DW_AT_name DW_FORM_string\n",
+        ),
+        (
+            &["addr", "be"],
+            b"\0\0\0\x08\0\x05\x04\0\x12\x34\x56\x78",
+            b"set 0: length 8, 32-bit, address size 4\n  0x12345678\n",
         ),
     ];
     for (texts, input, want) in cases {

@@ -1,0 +1,73 @@
+-- Sets of addresses have one text, or one fault, at most.
+use Rattle.std.proofs.Common.{◌≡◌, ◌-◌, ◌^◌, ◌<◌, ℕ, zero, suc, Bool, List, [], ◌∷◌, ◌++◌, Result, Ok, Err, refl, sym, ap, ◌∙◌, arith}
+use Rattle.std.specs.Prelude.{IsTrue}
+use Rattle.dwarf_read_core.specs.declared.Error.{Error}
+use Rattle.dwarf_read_core.specs.Entries.{Entries, StandsForAddresses}
+use Rattle.dwarf_read_core.specs.Faults.{is_number_size}
+use Rattle.dwarf_read_core.specs.Once.{HasOne}
+use Rattle.dwarf_read_core.specs.Sets.{AreSets, none, set, faulty, address_kind, Headers, Set, StandsForAddressSets, addresses_of}
+use Rattle.dwarf_list.specs.Listing as listing
+use Rattle.dwarf_list.specs.Listing.{ListsAddresses, ListsSets, nothing, bad_header, bad_address, later, set_lines, without_error}
+
+abbrev Items : Type 0
+Items = List (Result ℕ Error)
+
+same_numbers : (a b : List ℕ) → without_error a ≡ without_error b → a ≡ b
+same_numbers [] [] e = refl
+same_numbers [] (y ∷ b) e = absurd cc
+same_numbers (x ∷ a) [] e = absurd cc
+same_numbers (x ∷ a) (y ∷ b) e =
+    let heads : x ≡ y = cc in
+    let tails : without_error a ≡ without_error b = cc in
+    rw (heads, same_numbers a b tails) refl
+
+no_error : (a b : List ℕ) (e : Error) → without_error a ++ Err e ∷ [] ≡ without_error b → ⊥
+no_error [] [] e q = cc
+no_error [] (y ∷ b) e q = cc
+no_error (x ∷ a) [] e q = cc
+no_error (x ∷ a) (y ∷ b) e q = no_error a b e (let tails : without_error a ++ Err e ∷ [] ≡ without_error b = cc in tails)
+
+same_error : (a b : List ℕ) (d e : Error) → without_error a ++ Err d ∷ [] ≡ without_error b ++ Err e ∷ [] → d ≡ e
+same_error [] [] d e q = cc
+same_error [] (y ∷ b) d e q = absurd cc
+same_error (x ∷ a) [] d e q = absurd cc
+same_error (x ∷ a) (y ∷ b) d e q = same_error a b d e (let tails : without_error a ++ Err d ∷ [] ≡ without_error b ++ Err e ∷ [] = cc in tails)
+
+positive : (width : ℕ) → IsTrue (is_number_size width) → 0 < width
+positive zero sized = absurd cc
+positive (suc width) sized = omega arith
+
+module _ (entries : (e : Entries) → 0 < e.width → HasOne (StandsForAddresses e)) (sets : (greatest : ℕ) (headers : Headers) (items others : List (Result (Set ℕ) Error)) → StandsForAddressSets greatest headers items → StandsForAddressSets greatest headers others → items ≡ others) where
+  same_items : (s : Set ℕ) (a b : Items) → IsTrue (is_number_size s.header) → StandsForAddresses (addresses_of s) a → StandsForAddresses (addresses_of s) b → a ≡ b
+  same_items s a b sized h k = let one = entries (addresses_of s) (positive s.header sized) in one.2 a h ∙ sym (one.2 b k)
+
+  abbrev Text : Type 0
+  Text = Result (List ℕ) Error
+
+  one_text : {greatest : ℕ} {is_big : Bool} {offset position : ℕ} {bytes : List ℕ} {items : List (Result (Set ℕ) Error)} → AreSets (address_kind is_big) greatest is_big offset position bytes items → (one other : Text) → ListsSets items one → ListsSets items other → other ≡ one
+  one_text none one other nothing nothing = refl
+  one_text (faulty b e some fault) one other (bad_header _ _) (bad_header _ _) = refl
+  one_text (set b r s items is f rest) one other (bad_address _ _ m d h) (bad_address _ _ n e k) =
+      let same : e ≡ d = same_error n m e d (same_items s (without_error n ++ Err e ∷ []) (without_error m ++ Err d ∷ []) is.is_header.sized k h) in
+      ap (λ (x : Error). let t : Text = Err x in t) same
+  one_text (set b r s items is f rest) one other (bad_address _ _ m d h) (listing.ListsSets.set _ _ n text k l) =
+      absurd (no_error m n d (same_items s (without_error m ++ Err d ∷ []) (without_error n) is.is_header.sized h k))
+  one_text (set b r s items is f rest) one other (bad_address _ _ m d h) (later _ _ n e k l) =
+      absurd (no_error m n d (same_items s (without_error m ++ Err d ∷ []) (without_error n) is.is_header.sized h k))
+  one_text (set b r s items is f rest) one other (listing.ListsSets.set _ _ m text h l) (bad_address _ _ n e k) =
+      absurd (no_error n m e (same_items s (without_error n ++ Err e ∷ []) (without_error m) is.is_header.sized k h))
+  one_text (set b r s items is f rest) one other (later _ _ m d h l) (bad_address _ _ n e k) =
+      absurd (no_error n m e (same_items s (without_error n ++ Err e ∷ []) (without_error m) is.is_header.sized k h))
+  one_text (set b r s items is f rest) one other (listing.ListsSets.set _ _ m x h l) (listing.ListsSets.set _ _ n y k q) =
+      let numbers : n ≡ m = same_numbers n m (same_items s (without_error n) (without_error m) is.is_header.sized k h) in
+      let behind : ◌≡◌ {A = Text} (Ok y) (Ok x) = one_text rest (Ok x) (Ok y) l q in
+      let texts : y ≡ x = cc in
+      rw (numbers, texts) refl
+  one_text (set b r s items is f rest) one other (listing.ListsSets.set _ _ m x h l) (later _ _ n e k q) = absurd (let behind : ◌≡◌ {A = Text} (Err e) (Ok x) = one_text rest (Ok x) (Err e) l q in cc)
+  one_text (set b r s items is f rest) one other (later _ _ m d h l) (listing.ListsSets.set _ _ n y k q) = absurd (let behind : ◌≡◌ {A = Text} (Ok y) (Err d) = one_text rest (Err d) (Ok y) l q in cc)
+  one_text (set b r s items is f rest) one other (later _ _ m d h l) (later _ _ n e k q) = one_text rest (Err d) (Err e) l q
+
+  pub one_addresses : (headers : Headers) (one other : Text) → ListsAddresses headers one → ListsAddresses headers other → other ≡ one
+  one_addresses headers one other a b =
+      let same : b.0 ≡ a.0 = sets (2 ^ 64 - 1) headers b.0 a.0 b.1 a.1 in
+      one_text a.1 one other a.2 (rw same at b.2)
