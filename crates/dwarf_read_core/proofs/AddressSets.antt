@@ -1,6 +1,6 @@
 -- Sets of addresses: their header, and what a call of `next` gives.
-use Rattle.std.proofs.Common.{◌≡◌, ◌≢◌, ℕ, zero, suc, ◌+◌, ◌-◌, ◌*◌, ◌<◌, ◌≤◌, take, drop, Bool, true, false, List, [], ◌∷◌, ◌++◌, length, Result, Ok, Err, refl, sym, ap, subst, ◌∙◌, append_assoc, arith, inl, inr, ◌⊎◌}
-use Rattle.std.specs.Prelude.{IsTrue, All}
+use Rattle.std.proofs.Common.{◌≡◌, ◌≢◌, ℕ, zero, suc, ◌+◌, ◌-◌, ◌<◌, ◌≤◌, take, drop, Bool, true, false, List, [], ◌∷◌, ◌++◌, length, Result, Ok, Err, refl, sym, ap, subst, ◌∙◌, append_assoc, arith, inl, inr, ◌⊎◌}
+use Rattle.std.specs.Prelude.{All}
 use Rattle.std.specs.List.{sum_by}
 use Rattle.std.proofs.lemmas.Bool.{cases_lt, cases_eq, ne_eqb}
 use Rattle.std.proofs.lemmas.List.{append-nil, length-append, take-append-drop}
@@ -8,15 +8,13 @@ use Rattle.std.proofs.lemmas.List.Elements.{All-append}
 use Rattle.dwarf_base_core.specs.declared.error.Error.{Error}
 use Rattle.dwarf_base_core.specs.declared.error.Error.TheVariants.{UnknownVersion, UnsupportedAddressSize, UnsupportedSegmentSize}
 use Rattle.dwarf_base_core.specs.Number.{number_of}
-use Rattle.dwarf_reader_core.specs.Faults.{eof, is_number_size, WantsMemory}
+use Rattle.dwarf_reader_core.specs.Faults.{eof, is_number_size}
 use Rattle.dwarf_reader_core.specs.Input.{Input, end_of}
 use Rattle.dwarf_reader_core.specs.Once.{HasOne}
-use Rattle.dwarf_read_core.specs.Answer.{followed_by}
 use Rattle.dwarf_read_core.specs.Entries.{IsFixed}
 use Rattle.dwarf_read_core.specs.Items.{ComesFirst, least_taken}
-use Rattle.dwarf_read_core.specs.Reading.{◌>>=◌}
-use Rattle.dwarf_read_core.specs.SetReading.{fixed_at, byte_at, check, address_header_at, set_at}
-use Rattle.dwarf_read_core.specs.Sets.{HeaderKind, Set, AreSets, none, set, faulty, IsAddressHeader, IsAddressHeaderFault, version_cut, version_unknown, address_size_cut, address_size_bad, segment_size_cut, segment_size_bad, address_kind, Headers, StandsForAddressSets, followed_headers}
+use Rattle.dwarf_read_core.specs.SetReading.{byte_at, check, address_header_at, set_at}
+use Rattle.dwarf_read_core.specs.Sets.{Set, AreSets, none, faulty, IsAddressHeader, IsAddressHeaderFault, version_cut, version_unknown, address_size_cut, address_size_bad, segment_size_cut, segment_size_bad, address_kind, Headers, StandsForAddressSets, followed_headers}
 use Rattle.dwarf_read_core.proofs.Sets.{IsRead, fixed_again, fixed_front, fixed_short, one_list, takes_set, TakesSet, fault_found, bounded, same_items, first_stays, faulty_stays}
 
 module _ (is_big : Bool) where

@@ -1,14 +1,14 @@
 -- What a reader's contract says of a set that it reads.
-use Rattle.std.proofs.Common.{◌≡◌, ◌≢◌, ℕ, zero, suc, ◌+◌, ◌<◌, ◌≤◌, take, drop, Bool, true, false, List, [], ◌∷◌, length, Result, Ok, Err, refl, sym, ap, subst, ◌∙◌, arith, inl, inr, ◌⊎◌, slice_index}
+use Rattle.std.proofs.Common.{◌≡◌, ◌≢◌, ℕ, ◌+◌, ◌≤◌, take, drop, Bool, List, [], ◌∷◌, length, Result, Ok, Err, refl, sym, ap, ◌∙◌, arith, inl, inr, ◌⊎◌, slice_index}
 use Rattle.std.specs.Prelude.{IsTrue}
-use Rattle.std.proofs.lemmas.Bool.{lt-ltb, le-ltb, ne_eqb, eq-eqb}
+use Rattle.std.proofs.lemmas.Bool.{lt-ltb, le-ltb, ne_eqb}
 use Rattle.std.proofs.lemmas.List.{length-drop}
 use Rattle.dwarf_base_core.specs.declared.common.Format.{Format}
 use Rattle.dwarf_base_core.specs.declared.common.Format.TheVariants.{Dwarf32, Dwarf64}
 use Rattle.dwarf_base_core.specs.declared.error.Error.{Error}
-use Rattle.dwarf_base_core.specs.declared.error.Error.TheVariants.{UnknownReservedLength, UnsupportedOffset, UnknownVersion, UnsupportedAddressSize, UnsupportedSegmentSize}
+use Rattle.dwarf_base_core.specs.declared.error.Error.TheVariants.{UnknownVersion, UnsupportedSegmentSize}
 use Rattle.dwarf_base_core.specs.Format.{initial_length_size}
-use Rattle.dwarf_reader_core.specs.Faults.{eof, EndsBefore, IsNoAddressSize, IsNoOffset, is_number_size}
+use Rattle.dwarf_reader_core.specs.Faults.{EndsBefore, IsNoAddressSize, is_number_size}
 use Rattle.dwarf_reader_core.specs.InitialLength.{TakesLength, RefusesLength}
 use Rattle.dwarf_reader_core.specs.Input.{Input, after, first, Takes, TakesByte, TakesNumber}
 use Rattle.dwarf_read_core.specs.Reading.{◌>>=◌}

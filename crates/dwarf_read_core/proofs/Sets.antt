@@ -1,11 +1,11 @@
 -- Bytes stand for one list of sets, whatever the kind of header.
-use Rattle.std.proofs.Common.{◌≡◌, ◌≢◌, ℕ, zero, suc, ◌+◌, ◌*◌, ◌<◌, ◌≤◌, take, drop, Bool, true, false, List, [], ◌∷◌, ◌++◌, length, Result, Ok, Err, refl, sym, ap, subst, ◌∙◌, append_assoc, arith, inl, inr, ◌⊎◌}
+use Rattle.std.proofs.Common.{◌≡◌, ◌≢◌, ℕ, zero, suc, ◌+◌, ◌<◌, ◌≤◌, take, drop, Bool, true, false, List, [], ◌∷◌, ◌++◌, length, Result, Ok, Err, refl, sym, ap, subst, ◌∙◌, append_assoc, arith, inl, inr, ◌⊎◌}
 use Rattle.std.specs.Prelude.{All}
 use Rattle.std.specs.List.{sum_by}
 use Rattle.std.proofs.lemmas.List.Sums.{sum_by-cons}
 use Rattle.std.proofs.Math.Seq.{take-append_seam, drop-append_seam}
-use Rattle.std.proofs.lemmas.Bool.{cases_lt, cases_eq, lt-ltb, le-ltb, ne_eqb}
-use Rattle.std.proofs.lemmas.List.{append-nil, length-append, length-take-le, length-drop, take-append-drop}
+use Rattle.std.proofs.lemmas.Bool.{cases_lt, lt-ltb, le-ltb}
+use Rattle.std.proofs.lemmas.List.{length-append, length-take-le, take-append-drop}
 use Rattle.std.proofs.lemmas.List.Elements.{All-drop}
 use Rattle.dwarf_base_core.specs.declared.common.Format.{Format}
 use Rattle.dwarf_base_core.specs.declared.common.Format.TheVariants.{Dwarf32, Dwarf64}
@@ -14,11 +14,9 @@ use Rattle.dwarf_base_core.specs.declared.error.Error.TheVariants.{UnknownReserv
 use Rattle.dwarf_base_core.specs.Format.{initial_length_size}
 use Rattle.dwarf_base_core.specs.Number.{number_of}
 use Rattle.dwarf_reader_core.specs.Faults.{eof}
-use Rattle.dwarf_reader_core.specs.Input.{Input}
 use Rattle.dwarf_reader_core.specs.Once.{HasOne}
 use Rattle.dwarf_read_core.specs.Entries.{IsFixed}
 use Rattle.dwarf_read_core.specs.Items.{least_taken}
-use Rattle.dwarf_read_core.specs.Reading.{◌>>=◌}
 use Rattle.dwarf_read_core.proofs.Entries.{some_bytes}
 use Rattle.dwarf_read_core.specs.SetReading.{fixed_at, length_at, part_at, set_at}
 use Rattle.dwarf_read_core.specs.Sets.{IsInitialLength, of_32, of_64, HeaderKind, Set, IsSet, IsSetFault, length_cut, length_reserved, long_length_cut, length_unfit, set_cut, in_header, AreSets, none, set, faulty}

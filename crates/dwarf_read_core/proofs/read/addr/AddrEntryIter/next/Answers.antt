@@ -1,4 +1,4 @@
-use Rattle.std.proofs.Common.{◌≢◌, List, ℕ, [], ap, inl, rules}
+use Rattle.std.proofs.Common.{ap, inl, rules}
 use Rattle.dwarf_reader_core.specs.Input.{Input}
 use Rattle.dwarf_read_core.proofs.Entries.{address_fault, address_first}
 use Rattle.dwarf_read_core.proofs.read.addr.AddrEntryIter.next.Goals as goal

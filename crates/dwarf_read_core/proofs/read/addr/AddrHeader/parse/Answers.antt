@@ -1,4 +1,4 @@
-use Rattle.std.proofs.Common.{◌≡◌, ◌≢◌, ⊎_elim, inl, inr, rules, arith}
+use Rattle.std.proofs.Common.{⊎_elim, inl, inr, rules}
 use Rattle.dwarf_read_core.proofs.Ranges.{handed_on}
 use Rattle.dwarf_read_core.specs.SetReading.{address_header_at}
 use Rattle.dwarf_read_core.proofs.AddressSets.{set_bound}

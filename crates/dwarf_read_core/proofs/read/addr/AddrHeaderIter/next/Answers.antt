@@ -1,4 +1,4 @@
-use Rattle.std.proofs.Common.{rules, ◌≡◌, ◌≢◌, ℕ, List, [], arith, inl, inr, ap, ⊎_elim}
+use Rattle.std.proofs.Common.{rules, inl, inr, ap, ⊎_elim}
 use Rattle.dwarf_reader_core.specs.Input.{Input}
 use Rattle.dwarf_read_core.proofs.AddressSets.{no_sets, set_fault, set_fault_stays, set_first, set_stays}
 use Rattle.dwarf_read_core.proofs.read.addr.AddrHeaderIter.next.Goals as goal

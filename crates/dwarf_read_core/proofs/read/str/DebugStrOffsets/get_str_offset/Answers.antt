@@ -1,4 +1,4 @@
-use Rattle.std.proofs.Common.{arith, inl}
+use Rattle.std.proofs.Common.{inl}
 use Rattle.dwarf_read_core.proofs.Ranges.{handed_on}
 use Rattle.dwarf_read_core.proofs.Words.{word_fault_stays, word_misplaced, word_refused, word_stays, word_taken}
 use Rattle.dwarf_read_core.proofs.read.str.DebugStrOffsets.get_str_offset.Goals as goal
