@@ -13,6 +13,7 @@ use bstr::ByteSlice;
 use dwarf_base_core::endianity::Endianity;
 use dwarf_base_core::error::{Error, Result};
 use dwarf_base_core::reader_offset::ReaderOffsetId;
+use memchr::memchr;
 use std::alloc::{AllocError, Global};
 use std::borrow::{CowSlice, CowStr};
 use std::ops::{Range, RangeFrom, RangeTo};
@@ -371,14 +372,10 @@ impl<'input, Endian: Endianity> Reader for EndianSlice<'input, Endian> {
 }
 
 // The index of the first byte of this value.
+#[inline]
 pub(crate) fn find_byte(bytes: &[u8], byte: u8) -> Option<usize>
     ensures found { IfSome result (IsFirst byte bytes.now) }
     ensures none { IfNone result (All (λ b. b ≢ byte) bytes.now) }
 {
-    for (index, b) in bytes.iter().enumerate() {
-        if *b == byte {
-            return Some(index);
-        }
-    }
-    None
+    memchr(byte, bytes)
 }

@@ -196,6 +196,14 @@ fn parts(rt: HostRuntime) {
     assert_eq!(rt; seven, rest.slice());
 }
 
+#[test]
+fn long_searches(rt: HostRuntime) {
+    let mut bytes = [0xff; 70];
+    assert_eq!(rt; Reader::find(&little(&bytes), 0), Err(eof(0)));
+    bytes[69] = 0;
+    assert_eq!(rt; Reader::find(&little(&bytes), 0), Ok(69));
+}
+
 fn hash_of<T: Hash>(x: &T) -> u64 {
     let mut state = DefaultHasher::new();
     x.hash(&mut state);

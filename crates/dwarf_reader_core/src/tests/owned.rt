@@ -75,7 +75,7 @@ impl<Endian: Endianity> OwnedReader<Endian> {
         if self.depth == 0 {
             return Err(Error::OutOfMemory);
         }
-        let bytes = self.rest()[..len].to_vec(self.alloc)?;
+        let bytes = Vec::from_slice(self.alloc, &self.rest()[..len])?;
         Ok(OwnedReader {
             alloc: self.alloc,
             bytes,
