@@ -1,16 +1,15 @@
 -- What contracts see of an abbreviation and its parts.
-use Rattle.std.specs.Prelude.{◌≡◌, ◌≢◌, ℕ, ℤ, pos, Some, None, unwrap_or, if◌then◌else◌, ◌==◌, refl}
-use Rattle.std.proofs.Common.{Bool, true, false, sym, ap}
+use Rattle.std.specs.Prelude.{◌≡◌, ◌≢◌, ◌<◌, ◌≤◌, ℕ, suc, ℤ, pos, Bool, true, false, List, [], ◌∷◌, ◌++◌, length, Some, None, unwrap_or, if◌then◌else◌, ◌==◌, refl}
+use Rattle.std.specs.BTreeMap.{is_at}
+use Rattle.std.specs.FinMap.{from_entries}
+use Rattle.std.specs.Map.{lookup}
+use Rattle.std.specs.Ordering.{nat_cmp}
+use Rattle.std.proofs.Common.{sym, ap}
 use Rattle.std.proofs.lemmas.Bool.{eqb-false}
 use Rattle.dwarf_read_core.specs.Grammar.{Specification, Declaration, Table, closed, close_from, implicit_const}
-use Rattle.std.specs.Prelude.{◌<◌}
-use Rattle.std.specs.Ordering.{nat_cmp}
-use Rattle.std.specs.Map.{lookup}
-use Rattle.std.specs.BTreeMap.{is_at}
 use Rattle.dwarf_read_core.specs.declared.read.abbrev.AttributeSpecification.TheInside.{Inside}
 use Rattle.dwarf_read_core.specs.declared.read.abbrev.Abbreviation.TheInside as abbreviation
 use Rattle.dwarf_read_core.specs.declared.read.abbrev.Abbreviations.TheInside as abbreviations
-use Rattle.std.specs.FinMap.{from_entries}
 
 abbrev pub specification_view : Inside → Specification
 specification_view a = record { name = a.name.0; form = a.form.0; value = if a.form.0 == implicit_const then Some a.implicit_const_value else None }
@@ -35,10 +34,20 @@ fields_again a h = ap (λ (v : ℤ). record { name = a.name; form = a.form; impl
 abbrev pub abbreviation_view : abbreviation.Inside → Declaration
 abbreviation_view a = record { code = a.code; tag = a.tag.0; children = a.has_children.0 == 1; attributes = a.attributes.items }
 
--- a table in memory, by its map and by what closed it
-abbrev pub abbreviations_view : abbreviations.Inside → Table
-abbreviations_view a = closed (from_entries a.map.entries) (close_from a.closed_by_null)
+-- declarations by the codes from one on
+abbrev pub numbered : ℕ → List Declaration → List (ℕ × Declaration)
+numbered code [] = []
+numbered code (d ∷ ds) = (code, d) ∷ numbered (suc code) ds
 
--- each key is the code of its declaration, and not 0
-abbrev pub AreKeyed : abbreviations.Inside → Type 0
-AreKeyed a = (code : ℕ) (d : Declaration) → lookup (is_at (nat_cmp code)) a.map.entries ≡ Some d → (d.code ≡ code) × (0 < code)
+-- those of a vector, by the codes from 1 on, and those of a map behind them
+abbrev pub entries_of : List Declaration → List (ℕ × Declaration) → List (ℕ × Declaration)
+entries_of ds es = numbered 1 ds ++ es
+
+-- a table in memory, by its vector, its map and what closed it
+abbrev pub abbreviations_view : abbreviations.Inside → Table
+abbreviations_view a = closed (from_entries (entries_of a.vec.items a.map.entries)) (close_from a.closed_by_null)
+
+-- the codes of the map are above those of the vector, and each declaration has the code by which it is found, which isn't 0
+pub record AreKept (ds : List Declaration) (es : List (ℕ × Declaration)) : Type 0 where
+  pub apart : (code : ℕ) → code ≤ length ds → lookup (is_at (nat_cmp code)) es ≡ None
+  pub keyed : (code : ℕ) (d : Declaration) → lookup (is_at (nat_cmp code)) (entries_of ds es) ≡ Some d → (d.code ≡ code) × (0 < code)

@@ -4,7 +4,7 @@
 //! attributes. The unit's table of abbreviations says what a code stands for: the tag of the entry,
 //! whether it has children, and which attributes follow in which forms.
 
-ghost use Rattle.std.specs.Prelude.{◌≡◌, ◌≢◌, ◌↔◌, ◌==◌, ◌+◌, ◌*◌, ◌≤◌, ◌<◌, length, true, false, IsTrue, IsSome, IsOk, IsErrOf, IfOk, IfSome, OnOk, IfErr, option_copied, ℕ, List};
+ghost use Rattle.std.specs.Prelude.{◌≡◌, ◌≢◌, ◌↔◌, ◌==◌, ◌+◌, ◌*◌, ◌≤◌, ◌<◌, length, true, false, IsTrue, IsSome, IsOk, IsErrOf, IfOk, IfSome, OnOk, OnErr, IfErr, option_copied, ℕ, List};
 ghost use Rattle.std.specs.FinMap as finite;
 ghost use Rattle.std.specs.Fn.{CalledAt, TakesAt};
 ghost use Rattle.std.specs.Iterator.{YieldsFirstRef, item_count};
@@ -31,8 +31,9 @@ use dwarf_const_core::tag::DwTag;
 use dwarf_reader_core::{EndianSlice, Reader};
 use std::alloc::{AllocError, Global};
 use std::collections::BTreeMap;
-use std::collections::btree_map::Values;
+use std::collections::btree_map::{Entry, Values};
 use std::marker::Model;
+use std::slice;
 
 mod cache;
 #[cfg(test)]
@@ -149,6 +150,9 @@ impl AbbreviationsCacheStrategy {
 /// A table of abbreviations, by their codes.
 #[derive(Debug, Drop)]
 pub struct Abbreviations {
+    // Those with the codes from 1 on, in order, as compilers number them.
+    vec: Vec<Abbreviation>,
+    // The others.
     map: BTreeMap<u64, Abbreviation>,
     closed_by_null: bool,
 }
@@ -160,11 +164,11 @@ impl Model for Abbreviations {
 
     ghost coded = { table_code };
 
-    ghost use Rattle.dwarf_read_core.specs.Views.{abbreviations_view, AreKeyed};
+    ghost use Rattle.dwarf_read_core.specs.Views.{abbreviations_view, AreKept};
 
     ghost view = { abbreviations_view };
 
-    ghost invariant = { AreKeyed };
+    ghost invariant = { λ a. AreKept a.vec.items a.map.entries };
 }
 
 impl Abbreviations {
@@ -174,6 +178,7 @@ impl Abbreviations {
         ensures close { result.close ≡ by_end }
     {
         Abbreviations {
+            vec: Vec::new(mem),
             map: BTreeMap::new(mem),
             closed_by_null: false,
         }
@@ -190,13 +195,14 @@ impl Abbreviations {
         ensures err { IfErr result (λ e. e ≡ Error.OutOfMemory) }
     {
         Ok(Abbreviations {
+            vec: self.vec.clone()?,
             map: self.map.clone()?,
             closed_by_null: self.closed_by_null,
         })
     }
 
     // Adds an abbreviation, or answers `DuplicateAbbreviationCode` where its code is there.
-    #[tactic(auto, using(crate::proofs::Tables::get_is_lookup, crate::proofs::Tables::inserted))]
+    #[tactic(auto, using(crate::proofs::Tables::stands_in_vec, crate::proofs::Tables::found_in_map, crate::proofs::Tables::pushed, crate::proofs::Tables::put_beside, crate::proofs::Tables::kept_beside))]
     fn insert(&mut self, abbreviation: Abbreviation) -> Result<()>
         requires { 0 < abbreviation.code }
         ensures ok { OnOk result ((finite.contains_key self.old.by_code abbreviation.code ≡ false)
@@ -204,29 +210,50 @@ impl Abbreviations {
         ensures close { OnOk result (self.new.close ≡ self.old.close) }
         ensures repeated { IfErr result (λ e. e ≢ Error.OutOfMemory
             → (finite.contains_key self.old.by_code abbreviation.code ≡ true) × (e ≡ Error.DuplicateAbbreviationCode abbreviation.code)) }
+        ensures unchanged { OnErr result (self.new ≡ self.old) }
     {
         let code = abbreviation.code();
-        if self.map.insert(code, abbreviation)?.is_some() {
+        let index = code - 1;
+        let len = self.vec.len() as u64;
+        if index < len {
             return Err(Error::DuplicateAbbreviationCode(code));
         }
+        if index == len {
+            // The code may stand in the map already, and it stays there.
+            if !self.map.is_empty() && self.map.contains_key(&code) {
+                return Err(Error::DuplicateAbbreviationCode(code));
+            }
+            self.vec.push(abbreviation)?;
+            return Ok(());
+        }
+        let Entry::Vacant(place) = self.map.entry(code)? else {
+            return Err(Error::DuplicateAbbreviationCode(code));
+        };
+        place.insert(abbreviation);
         Ok(())
     }
 
     /// The abbreviation with this code, if the table has one. No abbreviation has code 0.
-    #[tactic(auto, using(crate::proofs::Tables::get_is_lookup))]
+    #[inline]
+    #[tactic(auto, using(crate::proofs::Tables::found_in_vec, crate::proofs::Tables::found_in_map, crate::proofs::Tables::not_found, crate::proofs::Tables::keyed_in_vec, crate::proofs::Tables::keyed_in_map))]
     pub fn get(&self, code: u64) -> Option<&Abbreviation>
         ensures found { option_copied result ≡ finite.get self.now.by_code code }
         ensures coded { IfSome result (λ abbreviation. (abbreviation.now.code ≡ code) × (0 < code)) }
     {
-        self.map.get(&code)
+        // Code 0 wraps to an index past every vector's end.
+        let index = code.wrapping_sub(1) as usize;
+        match self.vec.get(index) {
+            Some(abbreviation) => Some(abbreviation),
+            None => self.map.get(&code),
+        }
     }
 
     /// How many abbreviations there are.
-    #[tactic(auto, using(crate::proofs::Tables::len_kept))]
+    #[tactic(auto, using(crate::proofs::Tables::len_of_both))]
     pub fn len(&self) -> usize
         ensures { result ≡ finite.len self.now.by_code }
     {
-        self.map.len()
+        self.vec.len() + self.map.len()
     }
 
     /// Whether the table has no abbreviations.
@@ -237,12 +264,13 @@ impl Abbreviations {
     }
 
     /// The abbreviations, by rising code.
-    #[tactic(auto, using(crate::proofs::Tables::entries_kept))]
+    #[tactic(auto, using(crate::proofs::Tables::values_of_both))]
     pub fn iter(&self) -> AbbreviationsIter<'_>
         ensures { result ≡ finite.values self.now.by_code }
     {
         AbbreviationsIter {
-            values: self.map.values(),
+            vec: self.vec.iter(),
+            map: self.map.values(),
         }
     }
 
@@ -270,16 +298,18 @@ impl Abbreviations {
 /// The abbreviations of a table, by rising code.
 #[derive(Debug, Drop)]
 pub struct AbbreviationsIter<'table> {
-    values: Values<'table, u64, Abbreviation>,
+    vec: slice::Iter<'table, Abbreviation>,
+    map: Values<'table, u64, Abbreviation>,
 }
 
 impl<'table> Model for AbbreviationsIter<'table> {
-    ghost use Rattle.std.specs.Prelude.{List};
+    ghost use Rattle.std.specs.Prelude.{List, ◌++◌};
+    ghost use Rattle.std.specs.Slice.Iter.{iter_rest};
     ghost use Rattle.dwarf_read_core.specs.Grammar.{Declaration};
 
     ghost Value = { List Declaration };
 
-    ghost view = { λ it. it.values };
+    ghost view = { λ it. iter_rest it.vec ++ it.map };
 }
 
 impl<'table> Iterator for AbbreviationsIter<'table> {
@@ -290,7 +320,10 @@ impl<'table> Iterator for AbbreviationsIter<'table> {
     ghost remaining = { item_count (λ rest. rest) };
 
     fn next(&mut self) -> Option<&'table Abbreviation> {
-        self.values.next()
+        match self.vec.next() {
+            Some(abbreviation) => Some(abbreviation),
+            None => self.map.next(),
+        }
     }
 }
 

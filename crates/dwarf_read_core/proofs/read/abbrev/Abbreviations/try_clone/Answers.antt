@@ -1,14 +1,16 @@
-use Rattle.std.proofs.Common.{◌≡◌, ℕ, ◌<◌, List, Some, subst, sym, ap, ◌∙◌}
-use Rattle.std.specs.BTreeMap.{is_at}
+use Rattle.std.proofs.Common.{◌≡◌, ℕ, List, sym, ap, ◌∙◌}
+use Rattle.std.proofs.lemmas.List.Elements.{same_from_all_zip}
 use Rattle.std.specs.FinMap.{from_entries}
-use Rattle.std.specs.Map.{lookup}
-use Rattle.std.specs.Ordering.{nat_cmp}
 use Rattle.dwarf_read_core.specs.Grammar.{Declaration, closed, close_from}
+use Rattle.dwarf_read_core.specs.Views.{entries_of}
 use Rattle.dwarf_read_core.proofs.Tables.{copied}
 use Rattle.dwarf_read_core.proofs.read.abbrev.Abbreviations.try_clone.Goals as goal
 
+same_vec : (c : goal.In_ok-clone-2) → c.in_ok-clone.field-0.items ≡ c.self.inside.vec.items
+same_vec c = same_from_all_zip (λ (d e : Declaration). e ≡ d) _ _ c.in_ok-clone.ensures.cases.0 (λ d e same. same)
+
 pub invariant_of-result : goal.invariant_of-result
-invariant_of-result c = subst (λ (es : List (ℕ × Declaration)). (code : ℕ) (d : Declaration) → lookup (is_at (nat_cmp code)) es ≡ Some d → (d.code ≡ code) × (0 < code)) (sym (copied _ _ c.in_ok-clone.ensures.cases)) c.self.invariant
+invariant_of-result c = rw (same_vec c, copied _ _ c.in_ok-clone-2.ensures.cases) c.self.invariant
 
 pub returns-clause-ok : goal.returns-clause-ok
-returns-clause-ok c = ap (λ (es : List (ℕ × Declaration)). closed (from_entries {R = nat_cmp} es) (close_from c.self.inside.closed_by_null)) (copied _ _ c.in_ok-clone.ensures.cases) ∙ c.self.view_is
+returns-clause-ok c = rw (same_vec c, copied _ _ c.in_ok-clone-2.ensures.cases) c.self.view_is
