@@ -1,6 +1,7 @@
 pub mod Answer
 pub mod Cache
 pub mod Entries
+pub mod Equality
 pub mod Forms
 pub mod Grammar
 pub mod Headers

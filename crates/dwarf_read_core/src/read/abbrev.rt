@@ -5,11 +5,13 @@
 //! whether it has children, and which attributes follow in which forms.
 
 ghost use Rattle.std.specs.Prelude.{◌≡◌, ◌≢◌, ◌↔◌, ◌==◌, ◌+◌, ◌*◌, ◌≤◌, ◌<◌, length, true, false, IsTrue, IsSome, IsOk, IsErrOf, IfOk, IfSome, OnOk, OnErr, IfErr, option_copied, ℕ, List};
+ghost use Rattle.std.specs.Cmp.{partial_equiv_from_equiv};
 ghost use Rattle.std.specs.FinMap as finite;
 ghost use Rattle.std.specs.Fn.{CalledAt, TakesAt};
 ghost use Rattle.std.specs.Iterator.{YieldsFirstRef, item_count};
 ghost use Rattle.dwarf_base_core.specs.declared.common.SectionId.TheVariants.{DebugAbbrev as debug_abbrev};
 ghost use Rattle.dwarf_reader_core.specs.Input.{end_of};
+ghost use Rattle.dwarf_read_core.specs.Equality.{same_declaration, same_declaration_equiv};
 ghost use Rattle.dwarf_read_core.specs.Forms.{form_size};
 ghost use Rattle.dwarf_read_core.specs.Grammar.{implicit_const, by_end, attribute_count};
 ghost use Rattle.dwarf_read_core.specs.Answer.{Answers, IsFinal, TakesNoMemory, followed_by};
@@ -29,9 +31,11 @@ use dwarf_const_core::form::{
 };
 use dwarf_const_core::tag::DwTag;
 use dwarf_reader_core::{EndianSlice, Reader};
+use smallvec::SmallVec;
 use std::alloc::{AllocError, Global};
 use std::collections::BTreeMap;
 use std::collections::btree_map::{Entry, Values};
+use std::default::MadeWith;
 use std::marker::Model;
 use std::slice;
 
@@ -327,13 +331,16 @@ impl<'table> Iterator for AbbreviationsIter<'table> {
     }
 }
 
+// At most five attributes take no memory of their own.
+type Attributes = SmallVec<AttributeSpecification, 5>;
+
 /// An abbreviation: the shape of the debugging information entries that have its code.
 #[derive(Debug, Drop)]
 pub struct Abbreviation {
     code: u64,
     tag: DwTag,
     has_children: DwChildren,
-    attributes: Vec<AttributeSpecification>,
+    attributes: Attributes,
 }
 
 impl Model for Abbreviation {
@@ -351,24 +358,39 @@ impl Model for Abbreviation {
 impl Clone for Abbreviation {
     ghost is_clone = { λ abbreviation copy. copy ≡ abbreviation };
 
+    ghost is_infallible = { λ abbreviation. length abbreviation.attributes ≤ 5 };
+
     fn clone(&self) -> std::result::Result<Self, AllocError> {
         let mem = *self.attributes.allocator();
         Ok(Abbreviation {
             code: self.code,
             tag: self.tag,
             has_children: self.has_children,
-            attributes: Vec::from_slice(mem, self.attributes.as_slice())?,
+            attributes: Attributes::from_slice(mem, self.attributes.as_slice())?,
         })
     }
 }
 
+/// Two are equal where their codes, tags, children and attributes are.
+impl PartialEq for Abbreviation {
+    ghost eq = { same_declaration };
+
+    ghost laws = { partial_equiv_from_equiv same_declaration_equiv };
+
+    fn eq(&self, other: &Self) -> bool {
+        self.has_children() == other.has_children()
+            && self.code() == other.code()
+            && self.tag() == other.tag()
+            && self.attributes() == other.attributes()
+    }
+}
+
+impl Eq for Abbreviation {
+    ghost laws = { same_declaration_equiv };
+}
+
 impl Abbreviation {
-    fn new(
-        code: u64,
-        tag: DwTag,
-        has_children: DwChildren,
-        attributes: Vec<AttributeSpecification>,
-    ) -> Abbreviation
+    fn new(code: u64, tag: DwTag, has_children: DwChildren, attributes: Attributes) -> Abbreviation
         ensures { result ≡ record { code = code; tag = tag.0; children = has_children.0 == 1; attributes = attributes.items } }
     {
         Abbreviation {
@@ -383,9 +405,10 @@ impl Abbreviation {
     ///
     /// # Errors
     ///
-    /// `OutOfMemory` where memory for the attributes was refused.
+    /// `OutOfMemory` where memory for the attributes was refused. At most five of them take none.
     pub fn try_clone(&self) -> Result<Abbreviation>
         ensures ok { IfOk result (λ copy. copy ≡ self.now) }
+        ensures free { length self.now.attributes ≤ 5 → IsOk result }
         ensures err { IfErr result (λ e. e ≡ Error.OutOfMemory) }
     {
         Ok(self.clone()?)
@@ -450,7 +473,7 @@ impl Abbreviation {
         mem: Global,
         input: &mut R,
         scratch: &mut Vec<AttributeSpecification>,
-    ) -> Result<Vec<AttributeSpecification>>
+    ) -> Result<Attributes>
         ensures read { Gives (λ v. (v.items, (R.view input.new).bytes)) result (attributes_in (end_of (R.view input.old)) (R.view input.old).bytes) }
         ensures stays { OnOk result (end_of (R.view input.new) ≡ end_of (R.view input.old)) }
     {
@@ -458,7 +481,7 @@ impl Abbreviation {
         while let Some(attribute) = AttributeSpecification::parse(input)? {
             scratch.push(attribute)?;
         }
-        Ok(Vec::from_slice(mem, scratch.as_slice())?)
+        Ok(Attributes::from_slice(mem, scratch.as_slice())?)
     }
 
     #[tactic(auto, using(crate::proofs::Numbers::number_read, crate::proofs::Numbers::refused, crate::proofs::Numbers::end_stays), unfolding(crate::specs::Reading::declaration_at, crate::specs::Reading::declared_at))]
@@ -513,6 +536,17 @@ impl Model for AttributeSpecification {
     ghost inverse = { specification_fields };
 
     ghost inverse_ok = { fields_again };
+}
+
+// What stands in a place of a list that no attribute has taken.
+impl MadeWith<Global> for AttributeSpecification {
+    fn made_with(_mem: Global) -> Self {
+        AttributeSpecification {
+            name: DwAt(0),
+            form: DwForm(0),
+            implicit_const_value: 0,
+        }
+    }
 }
 
 impl AttributeSpecification {

@@ -1,4 +1,6 @@
-use super::{Abbreviation, Abbreviations, AttributeSpecification, DebugAbbrev};
+ghost use Rattle.std.specs.Prelude.{◌≡◌};
+
+use super::{Abbreviation, Abbreviations, AttributeSpecification, Attributes, DebugAbbrev};
 use dwarf_base_core::{
     BigEndian, DebugAbbrevOffset, Encoding, Error, Format, LittleEndian, ReaderOffsetId, Result,
     RunTimeEndian,
@@ -9,6 +11,7 @@ use dwarf_const_core::form::{DW_FORM_implicit_const, DW_FORM_string, DwForm};
 use dwarf_const_core::tag::{DW_TAG_compile_unit, DW_TAG_subprogram, DwTag};
 use dwarf_reader_core::{EndianSlice, Reader};
 use std::alloc::{AllocError, Global};
+use std::process::Abort;
 use std::test::Fail;
 
 fn eof(position: u64) -> Error {
@@ -292,6 +295,139 @@ fn declarations(rt: HostRuntime) -> std::result::Result<(), Fail> {
     Ok(())
 }
 
+fn declared(mem: Global, code: u64) -> Abbreviation
+    ensures { result.code ≡ code }
+{
+    Abbreviation::new(
+        code,
+        DW_TAG_compile_unit,
+        DW_CHILDREN_no,
+        Attributes::new(mem),
+    )
+}
+
+// Puts declarations with these codes into a table, up to the first that is refused.
+fn put(mem: Global, table: &mut Abbreviations, codes: &[u64]) -> Result<()> {
+    for code in codes {
+        if *code != 0 {
+            table.insert(declared(mem, *code))?;
+        }
+    }
+    Ok(())
+}
+
+fn codes_of(mem: Global, table: &Abbreviations) -> std::result::Result<Vec<u64>, AllocError> {
+    table
+        .iter()
+        .map(|abbreviation| abbreviation.code())
+        .collect(mem)
+}
+
+#[test]
+fn vector_and_map(rt: HostRuntime) -> std::result::Result<(), Fail> {
+    let mem = rt.alloc();
+    let cases: [(&[u64], usize, usize); 4] = [
+        (&[1, 2], 2, 0),
+        (&[2, 3], 0, 2),
+        (&[1, 3, 2], 2, 1),
+        (&[1, 3, 2, 4], 2, 2),
+    ];
+    for (codes, in_vec, in_map) in cases {
+        let mut table = Abbreviations::empty(mem);
+        put(mem, &mut table, codes)?;
+        assert_eq!(rt; table.vec.len(), in_vec, "{codes:?}");
+        assert_eq!(rt; table.map.len(), in_map, "{codes:?}");
+        for code in codes {
+            let found = table.get(*code).map(|abbreviation| abbreviation.code());
+            assert_eq!(rt; found, Some(*code), "{codes:?}");
+        }
+    }
+    Ok(())
+}
+
+#[test]
+fn repeats_refused(rt: HostRuntime) -> std::result::Result<(), Fail> {
+    let mem = rt.alloc();
+    let cases: [(&[u64], u64); 6] = [
+        (&[1, 2], 1),
+        (&[1, 2], 2),
+        (&[2], 2),
+        (&[2, 1], 2),
+        (&[2, 1], 1),
+        (&[1, 3, 2], 3),
+    ];
+    for (codes, again) in cases {
+        let mut table = Abbreviations::empty(mem);
+        put(mem, &mut table, codes)?;
+        let (in_vec, in_map) = (table.vec.len(), table.map.len());
+        let before = codes_of(mem, &table)?;
+        let answer = put(mem, &mut table, &[again]);
+        assert_eq!(rt;
+            answer,
+            Err(Error::DuplicateAbbreviationCode(again)),
+            "{codes:?}"
+        );
+        assert_eq!(rt; (table.vec.len(), table.map.len()), (in_vec, in_map));
+        assert_eq!(rt; codes_of(mem, &table)?, before, "{codes:?}");
+    }
+    Ok(())
+}
+
+#[test]
+fn every_order(rt: HostRuntime) -> std::result::Result<(), Fail> {
+    let mem = rt.alloc();
+    let mut orders = 0u8;
+    for number in 0..256u64 {
+        let codes = [
+            (number & 3) + 1,
+            (number >> 2 & 3) + 1,
+            (number >> 4 & 3) + 1,
+            (number >> 6) + 1,
+        ];
+        let mut table = Abbreviations::empty(mem);
+        if put(mem, &mut table, &codes).is_ok() {
+            orders = orders.saturating_add(1);
+            let found = codes_of(mem, &table)?;
+            assert_eq!(rt; found.as_slice(), [1, 2, 3, 4].as_slice(), "{codes:?}");
+        }
+    }
+    assert_eq!(rt; orders, 24);
+    let mut table = Abbreviations::empty(mem);
+    put(mem, &mut table, &[u64::MAX, 1])?;
+    let found = codes_of(mem, &table)?;
+    assert_eq!(rt; found.as_slice(), [1, u64::MAX].as_slice());
+    Ok(())
+}
+
+// The bytes of a declaration with so many attributes.
+fn bytes_of(mem: Global, attributes: usize) -> std::result::Result<Vec<u8>, AllocError> {
+    let mut bytes = Vec::from_slice(mem, b"\x01\x11\0")?;
+    for _ in 0..attributes {
+        bytes.extend_from_slice(b"\x03\x08")?;
+    }
+    bytes.extend_from_slice(b"\0\0\0")?;
+    Ok(bytes)
+}
+
+#[test]
+fn attributes_in_place(rt: HostRuntime) -> std::result::Result<(), Fail> {
+    let mem = rt.alloc();
+    let (five, six) = (bytes_of(mem, 5)?, bytes_of(mem, 6)?);
+    let mut scratch = Vec::new(mem);
+    let five = Abbreviation::parse(mem, &mut slice(&five), &mut scratch)?.ok_or("no five")?;
+    let mut six = Abbreviation::parse(mem, &mut slice(&six), &mut scratch)?.ok_or("no six")?;
+    assert_eq!(rt; five.attributes().len(), 5);
+    assert_eq!(rt; six.attributes().len(), 6);
+    assert!(rt; !five.attributes.spilled() && six.attributes.spilled());
+    assert_eq!(rt; five.try_clone()?, five);
+    assert_eq!(rt; six.try_clone()?, six);
+    assert_ne!(rt; five, six);
+    six.attributes.truncate(5);
+    assert!(rt; six.attributes.spilled());
+    assert_eq!(rt; six, five);
+    Ok(())
+}
+
 // With every request for memory refused in turn, an answer is the whole table or want of memory.
 #[test]
 fn refused_memory(rt: HostRuntime) {
@@ -307,10 +443,33 @@ fn refused_memory(rt: HostRuntime) {
     for (bytes, len) in cases {
         let section = DebugAbbrev::new(bytes, LittleEndian);
         match section.abbreviations(rt.alloc(), DebugAbbrevOffset(0)) {
-            Ok(table) => assert_eq!(rt; table.len(), len),
+            Ok(table) => {
+                assert_eq!(rt; table.len(), len);
+                copied_or_refused(&rt, &table);
+            }
             Err(error) => {
                 assert_eq!(rt; error, Error::OutOfMemory);
                 assert!(rt; len > 0);
+            }
+        }
+    }
+}
+
+// A copy of the table and of each of its abbreviations is whole, or memory for it was refused.
+fn copied_or_refused(rt: &impl Abort, table: &Abbreviations) {
+    match table.try_clone() {
+        Ok(copy) => assert!(rt; copy.iter().eq(table.iter())),
+        Err(error) => {
+            assert_eq!(rt; error, Error::OutOfMemory);
+            assert!(rt; !table.is_empty());
+        }
+    }
+    for abbreviation in table.iter() {
+        match abbreviation.try_clone() {
+            Ok(copy) => assert!(rt; copy == *abbreviation),
+            Err(error) => {
+                assert_eq!(rt; error, Error::OutOfMemory);
+                assert!(rt; abbreviation.attributes().len() > 5);
             }
         }
     }

@@ -19,4 +19,4 @@ returns-in_err-attribute-clause-read g c =
 pub returns-clause-read : goal.returns-clause-read
 returns-clause-read g c =
     let loop = c.loop-attribute in
-    rw (c.in_ok-from_slice.ensures.items, c.as_slice.ensures.value) (ends _ _ _ _ _ _ (rw loop.invariant.stays at c.in_ok-attribute.ensures.read) c.in_default.is loop.invariant.told)
+    rw (c.in_ok-from_slice.ensures.ok, c.as_slice.ensures.value) (ends _ _ _ _ _ _ (rw loop.invariant.stays at c.in_ok-attribute.ensures.read) c.in_default.is loop.invariant.told)

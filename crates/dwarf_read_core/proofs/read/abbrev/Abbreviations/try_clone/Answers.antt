@@ -1,8 +1,6 @@
-use Rattle.std.proofs.Common.{◌≡◌, ℕ, List, sym, ap, ◌∙◌}
+use Rattle.std.proofs.Common.{◌≡◌}
 use Rattle.std.proofs.lemmas.List.Elements.{same_from_all_zip}
-use Rattle.std.specs.FinMap.{from_entries}
-use Rattle.dwarf_read_core.specs.Grammar.{Declaration, closed, close_from}
-use Rattle.dwarf_read_core.specs.Views.{entries_of}
+use Rattle.dwarf_read_core.specs.Grammar.{Declaration}
 use Rattle.dwarf_read_core.proofs.Tables.{copied}
 use Rattle.dwarf_read_core.proofs.read.abbrev.Abbreviations.try_clone.Goals as goal
 
