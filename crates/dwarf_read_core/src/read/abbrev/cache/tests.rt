@@ -60,9 +60,7 @@ fn kept_and_fresh(rt: HostRuntime) -> std::result::Result<(), Fail> {
     cache.populate(AbbreviationsCacheStrategy::All, &one, offsets().into_iter())?;
     assert_eq!(rt; code_at(&cache, &none, 0), Ok(1));
     assert_eq!(rt; code_at(&cache, &none, 5), Ok(0));
-    let nine = section(&[0x09, 0x11, 0x00, 0x00, 0x00]);
-    let table = nine.abbreviations(mem, DebugAbbrevOffset(0))?;
-    cache.set::<EndianSlice<'_, LittleEndian>>(DebugAbbrevOffset(5), Rc::new(mem, table)?)?;
+    set_nine(mem, &mut cache)?;
     assert_eq!(rt; code_at(&cache, &none, 0), Ok(1));
     assert_eq!(rt; code_at(&cache, &none, 5), Ok(9));
     let wants = [Ok(DebugAbbrevOffset(0)), Err(Error::OutOfMemory)];
@@ -85,10 +83,7 @@ fn copies(rt: HostRuntime) -> std::result::Result<(), Fail> {
     for code in 1..4u64 {
         let one: &Abbreviation = table.get(code).ok_or("a code is missing")?;
         let two = copy.get(code).ok_or("a code is missing")?.try_clone()?;
-        assert_eq!(rt; two.code(), one.code());
-        assert_eq!(rt; two.tag(), one.tag());
-        assert_eq!(rt; two.has_children(), one.has_children());
-        assert_eq!(rt; two.attributes(), one.attributes());
+        assert_eq!(rt; two, *one);
     }
     Ok(())
 }
@@ -101,6 +96,13 @@ fn populated(mem: Global) -> Result<AbbreviationsCache> {
         offsets().into_iter(),
     )?;
     Ok(cache)
+}
+
+// Keeps a table with the code 9 at offset 5.
+fn set_nine(mem: Global, cache: &mut AbbreviationsCache) -> Result<()> {
+    let nine = section(&[0x09, 0x11, 0x00, 0x00, 0x00]);
+    let table = nine.abbreviations(mem, DebugAbbrevOffset(0))?;
+    cache.set::<EndianSlice<'_, LittleEndian>>(DebugAbbrevOffset(5), Rc::new(mem, table)?)
 }
 
 // With every request for memory refused in turn, a refused call leaves the old cache.
@@ -117,6 +119,22 @@ fn refused_memory(rt: HostRuntime) {
                 Err(_) => 1,
             };
             match code_at(&cache, &section(&ONE), 0) {
+                Ok(code) => assert_eq!(rt; code, want),
+                Err(error) => assert_eq!(rt; error, Error::OutOfMemory),
+            }
+        }
+    }
+    match populated(rt.alloc()) {
+        Err(error) => assert_eq!(rt; error, Error::OutOfMemory),
+        Ok(mut cache) => {
+            let want = match set_nine(rt.alloc(), &mut cache) {
+                Ok(()) => 9,
+                Err(error) => {
+                    assert_eq!(rt; error, Error::OutOfMemory);
+                    0
+                }
+            };
+            match code_at(&cache, &section(&ONE), 5) {
                 Ok(code) => assert_eq!(rt; code, want),
                 Err(error) => assert_eq!(rt; error, Error::OutOfMemory),
             }
