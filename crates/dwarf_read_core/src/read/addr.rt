@@ -385,9 +385,9 @@ impl<R: Reader> AddrEntryIter<R> {
         }
         match self.input.read_address(self.encoding.encoding.address_size) {
             Ok(entry) => Ok(Some(entry)),
-            Err(error) => {
+            Err(fault) => {
                 self.input.empty();
-                Err(error)
+                Err(fault)
             }
         }
     }
