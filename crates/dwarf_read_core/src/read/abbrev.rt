@@ -285,8 +285,7 @@ impl Abbreviations {
         ensures read { Gives (λ t. t) result (table_in (end_of (R.view input.old)) finite.empty (R.view input.old).bytes) }
     {
         let mut abbreviations = Abbreviations::empty(mem);
-        // Each declaration's attributes are collected here, and copied once into a list of
-        // their own.
+        // The attributes of a declaration that find no place in it are collected here.
         let mut scratch = Vec::new(mem);
         'declarations: while !input.is_empty() {
             let Some(abbreviation) = Abbreviation::parse(mem, input, &mut scratch)? else {
@@ -477,11 +476,17 @@ impl Abbreviation {
         ensures read { Gives (λ v. (v.items, (R.view input.new).bytes)) result (attributes_in (end_of (R.view input.old)) (R.view input.old).bytes) }
         ensures stays { OnOk result (end_of (R.view input.new) ≡ end_of (R.view input.old)) }
     {
+        let mut attributes = Attributes::new(mem);
         scratch.clear();
-        while let Some(attribute) = AttributeSpecification::parse(input)? {
-            scratch.push(attribute)?;
+        'attributes: while let Some(attribute) = AttributeSpecification::parse(input)? {
+            if attributes.len() < attributes.inline_size() {
+                attributes.push(attribute)?;
+            } else {
+                scratch.push(attribute)?;
+            }
         }
-        Ok(Attributes::from_slice(mem, scratch.as_slice())?)
+        attributes.extend_from_slice(scratch.as_slice())?;
+        Ok(attributes)
     }
 
     #[tactic(auto, using(crate::proofs::Numbers::number_read, crate::proofs::Numbers::refused, crate::proofs::Numbers::end_stays), unfolding(crate::specs::Reading::declaration_at, crate::specs::Reading::declared_at))]
