@@ -169,9 +169,10 @@ impl<R: Reader> AddrHeaderIter<R> {
     /// The first fault of the bytes that are left, where they don't begin with a set. Positions
     /// are those of the section.
     ///
-    /// - `UnexpectedEof` at the set where its length is cut short in the first four bytes, and
-    ///   behind these where it is cut later;
+    /// - `UnexpectedEof` at the set where fewer than four bytes are left;
     /// - `UnknownReservedLength` where the first four bytes are reserved;
+    /// - `UnexpectedEof` behind the first four bytes where they are followed by a length of eight
+    ///   bytes, and fewer are left;
     /// - `UnsupportedOffset` where the length is no offset;
     /// - `UnexpectedEof` behind the length where fewer bytes are left, or where the set has no
     ///   room for the version;
