@@ -633,6 +633,8 @@ impl<T> DebugAbbrev<T> {
     ghost use Rattle.dwarf_read_core.specs.Sections.{debug_abbrev_reader};
 
     /// The section over the reader that `borrow` makes of a reference to the data of this one.
+    ///
+    /// `borrow` is called once. The caller has to make sure that it may be called with that reference.
     pub fn borrow<'a, F, R>(&'a self, mut borrow: F) -> DebugAbbrev<R>
     where
         F: FnMut(&'a T) -> R + Drop,

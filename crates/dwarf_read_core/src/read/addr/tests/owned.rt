@@ -84,7 +84,7 @@ impl<Endian: Endianity> OwnedReader<Endian> {
     }
 
     // `CLONE_IS_FREE`, as contracts have it.
-    const fn is_clone_free() -> bool
+    const fn takes_no_memory() -> bool
         ensures { result ≡ ⟦<OwnedReader<Endian> as Reader>⟧.clone_is_free }
     {
         false
@@ -96,13 +96,17 @@ impl<Endian: Endianity> Reader for OwnedReader<Endian> {
 
     type Offset = u32;
 
-    const CLONE_IS_FREE: bool = OwnedReader::<Endian>::is_clone_free();
+    const CLONE_IS_FREE: bool = OwnedReader::<Endian>::takes_no_memory();
 
     ghost clone_is_free = { false };
 
     ghost view = { λ r. record { bytes = drop r.start r.bytes.items; position = r.position; is_big = Endian.is_big r.endian } };
 
     ghost within = { λ r. record { positions = Prim.omega (arith, length-drop r.start r.bytes.items, r.positions, r.starts); lengths = Prim.omega (arith, length-drop r.start r.bytes.items, r.lengths); bytes = All-drop (λ b. b < 256) r.start r.bytes.items r.are_bytes } };
+
+    fn is_clone_free(&self) -> bool {
+        OwnedReader::<Endian>::takes_no_memory()
+    }
 
     fn try_clone(&self) -> Result<Self> {
         self.part(self.rest().len())
