@@ -94,10 +94,10 @@ pub trait Section<R>: From<R> + Sized {
         ensures ok { IfOk result (λ section. RangeAt (R.view (section_reader self.now)) offset size (Ok (R.view (section_reader section)))) }
         ensures err { IfErr result (λ e. RangeAt (R.view (section_reader self.now)) offset size (Err e) ⊎ WantsMemory R.clone_is_free e) }
     {
-        let mut data = self.reader().try_clone()?;
-        data.skip(R::Offset::from_u32(offset))?;
-        data.truncate(R::Offset::from_u32(size))?;
-        Ok(data.into())
+        let mut part = self.reader().try_clone()?;
+        part.skip(R::Offset::from_u32(offset))?;
+        part.truncate(R::Offset::from_u32(size))?;
+        Ok(part.into())
     }
 
     /// The section's identifier and the offset, in bytes, of the place that `id` names, or `None` if
