@@ -23,3 +23,5 @@ pub mod SetReading
 pub mod Sets
 pub mod AddressSets
 pub mod Entries
+pub mod SameDeclaration
+pub mod KeptOnce
