@@ -8,6 +8,7 @@ pub mod Declarations
 pub mod Again
 pub mod Whole
 pub mod Stable
+pub mod Strict
 pub mod Bound
 pub mod Parts
 pub mod StringLemmas

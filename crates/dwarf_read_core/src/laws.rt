@@ -6,10 +6,10 @@ ghost use Rattle.dwarf_base_core.specs.declared.error.Error.{Error as Fault};
 ghost use Rattle.dwarf_reader_core.specs.Faults.{eof};
 ghost use Rattle.dwarf_reader_core.specs.Input.{Input};
 ghost use Rattle.dwarf_reader_core.specs.Once.{HasOne};
+ghost use Rattle.dwarf_read_core.specs.Answer.{Answer, IsFinal, IsStrictlyFinal, StrictAnswer, followed_by};
 ghost use Rattle.dwarf_read_core.specs.Cache.{KeepsAnswers};
 ghost use Rattle.dwarf_read_core.specs.Equality.{HasValueByForm, same_declaration};
 ghost use Rattle.dwarf_read_core.specs.Grammar.{Declaration, Table};
-ghost use Rattle.dwarf_read_core.specs.Answer.{Answer, IsFinal, followed_by};
 ghost use Rattle.dwarf_read_core.specs.Entries.{Entries, StandsForAddresses};
 ghost use Rattle.dwarf_read_core.specs.Items.{least_taken};
 ghost use Rattle.dwarf_read_core.specs.Ranges.{RangeAt};
@@ -25,6 +25,16 @@ pub use dwarf_reader_core::laws::{
 #[tactic(auto, using(crate::proofs::Whole::one_answer))]
 pub fn exactly_one_answer()
     ensures { (section : Input) (offset : ℕ) → HasOne (Answer section offset) }
+{}
+
+/// Every section has exactly one strict answer at every offset. It doesn't change when bytes are
+/// appended, unless it tells of the section's end.
+#[tactic(auto, using(crate::proofs::Strict::one_strict_answer, crate::proofs::Strict::strict_answer_more))]
+pub fn exactly_one_strict_answer()
+    ensures one { (section : Input) (offset : ℕ) → HasOne (StrictAnswer section offset) }
+    ensures stable { (section : Input) (more : List ℕ) (offset : ℕ) (answer : Outcome Table Fault)
+        → StrictAnswer section offset answer → IsStrictlyFinal answer
+        → StrictAnswer (followed_by section more) offset answer }
 {}
 
 /// An answer that doesn't tell of the section's end is the answer whatever bytes are appended.

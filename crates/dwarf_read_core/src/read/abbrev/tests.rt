@@ -1,6 +1,8 @@
 ghost use Rattle.std.specs.Prelude.{◌≡◌};
 
-use super::{Abbreviation, Abbreviations, AttributeSpecification, Attributes, DebugAbbrev};
+use super::{
+    Abbreviation, Abbreviations, AttributeSpecification, Attributes, DebugAbbrev, TableEntry,
+};
 use dwarf_base_core::{
     BigEndian, DebugAbbrevOffset, Encoding, Error, Format, LittleEndian, ReaderOffsetId, Result,
     RunTimeEndian,
@@ -270,6 +272,13 @@ fn parts(rt: HostRuntime) -> std::result::Result<(), Fail> {
     Ok(())
 }
 
+fn declaration(entry: TableEntry) -> Option<Abbreviation> {
+    match entry {
+        TableEntry::Declared(abbreviation) => Some(abbreviation),
+        TableEntry::NullCode | TableEntry::End => None,
+    }
+}
+
 #[test]
 fn declarations(rt: HostRuntime) -> std::result::Result<(), Fail> {
     let mem = rt.alloc();
@@ -281,8 +290,8 @@ fn declarations(rt: HostRuntime) -> std::result::Result<(), Fail> {
     ];
     for (bytes, want) in cases {
         let input = &mut slice(bytes);
-        let declaration = Abbreviation::parse(mem, input, &mut scratch)?;
-        assert_eq!(rt; declaration.map(|a| a.code()), want);
+        let entry = Abbreviation::parse(mem, input, &mut scratch)?;
+        assert_eq!(rt; declaration(entry).map(|a| a.code()), want);
         assert_eq!(rt; input.slice(), b"\x01\x02\x03\x04".as_slice());
     }
     let input = &mut slice(
@@ -414,8 +423,10 @@ fn attributes_in_place(rt: HostRuntime) -> std::result::Result<(), Fail> {
     let mem = rt.alloc();
     let (five, six) = (bytes_of(mem, 5)?, bytes_of(mem, 6)?);
     let mut scratch = Vec::new(mem);
-    let five = Abbreviation::parse(mem, &mut slice(&five), &mut scratch)?.ok_or("no five")?;
-    let mut six = Abbreviation::parse(mem, &mut slice(&six), &mut scratch)?.ok_or("no six")?;
+    let five = Abbreviation::parse(mem, &mut slice(&five), &mut scratch)?;
+    let five = declaration(five).ok_or("no five")?;
+    let six = Abbreviation::parse(mem, &mut slice(&six), &mut scratch)?;
+    let mut six = declaration(six).ok_or("no six")?;
     assert_eq!(rt; five.attributes().len(), 5);
     assert_eq!(rt; six.attributes().len(), 6);
     assert!(rt; !five.attributes.spilled() && six.attributes.spilled());
