@@ -65,7 +65,8 @@ impl fmt::Display for Fault {
             Fault::Section(error) => write!(f, "error: {error}"),
             Fault::Usage => write!(
                 f,
-                "usage: dwarf_list abbrev OFFSET | str OFFSET | addr le|be | uleb N | sleb N"
+                "usage: dwarf_list abbrev OFFSET | str OFFSET | addr le|be | uleb N | sleb N \
+                 | abbrev-strict OFFSET | str-offsets le|be"
             ),
             Fault::Read => write!(f, "error: cannot read input"),
             Fault::Write => write!(f, "error: cannot write output"),
