@@ -4,6 +4,7 @@ use std::env::{Env, FillError};
 use std::test::Fail;
 
 // A system that gives these words, the program's name first.
+#[derive(Drop)]
 struct Given<'words>(&'words [&'words [u8]]);
 
 impl Env for Given<'_> {
