@@ -9,5 +9,7 @@
 
 pub mod owned_reader;
 pub mod parts;
+#[cfg(test)]
+mod tests;
 
 pub use crate::owned_reader::OwnedReader;
