@@ -23,9 +23,6 @@ use dwarf_reader_core::Reader;
 use std::alloc::AllocError;
 use std::marker::Model;
 
-#[cfg(test)]
-mod tests;
-
 /// The `.debug_addr` section (DWARF 5, 7.27): sets of addresses, each with a header.
 #[derive(Debug, Default, Clone, Copy, Drop)]
 pub struct DebugAddr<R> {
