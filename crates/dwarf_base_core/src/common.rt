@@ -11,7 +11,7 @@ ghost use Rattle.dwarf_base_core.specs.Checked.{OkBelow};
 use crate::error::{Error, Result};
 use crate::reader_offset::ReaderOffset;
 
-/// Whether a unit's lengths and offsets have 4 bytes or 8.
+/// Whether a unit's lengths and offsets have 4 bytes or 8 (DWARF 5, 7.4).
 ///
 /// The initial length of a unit says which: 0xffffffff stands before a length of 8 bytes.
 /// As a number, a format is the number of bytes in a word.
@@ -58,7 +58,7 @@ pub enum Vendor {
     AArch64,
 }
 
-/// How the parts of a unit are encoded.
+/// How the parts of a unit are encoded, as its header says (DWARF 5, 7.5.1).
 #[derive(Debug, Clone, Copy, PartialEq, Eq, Hash)]
 pub struct Encoding {
     /// The number of bytes of an address on the target.
@@ -125,15 +125,15 @@ impl Register {
     }
 }
 
-/// An offset from the start of `.debug_abbrev`, where a table of abbreviations begins.
+/// An offset in bytes from the start of `.debug_abbrev`, where a table of abbreviations begins.
 #[derive(Debug, Clone, Copy, PartialEq, Eq, Hash)]
 pub struct DebugAbbrevOffset<T>(pub T);
 
-/// An offset from the start of `.debug_addr`, where a set of addresses begins.
+/// An offset in bytes from the start of `.debug_addr`, where a set of addresses begins.
 #[derive(Debug, Clone, Copy, PartialEq, Eq)]
 pub struct DebugAddrOffset<T>(pub T);
 
-/// An offset from the start of `.debug_addr`, where the first address of a set stands.
+/// An offset in bytes from the start of `.debug_addr`, where the first address of a set stands.
 #[derive(Debug, Clone, Copy, PartialEq, Eq)]
 pub struct DebugAddrBase<T>(pub T);
 
@@ -141,28 +141,28 @@ pub struct DebugAddrBase<T>(pub T);
 #[derive(Debug, Clone, Copy, PartialEq, Eq)]
 pub struct DebugAddrIndex<T>(pub T);
 
-/// An offset from the start of `.debug_aranges`.
+/// An offset in bytes from the start of `.debug_aranges`.
 #[derive(Debug, Clone, Copy, PartialEq, Eq)]
 pub struct DebugArangesOffset<T>(pub T);
 
-/// An offset from the start of `.debug_info`.
+/// An offset in bytes from the start of `.debug_info`.
 #[derive(Debug, Clone, Copy, PartialEq, Eq, PartialOrd, Ord, Hash)]
 pub struct DebugInfoOffset<T>(pub T);
 
-/// An offset from the start of `.debug_line`, where a line number program's header begins.
+/// An offset in bytes from the start of `.debug_line`, where a line number program's header begins.
 #[derive(Debug, Clone, Copy, PartialEq, Eq)]
 pub struct DebugLineOffset<T>(pub T);
 
-/// An offset from the start of `.debug_line_str`, where a string begins.
+/// An offset in bytes from the start of `.debug_line_str`, where a string begins.
 #[derive(Debug, Clone, Copy, PartialEq, Eq)]
 pub struct DebugLineStrOffset<T>(pub T);
 
-/// An offset from the start of `.debug_loc` or `.debug_loclists`, whichever the unit's version
-/// reads.
+/// An offset in bytes from the start of `.debug_loc` or `.debug_loclists`, whichever the unit's
+/// version reads.
 #[derive(Debug, Clone, Copy, PartialEq, Eq, Hash)]
 pub struct LocationListsOffset<T>(pub T);
 
-/// An offset from the start of `.debug_loclists`, where the table of offsets of a set begins.
+/// An offset in bytes from the start of `.debug_loclists`, where the table of offsets of a set begins.
 #[derive(Debug, Clone, Copy, PartialEq, Eq)]
 pub struct DebugLocListsBase<T>(pub T);
 
@@ -170,30 +170,30 @@ pub struct DebugLocListsBase<T>(pub T);
 #[derive(Debug, Clone, Copy, PartialEq, Eq)]
 pub struct DebugLocListsIndex<T>(pub T);
 
-/// An offset from the start of `.debug_macinfo`.
+/// An offset in bytes from the start of `.debug_macinfo`.
 #[derive(Debug, Clone, Copy, PartialEq, Eq, Hash)]
 pub struct DebugMacinfoOffset<T>(pub T);
 
-/// An offset from the start of `.debug_macro`.
+/// An offset in bytes from the start of `.debug_macro`.
 #[derive(Debug, Clone, Copy, PartialEq, Eq, Hash)]
 pub struct DebugMacroOffset<T>(pub T);
 
-/// An offset from the start of `.debug_names`.
+/// An offset in bytes from the start of `.debug_names`.
 #[derive(Debug, Clone, Copy, PartialEq, Eq, Hash)]
 pub struct DebugNamesOffset<T>(pub T);
 
-/// An offset of a range list as an attribute gives it.
+/// An offset of a range list, in bytes, as an attribute gives it.
 ///
 /// In a split unit of version 4 the base of the skeleton unit's ranges is still to be added.
 #[derive(Debug, Clone, Copy, PartialEq, Eq, Hash)]
 pub struct RawRangeListsOffset<T>(pub T);
 
-/// An offset from the start of `.debug_ranges` or `.debug_rnglists`, whichever the unit's version
-/// reads.
+/// An offset in bytes from the start of `.debug_ranges` or `.debug_rnglists`, whichever the unit's
+/// version reads.
 #[derive(Debug, Clone, Copy, PartialEq, Eq, Hash)]
 pub struct RangeListsOffset<T>(pub T);
 
-/// An offset from the start of `.debug_rnglists`, where the table of offsets of a set begins.
+/// An offset in bytes from the start of `.debug_rnglists`, where the table of offsets of a set begins.
 #[derive(Debug, Clone, Copy, PartialEq, Eq)]
 pub struct DebugRngListsBase<T>(pub T);
 
@@ -201,11 +201,11 @@ pub struct DebugRngListsBase<T>(pub T);
 #[derive(Debug, Clone, Copy, PartialEq, Eq)]
 pub struct DebugRngListsIndex<T>(pub T);
 
-/// An offset from the start of `.debug_str`, where a string begins.
+/// An offset in bytes from the start of `.debug_str`, where a string begins.
 #[derive(Debug, Clone, Copy, PartialEq, Eq)]
 pub struct DebugStrOffset<T>(pub T);
 
-/// An offset from the start of `.debug_str_offsets`, where the first entry of a set stands.
+/// An offset in bytes from the start of `.debug_str_offsets`, where the first entry of a set stands.
 #[derive(Debug, Clone, Copy, PartialEq, Eq)]
 pub struct DebugStrOffsetsBase<T>(pub T);
 
@@ -236,7 +236,7 @@ impl<Offset: ReaderOffset> DebugStrOffsetsBase<Offset> {
 #[derive(Debug, Clone, Copy, PartialEq, Eq)]
 pub struct DebugStrOffsetsIndex<T>(pub T);
 
-/// An offset from the start of `.debug_types`.
+/// An offset in bytes from the start of `.debug_types`.
 #[derive(Debug, Clone, Copy, PartialEq, Eq, PartialOrd, Ord, Hash)]
 pub struct DebugTypesOffset<T>(pub T);
 
@@ -244,7 +244,7 @@ pub struct DebugTypesOffset<T>(pub T);
 #[derive(Debug, Clone, Copy, PartialEq, Eq, Hash)]
 pub struct DebugTypeSignature(pub u64);
 
-/// An offset from the start of `.debug_frame`.
+/// An offset in bytes from the start of `.debug_frame`.
 #[derive(Debug, Clone, Copy, PartialEq, Eq, Hash)]
 pub struct DebugFrameOffset<T>(pub T);
 
@@ -258,7 +258,7 @@ impl<T> From<T> for DebugFrameOffset<T> {
     }
 }
 
-/// An offset from the start of `.eh_frame`.
+/// An offset in bytes from the start of `.eh_frame`.
 #[derive(Debug, Clone, Copy, PartialEq, Eq, Hash)]
 pub struct EhFrameOffset<T>(pub T);
 
@@ -272,11 +272,11 @@ impl<T> From<T> for EhFrameOffset<T> {
     }
 }
 
-/// An offset from the start of `.debug_info` or `.debug_types`, whichever holds the unit.
+/// An offset in bytes from the start of `.debug_info` or `.debug_types`, whichever holds the unit.
 #[derive(Debug, Clone, Copy, PartialEq, Eq, PartialOrd, Ord, Hash)]
 pub struct UnitSectionOffset<T>(pub T);
 
-/// A section that holds DWARF.
+/// A section that holds DWARF (DWARF 5, appendix B).
 #[derive(Debug, Clone, Copy, PartialEq, Eq, PartialOrd, Ord, Hash)]
 pub enum SectionId {
     /// Tables of abbreviations.

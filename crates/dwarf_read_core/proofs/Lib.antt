@@ -14,6 +14,7 @@ pub mod StringLemmas
 pub mod Ranges
 pub mod Words
 pub mod FaithfulCache
+pub mod FirstItem
 pub mod NoWant
 pub mod Shown
 pub mod Kept

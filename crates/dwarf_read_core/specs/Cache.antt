@@ -59,6 +59,11 @@ pub record GivesBeforeError {S T : Type 0} (steps : S → Option (Result T Error
   pub given : YieldsThen steps from (map (λ item. Ok item) items) last left
   pub ends : EndsItems last
 
+-- the first call of `next` gives an item, or an error that is want of memory
+abbrev pub GivesSome : {S T : Type 0} → (S → Option (Result T Error) → S → Type 0) → S → Type 0
+GivesSome {S = S} {T = T} steps from =
+    (first : Result T Error) × (left : S) × steps from (Some first) left × MatchResult first (λ _. ⊤) (λ fault. fault ≡ OutOfMemory)
+
 -- the numbers of the offsets that come before the first error
 pub record NamesOffsets {S T : Type 0} (steps : S → Option (Result T Error) → S → Type 0) (number : T → ℕ) (from : S) (offsets : List ℕ) : Type 0 where
   pub items : List T

@@ -1,4 +1,4 @@
--- Strings that a zero byte ends (DWARF 5, 7.26).
+-- Strings that a zero byte ends (DWARF 5, 7.5.5).
 use Rattle.std.specs.Prelude.{◌≡◌, ◌≢◌, ℕ, ◌+◌, ◌<◌, ◌≤◌, List, ◌∷◌, ◌++◌, length, drop, All, Result, Ok, Err}
 use Rattle.dwarf_base_core.specs.declared.error.Error.{Error}
 use Rattle.dwarf_reader_core.specs.Faults.{eof, end_fault}

@@ -1,10 +1,15 @@
 //! A reader of borrowed bytes.
 
-ghost use Rattle.std.specs.Prelude.{◌≡◌, ◌+◌, ◌<◌, ◌≤◌, ◌^◌, ◌-◌, ◌≢◌, ◌↔◌, ◌⊎◌, [], length, All, true, ⊤, IsOk, OnOk, IfOk, IfErr, IfSome, IfNone};
+ghost use Rattle.std.specs.Prelude.{◌≡◌, ◌+◌, ◌<◌, ◌≤◌, ◌^◌, ◌-◌, ◌≢◌, ◌↔◌, ◌⊎◌, ◌++◌, [], length, All, nat_eq, true, ⊤, IsOk, OnOk, IfOk, IfErr, IfSome, IfNone};
+ghost use Rattle.std.specs.Cmp.{and_equiv, on_equiv, partial_equiv_from_equiv};
+ghost use Rattle.std.specs.Cmp.Lexicographic.{nat_list_eq_equiv, pointwise};
+ghost use Rattle.std.specs.Cmp.Rules.{hashing};
 ghost use Rattle.std.specs.Cow.{cow_slice_items, cow_str_bytes};
+ghost use Rattle.std.specs.Hash as fed;
+ghost use Rattle.std.specs.Ordering.{eq_of_both, on};
 ghost use Rattle.std.specs.Str.{IsUtf8};
 ghost use Rattle.std.specs.Str.Lossy.{utf8_lossy};
-ghost use Rattle.std.proofs.Common.{arith};
+ghost use Rattle.std.proofs.Common.{arith, rules};
 ghost use Rattle.dwarf_base_core.specs.declared.error.Error.TheVariants.{BadUtf8, OutOfMemory};
 ghost use Rattle.dwarf_reader_core.specs.Input.{after, first, IsFirst, IsPartOf};
 
@@ -16,6 +21,7 @@ use dwarf_base_core::reader_offset::ReaderOffsetId;
 use memchr::memchr;
 use std::alloc::{AllocError, Global};
 use std::borrow::{CowSlice, CowStr};
+use std::hash::{Hash, Hasher};
 use std::ops::{Range, RangeFrom, RangeTo};
 
 /// A [`Reader`] of borrowed bytes.
@@ -23,13 +29,11 @@ use std::ops::{Range, RangeFrom, RangeTo};
 /// It copies no bytes, and cloning or splitting it takes no memory. Two are equal where their bytes
 /// and byte orders are, whatever their positions.
 #[derive(Debug)]
-#[derive_where(PartialEq, Eq, Hash; Endian)]
 pub struct EndianSlice<'input, Endian: Endianity> {
     slice: &'input [u8],
     endian: Endian,
     // The position after the last byte. It stays as bytes are taken, so that a byte costs no second
     // store.
-    #[derive_where(skip(EqHashOrd))]
     end: u64,
     ghost starts: { length slice.now ≤ end },
     ghost ends: { end < 2 ^ 64 },
@@ -52,6 +56,33 @@ impl<'input, Endian: Endianity> Clone for EndianSlice<'input, Endian> {
 }
 
 impl<'input, Endian: Endianity> Copy for EndianSlice<'input, Endian> {}
+
+/// Two are equal exactly where their bytes and their byte orders are, whatever their positions.
+impl<'input, Endian: Endianity> PartialEq for EndianSlice<'input, Endian> {
+    ghost eq = { eq_of_both (on (λ s. s.slice.now) (pointwise nat_eq)) (on (λ s. s.endian) Endian.eq) };
+
+    ghost laws = { partial_equiv_from_equiv (and_equiv (on_equiv (λ s. s.slice.now) nat_list_eq_equiv) (on_equiv (λ s. s.endian) Endian.Eq.laws)) };
+
+    fn eq(&self, other: &Self) -> bool {
+        self.slice == other.slice && self.endian == other.endian
+    }
+}
+
+impl<'input, Endian: Endianity> Eq for EndianSlice<'input, Endian> {
+    ghost laws = { and_equiv (on_equiv (λ s. s.slice.now) nat_list_eq_equiv) (on_equiv (λ s. s.endian) Endian.Eq.laws) };
+}
+
+/// What is hashed are the bytes and the byte order.
+impl<'input, Endian: Endianity + Hash> Hash for EndianSlice<'input, Endian> {
+    ghost hash_input = { λ s. fed.slice fed.u8 s.slice.now ++ Endian.hash_input s.endian };
+
+    ghost respects_eq = { Prim.search (hashing, rules) };
+
+    fn hash<H: Hasher>(&self, state: &mut H) {
+        self.slice.hash(state);
+        self.endian.hash(state);
+    }
+}
 
 impl<'input, Endian: Endianity> Default for EndianSlice<'input, Endian> {
     ghost is_default = { λ s. (s.slice.now ≡ []) × (s.end ≡ 0) × Endian.is_default s.endian };
@@ -80,6 +111,8 @@ impl<'input, Endian: Endianity> EndianSlice<'input, Endian> {
 
     /// A reader of these bytes, at the position that `first` names, so that sections read side by
     /// side have identifiers of their own.
+    ///
+    /// The caller has to make sure that the position after the last byte is below 2^64.
     #[inline]
     pub fn with_first_id(
         slice: &'input [u8],
@@ -113,6 +146,8 @@ impl<'input, Endian: Endianity> EndianSlice<'input, Endian> {
     }
 
     /// The first `idx` bytes that are left, and those behind them.
+    ///
+    /// The caller has to make sure that at least `idx` bytes are left.
     #[inline]
     pub fn split_at(&self, idx: usize) -> (EndianSlice<'input, Endian>, EndianSlice<'input, Endian>)
         requires { idx ≤ length (⟦<EndianSlice<'input, Endian> as Reader>⟧.view self.now).bytes }
@@ -133,7 +168,9 @@ impl<'input, Endian: Endianity> EndianSlice<'input, Endian> {
         find_byte(self.slice, byte)
     }
 
-    /// How many bytes the position lies behind that of `base`, which covers what is left here.
+    /// How many bytes the position lies behind that of `base`.
+    ///
+    /// The caller has to make sure that what is left here is a part of what is left of `base`.
     #[inline]
     pub fn offset_from(&self, base: EndianSlice<'input, Endian>) -> usize
         requires { IsPartOf (⟦<EndianSlice<'input, Endian> as Reader>⟧.view self.now) (⟦<EndianSlice<'input, Endian> as Reader>⟧.view base) }
@@ -172,6 +209,9 @@ impl<'input, Endian: Endianity> EndianSlice<'input, Endian> {
     }
 
     /// The bytes from `range.start` up to `range.end`, counted from the position.
+    ///
+    /// The caller has to make sure that `range.start` is at most `range.end`, and that at least
+    /// `range.end` bytes are left.
     #[inline]
     pub fn range(&self, range: Range<usize>) -> EndianSlice<'input, Endian>
         requires ordered { range.start ≤ range.end }
@@ -187,6 +227,8 @@ impl<'input, Endian: Endianity> EndianSlice<'input, Endian> {
     }
 
     /// The bytes from `range.start` on, counted from the position.
+    ///
+    /// The caller has to make sure that at least `range.start` bytes are left.
     #[inline]
     pub fn range_from(&self, range: RangeFrom<usize>) -> EndianSlice<'input, Endian>
         requires { range.start ≤ length (⟦<EndianSlice<'input, Endian> as Reader>⟧.view self.now).bytes }
@@ -197,6 +239,8 @@ impl<'input, Endian: Endianity> EndianSlice<'input, Endian> {
     }
 
     /// The bytes up to `range.end`, counted from the position.
+    ///
+    /// The caller has to make sure that at least `range.end` bytes are left.
     #[inline]
     pub fn range_to(&self, range: RangeTo<usize>) -> EndianSlice<'input, Endian>
         requires { range.end ≤ length (⟦<EndianSlice<'input, Endian> as Reader>⟧.view self.now).bytes }
@@ -214,7 +258,7 @@ impl<'input, Endian: Endianity> EndianSlice<'input, Endian> {
     }
 
     // `CLONE_IS_FREE`, as contracts have it.
-    const fn is_clone_free() -> bool
+    const fn takes_no_memory() -> bool
         ensures { result ≡ ⟦<EndianSlice<'input, Endian> as Reader>⟧.clone_is_free }
     {
         true
@@ -226,13 +270,18 @@ impl<'input, Endian: Endianity> Reader for EndianSlice<'input, Endian> {
 
     type Offset = usize;
 
-    const CLONE_IS_FREE: bool = EndianSlice::<'input, Endian>::is_clone_free();
+    const CLONE_IS_FREE: bool = EndianSlice::<'input, Endian>::takes_no_memory();
 
     ghost clone_is_free = { true };
 
     ghost view = { λ s. record { bytes = s.slice.now; position = s.end - length s.slice.now; is_big = Endian.is_big s.endian } };
 
     ghost within = { λ s. record { positions = Prim.omega (arith, s.starts, s.ends); lengths = Prim.omega (arith, s.starts, s.ends); bytes = s.bytes } };
+
+    #[inline]
+    fn is_clone_free(&self) -> bool {
+        EndianSlice::<'input, Endian>::takes_no_memory()
+    }
 
     #[inline]
     fn try_clone(&self) -> Result<Self> {

@@ -45,13 +45,20 @@ pub trait Reader: Debug + Drop + Sized {
     type Offset: ReaderOffset;
 
     /// Whether `try_clone`, `split` and `read_null_terminated_slice` take no memory, and so never
-    /// answer [`Error::OutOfMemory`].
+    /// return [`Error::OutOfMemory`]. It is what [`is_clone_free`](Reader::is_clone_free) returns.
     const CLONE_IS_FREE: bool;
 
-    // what `CLONE_IS_FREE` says, for contracts
+    // what `is_clone_free` returns, for contracts
     ghost clone_is_free: { Bool };
 
     ghost view: { Self → Input };
+
+    /// Returns whether clones take no memory, as [`CLONE_IS_FREE`](Reader::CLONE_IS_FREE) says.
+    ///
+    /// The checker holds this call to the truth, and a constant it does not; so a program that has to
+    /// know asks this call.
+    fn is_clone_free(&self) -> bool
+        ensures { result ≡ clone_is_free };
 
     /// Another reader of the same bytes, at the same position.
     ///
@@ -80,7 +87,9 @@ pub trait Reader: Debug + Drop + Sized {
         ensures enough { OnOk result (Self.Offset.value len ≤ length (view self.old).bytes) }
         ensures err { IfErr result (λ e. EndsBefore (Self.Offset.value len) (view self.old) e (view self.new)) };
 
-    /// How many bytes the position lies behind that of `base`, which covers what is left here.
+    /// How many bytes the position lies behind that of `base`.
+    ///
+    /// The caller has to make sure that what is left here is a part of what is left of `base`.
     fn offset_from(&self, base: &Self) -> Self::Offset
         requires { IsPartOf (view self.now) (view base.now) }
         ensures { Self.Offset.value result + (view base.now).position ≡ (view self.now).position };
@@ -89,13 +98,13 @@ pub trait Reader: Debug + Drop + Sized {
     fn offset_id(&self) -> ReaderOffsetId
         ensures { result.0 ≡ (view self.now).position };
 
-    /// The offset, from the position, of the place that the identifier names, or `None` where it is
-    /// neither one of the bytes that are left nor their end.
+    /// The offset, in bytes from the position, of the place that the identifier names, or `None` if
+    /// it is neither one of the bytes that are left nor their end.
     fn lookup_offset_id(&self, id: ReaderOffsetId) -> Option<Self::Offset>
         ensures found { IfSome result (λ offset. (view self.now).position + Self.Offset.value offset ≡ id.0) }
         ensures covered { IsSome result ↔ Covers (view self.now) id.0 };
 
-    /// The offset, from the position, of the first byte of this value.
+    /// The offset, in bytes from the position, of the first byte of this value.
     ///
     /// Answers [`Error::UnexpectedEof`] where there is none.
     fn find(&self, byte: u8) -> Result<Self::Offset>
@@ -399,7 +408,8 @@ pub trait Reader: Debug + Drop + Sized {
         }
     }
 
-    /// Takes the length at the front of a unit, and says in which format the unit is.
+    /// Takes the length at the front of a unit, in bytes, and says in which format the unit is
+    /// (DWARF 5, 7.4).
     ///
     /// Answers [`Error::UnexpectedEof`] where the first four bytes aren't there and takes none, or
     /// where they are `0xffffffff` and the eight behind them aren't there and takes four;
@@ -434,10 +444,9 @@ pub trait Reader: Debug + Drop + Sized {
         ensures ok { IfOk result (λ size. TakesByte (view self.old) size (view self.new) × IsTrue (is_number_size size)) }
         ensures err { IfErr result (λ e. EndsBefore 1 (view self.old) e (view self.new) ⊎ IsNoAddressSize (view self.old) e (view self.new)) }
     {
-        let size = self.read_u8()?;
-        match size {
-            1 | 2 | 4 | 8 => Ok(size),
-            _ => Err(Error::UnsupportedAddressSize(size)),
+        match self.read_u8()? {
+            size @ (1 | 2 | 4 | 8) => Ok(size),
+            other => Err(Error::UnsupportedAddressSize(other)),
         }
     }
 

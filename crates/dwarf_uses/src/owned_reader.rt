@@ -124,6 +124,10 @@ impl<Endian: Endianity> Reader for OwnedReader<Endian> {
       bytes = All-drop (λ b. b < 256) r.start r.bytes.items r.are_bytes;
     } };
 
+    fn is_clone_free(&self) -> bool {
+        false
+    }
+
     fn try_clone(&self) -> Result<Self> {
         self.part(self.rest().len())
     }

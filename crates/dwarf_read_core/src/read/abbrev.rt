@@ -192,12 +192,20 @@ impl Abbreviations {
     ///
     /// # Errors
     ///
-    /// `OutOfMemory` where memory for the table was refused.
+    /// `OutOfMemory` if memory for the table runs out. A table with no abbreviations takes none.
     #[tactic(auto, using(crate::proofs::Tables::copied))]
     pub fn try_clone(&self) -> Result<Abbreviations>
         ensures ok { IfOk result (λ copy. copy ≡ self.now) }
+        ensures free { finite.len self.now.by_code ≡ 0 → IsOk result }
         ensures err { IfErr result (λ e. e ≡ Error.OutOfMemory) }
     {
+        if self.is_empty() {
+            let mem = *self.vec.allocator();
+            return Ok(Abbreviations {
+                closed_by_null: self.closed_by_null,
+                ..Abbreviations::empty(mem)
+            });
+        }
         Ok(Abbreviations {
             vec: self.vec.clone()?,
             map: self.map.clone()?,
@@ -588,7 +596,8 @@ impl AttributeSpecification {
 
     /// The value of an attribute in the form `DW_FORM_implicit_const`, and else `None`.
     pub fn implicit_const_value(&self) -> Option<i64>
-        ensures { result ≡ self.now.value }
+        ensures value { result ≡ self.now.value }
+        ensures some { IsSome result ↔ (self.now.form ≡ implicit_const) }
     {
         if self.form == DW_FORM_implicit_const {
             Some(self.implicit_const_value)
@@ -633,6 +642,8 @@ impl<T> DebugAbbrev<T> {
     ghost use Rattle.dwarf_read_core.specs.Sections.{debug_abbrev_reader};
 
     /// The section over the reader that `borrow` makes of a reference to the data of this one.
+    ///
+    /// `borrow` is called once. The caller has to make sure that it may be called with that reference.
     pub fn borrow<'a, F, R>(&'a self, mut borrow: F) -> DebugAbbrev<R>
     where
         F: FnMut(&'a T) -> R + Drop,

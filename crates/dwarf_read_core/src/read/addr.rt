@@ -23,6 +23,9 @@ use dwarf_reader_core::Reader;
 use std::alloc::AllocError;
 use std::marker::Model;
 
+// The version of every set: earlier standards have none.
+const VERSION: u16 = 5;
+
 /// The `.debug_addr` section (DWARF 5, 7.27): sets of addresses, each with a header.
 #[derive(Debug, Default, Clone, Copy, Drop)]
 pub struct DebugAddr<R> {
@@ -88,6 +91,8 @@ impl<T> DebugAddr<T> {
     ghost use Rattle.dwarf_read_core.specs.Sections.{debug_addr_reader};
 
     /// The section over the reader that `borrow` makes of a reference to the data of this one.
+    ///
+    /// `borrow` is called once. The caller has to make sure that it may be called with that reference.
     pub fn borrow<'a, F, R>(&'a self, mut borrow: F) -> DebugAddr<R>
     where
         F: FnMut(&'a T) -> R + Drop,
@@ -193,15 +198,16 @@ impl<R: Reader> AddrHeaderIter<R> {
         if self.input.is_empty() {
             return Ok(None);
         }
-        let len = self.input.len();
+        let before = self.input.len();
         match AddrHeader::parse(&mut self.input, self.offset) {
-            Ok(header) => {
-                self.offset.0 += len - self.input.len();
-                Ok(Some(header))
-            }
             Err(error) => {
+                // Nothing says where another set would begin.
                 self.input.empty();
                 Err(error)
+            }
+            Ok(header) => {
+                self.offset.0 += before - self.input.len();
+                Ok(Some(header))
             }
         }
     }
@@ -227,6 +233,8 @@ impl<R: Reader> Iterator for AddrHeaderIter<R> {
 
 impl<R: Reader + Clone> Clone for AddrHeaderIter<R> {
     ghost is_clone = { λ headers copy. copy ≡ headers };
+
+    ghost is_infallible = { λ _. R.clone_is_free ≡ true };
 
     fn clone(&self) -> std::result::Result<Self, AllocError> {
         match self.input.try_clone() {
@@ -261,6 +269,8 @@ impl<R: Reader + Clone> Clone for AddrHeader<R> {
 
     ghost is_clone = { λ header copy. set_of R.view R.Offset.value copy ≡ set_of R.view R.Offset.value header };
 
+    ghost is_infallible = { λ _. R.clone_is_free ≡ true };
+
     fn clone(&self) -> std::result::Result<Self, AllocError> {
         match self.entries.try_clone() {
             Ok(entries) => Ok(AddrHeader {
@@ -287,27 +297,28 @@ impl<R: Reader> AddrHeader<R> {
         ensures order { OnOk result ((R.view input.new).is_big ≡ (R.view input.old).is_big) }
     {
         let (length, format) = input.read_initial_length()?;
-        let mut rest = input.split(length)?;
-        let version = rest.read_u16()?;
-        if version != 5 {
+        let mut unit = input.split(length)?;
+        let version = unit.read_u16()?;
+        if version != VERSION {
             return Err(Error::UnknownVersion(u64::from(version)));
         }
-        let address_size = rest.read_address_size()?;
-        let segment_size = rest.read_u8()?;
+        let address_size = unit.read_address_size()?;
+        let segment_size = unit.read_u8()?;
         if segment_size != 0 {
             return Err(Error::UnsupportedSegmentSize(segment_size));
         }
+        let encoding = SetEncoding {
+            encoding: Encoding {
+                address_size,
+                format,
+                version,
+            },
+        };
         Ok(AddrHeader {
             offset,
-            encoding: SetEncoding {
-                encoding: Encoding {
-                    address_size,
-                    format,
-                    version,
-                },
-            },
+            encoding,
             length,
-            entries: rest,
+            entries: unit,
         })
     }
 
@@ -410,6 +421,8 @@ impl<R: Reader> Iterator for AddrEntryIter<R> {
 
 impl<R: Reader + Clone> Clone for AddrEntryIter<R> {
     ghost is_clone = { λ entries copy. copy ≡ entries };
+
+    ghost is_infallible = { λ _. R.clone_is_free ≡ true };
 
     fn clone(&self) -> std::result::Result<Self, AllocError> {
         match self.input.try_clone() {

@@ -49,11 +49,13 @@ pub trait Section<R>: From<R> + Sized {
         Self::id().xcoff_name()
     }
 
-    /// The section over the reader that `f` answers for its identifier; `f` is called once.
+    /// The section over the reader that `f` returns for the section's identifier.
+    ///
+    /// `f` is called once. The caller has to make sure that it may be called with that identifier.
     ///
     /// # Errors
     ///
-    /// The error that `f` answers, as it is.
+    /// The error that `f` returns, unchanged.
     fn load<F, E>(f: F) -> std::result::Result<Self, E>
     where
         F: FnOnce(SectionId) -> std::result::Result<R, E>,
@@ -75,7 +77,8 @@ pub trait Section<R>: From<R> + Sized {
 
     /// The `size` bytes from `offset` on, as a section of their own; the first keeps its position.
     ///
-    /// The index of a package gives offset and size of what belongs to one unit.
+    /// The index of a package gives the offset and the size, both in bytes, of what belongs to one
+    /// unit (DWARF 5, 7.3.5).
     ///
     /// # Errors
     ///
@@ -88,14 +91,14 @@ pub trait Section<R>: From<R> + Sized {
         ensures ok { IfOk result (λ section. RangeAt (R.view (section_reader self.now)) offset size (Ok (R.view (section_reader section)))) }
         ensures err { IfErr result (λ e. RangeAt (R.view (section_reader self.now)) offset size (Err e) ⊎ WantsMemory R.clone_is_free e) }
     {
-        let mut data = self.reader().try_clone()?;
-        data.skip(R::Offset::from_u32(offset))?;
-        data.truncate(R::Offset::from_u32(size))?;
-        Ok(data.into())
+        let mut part = self.reader().try_clone()?;
+        part.skip(R::Offset::from_u32(offset))?;
+        part.truncate(R::Offset::from_u32(size))?;
+        Ok(part.into())
     }
 
-    /// The section's identifier and the offset of the place that `id` names, or `None` where it is
-    /// neither one of the section's bytes nor its end.
+    /// The section's identifier and the offset, in bytes, of the place that `id` names, or `None` if
+    /// that is neither one of the section's bytes nor its end.
     fn lookup_offset_id(&self, id: ReaderOffsetId) -> Option<(SectionId, R::Offset)>
     where
         R: Reader,

@@ -17,7 +17,7 @@ use dwarf_base_core::{
 };
 use dwarf_reader_core::{EndianSlice, Reader};
 
-/// The `.debug_str` section: strings, each ended by a zero byte.
+/// The `.debug_str` section (DWARF 5, 7.5.5): strings, each ended by a zero byte.
 #[derive(Debug, Default, Clone, Copy, Drop)]
 pub struct DebugStr<R> {
     debug_str_section: R,
@@ -72,6 +72,8 @@ impl<T> DebugStr<T> {
     ghost use Rattle.dwarf_read_core.specs.Sections.{debug_str_reader};
 
     /// The section over the reader that `borrow` makes of a reference to the data of this one.
+    ///
+    /// `borrow` is called once. The caller has to make sure that it may be called with that reference.
     pub fn borrow<'a, F, R>(&'a self, mut borrow: F) -> DebugStr<R>
     where
         F: FnMut(&'a T) -> R + Drop,
@@ -151,6 +153,8 @@ impl<T> DebugStrOffsets<T> {
     ghost use Rattle.dwarf_read_core.specs.Sections.{debug_str_offsets_reader};
 
     /// The section over the reader that `borrow` makes of a reference to the data of this one.
+    ///
+    /// `borrow` is called once. The caller has to make sure that it may be called with that reference.
     pub fn borrow<'a, F, R>(&'a self, mut borrow: F) -> DebugStrOffsets<R>
     where
         F: FnMut(&'a T) -> R + Drop,
@@ -189,7 +193,7 @@ impl<R> From<R> for DebugStrOffsets<R> {
     }
 }
 
-/// The `.debug_line_str` section (DWARF 5, 7.26): strings of line number programs, each ended by a
+/// The `.debug_line_str` section (DWARF 5, 7.5.5): strings of line number programs, each ended by a
 /// zero byte.
 #[derive(Debug, Default, Clone, Copy, Drop)]
 pub struct DebugLineStr<R> {
@@ -235,6 +239,8 @@ impl<T> DebugLineStr<T> {
     ghost use Rattle.dwarf_read_core.specs.Sections.{debug_line_str_reader};
 
     /// The section over the reader that `borrow` makes of a reference to the data of this one.
+    ///
+    /// `borrow` is called once. The caller has to make sure that it may be called with that reference.
     pub fn borrow<'a, F, R>(&'a self, mut borrow: F) -> DebugLineStr<R>
     where
         F: FnMut(&'a T) -> R + Drop,

@@ -1,4 +1,4 @@
-//! Reading LEB128 numbers from any [`Reader`].
+//! Reading LEB128 numbers (DWARF 5, 7.6) from any [`Reader`].
 
 ghost use Rattle.std.specs.Prelude.{IfOk, IfErr, OnOk};
 ghost use Rattle.dwarf_reader_core.specs.Leb128.{unsigned64, unsigned16, signed64, LacksEncoding, ReadsNumber, RefusesNumber, TakesEncoding};
@@ -6,7 +6,12 @@ ghost use Rattle.dwarf_reader_core.specs.Leb128.{unsigned64, unsigned16, signed6
 use crate::reader::Reader;
 use dwarf_base_core::error::Result;
 
-/// Takes one number of whatever length, and doesn't say what it is.
+/// Consumes one number of any length, without its value.
+///
+/// # Errors
+///
+/// `UnexpectedEof` at the end of the bytes if they end before the number does. All of them are
+/// consumed then.
 #[inline]
 pub fn skip<R: Reader>(r: &mut R) -> Result<()>
     ensures ok { OnOk result (TakesEncoding (R.view r.old) (R.view r.new)) }
@@ -15,7 +20,14 @@ pub fn skip<R: Reader>(r: &mut R) -> Result<()>
     r.skip_leb128()
 }
 
-/// Reads an unsigned number of at most 64 bits.
+/// Reads an unsigned number of at most 64 bits, in at most ten bytes.
+///
+/// # Errors
+///
+/// - `UnexpectedEof` at the end of the bytes if they end before the number and before the tenth
+///   byte. All of them are consumed.
+/// - `BadUnsignedLeb128` if ten bytes don't end the number, or if it is 2^64 or more. Ten bytes are
+///   consumed.
 #[inline]
 pub fn unsigned<R: Reader>(r: &mut R) -> Result<u64>
     ensures ok { IfOk result (λ v. ReadsNumber unsigned64 (R.view r.old) v (R.view r.new)) }
@@ -24,7 +36,14 @@ pub fn unsigned<R: Reader>(r: &mut R) -> Result<u64>
     r.read_uleb128()
 }
 
-/// Reads an unsigned number of at most 16 bits.
+/// Reads an unsigned number of at most 16 bits, in at most three bytes.
+///
+/// # Errors
+///
+/// - `UnexpectedEof` at the end of the bytes if they end before the number and before the third
+///   byte. All of them are consumed.
+/// - `BadUnsignedLeb128` if three bytes don't end the number, or if it is 2^16 or more. Three bytes
+///   are consumed.
 #[inline]
 pub fn u16<R: Reader>(r: &mut R) -> Result<u16>
     ensures ok { IfOk result (λ v. ReadsNumber unsigned16 (R.view r.old) v (R.view r.new)) }
@@ -33,7 +52,14 @@ pub fn u16<R: Reader>(r: &mut R) -> Result<u16>
     r.read_uleb128_u16()
 }
 
-/// Reads a signed number of at most 64 bits.
+/// Reads a signed number of at most 64 bits, in at most ten bytes.
+///
+/// # Errors
+///
+/// - `UnexpectedEof` at the end of the bytes if they end before the number and before the tenth
+///   byte. All of them are consumed.
+/// - `BadSignedLeb128` if ten bytes don't end the number, or if it is below -2^63 or is 2^63 or
+///   more. Ten bytes are consumed.
 #[inline]
 pub fn signed<R: Reader>(r: &mut R) -> Result<i64>
     ensures ok { IfOk result (λ v. ReadsNumber signed64 (R.view r.old) v (R.view r.new)) }

@@ -1,12 +1,12 @@
 //! A cache of abbreviation tables, which units share.
 
-ghost use Rattle.std.specs.Prelude.{◌≡◌, ◌≢◌, ◌⊎◌, Some, List, ℕ, IfOk, IfErr, OnOk, OnErr, MatchOption, Ok, Err, ◌+◌, ◌<◌, ◌^◌, ◌==◌, if◌then◌else◌, unwrap_or, map, option_map};
+ghost use Rattle.std.specs.Prelude.{◌≡◌, ◌≢◌, ◌⊎◌, Some, List, [], ℕ, IfOk, IfErr, OnOk, OnErr, MatchOption, Ok, Err, ◌+◌, ◌<◌, ◌^◌, ◌==◌, if◌then◌else◌, unwrap_or, map, option_map};
 ghost use Rattle.std.specs.BTreeMap.{get};
 ghost use Rattle.std.specs.FinMap as finite;
 ghost use Rattle.std.specs.Iterator.{IsFinite};
 ghost use Rattle.std.specs.Ordering.{nat_cmp};
 ghost use Rattle.dwarf_read_core.specs.Answer.{Answer, Answers};
-ghost use Rattle.dwarf_read_core.specs.Cache.{answer_of, KeepsAnswers, least_count, NamesOffsets, GivesBeforeError, IsFaithful, HandsOut};
+ghost use Rattle.dwarf_read_core.specs.Cache.{answer_of, KeepsAnswers, least_count, NamesOffsets, GivesBeforeError, GivesSome, IsFaithful, HandsOut};
 ghost use Rattle.dwarf_read_core.specs.Sections.{debug_abbrev_reader};
 
 use super::{Abbreviations, AbbreviationsCacheStrategy, DebugAbbrev};
@@ -64,14 +64,16 @@ impl AbbreviationsCache {
     }
 
     /// Keeps, in place of all it kept before, the answers at the offsets that `strategy` chooses
-    /// among `units`: those that occur twice or more, or all of them. Each is read once.
+    /// among `units`: those that occur twice or more, or all of them.
     ///
-    /// An error ends the offsets, and is not answered. A table's error is kept as its answer.
+    /// The first error that `units` yields ends the offsets, and is not returned. A table's error is
+    /// kept as its answer. The caller has to make sure that `units` may be asked for its items, and
+    /// that they end.
     ///
     /// # Errors
     ///
-    /// `OutOfMemory` where memory was refused, or where `units` answers that. The cache is then
-    /// unchanged.
+    /// `OutOfMemory` if memory runs out, or if `units` yields that. The cache is then unchanged.
+    /// With no offsets it takes no memory.
     pub fn populate<R: Reader, I: Iterator<Item = Result<DebugAbbrevOffset<R::Offset>>>>(
         &mut self,
         strategy: AbbreviationsCacheStrategy,
@@ -84,6 +86,9 @@ impl AbbreviationsCache {
         ensures faithful { OnOk result (IsFaithful self.new (R.view (debug_abbrev_reader debug_abbrev.now))) }
         ensures err { IfErr result (λ fault. fault ≡ Error.OutOfMemory) }
         ensures unchanged { OnErr result (self.new ≡ self.old) }
+
+        // With no offsets it succeeds, unless the iterator itself runs out of memory.
+        ensures some { OnErr result (GivesSome I.next_gives units) }
     {
         let offsets = before_error(self.mem, units)?;
         let entries = entries_kept(self.mem, strategy, debug_abbrev, &offsets)?;
@@ -140,6 +145,7 @@ fn before_error<T: Drop, I: Iterator<Item = Result<T>>>(mem: Global, items: I) -
     requires ends { IsFinite (I.remaining items) }
     ensures ok { IfOk result (λ taken. GivesBeforeError I.next_gives items taken.items) }
     ensures err { IfErr result (λ fault. fault ≡ Error.OutOfMemory) }
+    ensures some { OnErr result (GivesSome I.next_gives items) }
 {
     let mut taken = Vec::new(mem);
     for item in items {
@@ -177,6 +183,7 @@ fn entries_kept<R: Reader>(
 ) -> Result<Entries>
     ensures ok { IfOk result (λ entries. KeepsAnswers (least_count strategy) (R.view (debug_abbrev_reader debug_abbrev.now)) (map (λ o. R.Offset.value o.0) offsets.now) (λ key. option_map answer_of (get nat_cmp entries key))) }
     ensures err { IfErr result (λ fault. fault ≡ Error.OutOfMemory) }
+    ensures some { OnErr result (offsets.now ≢ []) }
 {
     let mut counts = BTreeMap::new(mem);
     let mut entries = BTreeMap::new(mem);

@@ -1,7 +1,8 @@
-use Rattle.std.proofs.Common.{map, ap}
+use Rattle.std.proofs.Common.{map, ap, ◌∙◌}
 use Rattle.dwarf_read_core.specs.Cache.{least_count}
 use Rattle.dwarf_read_core.specs.Sections.{debug_abbrev_reader}
 use Rattle.dwarf_read_core.proofs.FaithfulCache.{faithful_of_kept}
+use Rattle.dwarf_read_core.proofs.FirstItem.{first_item-of_items}
 use Rattle.dwarf_read_core.proofs.NoWant.{no_want_answers}
 use Rattle.dwarf_read_core.proofs.Shown.{get-shown, shown}
 use Rattle.dwarf_read_core.proofs.read.abbrev.cache.AbbreviationsCache.populate.Goals as goal
@@ -22,3 +23,7 @@ returns-clause-faithful g c = faithful_of_kept (least_count c.args.strategy) _ (
 
 pub invariant_of-self : goal.invariant_of-self
 invariant_of-self g c = no_want_answers (least_count c.args.strategy) (g.R.Reader.view (debug_abbrev_reader c.args.debug_abbrev.now)) (map (λ offset. g.R.Offset.ReaderOffset.value offset.0) c.deref.result.now) (shown c.in_ok-entries.entries.entries) (λ key. rw (get-shown c.in_ok-entries.entries.entries key) (c.in_ok-entries.ensures.ok key))
+
+pub returns-in_err-entries-clause-some : goal.returns-in_err-entries-clause-some
+returns-in_err-entries-clause-some g c =
+    first_item-of_items g.I.Iterator.next_gives c.args.units c.in_ok-offsets.offsets.items _ _ _ (λ none. c.in_err-entries.ensures.some (c.deref.ensures.value ∙ none)) c.in_ok-offsets.ensures.ok.given
