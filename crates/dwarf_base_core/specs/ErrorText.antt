@@ -2,7 +2,7 @@
 use Rattle.std.specs.Prelude.{ℕ, List, ◌++◌, codes, false}
 use Rattle.std.specs.Fmt.{decimal, digits}
 use Rattle.dwarf_base_core.specs.declared.error.Error.{Error}
-use Rattle.dwarf_base_core.specs.declared.error.Error.TheVariants.{Io, PcRelativePointerButSectionBaseIsUndefined, TextRelativePointerButTextBaseIsUndefined, DataRelativePointerButDataBaseIsUndefined, FuncRelativePointerInBadContext, CannotParseOmitPointerEncoding, BadUnsignedLeb128, BadSignedLeb128, AbbreviationTagZero, AttributeNameZero, AttributeFormZero, InvalidAbbreviationChildren, UnknownForm, DuplicateAbbreviationCode, UnknownReservedLength, UnknownVersion, InvalidAbbreviationCode, UnexpectedEof, UnknownLocListsEntry, UnknownRangeListsEntry, UnsupportedAddressSize, UnsupportedOffsetSize, MinimumInstructionLengthZero, MaximumOperationsPerInstructionZero, LineRangeZero, OpcodeBaseZero, BadUtf8, NotCieId, NotCiePointer, BadBranchTarget, InvalidPushObjectAddress, NotEnoughStackItems, TooManyIterations, InvalidExpression, UnsupportedEvaluation, InvalidPiece, InvalidExpressionTerminator, DivisionByZero, TypeMismatch, IntegralTypeRequired, UnsupportedTypeOperation, InvalidShiftExpression, InvalidDerefSize, InvalidPieceSize, UnknownCallFrameInstruction, InvalidCfiSetLoc, AddressOverflow, CfiInstructionInInvalidContext, PopWithEmptyStack, NoUnwindInfoForAddress, UnsupportedOffset, UnknownPointerEncoding, NoEntryAtGivenOffset, OffsetOutOfBounds, UnknownAugmentation, UnsupportedPointerEncoding, UnsupportedIndirectPointer, UnsupportedRegister, TooManyRegisterRules, StackFull, UnknownUnitType, UnsupportedSegmentSize, MissingUnitDie, MissingSplitUnit, UnsupportedAttributeForm, MissingFileEntryFormatPath, ExpectedStringAttributeValue, InvalidImplicitConst, UnsupportedIndexSectionCount, InvalidIndexSlotCount, InvalidIndexRow, UnknownIndexSection, UnknownIndexSectionV2, InvalidMacinfoType, InvalidMacroType, UnsupportedOpcodeOperandsTable, InvalidNameAttributeIndex, OutOfMemory}
+use Rattle.dwarf_base_core.specs.declared.error.Error.TheVariants.{Io, PcRelativePointerButSectionBaseIsUndefined, TextRelativePointerButTextBaseIsUndefined, DataRelativePointerButDataBaseIsUndefined, FuncRelativePointerInBadContext, CannotParseOmitPointerEncoding, BadUnsignedLeb128, BadSignedLeb128, AbbreviationTagZero, AttributeNameZero, AttributeFormZero, InvalidAbbreviationChildren, UnknownForm, DuplicateAbbreviationCode, UnknownReservedLength, UnknownVersion, InvalidAbbreviationCode, UnexpectedEof, UnknownLocListsEntry, UnknownRangeListsEntry, UnsupportedAddressSize, UnsupportedOffsetSize, MinimumInstructionLengthZero, MaximumOperationsPerInstructionZero, LineRangeZero, OpcodeBaseZero, BadUtf8, NotCieId, NotCiePointer, BadBranchTarget, InvalidPushObjectAddress, NotEnoughStackItems, TooManyIterations, InvalidExpression, UnsupportedEvaluation, InvalidPiece, InvalidExpressionTerminator, DivisionByZero, TypeMismatch, IntegralTypeRequired, UnsupportedTypeOperation, InvalidShiftExpression, InvalidDerefSize, InvalidPieceSize, UnknownCallFrameInstruction, InvalidCfiSetLoc, AddressOverflow, CfiInstructionInInvalidContext, PopWithEmptyStack, NoUnwindInfoForAddress, UnsupportedOffset, UnknownPointerEncoding, NoEntryAtGivenOffset, OffsetOutOfBounds, UnknownAugmentation, UnsupportedPointerEncoding, UnsupportedIndirectPointer, UnsupportedRegister, TooManyRegisterRules, StackFull, UnknownUnitType, UnsupportedSegmentSize, MissingUnitDie, MissingSplitUnit, UnsupportedAttributeForm, MissingFileEntryFormatPath, ExpectedStringAttributeValue, InvalidImplicitConst, UnsupportedIndexSectionCount, InvalidIndexSlotCount, InvalidIndexRow, UnknownIndexSection, UnknownIndexSectionV2, InvalidMacinfoType, InvalidMacroType, UnsupportedOpcodeOperandsTable, InvalidNameAttributeIndex, OutOfMemory, UnterminatedAbbreviations}
 
 -- the lower-case hexadecimal digits of a number, with no leading zero
 abbrev pub hexadecimal : ℕ → List ℕ
@@ -88,3 +88,4 @@ error_text (InvalidMacroType value) = codes "unknown macro type: 0x" ++ hexadeci
 error_text UnsupportedOpcodeOperandsTable = codes "unsupported macro opcode operands table"
 error_text (InvalidNameAttributeIndex value) = codes "invalid index in name attribute: 0x" ++ hexadecimal value
 error_text OutOfMemory = codes "out of memory"
+error_text (UnterminatedAbbreviations _) = codes "unterminated abbreviation table"

@@ -7,3 +7,4 @@ pub mod Hashes
 pub mod Number
 pub mod Offset
 pub mod Section
+pub mod WrittenText

@@ -179,10 +179,230 @@ pub enum Error {
     InvalidNameAttributeIndex(u64),
     /// Memory was refused.
     OutOfMemory,
+    /// A strict reading found a table of abbreviations that no code of value 0 closes. The section
+    /// ends here.
+    UnterminatedAbbreviations(ReaderOffsetId),
 }
 
 /// What a read answers.
 pub type Result<T> = std::result::Result<T, Error>;
+
+// The text of an error: a number is written behind its first part.
+enum Text {
+    Plain(&'static str),
+    Decimal(&'static str, u64),
+    Hexadecimal(&'static str, u64),
+    HexadecimalInside(&'static str, u64, &'static str),
+}
+
+impl Error {
+    ghost use Rattle.std.specs.Prelude.{◌≡◌};
+    ghost use Rattle.dwarf_base_core.specs.ErrorText.{error_text};
+    ghost use Rattle.dwarf_base_core.specs.WrittenText.{written};
+
+    // The one place that chooses a text, so that the writing is proved for four forms and not
+    // for each error.
+    fn text(self) -> Text
+        ensures { written result ≡ error_text self }
+    {
+        match self {
+            Error::Io => Text::Plain("I/O error"),
+            Error::PcRelativePointerButSectionBaseIsUndefined => Text::Plain(
+                "undefined section base for DW_EH_PE_pcrel pointer",
+            ),
+            Error::TextRelativePointerButTextBaseIsUndefined => Text::Plain(
+                "undefined text base for DW_EH_PE_textrel pointer",
+            ),
+            Error::DataRelativePointerButDataBaseIsUndefined => Text::Plain(
+                "undefined data base for DW_EH_PE_datarel pointer",
+            ),
+            Error::FuncRelativePointerInBadContext => Text::Plain(
+                "invalid context for DW_EH_PE_funcrel pointer",
+            ),
+            Error::CannotParseOmitPointerEncoding => Text::Plain(
+                "invalid encoding for required pointer: DW_EH_PE_omit",
+            ),
+            Error::BadUnsignedLeb128 => Text::Plain("unsigned LEB128 overflow"),
+            Error::BadSignedLeb128 => Text::Plain("signed LEB128 overflow"),
+            Error::AbbreviationTagZero => Text::Plain("invalid abbreviation tag: zero"),
+            Error::AttributeNameZero => Text::Plain("invalid attribute name: zero"),
+            Error::AttributeFormZero => Text::Plain("invalid attribute form: zero"),
+            Error::InvalidAbbreviationChildren(DwChildren(value)) => Text::Hexadecimal(
+                "invalid abbreviation children: 0x",
+                u64::from(value),
+            ),
+            Error::UnknownForm(DwForm(value)) => Text::Hexadecimal(
+                "unknown attribute form: 0x",
+                u64::from(value),
+            ),
+            Error::DuplicateAbbreviationCode(value) => Text::Decimal(
+                "duplicate abbreviation code: ",
+                value,
+            ),
+            Error::UnknownReservedLength(value) => Text::Hexadecimal(
+                "unknown reserved length: 0x",
+                u64::from(value),
+            ),
+            Error::UnknownVersion(value) => Text::Decimal("unknown DWARF version: ", value),
+            Error::InvalidAbbreviationCode(value) => Text::Decimal(
+                "invalid abbreviation code: ",
+                value,
+            ),
+            Error::UnexpectedEof(_) => Text::Plain("unexpected end of input"),
+            Error::UnknownLocListsEntry(DwLle(value)) => Text::Hexadecimal(
+                "unknown location lists entry: 0x",
+                u64::from(value),
+            ),
+            Error::UnknownRangeListsEntry(DwRle(value)) => Text::Hexadecimal(
+                "unknown range lists entry: 0x",
+                u64::from(value),
+            ),
+            Error::UnsupportedAddressSize(value) => Text::Decimal(
+                "unsupported address size: ",
+                u64::from(value),
+            ),
+            Error::UnsupportedOffsetSize(value) => Text::Decimal(
+                "unsupported offset size: ",
+                u64::from(value),
+            ),
+            Error::MinimumInstructionLengthZero => Text::Plain(
+                "invalid minimum line instruction length: zero",
+            ),
+            Error::MaximumOperationsPerInstructionZero => Text::Plain(
+                "invalid maximum operations per line instruction: zero",
+            ),
+            Error::LineRangeZero => Text::Plain("invalid line range: zero"),
+            Error::OpcodeBaseZero => Text::Plain("invalid line opcode base: zero"),
+            Error::BadUtf8 => Text::Plain("invalid UTF-8"),
+            Error::NotCieId(value) => Text::HexadecimalInside(
+                "invalid CIE at offset 0x",
+                value,
+                ": missing CIE ID",
+            ),
+            Error::NotCiePointer(value) => Text::HexadecimalInside(
+                "invalid FDE at offset 0x",
+                value,
+                ": missing CIE pointer",
+            ),
+            Error::BadBranchTarget(_) => Text::Plain("invalid expression branch target"),
+            Error::InvalidPushObjectAddress => Text::Plain(
+                "undefined object address for DW_OP_push_object_address",
+            ),
+            Error::NotEnoughStackItems => Text::Plain("expression stack underflow"),
+            Error::TooManyIterations => Text::Plain("exceeded maximum expression iterations"),
+            Error::InvalidExpression(DwOp(value)) => Text::Hexadecimal(
+                "unknown expression opcode: 0x",
+                u64::from(value),
+            ),
+            Error::UnsupportedEvaluation => Text::Plain("unsupported evaluation operation"),
+            Error::InvalidPiece => Text::Plain("invalid expression: piece followed by non-piece"),
+            Error::InvalidExpressionTerminator(_) => Text::Plain("invalid expression terminator"),
+            Error::DivisionByZero => Text::Plain("division by zero"),
+            Error::TypeMismatch => Text::Plain("invalid operand type: mismatch"),
+            Error::IntegralTypeRequired => Text::Plain("invalid operand type: integral required"),
+            Error::UnsupportedTypeOperation => Text::Plain("unsupported operand type"),
+            Error::InvalidShiftExpression => Text::Plain("invalid shift amount"),
+            Error::InvalidDerefSize(value) => Text::Decimal(
+                "invalid deref size: ",
+                u64::from(value),
+            ),
+            Error::InvalidPieceSize(value) => Text::Decimal("invalid piece size: ", value),
+            Error::UnknownCallFrameInstruction(DwCfa(value)) => Text::Hexadecimal(
+                "unknown call frame instruction: 0x",
+                u64::from(value),
+            ),
+            Error::InvalidCfiSetLoc(value) => Text::HexadecimalInside(
+                "invalid DW_CFA_set_loc: address 0x",
+                value,
+                " goes backward",
+            ),
+            Error::AddressOverflow => Text::Plain("address overflow"),
+            Error::CfiInstructionInInvalidContext => Text::Plain(
+                "invalid context for call frame instruction",
+            ),
+            Error::PopWithEmptyStack => Text::Plain("invalid DW_CFA_restore_state: empty stack"),
+            Error::NoUnwindInfoForAddress => Text::Plain("no unwind info for address"),
+            Error::UnsupportedOffset => Text::Plain("offset overflow"),
+            Error::UnknownPointerEncoding(DwEhPe(value)) => Text::Hexadecimal(
+                "unknown pointer encoding: 0x",
+                u64::from(value),
+            ),
+            Error::NoEntryAtGivenOffset(value) => Text::Hexadecimal(
+                "no entry at offset: 0x",
+                value,
+            ),
+            Error::OffsetOutOfBounds(value) => Text::Hexadecimal("invalid offset: 0x", value),
+            Error::UnknownAugmentation => Text::Plain("unknown CFI augmentation"),
+            Error::UnsupportedPointerEncoding(DwEhPe(value)) => Text::Hexadecimal(
+                "unsupported pointer encoding: 0x",
+                u64::from(value),
+            ),
+            Error::UnsupportedIndirectPointer => Text::Plain("unsupported indirect pointer"),
+            Error::UnsupportedRegister(value) => Text::Hexadecimal(
+                "unsupported register: 0x",
+                value,
+            ),
+            Error::TooManyRegisterRules => Text::Plain("too many CFI register rules"),
+            Error::StackFull => Text::Plain("CFI stack overflow"),
+            Error::UnknownUnitType(DwUt(value)) => Text::Hexadecimal(
+                "unknown unit type: 0x",
+                u64::from(value),
+            ),
+            Error::UnsupportedSegmentSize(value) => Text::Decimal(
+                "unsupported segment size: ",
+                u64::from(value),
+            ),
+            Error::MissingUnitDie => Text::Plain("missing unit DIE"),
+            Error::MissingSplitUnit => Text::Plain("missing split compilation unit"),
+            Error::UnsupportedAttributeForm(DwForm(value)) => Text::Hexadecimal(
+                "unsupported attribute form: 0x",
+                u64::from(value),
+            ),
+            Error::MissingFileEntryFormatPath => Text::Plain("missing file entry format path"),
+            Error::ExpectedStringAttributeValue => Text::Plain("invalid attribute form for string"),
+            Error::InvalidImplicitConst => Text::Plain(
+                "invalid indirect attribute form: DW_FORM_implicit_const",
+            ),
+            Error::UnsupportedIndexSectionCount(value) => Text::Decimal(
+                "unsupported DWP section count: ",
+                u64::from(value),
+            ),
+            Error::InvalidIndexSlotCount(value) => Text::Hexadecimal(
+                "invalid DWP slot count: 0x",
+                u64::from(value),
+            ),
+            Error::InvalidIndexRow(value) => Text::Hexadecimal(
+                "invalid DWP row index: 0x",
+                u64::from(value),
+            ),
+            Error::UnknownIndexSection(DwSect(value)) => Text::Hexadecimal(
+                "unknown DWP section type: 0x",
+                u64::from(value),
+            ),
+            Error::UnknownIndexSectionV2(DwSectV2(value)) => Text::Hexadecimal(
+                "unknown DWP v2 section type: 0x",
+                u64::from(value),
+            ),
+            Error::InvalidMacinfoType(DwMacinfo(value)) => Text::Hexadecimal(
+                "unknown macinfo type: 0x",
+                u64::from(value),
+            ),
+            Error::InvalidMacroType(DwMacro(value)) => Text::Hexadecimal(
+                "unknown macro type: 0x",
+                u64::from(value),
+            ),
+            Error::UnsupportedOpcodeOperandsTable => Text::Plain(
+                "unsupported macro opcode operands table",
+            ),
+            Error::InvalidNameAttributeIndex(value) => Text::Hexadecimal(
+                "invalid index in name attribute: 0x",
+                value,
+            ),
+            Error::OutOfMemory => Text::Plain("out of memory"),
+            Error::UnterminatedAbbreviations(_) => Text::Plain("unterminated abbreviation table"),
+        }
+    }
+}
 
 /// The error's text, on one line and without a full stop. A value is written in decimal, or in
 /// hexadecimal after `0x`.
@@ -193,175 +413,11 @@ impl fmt::Display for Error {
     ghost output = { λ error. Some (error_text error) };
 
     fn fmt<W: fmt::Write>(&self, f: &mut fmt::Formatter<W>) -> fmt::Result {
-        match *self {
-            Error::Io => write!(f, "I/O error"),
-            Error::PcRelativePointerButSectionBaseIsUndefined => write!(
-                f,
-                "undefined section base for DW_EH_PE_pcrel pointer"
-            ),
-            Error::TextRelativePointerButTextBaseIsUndefined => write!(
-                f,
-                "undefined text base for DW_EH_PE_textrel pointer"
-            ),
-            Error::DataRelativePointerButDataBaseIsUndefined => write!(
-                f,
-                "undefined data base for DW_EH_PE_datarel pointer"
-            ),
-            Error::FuncRelativePointerInBadContext => write!(
-                f,
-                "invalid context for DW_EH_PE_funcrel pointer"
-            ),
-            Error::CannotParseOmitPointerEncoding => write!(
-                f,
-                "invalid encoding for required pointer: DW_EH_PE_omit"
-            ),
-            Error::BadUnsignedLeb128 => write!(f, "unsigned LEB128 overflow"),
-            Error::BadSignedLeb128 => write!(f, "signed LEB128 overflow"),
-            Error::AbbreviationTagZero => write!(f, "invalid abbreviation tag: zero"),
-            Error::AttributeNameZero => write!(f, "invalid attribute name: zero"),
-            Error::AttributeFormZero => write!(f, "invalid attribute form: zero"),
-            Error::InvalidAbbreviationChildren(DwChildren(value)) => write!(
-                f,
-                "invalid abbreviation children: 0x{value:x}"
-            ),
-            Error::UnknownForm(DwForm(value)) => write!(f, "unknown attribute form: 0x{value:x}"),
-            Error::DuplicateAbbreviationCode(value) => write!(
-                f,
-                "duplicate abbreviation code: {value}"
-            ),
-            Error::UnknownReservedLength(value) => write!(
-                f,
-                "unknown reserved length: 0x{value:x}"
-            ),
-            Error::UnknownVersion(value) => write!(f, "unknown DWARF version: {value}"),
-            Error::InvalidAbbreviationCode(value) => write!(
-                f,
-                "invalid abbreviation code: {value}"
-            ),
-            Error::UnexpectedEof(_) => write!(f, "unexpected end of input"),
-            Error::UnknownLocListsEntry(DwLle(value)) => write!(
-                f,
-                "unknown location lists entry: 0x{value:x}"
-            ),
-            Error::UnknownRangeListsEntry(DwRle(value)) => write!(
-                f,
-                "unknown range lists entry: 0x{value:x}"
-            ),
-            Error::UnsupportedAddressSize(value) => write!(f, "unsupported address size: {value}"),
-            Error::UnsupportedOffsetSize(value) => write!(f, "unsupported offset size: {value}"),
-            Error::MinimumInstructionLengthZero => write!(
-                f,
-                "invalid minimum line instruction length: zero"
-            ),
-            Error::MaximumOperationsPerInstructionZero => write!(
-                f,
-                "invalid maximum operations per line instruction: zero"
-            ),
-            Error::LineRangeZero => write!(f, "invalid line range: zero"),
-            Error::OpcodeBaseZero => write!(f, "invalid line opcode base: zero"),
-            Error::BadUtf8 => write!(f, "invalid UTF-8"),
-            Error::NotCieId(value) => write!(
-                f,
-                "invalid CIE at offset 0x{value:x}: missing CIE ID"
-            ),
-            Error::NotCiePointer(value) => write!(
-                f,
-                "invalid FDE at offset 0x{value:x}: missing CIE pointer"
-            ),
-            Error::BadBranchTarget(_) => write!(f, "invalid expression branch target"),
-            Error::InvalidPushObjectAddress => write!(
-                f,
-                "undefined object address for DW_OP_push_object_address"
-            ),
-            Error::NotEnoughStackItems => write!(f, "expression stack underflow"),
-            Error::TooManyIterations => write!(f, "exceeded maximum expression iterations"),
-            Error::InvalidExpression(DwOp(value)) => write!(
-                f,
-                "unknown expression opcode: 0x{value:x}"
-            ),
-            Error::UnsupportedEvaluation => write!(f, "unsupported evaluation operation"),
-            Error::InvalidPiece => write!(f, "invalid expression: piece followed by non-piece"),
-            Error::InvalidExpressionTerminator(_) => write!(f, "invalid expression terminator"),
-            Error::DivisionByZero => write!(f, "division by zero"),
-            Error::TypeMismatch => write!(f, "invalid operand type: mismatch"),
-            Error::IntegralTypeRequired => write!(f, "invalid operand type: integral required"),
-            Error::UnsupportedTypeOperation => write!(f, "unsupported operand type"),
-            Error::InvalidShiftExpression => write!(f, "invalid shift amount"),
-            Error::InvalidDerefSize(value) => write!(f, "invalid deref size: {value}"),
-            Error::InvalidPieceSize(value) => write!(f, "invalid piece size: {value}"),
-            Error::UnknownCallFrameInstruction(DwCfa(value)) => write!(
-                f,
-                "unknown call frame instruction: 0x{value:x}"
-            ),
-            Error::InvalidCfiSetLoc(value) => write!(
-                f,
-                "invalid DW_CFA_set_loc: address 0x{value:x} goes backward"
-            ),
-            Error::AddressOverflow => write!(f, "address overflow"),
-            Error::CfiInstructionInInvalidContext => write!(
-                f,
-                "invalid context for call frame instruction"
-            ),
-            Error::PopWithEmptyStack => write!(f, "invalid DW_CFA_restore_state: empty stack"),
-            Error::NoUnwindInfoForAddress => write!(f, "no unwind info for address"),
-            Error::UnsupportedOffset => write!(f, "offset overflow"),
-            Error::UnknownPointerEncoding(DwEhPe(value)) => write!(
-                f,
-                "unknown pointer encoding: 0x{value:x}"
-            ),
-            Error::NoEntryAtGivenOffset(value) => write!(f, "no entry at offset: 0x{value:x}"),
-            Error::OffsetOutOfBounds(value) => write!(f, "invalid offset: 0x{value:x}"),
-            Error::UnknownAugmentation => write!(f, "unknown CFI augmentation"),
-            Error::UnsupportedPointerEncoding(DwEhPe(value)) => write!(
-                f,
-                "unsupported pointer encoding: 0x{value:x}"
-            ),
-            Error::UnsupportedIndirectPointer => write!(f, "unsupported indirect pointer"),
-            Error::UnsupportedRegister(value) => write!(f, "unsupported register: 0x{value:x}"),
-            Error::TooManyRegisterRules => write!(f, "too many CFI register rules"),
-            Error::StackFull => write!(f, "CFI stack overflow"),
-            Error::UnknownUnitType(DwUt(value)) => write!(f, "unknown unit type: 0x{value:x}"),
-            Error::UnsupportedSegmentSize(value) => write!(f, "unsupported segment size: {value}"),
-            Error::MissingUnitDie => write!(f, "missing unit DIE"),
-            Error::MissingSplitUnit => write!(f, "missing split compilation unit"),
-            Error::UnsupportedAttributeForm(DwForm(value)) => write!(
-                f,
-                "unsupported attribute form: 0x{value:x}"
-            ),
-            Error::MissingFileEntryFormatPath => write!(f, "missing file entry format path"),
-            Error::ExpectedStringAttributeValue => write!(f, "invalid attribute form for string"),
-            Error::InvalidImplicitConst => write!(
-                f,
-                "invalid indirect attribute form: DW_FORM_implicit_const"
-            ),
-            Error::UnsupportedIndexSectionCount(value) => write!(
-                f,
-                "unsupported DWP section count: {value}"
-            ),
-            Error::InvalidIndexSlotCount(value) => write!(f, "invalid DWP slot count: 0x{value:x}"),
-            Error::InvalidIndexRow(value) => write!(f, "invalid DWP row index: 0x{value:x}"),
-            Error::UnknownIndexSection(DwSect(value)) => write!(
-                f,
-                "unknown DWP section type: 0x{value:x}"
-            ),
-            Error::UnknownIndexSectionV2(DwSectV2(value)) => write!(
-                f,
-                "unknown DWP v2 section type: 0x{value:x}"
-            ),
-            Error::InvalidMacinfoType(DwMacinfo(value)) => write!(
-                f,
-                "unknown macinfo type: 0x{value:x}"
-            ),
-            Error::InvalidMacroType(DwMacro(value)) => write!(f, "unknown macro type: 0x{value:x}"),
-            Error::UnsupportedOpcodeOperandsTable => write!(
-                f,
-                "unsupported macro opcode operands table"
-            ),
-            Error::InvalidNameAttributeIndex(value) => write!(
-                f,
-                "invalid index in name attribute: 0x{value:x}"
-            ),
-            Error::OutOfMemory => write!(f, "out of memory"),
+        match self.text() {
+            Text::Plain(text) => write!(f, "{text}"),
+            Text::Decimal(before, value) => write!(f, "{before}{value}"),
+            Text::Hexadecimal(before, value) => write!(f, "{before}{value:x}"),
+            Text::HexadecimalInside(before, value, after) => write!(f, "{before}{value:x}{after}"),
         }
     }
 }

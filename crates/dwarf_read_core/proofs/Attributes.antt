@@ -44,17 +44,6 @@ regroup front s (Err e) = refl
 pub goes_on : (front : List Specification) (end : ℕ) (bytes : List ℕ) (s : Specification) (after : List ℕ) (total : Read) → specification_at end bytes ≡ Ok (Some s, after) → with_front front (attributes_in end bytes) ≡ total → with_front (front ++ s ∷ []) (attributes_in end after) ≡ total
 goes_on front end bytes s after total q so_far = sym (regroup front s (attributes_in end after)) ∙ ap (with_front front) (sym (next end bytes (Some s, after) q)) ∙ so_far
 
--- one more in its place, where none stands behind
-pub goes_on_in_place : (front behind : List Specification) (end : ℕ) (bytes : List ℕ) (s : Specification) (after : List ℕ) (total : Read) → behind ≡ [] → specification_at end bytes ≡ Ok (Some s, after) → with_front (front ++ behind) (attributes_in end bytes) ≡ total → with_front ((front ++ s ∷ []) ++ behind) (attributes_in end after) ≡ total
-goes_on_in_place front behind end bytes s after total none q so_far =
-    let moved : (front ++ behind) ++ s ∷ [] ≡ (front ++ s ∷ []) ++ behind = ap (λ b. (front ++ b) ++ s ∷ []) none ∙ ap (λ f. f ++ s ∷ []) (append-nil front) ∙ sym (append-nil (front ++ s ∷ [])) ∙ ap (λ b. (front ++ s ∷ []) ++ b) (sym none) in
-    subst (λ (all : List Specification). with_front all (attributes_in end after) ≡ total) moved (goes_on (front ++ behind) end bytes s after total q so_far)
-
--- one more behind
-pub goes_on_behind : (front behind : List Specification) (end : ℕ) (bytes : List ℕ) (s : Specification) (after : List ℕ) (total : Read) → specification_at end bytes ≡ Ok (Some s, after) → with_front (front ++ behind) (attributes_in end bytes) ≡ total → with_front (front ++ (behind ++ s ∷ [])) (attributes_in end after) ≡ total
-goes_on_behind front behind end bytes s after total q so_far =
-    subst (λ (all : List Specification). with_front all (attributes_in end after) ≡ total) (append_assoc front behind (s ∷ [])) (goes_on (front ++ behind) end bytes s after total q so_far)
-
 pub ends : (front : List Specification) (end : ℕ) (bytes : List ℕ) (o : Option Specification) (after : List ℕ) (total : Read) → specification_at end bytes ≡ Ok (o, after) → o ≡ None → with_front front (attributes_in end bytes) ≡ total → total ≡ Ok (front, after)
 ends front end bytes o after total q none so_far =
     let r : specification_at end bytes ≡ Ok (None, after) = rw none at q in

@@ -5,7 +5,7 @@ use Rattle.std.proofs.lemmas.List.{nil_from_length}
 use Rattle.dwarf_base_core.specs.declared.error.Error.{Error}
 use Rattle.dwarf_reader_core.specs.Leb128.{unsigned64}
 use Rattle.dwarf_read_core.specs.Grammar.{Declaration}
-use Rattle.dwarf_read_core.specs.Reading.{◌>>=◌, number_at, tag_at, children_at, attributes_in, declared_at, declaration_at}
+use Rattle.dwarf_read_core.specs.Reading.{◌>>=◌, number_at, declared_at, declaration_at}
 use Rattle.dwarf_read_core.proofs.Steps.{bind_ok}
 
 abbrev Entry : Type 0
@@ -36,14 +36,6 @@ is_some {end} {bytes} {code} {after} h rest e =
         let none : ◌≡◌ {A = Option Declaration} (Some d) None = ap (λ (z : Option Declaration × List ℕ). z.0) p in
         cc
 
-pub tag_fails : {end : ℕ} {bytes : List ℕ} {code : ℕ} {after : List ℕ} {e : Error} → IsCoded end bytes code after → tag_at end after ≡ Err e → declaration_at end bytes ≡ Err e
-unfolding declared_at
-tag_fails h q = h.read ∙ rw q refl
-
-pub children_fail : {end : ℕ} {bytes : List ℕ} {code : ℕ} {after : List ℕ} {tag : ℕ} {behind : List ℕ} {e : Error} → IsCoded end bytes code after → tag_at end after ≡ Ok (tag, behind) → children_at end behind ≡ Err e → declaration_at end bytes ≡ Err e
-unfolding declared_at
-children_fail h t q = h.read ∙ rw (t, q) refl
-
-pub attributes_fail : {end : ℕ} {bytes : List ℕ} {code : ℕ} {after : List ℕ} {tag : ℕ} {behind : List ℕ} {children : Bool} {others : List ℕ} {e : Error} → IsCoded end bytes code after → tag_at end after ≡ Ok (tag, behind) → children_at end behind ≡ Ok (children, others) → attributes_in end others ≡ Err e → declaration_at end bytes ≡ Err e
-unfolding declared_at
-attributes_fail h t c q = h.read ∙ rw (t, c, q) refl
+-- what is behind the code can't be read
+pub declared_fails : {end : ℕ} {bytes : List ℕ} {code : ℕ} {after : List ℕ} {e : Error} → IsCoded end bytes code after → declared_at end code after ≡ Err e → declaration_at end bytes ≡ Err e
+declared_fails h q = h.read ∙ rw q refl

@@ -52,10 +52,6 @@ table_nulled end t bytes rest some q =
     let n : eqb (length bytes) 0 ≡ false = ne_eqb (length bytes) 0 (λ h. some (nil_from_length bytes h)) in
     table_ends end t bytes rest q ∙ rw n refl
 
--- the end of the section closes it
-pub table_at_end : (end : ℕ) (t : Table) → t.close ≡ by_end → table_in end t.by_code [] ≡ Ok t
-table_at_end end t q = table_ends end t.by_code [] [] (end_again end) ∙ ap (λ (c : Close). let r : Read = Ok (closed t.by_code c) in r) (sym q)
-
 pub table_repeats : (end : ℕ) (t : ByCode) (bytes : List ℕ) (d : Declaration) (rest : List ℕ) → declaration_at end bytes ≡ Ok (Some d, rest) → contains_key t d.code ≡ true → table_in end t bytes ≡ Err (DuplicateAbbreviationCode d.code)
 unfolding table_in table_at
 table_repeats end t bytes d rest q twice = enough (length bytes + 1) (suc (length bytes)) end t bytes (omega arith) (omega arith) ∙ rw (q, twice) refl

@@ -12,6 +12,7 @@ pub mod Sections
 pub mod SetReading
 pub mod Sets
 pub mod Strings
+pub mod TableEntries
 pub mod Views
 pub mod Words
 pub use Rattle.dwarf_base_core.specs.Endian

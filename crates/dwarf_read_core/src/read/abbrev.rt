@@ -4,7 +4,7 @@
 //! attributes. The unit's table of abbreviations says what a code stands for: the tag of the entry,
 //! whether it has children, and which attributes follow in which forms.
 
-ghost use Rattle.std.specs.Prelude.{◌≡◌, ◌≢◌, ◌↔◌, ◌==◌, ◌+◌, ◌*◌, ◌≤◌, ◌<◌, length, true, false, IsTrue, IsSome, IsOk, IsErrOf, IfOk, IfSome, OnOk, OnErr, IfErr, option_copied, ℕ, List};
+ghost use Rattle.std.specs.Prelude.{◌≡◌, ◌≢◌, ◌↔◌, ◌==◌, ◌+◌, ◌*◌, ◌≤◌, ◌<◌, length, true, false, IsTrue, IsSome, IsOk, IsErrOf, IfOk, IfSome, OnOk, OnErr, IfErr, option_copied, ⊤, ℕ, List};
 ghost use Rattle.std.specs.Cmp.{partial_equiv_from_equiv};
 ghost use Rattle.std.specs.FinMap as finite;
 ghost use Rattle.std.specs.Fn.{CalledAt, TakesAt};
@@ -13,21 +13,24 @@ ghost use Rattle.dwarf_base_core.specs.declared.common.SectionId.TheVariants.{De
 ghost use Rattle.dwarf_reader_core.specs.Input.{end_of};
 ghost use Rattle.dwarf_read_core.specs.Equality.{same_declaration, same_declaration_equiv};
 ghost use Rattle.dwarf_read_core.specs.Forms.{form_size};
-ghost use Rattle.dwarf_read_core.specs.Grammar.{implicit_const, by_end, attribute_count};
-ghost use Rattle.dwarf_read_core.specs.Answer.{Answers, IsFinal, TakesNoMemory, followed_by};
-ghost use Rattle.dwarf_read_core.specs.Reading.{Gives, tag_at, children_at, specification_at, attributes_in, declaration_at, table_in};
+ghost use Rattle.dwarf_read_core.specs.Grammar.{implicit_const, by_end, is_by_null, attribute_count};
+ghost use Rattle.dwarf_read_core.specs.Answer.{Answers, AnswersStrictly, IsFinal, IsStrictlyFinal, TakesNoMemory, followed_by};
+ghost use Rattle.dwarf_read_core.specs.Reading.{Gives, tag_at, children_at, specification_at, attributes_in, declared_at, declaration_at, table_in};
+ghost use Rattle.dwarf_read_core.specs.TableEntries.{declared_in, ClosesAt};
 
 use super::section::Section;
-use dwarf_base_core::{DebugAbbrevOffset, Encoding, Endianity, Error, Result, SectionId};
+use dwarf_base_core::{
+    DebugAbbrevOffset, Encoding, Endianity, Error, ReaderOffset, ReaderOffsetId, Result, SectionId,
+};
 use dwarf_code_core::children::{DW_CHILDREN_no, DW_CHILDREN_yes, DwChildren};
-use dwarf_const_core::attribute::DwAt;
+use dwarf_const_core::attribute::{DW_AT_null, DwAt};
 use dwarf_const_core::form::{
     DW_FORM_GNU_ref_alt, DW_FORM_GNU_strp_alt, DW_FORM_addr, DW_FORM_addrx1, DW_FORM_addrx2,
     DW_FORM_addrx3, DW_FORM_addrx4, DW_FORM_data1, DW_FORM_data2, DW_FORM_data4, DW_FORM_data8,
     DW_FORM_data16, DW_FORM_flag, DW_FORM_flag_present, DW_FORM_implicit_const, DW_FORM_line_strp,
-    DW_FORM_ref_addr, DW_FORM_ref_sig8, DW_FORM_ref_sup4, DW_FORM_ref_sup8, DW_FORM_ref1,
-    DW_FORM_ref2, DW_FORM_ref4, DW_FORM_ref8, DW_FORM_sec_offset, DW_FORM_strp, DW_FORM_strp_sup,
-    DW_FORM_strx1, DW_FORM_strx2, DW_FORM_strx3, DW_FORM_strx4, DwForm,
+    DW_FORM_null, DW_FORM_ref_addr, DW_FORM_ref_sig8, DW_FORM_ref_sup4, DW_FORM_ref_sup8,
+    DW_FORM_ref1, DW_FORM_ref2, DW_FORM_ref4, DW_FORM_ref8, DW_FORM_sec_offset, DW_FORM_strp,
+    DW_FORM_strp_sup, DW_FORM_strx1, DW_FORM_strx2, DW_FORM_strx3, DW_FORM_strx4, DwForm,
 };
 use dwarf_const_core::tag::DwTag;
 use dwarf_reader_core::{EndianSlice, Reader};
@@ -125,6 +128,58 @@ impl<R: Reader> DebugAbbrev<R> {
         let mut input = self.debug_abbrev_section.try_clone()?;
         input.skip(offset.0)?;
         Abbreviations::parse(mem, &mut input)
+    }
+
+    /// The table of abbreviations at `offset`, which a code of value 0 has to close.
+    ///
+    /// This is [`abbreviations`](Self::abbreviations), except that the section's end closes no
+    /// table. It is meant for a section that is still growing, and for checking what a producer
+    /// wrote: a table that is returned remains the table at `offset`, whatever bytes are appended
+    /// to the section.
+    ///
+    /// # Errors
+    ///
+    /// - `UnterminatedAbbreviations`, with the identifier of the section's end, if only that end
+    ///   closes the table. This includes an `offset` that equals the section's length.
+    /// - All errors of [`abbreviations`](Self::abbreviations).
+    pub fn abbreviations_strict(
+        &self,
+        mem: Global,
+        offset: DebugAbbrevOffset<R::Offset>,
+    ) -> Result<Abbreviations>
+        ensures answer { let section = R.view (debug_abbrev_reader self.now) in
+            AnswersStrictly result section (R.Offset.value offset.0) }
+
+        // A declaration takes five bytes at least, and an attribute two.
+        ensures bound { let section = R.view (debug_abbrev_reader self.now) in
+            IfOk result (λ table. 5 * finite.len table.by_code + 2 * attribute_count table.by_code
+            + R.Offset.value offset.0 ≤ length section.bytes) }
+
+        // Memory is wanted only by a declaration, or by a clone that takes some.
+        ensures memory { let section = R.view (debug_abbrev_reader self.now) in
+            R.clone_is_free ≡ true → TakesNoMemory section (R.Offset.value offset.0)
+            → IsErrOf result Error.OutOfMemory → ⊥ }
+
+        // Bytes behind the section change nothing, also where the result is a table, unless it
+        // tells of the section's end.
+        ensures stable { let section = R.view (debug_abbrev_reader self.now) in
+            IsStrictlyFinal result → (more : List ℕ)
+            → AnswersStrictly result (followed_by section more) (R.Offset.value offset.0) }
+    {
+        let abbreviations = self.abbreviations(mem, offset)?;
+        if abbreviations.closed_by_null() {
+            Ok(abbreviations)
+        } else {
+            Err(Error::UnterminatedAbbreviations(self.end_id()))
+        }
+    }
+
+    // The identifier of the section's end.
+    fn end_id(&self) -> ReaderOffsetId
+        ensures { result.0 ≡ end_of (R.view (debug_abbrev_reader self.now)) }
+    {
+        let section = &self.debug_abbrev_section;
+        ReaderOffsetId(section.offset_id().0 + section.len().into_u64())
     }
 }
 
@@ -268,6 +323,14 @@ impl Abbreviations {
         self.vec.len() + self.map.len()
     }
 
+    /// Whether a code of value 0 closes the table. If not, the section ended where another
+    /// declaration could begin. No code closes the table that [`empty`](Self::empty) makes.
+    pub fn closed_by_null(&self) -> bool
+        ensures { result ≡ is_by_null self.now.close }
+    {
+        self.closed_by_null
+    }
+
     /// Whether the table has no abbreviations.
     pub fn is_empty(&self) -> bool
         ensures { IsTrue result ↔ (finite.len self.now.by_code ≡ 0) }
@@ -293,17 +356,28 @@ impl Abbreviations {
         ensures read { Gives (λ t. t) result (table_in (end_of (R.view input.old)) finite.empty (R.view input.old).bytes) }
     {
         let mut abbreviations = Abbreviations::empty(mem);
-        // The attributes of a declaration that find no place in it are collected here.
+        // One list for the whole table, in which each declaration's attributes are collected.
         let mut scratch = Vec::new(mem);
-        'declarations: while !input.is_empty() {
-            let Some(abbreviation) = Abbreviation::parse(mem, input, &mut scratch)? else {
-                abbreviations.closed_by_null = true;
-                return Ok(abbreviations);
-            };
-            abbreviations.insert(abbreviation)?;
+        'declarations: loop {
+            match Abbreviation::parse(mem, input, &mut scratch)? {
+                TableEntry::Declared(abbreviation) => abbreviations.insert(abbreviation)?,
+                TableEntry::NullCode => {
+                    abbreviations.closed_by_null = true;
+                    return Ok(abbreviations);
+                }
+                TableEntry::End => return Ok(abbreviations),
+            }
         }
-        Ok(abbreviations)
     }
+}
+
+// What is read where a declaration may begin.
+enum TableEntry {
+    Declared(Abbreviation),
+    // A code of value 0, which closes the table.
+    NullCode,
+    // No bytes remain, which closes the table too.
+    End,
 }
 
 /// The abbreviations of a table, by rising code.
@@ -335,6 +409,19 @@ impl<'table> Iterator for AbbreviationsIter<'table> {
             Some(abbreviation) => Some(abbreviation),
             None => self.map.next(),
         }
+    }
+}
+
+impl<'table> Clone for AbbreviationsIter<'table> {
+    ghost is_clone = { λ it copy. copy ≡ it };
+
+    ghost is_infallible = { λ _. ⊤ };
+
+    fn clone(&self) -> std::result::Result<Self, AllocError> {
+        Ok(AbbreviationsIter {
+            vec: self.vec.clone()?,
+            map: self.map.clone()?,
+        })
     }
 }
 
@@ -484,41 +571,52 @@ impl Abbreviation {
         ensures read { Gives (λ v. (v.items, (R.view input.new).bytes)) result (attributes_in (end_of (R.view input.old)) (R.view input.old).bytes) }
         ensures stays { OnOk result (end_of (R.view input.new) ≡ end_of (R.view input.old)) }
     {
-        let mut attributes = Attributes::new(mem);
         scratch.clear();
         'attributes: while let Some(attribute) = AttributeSpecification::parse(input)? {
-            if attributes.len() < attributes.inline_size() {
-                attributes.push(attribute)?;
-            } else {
-                scratch.push(attribute)?;
-            }
+            scratch.push(attribute)?;
         }
-        attributes.extend_from_slice(scratch.as_slice())?;
-        Ok(attributes)
+        Ok(Attributes::from_slice(mem, scratch.as_slice())?)
     }
 
-    #[tactic(auto, using(crate::proofs::Numbers::number_read, crate::proofs::Numbers::refused, crate::proofs::Numbers::end_stays), unfolding(crate::specs::Reading::declaration_at, crate::specs::Reading::declared_at))]
+    // Reads the rest of a declaration, behind its code.
+    #[tactic(auto, unfolding(crate::specs::Reading::declared_at))]
+    fn parse_declared<R: Reader>(
+        mem: Global,
+        code: u64,
+        input: &mut R,
+        scratch: &mut Vec<AttributeSpecification>,
+    ) -> Result<Abbreviation>
+        ensures coded { IfOk result (λ d. d.code ≡ code) }
+        ensures read { Gives (λ d. (d, (R.view input.new).bytes)) result (declared_at (end_of (R.view input.old)) code (R.view input.old).bytes) }
+        ensures stays { OnOk result (end_of (R.view input.new) ≡ end_of (R.view input.old)) }
+    {
+        let tag = Self::parse_tag(input)?;
+        let has_children = Self::parse_has_children(input)?;
+        let attributes = Self::parse_attributes(mem, input, scratch)?;
+        Ok(Abbreviation::new(code, tag, has_children, attributes))
+    }
+
+    // Reads a declaration, or what closes the table in its place.
+    #[tactic(auto, using(crate::proofs::Numbers::number_read, crate::proofs::Numbers::refused, crate::proofs::Numbers::end_stays), unfolding(crate::specs::Reading::declaration_at))]
     fn parse<R: Reader>(
         mem: Global,
         input: &mut R,
         scratch: &mut Vec<AttributeSpecification>,
-    ) -> Result<Option<Abbreviation>>
-        ensures coded { IfOk result (λ o. IfSome o (λ d. 0 < d.code)) }
+    ) -> Result<TableEntry>
+        ensures coded { IfOk result (λ entry. IfSome (declared_in entry) (λ d. 0 < d.code)) }
+        ensures closes { IfOk result (ClosesAt (R.view input.old).bytes) }
         ensures ends { (rest : List ℕ) → declaration_at (end_of (R.view input.old)) (R.view input.old).bytes ≡ Ok (None, rest) → IsOk result }
-        ensures read { Gives (λ d. (d, (R.view input.new).bytes)) result (declaration_at (end_of (R.view input.old)) (R.view input.old).bytes) }
+        ensures read { Gives (λ entry. (declared_in entry, (R.view input.new).bytes)) result (declaration_at (end_of (R.view input.old)) (R.view input.old).bytes) }
         ensures stays { OnOk result (end_of (R.view input.new) ≡ end_of (R.view input.old)) }
     {
         if input.is_empty() {
-            return Ok(None);
+            return Ok(TableEntry::End);
         }
         let code = input.read_uleb128()?;
         if code == 0 {
-            return Ok(None);
+            return Ok(TableEntry::NullCode);
         }
-        let tag = Self::parse_tag(input)?;
-        let has_children = Self::parse_has_children(input)?;
-        let attributes = Self::parse_attributes(mem, input, scratch)?;
-        Ok(Some(Abbreviation::new(code, tag, has_children, attributes)))
+        Ok(TableEntry::Declared(Self::parse_declared(mem, code, input, scratch)?))
     }
 }
 
@@ -614,27 +712,24 @@ impl AttributeSpecification {
         get_attribute_size(self.form, encoding).map(usize::from)
     }
 
+    // Reads an attribute, or `None` where name and form are 0, which ends the declaration.
     #[tactic(auto, using(crate::proofs::Numbers::number_read, crate::proofs::Numbers::refused, crate::proofs::Numbers::end_stays), unfolding(crate::specs::Reading::specification_at, crate::specs::Reading::value_at))]
     fn parse<R: Reader>(input: &mut R) -> Result<Option<AttributeSpecification>>
         ensures read { Gives (λ s. (s, (R.view input.new).bytes)) result (specification_at (end_of (R.view input.old)) (R.view input.old).bytes) }
         ensures stays { OnOk result (end_of (R.view input.new) ≡ end_of (R.view input.old)) }
     {
-        let name = input.read_uleb128_u16()?;
-        let form = input.read_uleb128_u16()?;
+        let name = DwAt(input.read_uleb128_u16()?);
+        let form = DwForm(input.read_uleb128_u16()?);
         match (name, form) {
-            (0, 0) => return Ok(None),
-            (0, _) => return Err(Error::AttributeNameZero),
-            (_, 0) => return Err(Error::AttributeFormZero),
-            (_, _) => {}
+            (DW_AT_null, DW_FORM_null) => Ok(None),
+            (DW_AT_null, _) => Err(Error::AttributeNameZero),
+            (_, DW_FORM_null) => Err(Error::AttributeFormZero),
+            (_, DW_FORM_implicit_const) => {
+                let value = input.read_sleb128()?;
+                Ok(Some(AttributeSpecification::new(name, form, Some(value))))
+            }
+            (_, _) => Ok(Some(AttributeSpecification::new(name, form, None))),
         }
-        let name = DwAt(name);
-        let form = DwForm(form);
-        let implicit_const_value = if form == DW_FORM_implicit_const {
-            Some(input.read_sleb128()?)
-        } else {
-            None
-        };
-        Ok(Some(AttributeSpecification::new(name, form, implicit_const_value)))
     }
 }
 

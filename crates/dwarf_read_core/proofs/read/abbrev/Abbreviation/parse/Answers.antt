@@ -2,7 +2,7 @@ use Rattle.std.proofs.Common.{rules, ◌≡◌, ◌≢◌, [], Ok, Err, None, �
 use Rattle.dwarf_reader_core.specs.Input.{end_of}
 use Rattle.dwarf_read_core.proofs.Steps.{gives_err}
 use Rattle.dwarf_read_core.proofs.Numbers.{refused, number_read, end_stays}
-use Rattle.dwarf_read_core.proofs.Parts.{code_fails, coded, is_some, tag_fails, children_fail, attributes_fail}
+use Rattle.dwarf_read_core.proofs.Parts.{code_fails, coded, is_some, declared_fails}
 use Rattle.dwarf_read_core.proofs.read.abbrev.Abbreviation.parse.Goals as goal
 
 pub returns-in_err-code-clause-ends : goal.returns-in_err-code-clause-ends
@@ -16,53 +16,17 @@ returns-in_err-code-clause-read g c =
     let some : (g.R.Reader.view c.args.input.now).bytes ≢ [] = search rules in
     gives_err _ _ c.from_residual.ensures.1 (λ memory. code_fails _ _ _ some (refused c.in_err-code.ensures.err))
 
-pub returns-in_err-tag-clause-ends : goal.returns-in_err-tag-clause-ends
-returns-in_err-tag-clause-ends g c =
+pub returns-in_err-parse_declared-clause-ends : goal.returns-in_err-parse_declared-clause-ends
+returns-in_err-parse_declared-clause-ends g c =
     let some : (g.R.Reader.view c.args.input.now).bytes ≢ [] = search rules in
     let nonzero : c.in_ok-code.code ≢ 0 = search rules in
     let h = coded _ _ _ _ some (number_read (end_of (g.R.Reader.view c.args.input.now)) c.in_ok-code.ensures.ok) nonzero in
     λ rest e. absurd (is_some h rest e)
 
-pub returns-in_err-tag-clause-read : goal.returns-in_err-tag-clause-read
-returns-in_err-tag-clause-read g c =
+pub returns-in_err-parse_declared-clause-read : goal.returns-in_err-parse_declared-clause-read
+returns-in_err-parse_declared-clause-read g c =
     let some : (g.R.Reader.view c.args.input.now).bytes ≢ [] = search rules in
     let nonzero : c.in_ok-code.code ≢ 0 = search rules in
     let code = c.in_ok-code.ensures.ok in
     let h = coded _ _ _ _ some (number_read (end_of (g.R.Reader.view c.args.input.now)) code) nonzero in
-    gives_err _ _ c.from_residual-in_err-tag.ensures.1 (λ memory. tag_fails h (rw (end_stays code) at (c.in_err-tag.ensures.read memory)))
-
-pub returns-in_err-has_children-clause-ends : goal.returns-in_err-has_children-clause-ends
-returns-in_err-has_children-clause-ends g c =
-    let some : (g.R.Reader.view c.args.input.now).bytes ≢ [] = search rules in
-    let nonzero : c.in_ok-code.code ≢ 0 = search rules in
-    let h = coded _ _ _ _ some (number_read (end_of (g.R.Reader.view c.args.input.now)) c.in_ok-code.ensures.ok) nonzero in
-    λ rest e. absurd (is_some h rest e)
-
-pub returns-in_err-has_children-clause-read : goal.returns-in_err-has_children-clause-read
-returns-in_err-has_children-clause-read g c =
-    let some : (g.R.Reader.view c.args.input.now).bytes ≢ [] = search rules in
-    let nonzero : c.in_ok-code.code ≢ 0 = search rules in
-    let code = c.in_ok-code.ensures.ok in
-    let h = coded _ _ _ _ some (number_read (end_of (g.R.Reader.view c.args.input.now)) code) nonzero in
-    let tag = rw (end_stays code) at c.in_ok-tag.ensures.read in
-    let behind = c.in_ok-tag.ensures.stays ∙ end_stays code in
-    gives_err _ _ c.from_residual-in_err-has_children.ensures.1 (λ memory. children_fail h tag (rw behind at (c.in_err-has_children.ensures.read memory)))
-
-pub returns-in_err-attributes-clause-ends : goal.returns-in_err-attributes-clause-ends
-returns-in_err-attributes-clause-ends g c =
-    let some : (g.R.Reader.view c.args.input.now).bytes ≢ [] = search rules in
-    let nonzero : c.in_ok-code.code ≢ 0 = search rules in
-    let h = coded _ _ _ _ some (number_read (end_of (g.R.Reader.view c.args.input.now)) c.in_ok-code.ensures.ok) nonzero in
-    λ rest e. absurd (is_some h rest e)
-
-pub returns-in_err-attributes-clause-read : goal.returns-in_err-attributes-clause-read
-returns-in_err-attributes-clause-read g c =
-    let some : (g.R.Reader.view c.args.input.now).bytes ≢ [] = search rules in
-    let nonzero : c.in_ok-code.code ≢ 0 = search rules in
-    let code = c.in_ok-code.ensures.ok in
-    let h = coded _ _ _ _ some (number_read (end_of (g.R.Reader.view c.args.input.now)) code) nonzero in
-    let tag = rw (end_stays code) at c.in_ok-tag.ensures.read in
-    let behind = c.in_ok-tag.ensures.stays ∙ end_stays code in
-    let children = rw behind at c.in_ok-has_children.ensures.read in
-    let others = c.in_ok-has_children.ensures.stays ∙ behind in
-    gives_err _ _ c.from_residual-in_err-attributes.ensures.1 (λ memory. attributes_fail h tag children (rw others at (c.in_err-attributes.ensures.read memory)))
+    gives_err _ _ c.from_residual-in_err-parse_declared.ensures.1 (λ memory. declared_fails h (rw (end_stays code) at (c.in_err-parse_declared.ensures.read memory)))

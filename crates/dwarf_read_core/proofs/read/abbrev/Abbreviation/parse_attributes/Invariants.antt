@@ -1,17 +1,16 @@
-use Rattle.std.proofs.Common.{◌≡◌, ◌<◌, ◌++◌, [], length}
+use Rattle.std.proofs.Common.{◌≡◌, length}
 use Rattle.dwarf_reader_core.specs.Input.{end_of}
 use Rattle.dwarf_read_core.specs.Reading.{attributes_in, with_front}
 use Rattle.dwarf_read_core.proofs.read.abbrev.Abbreviation.parse_attributes.Given as goal
 
--- the specifications so far and those that are left are all of them; those that found no place come later
+-- the specifications so far and those that are left are all of them
 abbrev pub invariant-attributes : goal.invariant-attributes
 invariant-attributes g l =
     let view = g.R.Reader.view in
     let end = end_of (view l.initial.input) in
     record {
-      told : with_front (l.attributes.items ++ l.scratch.items) (attributes_in end (view l.input).bytes) ≡ attributes_in end (view l.initial.input).bytes;
+      told : with_front l.scratch.items (attributes_in end (view l.input).bytes) ≡ attributes_in end (view l.initial.input).bytes;
       stays : end_of (view l.input) ≡ end;
-      in_order : length l.attributes.items < 5 → l.scratch.items ≡ [];
     }
 
 abbrev pub decreases-attributes : goal.decreases-attributes

@@ -5,24 +5,24 @@ use Rattle.dwarf_read_core.proofs.Steps.{gives_err}
 use Rattle.dwarf_read_core.proofs.Numbers.{refused, number_read, end_stays}
 use Rattle.dwarf_read_core.proofs.read.abbrev.AttributeSpecification.parse.Goals as goal
 
-pub returns-in_err-name-clause-read : goal.returns-in_err-name-clause-read
+pub returns-in_err-read_uleb128_u16-clause-read : goal.returns-in_err-read_uleb128_u16-clause-read
 unfolding specification_at
-returns-in_err-name-clause-read g c = gives_err _ _ c.from_residual.ensures.1 (λ memory. rw (refused c.in_err-name.ensures.err) refl)
+returns-in_err-read_uleb128_u16-clause-read g c = gives_err _ _ c.from_residual.ensures.1 (λ memory. rw (refused c.in_err-read_uleb128_u16.ensures.err) refl)
 
-pub returns-in_err-form-clause-read : goal.returns-in_err-form-clause-read
+pub returns-in_err-read_uleb128_u16-2-clause-read : goal.returns-in_err-read_uleb128_u16-2-clause-read
 unfolding specification_at
-returns-in_err-form-clause-read g c =
-    let name = c.in_ok-name.ensures.ok in
-    let h = refused c.in_err-form.ensures.err in
-    gives_err _ _ c.from_residual-in_err-form.ensures.1 (λ memory. rw (number_read _ name, rw (end_stays name) at h) refl)
+returns-in_err-read_uleb128_u16-2-clause-read g c =
+    let name = c.in_ok-read_uleb128_u16.ensures.ok in
+    let h = refused c.in_err-read_uleb128_u16-2.ensures.err in
+    gives_err _ _ c.from_residual-in_err-read_uleb128_u16-2.ensures.1 (λ memory. rw (number_read _ name, rw (end_stays name) at h) refl)
 
-pub returns-in_err-read_sleb128-clause-read : goal.returns-in_err-read_sleb128-clause-read
+pub returns-in_err-value-in_default-DW_FORM_implicit_const-clause-read : goal.returns-in_err-value-in_default-DW_FORM_implicit_const-clause-read
 unfolding specification_at value_at
-returns-in_err-read_sleb128-clause-read g c =
-    let name = c.in_ok-name.ensures.ok in
-    let form = c.in_ok-form.ensures.ok in
-    let h = refused c.in_err-read_sleb128.ensures.err in
-    let named : (c.in_ok-name.name == 0) ≡ false = search rules in
-    let formed : (c.in_ok-form.form == 0) ≡ false = search rules in
-    let implicit : (c.in_ok-form.form == implicit_const) ≡ true = search rules in
-    gives_err _ _ c.from_residual-in_err-read_sleb128.ensures.1 (λ memory. rw (number_read _ name, number_read _ form, named, formed, implicit, rw (end_stays form ∙ end_stays name) at h) refl)
+returns-in_err-value-in_default-DW_FORM_implicit_const-clause-read g c =
+    let name = c.in_ok-read_uleb128_u16.ensures.ok in
+    let form = c.in_ok-read_uleb128_u16-2.ensures.ok in
+    let h = refused c.in_err-value-in_default-DW_FORM_implicit_const.ensures.err in
+    let named : (c.in_ok-read_uleb128_u16.field-0 == 0) ≡ false = search rules in
+    let formed : (c.in_ok-read_uleb128_u16-2.field-0 == 0) ≡ false = search rules in
+    let implicit : (c.in_ok-read_uleb128_u16-2.field-0 == implicit_const) ≡ true = search rules in
+    gives_err _ _ c.from_residual-in_err-value-in_default-DW_FORM_implicit_const.ensures.1 (λ memory. rw (number_read _ name, number_read _ form, named, formed, implicit, rw (end_stays form ∙ end_stays name) at h) refl)
