@@ -90,6 +90,40 @@ fn tables_are_kept_or_read_afresh(rt: HostRuntime) -> std::result::Result<(), Fa
     Ok(())
 }
 
+#[test]
+fn growing_sections_are_read_again(rt: HostRuntime) -> std::result::Result<(), Fail> {
+    let bytes = b"\x80\0\x01\0\x02\x01\x11\0\0\0";
+    let longer = DebugAbbrev::new(b"\x01\x11\0\0\0\0\0\0\0\0\0\0", LittleEndian);
+    let offsets = [
+        Ok(DebugAbbrevOffset(0)),
+        Ok(DebugAbbrevOffset(2)),
+        Ok(DebugAbbrevOffset(5)),
+        Ok(DebugAbbrevOffset(11)),
+    ];
+    let mut cache = AbbreviationsCache::new(rt.alloc());
+    let section = DebugAbbrev::new(bytes, LittleEndian);
+    let strategy = AbbreviationsCacheStrategy::All;
+    cache.populate(strategy, &section, offsets.into_iter())?;
+    for (offset, wanted) in [
+        (0, Ok(0)),
+        (2, Err(Error::AbbreviationTagZero)),
+        (5, Ok(1)),
+        (11, Err(eof(0))),
+    ] {
+        same(&rt, code_at(&cache, &longer, offset), wanted, offset);
+    }
+    cache.section_grew();
+    for (offset, wanted) in [
+        (0, Ok(0)),
+        (2, Err(Error::AbbreviationTagZero)),
+        (5, Ok(0)),
+        (11, Ok(0)),
+    ] {
+        same(&rt, code_at(&cache, &longer, offset), wanted, offset);
+    }
+    Ok(())
+}
+
 fn populated(mem: Global) -> Result<AbbreviationsCache> {
     let mut cache = AbbreviationsCache::new(mem);
     populate(&mut cache, AbbreviationsCacheStrategy::All)?;

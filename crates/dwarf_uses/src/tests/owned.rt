@@ -2,12 +2,12 @@
 
 use super::addresses::{is_over, walked};
 use super::worked::{FOUR_ADDRESSES, STRINGS, TWO_SETS, UNIT};
-use super::{eof, same};
+use super::{eof, little, same};
 use crate::OwnedReader;
 use dwarf_read_core::{
     DebugAbbrev, DebugAbbrevOffset, DebugAddr, DebugAddrBase, DebugAddrIndex, DebugStr,
-    DebugStrOffset, DebugStrOffsets, DebugStrOffsetsBase, DebugStrOffsetsIndex, EndianSlice, Error,
-    Format, LittleEndian, Reader, Result, read_u8_array,
+    DebugStrOffset, DebugStrOffsets, DebugStrOffsetsBase, DebugStrOffsetsIndex, Error, Format,
+    LittleEndian, Reader, Result, read_u8_array,
 };
 use std::alloc::Global;
 use std::fmt::Debug;
@@ -22,13 +22,17 @@ fn owned(mem: Global, bytes: &[u8], depth: u8) -> Result<Owned> {
     Ok(OwnedReader::new(mem, bytes, LittleEndian, depth))
 }
 
+// What the constant says, and what the call returns.
+fn is_clone_free<R: Reader>(reader: &R) -> (bool, bool) {
+    (R::CLONE_IS_FREE, reader.is_clone_free())
+}
+
 #[test]
-fn constants_tell_of_clones(rt: HostRuntime) {
-    let are_free = (
-        <EndianSlice<'static, LittleEndian> as Reader>::CLONE_IS_FREE,
-        <Owned as Reader>::CLONE_IS_FREE,
-    );
-    same(&rt, are_free, (true, false), "a slice, owned bytes");
+fn constants_tell_of_clones(rt: HostRuntime) -> std::result::Result<(), Fail> {
+    same(&rt, is_clone_free(&little(UNIT)), (true, true), "a slice");
+    let owned = owned(rt.alloc(), UNIT, 9)?;
+    same(&rt, is_clone_free(&owned), (false, false), "owned bytes");
+    Ok(())
 }
 
 #[test]

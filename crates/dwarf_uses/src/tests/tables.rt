@@ -15,23 +15,17 @@ fn children(value: u8) -> Error {
     Error::InvalidAbbreviationChildren(DwChildren(value))
 }
 
+fn unterminated(position: u64) -> Error {
+    Error::UnterminatedAbbreviations(ReaderOffsetId(position))
+}
+
 fn table_at(mem: Global, bytes: &[u8], offset: usize) -> Result<Abbreviations> {
     DebugAbbrev::new(bytes, LittleEndian).abbreviations(mem, DebugAbbrevOffset(offset))
 }
 
-// Whether a code of value 0 closes the table that can be read at this offset: then bytes behind the
-// section change nothing. Those here would begin a declaration without a tag.
-fn is_closed(mem: Global, bytes: &[u8], offset: usize) -> Result<bool> {
-    let mut longer = Vec::from_slice(mem, bytes)?;
-    longer.extend_from_slice(&[0x01, 0x00])?;
-    match table_at(mem, &longer, offset) {
-        Ok(_) => Ok(true),
-        Err(Error::AbbreviationTagZero) => Ok(false),
-        Err(error) => Err(error),
-    }
-}
-
-fn write_table(text: &mut String, table: &Abbreviations) -> std::result::Result<(), AllocError> {
+// A table by rising code, and a `.` where a code of value 0 closes it.
+fn shown(mem: Global, table: &Abbreviations) -> std::result::Result<String, AllocError> {
+    let mut text = String::new(mem);
     for abbreviation in table.iter() {
         let (code, tag) = (abbreviation.code(), abbreviation.tag());
         let yes = abbreviation.has_children();
@@ -45,15 +39,7 @@ fn write_table(text: &mut String, table: &Abbreviations) -> std::result::Result<
         }
         text.push(';')?;
     }
-    Ok(())
-}
-
-// The table at an offset by rising code, and a `.` where a code of value 0 closes it.
-fn listed(mem: Global, bytes: &[u8], offset: usize) -> Result<String> {
-    let table = table_at(mem, bytes, offset)?;
-    let mut text = String::new(mem);
-    write_table(&mut text, &table)?;
-    if is_closed(mem, bytes, offset)? {
+    if table.closed_by_null() {
         text.push('.')?;
     }
     Ok(text)
@@ -117,9 +103,44 @@ static TABLES: &[(&[u8], usize, &str)] = &[
 #[test]
 fn tables_are_read(rt: HostRuntime) -> std::result::Result<(), Fail> {
     for (bytes, offset, wanted) in TABLES {
-        let text = listed(rt.alloc(), bytes, *offset)?;
+        let table = table_at(rt.alloc(), bytes, *offset)?;
+        let text = shown(rt.alloc(), &table)?;
         same(&rt, text.as_str(), *wanted, (bytes, offset));
     }
+    Ok(())
+}
+
+#[test]
+fn strict_tables_are_closed(rt: HostRuntime) -> std::result::Result<(), Fail> {
+    let mem = rt.alloc();
+    let unit = "1 DW_TAG_compile_unit true, DW_AT_name DW_FORM_string;.";
+    let rows: [(&[u8], usize, Result<&str>); 8] = [
+        (UNIT, 0, Ok(unit)),
+        (ENDED, 0, Err(unterminated(5))),
+        (ENDED, 5, Err(unterminated(5))),
+        (ENDED, 6, Err(eof(0))),
+        (b"\x80\0\xaa", 0, Ok(".")),
+        (b"\x80\0\xaa", 3, Err(unterminated(3))),
+        (b"\x80", 0, Err(eof(1))),
+        (
+            b"\x01\x11\0\0\0\x01\x11\0\0\0",
+            0,
+            Err(Error::DuplicateAbbreviationCode(1)),
+        ),
+    ];
+    for (bytes, offset, wanted) in rows {
+        let section = DebugAbbrev::new(bytes, LittleEndian);
+        match section.abbreviations_strict(mem, DebugAbbrevOffset(offset)) {
+            Ok(table) => {
+                let text = shown(mem, &table)?;
+                same(&rt, Ok(text.as_str()), wanted, (bytes, offset));
+            }
+            Err(error) => same(&rt, Err(error), wanted, (bytes, offset)),
+        }
+    }
+    let reader = EndianSlice::with_first_id(ENDED, LittleEndian, ReaderOffsetId(100));
+    let table = DebugAbbrev::from(reader).abbreviations_strict(mem, DebugAbbrevOffset(0));
+    same(&rt, table.err(), Some(unterminated(105)), "at 100");
     Ok(())
 }
 
@@ -461,9 +482,9 @@ fn digit(number: usize) -> u8 {
 }
 
 // Two characters for the reading of these bytes.
-fn token(mem: Global, bytes: &[u8]) -> Result<[u8; 2]> {
-    Ok(match table_at(mem, bytes, 0) {
-        Ok(table) if is_closed(mem, bytes, 0)? => [b'n', digit(table.len())],
+fn token(mem: Global, bytes: &[u8]) -> [u8; 2] {
+    match table_at(mem, bytes, 0) {
+        Ok(table) if table.closed_by_null() => [b'n', digit(table.len())],
         Ok(table) => [b'e', digit(table.len())],
         Err(Error::UnexpectedEof(id)) if id.0 == bytes.len() as u64 => *b"E.",
         Err(Error::BadUnsignedLeb128) => *b"u.",
@@ -474,7 +495,7 @@ fn token(mem: Global, bytes: &[u8]) -> Result<[u8; 2]> {
         Err(Error::InvalidAbbreviationChildren(value)) => [b'c', digit(place_of(value.0))],
         Err(Error::DuplicateAbbreviationCode(code)) => [b'd', digit(code.min(10) as usize)],
         Err(_) => *b"??",
-    })
+    }
 }
 
 // The place of a byte in the alphabet.
@@ -553,7 +574,7 @@ fn short_tables_are_read_as_computed(rt: HostRuntime) -> std::result::Result<(),
                 for place in (0..len).rev() {
                     bytes.push(ALPHABET[(index >> (3 * place) & 7) as usize])?;
                 }
-                for byte in token(mem, &bytes)? {
+                for byte in token(mem, &bytes) {
                     checksum = (checksum ^ u64::from(byte)).wrapping_mul(0x100_0000_01b3);
                 }
             }
