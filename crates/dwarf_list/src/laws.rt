@@ -12,6 +12,7 @@ pub fn one_listing()
         → Lists command input one → Lists command input other → other ≡ one }
 {
     laws::exactly_one_answer();
+    laws::exactly_one_strict_answer();
     laws::exactly_one_string();
     laws::exactly_one_list_of_sets();
     laws::exactly_one_list_of_entries();

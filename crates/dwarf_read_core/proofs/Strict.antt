@@ -1,6 +1,8 @@
 -- The strict answer follows from the answer.
 use Rattle.std.proofs.Common.{◌≡◌, ℕ, Bool, true, false, cond, List, Result, Ok, Err, refl, sym, ap, subst, ◌∙◌}
 use Rattle.dwarf_base_core.specs.declared.error.Error.{Error}
+use Rattle.dwarf_base_core.specs.declared.error.Error.TheVariants.{UnterminatedAbbreviations}
+use Rattle.dwarf_base_core.specs.declared.reader_offset.ReaderOffsetId.{ReaderOffsetId}
 use Rattle.dwarf_reader_core.specs.Input.{Input, end_of}
 use Rattle.dwarf_reader_core.specs.Once.{HasOne}
 use Rattle.dwarf_read_core.specs.Grammar.{Table, Close, by_null, by_end, is_by_null}
@@ -47,3 +49,7 @@ strict_answer_more section more offset strict is final =
 pub strictly_stays : (strict : Result Table Error) (section : Input) (offset : ℕ) → AnswersStrictly strict section offset → IsStrictlyFinal strict → (more : List ℕ) → AnswersStrictly strict (followed_by section more) offset
 strictly_stays (Ok t) section offset h final more = strict_answer_more section more offset (Ok t) h final
 strictly_stays (Err e) section offset h final more = λ memory. strict_answer_more section more offset (Err e) (h memory) final
+
+-- the error of an unclosed table is not final, whatever its position
+pub unclosed_stays : (id : ReaderOffsetId) (section : Input) (offset : ℕ) → IsStrictlyFinal (Err (UnterminatedAbbreviations id)) → (more : List ℕ) → AnswersStrictly (Err (UnterminatedAbbreviations id)) (followed_by section more) offset
+unclosed_stays id section offset final more = absurd ((final id.0).1 refl)

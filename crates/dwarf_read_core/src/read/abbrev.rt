@@ -142,6 +142,7 @@ impl<R: Reader> DebugAbbrev<R> {
     /// - `UnterminatedAbbreviations`, with the identifier of the section's end, if only that end
     ///   closes the table. This includes an `offset` that equals the section's length.
     /// - All errors of [`abbreviations`](Self::abbreviations).
+    #[tactic(auto, using(crate::proofs::Strict::strictly_stays, crate::proofs::Strict::unclosed_stays))]
     pub fn abbreviations_strict(
         &self,
         mem: Global,
