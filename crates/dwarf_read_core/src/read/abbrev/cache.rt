@@ -18,9 +18,6 @@ use std::collections::BTreeMap;
 use std::marker::Model;
 use std::rc::Rc;
 
-#[cfg(test)]
-mod tests;
-
 type Entries = BTreeMap<u64, Result<Rc<Abbreviations>>>;
 
 /// Tables of abbreviations by their offsets, kept so that units which share one read it once.
