@@ -13,7 +13,7 @@ two characters:
     dC      a repeated code C
 
 For each prefix and each length the FNV-1a checksum of all answers is printed. The test
-every_short_tail of dwarf_read_core's module abbrev has these numbers.
+short_tables_are_read_as_computed of dwarf_uses has these numbers.
 """
 import itertools
 

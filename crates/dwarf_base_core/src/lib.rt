@@ -25,6 +25,3 @@ pub use error::{Error, Result};
 pub use read_types::{StoreOnHeap, UnitOffset};
 pub use reader_address::ReaderAddress;
 pub use reader_offset::{ReaderOffset, ReaderOffsetId};
-
-#[cfg(test)]
-mod tests;

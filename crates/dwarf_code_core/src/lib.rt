@@ -32,8 +32,6 @@ pub mod pointer_encoding;
 pub mod range_list_entry;
 pub mod section;
 pub mod section_v2;
-#[cfg(test)]
-mod tests;
 pub mod unit_type;
 pub mod virtuality;
 pub mod visibility;

@@ -30,5 +30,3 @@ pub mod laws;
 pub mod line_content;
 pub mod names;
 pub mod tag;
-#[cfg(test)]
-mod tests;

@@ -1,8 +1,10 @@
 -- Sets of addresses have one text, or one fault, at most.
-use Rattle.std.proofs.Common.{◌≡◌, ◌-◌, ◌^◌, ◌<◌, ℕ, zero, suc, Bool, List, [], ◌∷◌, ◌++◌, Result, Ok, Err, refl, sym, ap, ◌∙◌, arith}
-use Rattle.std.specs.Prelude.{IsTrue}
+use Rattle.std.proofs.Common.{◌≡◌, ◌-◌, ◌^◌, ◌<◌, ℕ, zero, suc, Bool, true, List, [], ◌∷◌, ◌++◌, Result, Ok, Err, refl, sym, ap, ◌∙◌, arith, inl, inr, ◌⊎◌}
+use Rattle.std.specs.Prelude.{IsTrue, All}
 use Rattle.dwarf_read_core.specs.declared.Error.{Error}
-use Rattle.dwarf_read_core.specs.Entries.{Entries, StandsForAddresses}
+use Rattle.dwarf_read_core.specs.Entries.{AreEntries, unfit, cut, Entries, StandsForAddresses}
+use Rattle.dwarf_read_core.specs.Entries as addresses
+use Rattle.dwarf_read_core.specs.Faults.{eof}
 use Rattle.dwarf_read_core.specs.Faults.{is_number_size}
 use Rattle.dwarf_read_core.specs.Once.{HasOne}
 use Rattle.dwarf_read_core.specs.Sets.{AreSets, none, set, faulty, address_kind, Headers, Set, StandsForAddressSets, addresses_of}
@@ -36,6 +38,20 @@ same_error (x ∷ a) (y ∷ b) d e q = same_error a b d e (let tails : without_e
 positive : (width : ℕ) → IsTrue (is_number_size width) → 0 < width
 positive zero sized = absurd cc
 positive (suc width) sized = omega arith
+
+-- entries are numbers, or numbers and an error
+abbrev Split : Items → Type 0
+Split items = ((numbers : List ℕ) × (items ≡ without_error numbers)) ⊎ ((numbers : List ℕ) × (e : Error) × (items ≡ without_error numbers ++ Err e ∷ []))
+
+longer : (n : ℕ) (items : Items) → Split items → Split (Ok n ∷ items)
+longer n items (inl h) = inl (n ∷ h.0, ap (λ (xs : Items). Ok n ∷ xs) h.1)
+longer n items (inr h) = inr (n ∷ h.0, h.1, ap (λ (xs : Items). Ok n ∷ xs) h.2)
+
+split : {is_big : Bool} {width position : ℕ} {bytes : List ℕ} {items : Items} → AreEntries (λ _. true) is_big width position bytes items → Split items
+split addresses.AreEntries.none = inl ([], refl)
+split (addresses.AreEntries.entry bytes rest number items is fits others) = longer number items (split others)
+split (unfit bytes rest number is bad) = absurd cc
+split (cut bytes some short) = inr ([], _, refl)
 
 module _ (entries : (e : Entries) → 0 < e.width → HasOne (StandsForAddresses e)) (sets : (greatest : ℕ) (headers : Headers) (items others : List (Result (Set ℕ) Error)) → StandsForAddressSets greatest headers items → StandsForAddressSets greatest headers others → items ≡ others) where
   same_items : (s : Set ℕ) (a b : Items) → IsTrue (is_number_size s.header) → StandsForAddresses (addresses_of s) a → StandsForAddresses (addresses_of s) b → a ≡ b
@@ -71,3 +87,18 @@ module _ (entries : (e : Entries) → 0 < e.width → HasOne (StandsForAddresses
   one_addresses headers one other a b =
       let same : b.0 ≡ a.0 = sets (2 ^ 64 - 1) headers b.0 a.0 b.1 a.1 in
       one_text a.1 one other a.2 (rw same at b.2)
+
+  behind : (s : Set ℕ) (items : List (Result (Set ℕ) Error)) (list : Items) → StandsForAddresses (addresses_of s) list → Split list → ((one : Text) × ListsSets items one) → (one : Text) × ListsSets (Ok s ∷ items) one
+  behind s items list is (inl h) (Ok text, l) = (Ok (set_lines s h.0 ++ text), listing.ListsSets.set s items h.0 text (rw h.1 at is) l)
+  behind s items list is (inl h) (Err e, l) = (Err e, later s items h.0 e (rw h.1 at is) l)
+  behind s items list is (inr h) l = (Err h.1, bad_address s items h.0 h.1 (rw h.2 at is))
+
+  some_text : {greatest : ℕ} {is_big : Bool} {offset position : ℕ} {bytes : List ℕ} {items : List (Result (Set ℕ) Error)} → AreSets (address_kind is_big) greatest is_big offset position bytes items → (one : Text) × ListsSets items one
+  some_text none = (Ok [], nothing)
+  some_text (faulty b e some fault) = (Err e, bad_header e [])
+  some_text (set b r s items is f rest) =
+      let one = entries (addresses_of s) (positive s.header is.is_header.sized) in
+      behind s items one.0 one.1 (split one.1) (some_text rest)
+
+  pub some_addresses : (headers : Headers) → HasOne (StandsForAddressSets (2 ^ 64 - 1) headers) → (one : Text) × ListsAddresses headers one
+  some_addresses headers h = let t = some_text h.1 in (t.0, (h.0, h.1, t.1))

@@ -8,7 +8,7 @@ use Rattle.dwarf_list.specs.declared.fault.Fault.TheVariants.{Section, Usage, Re
 -- the line on standard error, without its end
 abbrev pub fault_text : Fault → List ℕ
 fault_text (Section error) = codes "error: " ++ error_text error
-fault_text Usage = codes "usage: dwarf_list abbrev OFFSET | str OFFSET | addr le|be | uleb N | sleb N"
+fault_text Usage = codes "usage: dwarf_list abbrev OFFSET | str OFFSET | addr le|be | uleb N | sleb N | abbrev-strict OFFSET | str-offsets le|be"
 fault_text Read = codes "error: cannot read input"
 fault_text Write = codes "error: cannot write output"
 

@@ -5,7 +5,7 @@ use Rattle.std.specs.Fmt.{digit_glyph, signed_decimal}
 use Rattle.std.specs.List.{flat_map, join_with_byte}
 use Rattle.dwarf_read_core.specs.declared.Error.{Error}
 use Rattle.dwarf_read_core.specs.declared.RunTimeEndian.{RunTimeEndian}
-use Rattle.dwarf_read_core.specs.Answer.{Answer}
+use Rattle.dwarf_read_core.specs.Answer.{Answer, StrictAnswer}
 use Rattle.dwarf_read_core.specs.DwAt.{attribute_text}
 use Rattle.dwarf_read_core.specs.DwForm.{form_text}
 use Rattle.dwarf_read_core.specs.DwTag.{tag_text}
@@ -21,7 +21,7 @@ use Rattle.dwarf_read_core.specs.Shortest.{IsShortest}
 use Rattle.dwarf_read_core.specs.Strings.{StringAt}
 use Rattle.dwarf_list.specs.Command.{command_of}
 use Rattle.dwarf_list.specs.declared.command.Command.{Command}
-use Rattle.dwarf_list.specs.declared.command.Command.TheVariants.{Abbrev, Str, Addr, Uleb, Sleb}
+use Rattle.dwarf_list.specs.declared.command.Command.TheVariants.{Abbrev, Str, Addr, Uleb, Sleb, AbbrevStrict}
 use Rattle.dwarf_list.specs.declared.fault.Fault.{Fault}
 use Rattle.dwarf_list.specs.declared.fault.Fault.TheVariants.{Section, Usage, Read, Write}
 
@@ -101,6 +101,8 @@ Lists (Uleb value) input (Ok text) = (bytes : List ℕ) × IsShortest unsigned64
 Lists (Uleb value) input (Err error) = ⊥
 Lists (Sleb value) input (Ok text) = (bytes : List ℕ) × IsShortest signed64 value bytes × (text ≡ line (hex_text bytes))
 Lists (Sleb value) input (Err error) = ⊥
+Lists (AbbrevStrict offset) input (Ok text) = (table : Table) × StrictAnswer (section_of input) offset (Ok table) × (text ≡ table_text table)
+Lists (AbbrevStrict offset) input (Err error) = StrictAnswer (section_of input) offset (Err error)
 
 -- the text that the words ask for of an input, or the fault
 abbrev pub IsText : List (List ℕ) → List ℕ → Result (List ℕ) Fault → Type 0

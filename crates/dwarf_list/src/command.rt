@@ -19,6 +19,8 @@ pub enum Command {
     Uleb(u64),
     /// The shortest LEB128 encoding of a signed number.
     Sleb(i64),
+    /// The table of abbreviations at an offset, which a code of value 0 has to close.
+    AbbrevStrict(u64),
 }
 
 /// The command that the words name, if they name one.
@@ -40,6 +42,7 @@ fn named_command(name: &str, argument: &str) -> Option<Command>
         "addr" => parse_endian(argument).map(Command::Addr),
         "uleb" => parse_unsigned(argument).map(Command::Uleb),
         "sleb" => parse_signed(argument).map(Command::Sleb),
+        "abbrev-strict" => parse_unsigned(argument).map(Command::AbbrevStrict),
         _ => None,
     }
 }
@@ -59,7 +62,7 @@ pub fn reads_input(command: Command) -> bool
     ensures { result ≡ reads_input command }
 {
     match command {
-        Command::Abbrev(_) | Command::Str(_) | Command::Addr(_) => true,
+        Command::Abbrev(_) | Command::Str(_) | Command::Addr(_) | Command::AbbrevStrict(_) => true,
         Command::Uleb(_) | Command::Sleb(_) => false,
     }
 }

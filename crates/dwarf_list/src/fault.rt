@@ -1,10 +1,13 @@
 //! Why a listing failed, what is said of it, and the status that the program ends with.
 
-ghost use Rattle.std.specs.Prelude.{◌≡◌};
+ghost use Rattle.std.specs.Prelude.{◌≡◌, IfErr, OnOk};
+ghost use Rattle.std.specs.Process.{exit_status};
+ghost use Rattle.dwarf_list.specs.Fault.{fault_status};
 
 use dwarf_read_core::Error;
 use std::alloc::AllocError;
 use std::fmt;
+use std::process::ExitCode;
 
 /// Why the program lists nothing.
 #[derive(Clone, Copy, Debug, PartialEq, Eq)]
@@ -19,9 +22,18 @@ pub enum Fault {
     Write,
 }
 
-impl Fault {
-    ghost use Rattle.dwarf_list.specs.Fault.{fault_status};
+/// The status that the program ends with: 0 without a fault, and else the fault's own.
+pub fn exit_code(outcome: Result<(), Fault>) -> ExitCode
+    ensures ok { OnOk outcome (exit_status result ≡ 0) }
+    ensures err { IfErr outcome (λ fault. exit_status result ≡ fault_status fault) }
+{
+    match outcome {
+        Ok(()) => ExitCode::from(0),
+        Err(fault) => ExitCode::from(fault.status()),
+    }
+}
 
+impl Fault {
     /// Want of memory.
     pub fn out_of_memory() -> Fault
         ensures { result ≡ Fault.Section Error.OutOfMemory }
@@ -53,7 +65,8 @@ impl fmt::Display for Fault {
             Fault::Section(error) => write!(f, "error: {error}"),
             Fault::Usage => write!(
                 f,
-                "usage: dwarf_list abbrev OFFSET | str OFFSET | addr le|be | uleb N | sleb N"
+                "usage: dwarf_list abbrev OFFSET | str OFFSET | addr le|be | uleb N | sleb N \
+                 | abbrev-strict OFFSET | str-offsets le|be"
             ),
             Fault::Read => write!(f, "error: cannot read input"),
             Fault::Write => write!(f, "error: cannot write output"),

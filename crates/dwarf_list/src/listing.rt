@@ -27,6 +27,7 @@ pub fn listing(mem: Global, command: Command, input: &[u8]) -> Result<Vec<u8>, E
         Command::Addr(endian) => addresses(mem, endian, input),
         Command::Uleb(value) => Ok(hex_line(mem, Leb128::unsigned(value).bytes())?),
         Command::Sleb(value) => Ok(hex_line(mem, Leb128::signed(value).bytes())?),
+        Command::AbbrevStrict(offset) => abbreviations_strict(mem, offset, input),
     }
 }
 
@@ -36,6 +37,15 @@ fn abbreviations(mem: Global, offset: u64, input: &[u8]) -> Result<Vec<u8>, Erro
 {
     let section = DebugAbbrev::new(input, LittleEndian);
     let table = section.abbreviations(mem, DebugAbbrevOffset(offset as usize))?;
+    Ok(table_text(mem, &table)?.into_bytes())
+}
+
+fn abbreviations_strict(mem: Global, offset: u64, input: &[u8]) -> Result<Vec<u8>, Error>
+    ensures { MatchResult result (λ text. Lists (Command.AbbrevStrict offset) input.now (Ok text.items))
+        (λ error. error ≢ Error.OutOfMemory → Lists (Command.AbbrevStrict offset) input.now (Err error)) }
+{
+    let section = DebugAbbrev::new(input, LittleEndian);
+    let table = section.abbreviations_strict(mem, DebugAbbrevOffset(offset as usize))?;
     Ok(table_text(mem, &table)?.into_bytes())
 }
 

@@ -9,32 +9,23 @@ mod laws;
 mod listing;
 mod number;
 mod run;
+mod words;
 
-use fault::Fault;
-use std::env;
-use std::io::ErrorKind;
+use fault::{Fault, exit_code};
 use std::process::ExitCode;
-
-// The words of the command line, without the program's name.
-fn command_line(rt: &HostRuntime) -> Result<Vec<String>, Fault> {
-    match env::args(rt) {
-        Ok(words) => Ok(words.skip(1).collect(rt.alloc())?),
-        Err(error) if error.kind() == ErrorKind::OutOfMemory => Err(Fault::out_of_memory()),
-        Err(_) => Err(Fault::Usage),
-    }
-}
+use words::command_line;
 
 fn list(rt: &HostRuntime) -> Result<(), Fault> {
-    let words = command_line(rt)?;
-    run::run(rt.alloc(), &words, &mut rt.stdin(), &mut rt.stdout())
+    let mem = rt.alloc();
+    let words = command_line(mem, rt)?;
+    run::run(mem, &words, &mut rt.stdin(), &mut rt.stdout())
 }
 
 fn main(rt: HostRuntime) -> ExitCode {
-    match list(&rt) {
-        Ok(()) => ExitCode::SUCCESS,
-        Err(fault) => {
-            let _ = eprintln!(rt; "{fault}");
-            ExitCode::from(fault.status())
-        }
+    let outcome = list(&rt);
+    if let Err(fault) = outcome {
+        // Where standard error can't be written either, the status still tells of the fault.
+        let _ = eprintln!(rt; "{fault}");
     }
+    exit_code(outcome)
 }

@@ -1,13 +1,14 @@
 -- What follows for a cache whose entries are those of the section.
-use Rattle.std.proofs.Common.{ℕ, Option, Some, None, Ok, Err, MatchOption, Result, List}
+use Rattle.std.proofs.Common.{ℕ, Option, Some, None, Ok, Err, MatchOption, Result, List, ◌≡◌, ◌≢◌, Bool, true, false, cond, refl, sym, subst}
 use Rattle.std.specs.Prelude.{IfSome}
 use Rattle.std.specs.FinMap.{get}
 use Rattle.std.specs.declared.rc.Rc.{Rc}
 use Rattle.dwarf_base_core.specs.declared.error.Error.{Error}
-use Rattle.dwarf_read_core.specs.Grammar.{Table}
-use Rattle.dwarf_read_core.specs.Answer.{Answer, Answers}
-use Rattle.dwarf_read_core.specs.Cache.{Cache, answer_of, HandsOut, KeepsAnswers, IsFaithful}
+use Rattle.dwarf_read_core.specs.Grammar.{Table, Close, by_null, by_end, is_by_null}
+use Rattle.dwarf_read_core.specs.Answer.{Answer, Answers, IsFinal, followed_by}
+use Rattle.dwarf_read_core.specs.Cache.{Cache, answer_of, HandsOut, KeepsAnswers, IsFaithful, is_final, still_kept}
 use Rattle.dwarf_reader_core.specs.Input.{Input}
+use Rattle.dwarf_read_core.proofs.Stable.{answer_more}
 
 -- an answer handed out or read afresh, where what is kept is the section's
 pub faithful_answer : {Z : Type 0} (section : Input) (key : ℕ) (kept : Option (Result Table Error)) (result : Result (Rc Table Z) Error)
@@ -26,3 +27,25 @@ kept_answer input key P Q (Some answer) h = h.1
 -- a cache that keeps answers of the section alone
 pub faithful_of_kept : (least : ℕ) (input : Input) (offsets : List ℕ) (cache : Cache) → KeepsAnswers least input offsets (get cache) → IsFaithful cache input
 faithful_of_kept least input offsets cache h = λ key. kept_answer input key _ _ (get cache key) (h key)
+
+closed_by_null : (close : Close) → is_by_null close ≡ true → close ≡ by_null
+closed_by_null by_null e = refl
+closed_by_null by_end e = absurd cc
+
+-- the test tells the answers that appended bytes leave
+final : (answer : Result Table Error) → is_final answer ≡ true → IsFinal answer
+final (Ok t) e = closed_by_null t.close e
+final (Err e) is = λ position same. absurd (let h = subst (λ (d : Error). is_final (Err d) ≡ true) same is in cc)
+
+-- what remains of an entry of a section is an entry of the longer section
+outlasts : (section : Input) (more : List ℕ) (key : ℕ) (kept : Option (Result Table Error)) → IfSome kept (Answer section key) → IfSome (still_kept kept) (Answer (followed_by section more) key)
+outlasts section more key None h = tt
+outlasts section more key (Some answer) h = go (is_final answer) refl
+  where
+    go : (b : Bool) → is_final answer ≡ b → IfSome (cond b (Some answer) None) (Answer (followed_by section more) key)
+    go true e = answer_more more h (final answer e)
+    go false e = tt
+
+-- a cache that forgets what appended bytes may change
+pub faithful_of_final : (old new : Cache) → ((key : ℕ) → get new key ≡ still_kept (get old key)) → (section : Input) (more : List ℕ) → IsFaithful old section → IsFaithful new (followed_by section more)
+faithful_of_final old new h section more faithful key = subst (λ (kept : Option (Result Table Error)). IfSome kept (Answer (followed_by section more) key)) (sym (h key)) (outlasts section more key (get old key) (faithful key))

@@ -8,6 +8,7 @@ pub mod Declarations
 pub mod Again
 pub mod Whole
 pub mod Stable
+pub mod Strict
 pub mod Bound
 pub mod Parts
 pub mod StringLemmas
@@ -23,3 +24,5 @@ pub mod SetReading
 pub mod Sets
 pub mod AddressSets
 pub mod Entries
+pub mod SameDeclaration
+pub mod KeptOnce

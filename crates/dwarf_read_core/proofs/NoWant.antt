@@ -1,5 +1,5 @@
 -- A cache keeps no want of memory.
-use Rattle.std.proofs.Common.{◌≢◌, ℕ, Bool, true, false, cond, Option, Some, None, Ok, Err, Result, MatchOption, List, sym, ◌∙◌}
+use Rattle.std.proofs.Common.{◌≡◌, ◌≢◌, ℕ, Bool, true, false, cond, Option, Some, None, Ok, Err, Result, MatchOption, List, sym, ◌∙◌}
 use Rattle.std.specs.Cmp.{nat_cmp_total}
 use Rattle.std.specs.FinMap as finite
 use Rattle.std.specs.Ordering.{nat_cmp}
@@ -8,7 +8,7 @@ use Rattle.dwarf_base_core.specs.declared.error.Error.TheVariants.{OutOfMemory}
 use Rattle.dwarf_read_core.specs.Grammar.{Table}
 use Rattle.dwarf_read_core.specs.Answer.{Answer, outside, table, fault, IsFault, in_declaration, repeated, IsFaulty, number_cut, number_bad, children_cut, tag_zero, children_bad, name_zero, form_zero}
 use Rattle.dwarf_reader_core.specs.Leb128.{unsigned64, unsigned16, signed64}
-use Rattle.dwarf_read_core.specs.Cache.{Cache, KeepsAnswers, KeepsNoWant}
+use Rattle.dwarf_read_core.specs.Cache.{Cache, KeepsAnswers, KeepsNoWant, is_final, still_kept}
 use Rattle.dwarf_reader_core.specs.Input.{Input}
 
 abbrev want : Option (Result Table Error)
@@ -50,3 +50,15 @@ kept_is_answer input key P Q (Some answer) h is = never_answered h.1 cc
 
 pub no_want_answers : (least : ℕ) (input : Input) (offsets : List ℕ) (cache : Cache) → KeepsAnswers least input offsets (finite.get cache) → KeepsNoWant cache
 no_want_answers least input offsets cache h key = kept_is_answer input key _ _ (finite.get cache key) (h key)
+
+remains : (kept : Option (Result Table Error)) → kept ≢ want → still_kept kept ≢ want
+remains None other is = other is
+remains (Some answer) other is = go (is_final answer) other is
+  where
+    go : (b : Bool) → Some answer ≢ want → cond b (Some answer) None ≢ want
+    go true other is = other is
+    go false other is = cc
+
+-- a cache that only forgets entries
+pub no_want_final : (old new : Cache) → ((key : ℕ) → finite.get new key ≡ still_kept (finite.get old key)) → KeepsNoWant old → KeepsNoWant new
+no_want_final old new h none key is = remains (finite.get old key) (none key) (sym (h key) ∙ is)

@@ -1,11 +1,11 @@
 -- The one answer to where a table is looked for: the table, or the first fault.
-use Rattle.std.specs.Prelude.{◌≡◌, ◌≢◌, ℕ, ◌<◌, ◌≤◌, ◌⊎◌, List, [], ◌∷◌, ◌++◌, length, drop, Result, Ok, Err}
+use Rattle.std.specs.Prelude.{◌≡◌, ◌≢◌, ℕ, ◌<◌, ◌≤◌, ◌⊎◌, List, [], ◌∷◌, ◌++◌, length, drop, Result, Ok, Err, ⊤, if◌then◌else◌}
 use Rattle.dwarf_base_core.specs.declared.error.Error.{Error}
-use Rattle.dwarf_base_core.specs.declared.error.Error.TheVariants.{AbbreviationTagZero, InvalidAbbreviationChildren, AttributeNameZero, AttributeFormZero, DuplicateAbbreviationCode, OutOfMemory}
+use Rattle.dwarf_base_core.specs.declared.error.Error.TheVariants.{AbbreviationTagZero, InvalidAbbreviationChildren, AttributeNameZero, AttributeFormZero, DuplicateAbbreviationCode, OutOfMemory, UnterminatedAbbreviations}
 use Rattle.dwarf_reader_core.specs.Leb128.{Kind, unsigned64, unsigned16, signed64, refusal, IsNumber, IsCut, IsBad}
 use Rattle.dwarf_reader_core.specs.Faults.{eof, end_fault}
 use Rattle.dwarf_reader_core.specs.Input.{Input, end_of}
-use Rattle.dwarf_read_core.specs.Grammar.{Declaration, implicit_const, Table, by_null, IsCode, IsHead, IsFront, IsDeclaration, Declares, AreDeclarations, IsTable}
+use Rattle.dwarf_read_core.specs.Grammar.{Declaration, implicit_const, Table, by_null, is_by_null, IsCode, IsHead, IsFront, IsDeclaration, Declares, AreDeclarations, IsTable}
 
 -- a declaration that is cut before a number of this kind
 pub data IsBeginning : List ℕ → Kind → Type 0 where
@@ -53,3 +53,26 @@ IsFinal (Err e) = (position : ℕ) → e ≢ eof position
 -- where an answer takes no memory: outside, at the end, or at a code of value 0
 abbrev pub TakesNoMemory : Input → ℕ → Type 0
 TakesNoMemory section offset = (length section.bytes ≤ offset) ⊎ ((zero_code rest : List ℕ) × (drop offset section.bytes ≡ zero_code ++ rest) × IsNumber unsigned64 zero_code 0)
+
+-- the error that no code of value 0 closes a table, which the section's end at a position does
+abbrev pub unterminated : ℕ → Error
+unterminated position = UnterminatedAbbreviations (record { 0 = position })
+
+-- a strict reading makes an error of a table that only the section's end closes, and changes nothing else
+abbrev pub strictly : Input → Result Table Error → Result Table Error
+strictly section (Ok t) = if is_by_null t.close then Ok t else Err (unterminated (end_of section))
+strictly section (Err e) = Err e
+
+-- the strict answer for a section and an offset
+abbrev pub StrictAnswer : Input → ℕ → Result Table Error → Type 0
+StrictAnswer section offset strict = (answer : Result Table Error) × Answer section offset answer × (strict ≡ strictly section answer)
+
+-- what is answered is the strict answer, unless memory ran out
+abbrev pub AnswersStrictly : Result Table Error → Input → ℕ → Type 0
+AnswersStrictly (Ok t) section offset = StrictAnswer section offset (Ok t)
+AnswersStrictly (Err e) section offset = e ≢ OutOfMemory → StrictAnswer section offset (Err e)
+
+-- a strict answer that does not depend on where the section ends: every table, and every error but these two
+abbrev pub IsStrictlyFinal : Result Table Error → Type 0
+IsStrictlyFinal (Ok t) = ⊤
+IsStrictlyFinal (Err e) = (position : ℕ) → (e ≢ eof position) × (e ≢ unterminated position)

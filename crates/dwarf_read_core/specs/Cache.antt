@@ -1,14 +1,14 @@
 -- What a cache of abbreviation tables keeps.
-use Rattle.std.specs.Prelude.{◌≡◌, ◌≢◌, ◌==◌, ℕ, ◌<◌, ◌≤◌, List, map, count_by, Option, Some, None, MatchOption, IfSome, Result, Ok, Err, MatchResult, ⊤}
+use Rattle.std.specs.Prelude.{◌≡◌, ◌≢◌, ◌==◌, ℕ, ◌<◌, ◌≤◌, Bool, true, false, if◌then◌else◌, List, map, count_by, Option, Some, None, MatchOption, IfSome, Result, Ok, Err, MatchResult, ⊤}
 use Rattle.std.specs.FinMap as finite
 use Rattle.std.specs.Iterator.{YieldsThen}
 use Rattle.std.specs.Ordering.{nat_cmp}
 use Rattle.std.specs.declared.rc.Rc.{Rc}
 use Rattle.dwarf_base_core.specs.declared.error.Error.{Error}
-use Rattle.dwarf_base_core.specs.declared.error.Error.TheVariants.{OutOfMemory}
+use Rattle.dwarf_base_core.specs.declared.error.Error.TheVariants.{OutOfMemory, UnexpectedEof}
 use Rattle.dwarf_reader_core.specs.Input.{Input}
 use Rattle.dwarf_read_core.specs.Answer.{Answer}
-use Rattle.dwarf_read_core.specs.Grammar.{Table}
+use Rattle.dwarf_read_core.specs.Grammar.{Table, is_by_null}
 use Rattle.dwarf_read_core.specs.declared.read.abbrev.AbbreviationsCacheStrategy.{AbbreviationsCacheStrategy}
 use Rattle.dwarf_read_core.specs.declared.read.abbrev.AbbreviationsCacheStrategy.TheVariants.{Duplicates, All}
 
@@ -74,3 +74,14 @@ pub record NamesOffsets {S T : Type 0} (steps : S → Option (Result T Error) �
 abbrev pub HandsOut : {Z : Type 0} → Result Table Error → Result (Rc Table Z) Error → Type 0
 HandsOut kept result =
     MatchResult kept (λ table. MatchResult result (λ shared. shared.value ≡ table) (λ fault. fault ≡ OutOfMemory)) (λ fault. result ≡ Err fault)
+
+-- whether appended bytes leave an answer as it is: a table that a code of value 0 closes, or an error but that bytes are missing
+abbrev pub is_final : Result Table Error → Bool
+is_final (Ok t) = is_by_null t.close
+is_final (Err (UnexpectedEof _)) = false
+is_final (Err _) = true
+
+-- what remains of an entry once the section has grown
+abbrev pub still_kept : Option (Result Table Error) → Option (Result Table Error)
+still_kept None = None
+still_kept (Some answer) = if is_final answer then Some answer else None

@@ -1,13 +1,15 @@
 //! Laws over the definitions: each function has one as its contract, and does nothing.
 
-ghost use Rattle.std.specs.Prelude.{◌≡◌, ◌≢◌, ℕ, ◌<◌, ◌≤◌, List, [], ◌∷◌, length, All, Ok, Err, Result as Outcome};
+ghost use Rattle.std.specs.Prelude.{◌≡◌, ◌≢◌, ◌↔◌, IsTrue, Option, ℕ, ◌<◌, ◌≤◌, List, [], ◌∷◌, length, All, Ok, Err, Result as Outcome};
 ghost use Rattle.std.specs.List.{sum_by};
 ghost use Rattle.dwarf_base_core.specs.declared.error.Error.{Error as Fault};
 ghost use Rattle.dwarf_reader_core.specs.Faults.{eof};
 ghost use Rattle.dwarf_reader_core.specs.Input.{Input};
 ghost use Rattle.dwarf_reader_core.specs.Once.{HasOne};
-ghost use Rattle.dwarf_read_core.specs.Grammar.{Table};
-ghost use Rattle.dwarf_read_core.specs.Answer.{Answer, IsFinal, followed_by};
+ghost use Rattle.dwarf_read_core.specs.Answer.{Answer, IsFinal, IsStrictlyFinal, StrictAnswer, followed_by};
+ghost use Rattle.dwarf_read_core.specs.Cache.{KeepsAnswers};
+ghost use Rattle.dwarf_read_core.specs.Equality.{HasValueByForm, same_declaration};
+ghost use Rattle.dwarf_read_core.specs.Grammar.{Declaration, Table};
 ghost use Rattle.dwarf_read_core.specs.Entries.{Entries, StandsForAddresses};
 ghost use Rattle.dwarf_read_core.specs.Items.{least_taken};
 ghost use Rattle.dwarf_read_core.specs.Ranges.{RangeAt};
@@ -16,13 +18,23 @@ ghost use Rattle.dwarf_read_core.specs.Strings.{StringAt};
 ghost use Rattle.dwarf_read_core.specs.Words.{AddressAt, IsSettled, Slot, WordAt};
 
 pub use dwarf_reader_core::laws::{
-    no_encoding_begins_another, one_outcome, one_shortest, written_is_read,
+    exactly_one_shortest, no_encoding_begins_another, one_outcome, written_is_read,
 };
 
 /// Every section has exactly one answer at every offset: a table, or the first fault.
 #[tactic(auto, using(crate::proofs::Whole::one_answer))]
 pub fn exactly_one_answer()
     ensures { (section : Input) (offset : ℕ) → HasOne (Answer section offset) }
+{}
+
+/// Every section has exactly one strict answer at every offset. It doesn't change when bytes are
+/// appended, unless it tells of the section's end.
+#[tactic(auto, using(crate::proofs::Strict::one_strict_answer, crate::proofs::Strict::strict_answer_more))]
+pub fn exactly_one_strict_answer()
+    ensures one { (section : Input) (offset : ℕ) → HasOne (StrictAnswer section offset) }
+    ensures stable { (section : Input) (more : List ℕ) (offset : ℕ) (answer : Outcome Table Fault)
+        → StrictAnswer section offset answer → IsStrictlyFinal answer
+        → StrictAnswer (followed_by section more) offset answer }
 {}
 
 /// An answer that doesn't tell of the section's end is the answer whatever bytes are appended.
@@ -32,10 +44,34 @@ pub fn appended_bytes_change_nothing()
         → Answer section offset answer → IsFinal answer → Answer (followed_by section more) offset answer }
 {}
 
+/// A strategy, a section and offsets determine what a cache keeps: at each offset its one answer, or
+/// nothing.
+pub fn exactly_one_cache()
+    ensures some { (least : ℕ) (section : Input) (offsets : List ℕ)
+        → (kept : ℕ → Option (Outcome Table Fault)) × KeepsAnswers least section offsets kept }
+    ensures same { (least : ℕ) (section : Input) (offsets : List ℕ) (kept others : ℕ → Option (Outcome Table Fault))
+        → KeepsAnswers least section offsets kept → KeepsAnswers least section offsets others
+        → (key : ℕ) → others key ≡ kept key }
+{}
+
+/// Abbreviations are equal exactly where they are the same declaration.
+#[tactic(auto, using(crate::proofs::SameDeclaration::same_declaration_is_equality))]
+pub fn equality_is_of_declarations()
+    ensures { (a b : Declaration) → All HasValueByForm a.attributes → All HasValueByForm b.attributes
+        → IsTrue (same_declaration a b) ↔ (a ≡ b) }
+{}
+
 /// Every section has exactly one answer to where a string is looked for: the string, or a fault.
 #[tactic(auto, using(crate::proofs::StringLemmas::one_string))]
 pub fn exactly_one_string()
     ensures { (section : Input) (offset : ℕ) → HasOne (StringAt section offset) }
+{}
+
+/// A string that is found is the one found there whatever bytes are appended.
+#[tactic(auto, using(crate::proofs::StringLemmas::string_stays))]
+pub fn appended_bytes_change_no_string()
+    ensures { (section : Input) (offset : ℕ) (found : Input) (more : List ℕ)
+        → StringAt section offset (Ok found) → StringAt (followed_by section more) offset (Ok found) }
 {}
 
 /// Every section has exactly one answer to where an offset of a string is looked for by its index.

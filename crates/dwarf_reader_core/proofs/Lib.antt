@@ -6,6 +6,7 @@ pub mod Numbers
 pub mod Shortest
 pub mod ShortestUnsigned
 pub mod ShortestSigned
+pub mod ShortestExists
 pub mod SignedBits
 pub mod Buffers
 pub mod Bytes

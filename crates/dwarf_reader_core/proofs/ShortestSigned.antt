@@ -19,12 +19,14 @@ FitsByte v = (negsuc 63 ≤ℤ v) × (v ≤ℤ pos 63)
 below_or_above : {P : Type 0} (b : ℕ) → (b < 64 → P) → (64 ≤ b → P) → P
 below_or_above b below above = ⊎_elim below above (cases_lt b 64)
 
-signed_value-low : (b : ℕ) → b < 64 → signed_value (b ∷ []) ≡ pos b
+-- a byte below 64 is its own value
+pub signed_value-low : (b : ℕ) → b < 64 → signed_value (b ∷ []) ≡ pos b
 signed_value-low b low =
     let clear : nat_le 64 (b % 128) ≡ false = grind (arith, nat_tests) in
     rw clear (omega (arith, ints))
 
-signed_value-high : (b : ℕ) → 64 ≤ b → b < 128 → signed_value (b ∷ []) +ℤ pos 128 ≡ pos b
+-- a last byte from 64 on is worth 128 less
+pub signed_value-high : (b : ℕ) → 64 ≤ b → b < 128 → signed_value (b ∷ []) +ℤ pos 128 ≡ pos b
 signed_value-high b high small =
     let set : nat_le 64 (b % 128) ≡ true = grind (arith, nat_tests) in
     rw set (omega (arith, ints))

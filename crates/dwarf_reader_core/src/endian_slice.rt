@@ -422,7 +422,7 @@ impl<'input, Endian: Endianity> Reader for EndianSlice<'input, Endian> {
 
 // The index of the first byte of this value.
 #[inline]
-pub(crate) fn find_byte(bytes: &[u8], byte: u8) -> Option<usize>
+fn find_byte(bytes: &[u8], byte: u8) -> Option<usize>
     ensures found { IfSome result (IsFirst byte bytes.now) }
     ensures none { IfNone result (All (λ b. b ≢ byte) bytes.now) }
 {

@@ -23,9 +23,10 @@ pub fn no_encoding_begins_another()
     ensures { (a b x y : List ℕ) → IsEncoding a → IsEncoding b → a ++ x ≡ b ++ y → (a ≡ b) × (x ≡ y) }
 {}
 
-/// A number has one shortest encoding at most.
-pub fn one_shortest()
-    ensures { (k : Kind) (number : Number k) (a b : List ℕ) → IsShortest k number a → IsShortest k number b → a ≡ b }
+/// Every number has exactly one shortest encoding.
+#[tactic(auto, using(crate::proofs::ShortestExists::exactly_one_shortest))]
+pub fn exactly_one_shortest()
+    ensures { (k : Kind) (number : Number k) → HasOne (IsShortest k number) }
 {}
 
 /// What encodes a number, within the limit of its kind, is read as the number, whatever follows.

@@ -4,8 +4,6 @@
 ghost use Rattle.std.specs.Prelude.{◌≡◌, ◌≤◌, ◌<◌, ◌*◌, ◌+◌, ◌%◌, ◌^◌, ◌↔◌, IsTrue, ℕ, pos, ◌-ℤ◌, if◌then◌else◌};
 
 pub mod read;
-#[cfg(test)]
-mod tests;
 pub mod write;
 
 const CONTINUATION_BIT: u8 = 1 << 7;

@@ -3,12 +3,9 @@
 #![tactic(auto)]
 
 pub mod endian_slice;
-pub mod examples;
 pub mod laws;
 pub mod leb128;
 pub mod reader;
-#[cfg(test)]
-mod tests;
 
 pub use crate::endian_slice::EndianSlice;
 pub use crate::reader::{Reader, read_u8_array};

@@ -91,9 +91,14 @@ fn text_of(mem: Global, texts: &[&str], input: &[u8]) -> Result<Vec<u8>, Fault> 
 fn lists(rt: HostRuntime) -> Result<(), Fail> {
     let mem = rt.alloc();
     let strings: &[u8] = b"one\0two\0\0";
-    let cases: [(&[&str], &[u8], &[u8]); 16] = [
+    let cases: [(&[&str], &[u8], &[u8]); 17] = [
         (
             &["abbrev", "0"],
+            b"\x01\x11\x01\x03\x08\0\0\0\xff",
+            b"1 DW_TAG_compile_unit yes\n  DW_AT_name DW_FORM_string\n",
+        ),
+        (
+            &["abbrev-strict", "0"],
             b"\x01\x11\x01\x03\x08\0\0\0\xff",
             b"1 DW_TAG_compile_unit yes\n  DW_AT_name DW_FORM_string\n",
         ),
@@ -186,7 +191,12 @@ fn writes_numbers(rt: HostRuntime) -> Result<(), Fail> {
 #[test]
 fn tells_the_first_fault(rt: HostRuntime) -> Result<(), Fail> {
     let mem = rt.alloc();
-    let cases: [(&[&str], &[u8], &str); 11] = [
+    let cases: [(&[&str], &[u8], &str); 12] = [
+        (
+            &["abbrev-strict", "0"],
+            b"\x01\x11\0\0\0",
+            "error: unterminated abbreviation table",
+        ),
         (
             &["abbrev", "0"],
             b"\x01\0\x02",
@@ -253,7 +263,7 @@ fn tells_the_first_fault(rt: HostRuntime) -> Result<(), Fail> {
 #[test]
 fn refuses_words(rt: HostRuntime) -> Result<(), Fail> {
     let mem = rt.alloc();
-    let cases: [&[&str]; 29] = [
+    let cases: [&[&str]; 32] = [
         &[],
         &["abbrev"],
         &["abbrev", "x"],
@@ -283,6 +293,9 @@ fn refuses_words(rt: HostRuntime) -> Result<(), Fail> {
         &["sleb", "-"],
         &["sleb", "x"],
         &["sleb", "1", "1"],
+        &["abbrev-strict"],
+        &["abbrev-strict", "x"],
+        &["str-offsets", "le"],
     ];
     for texts in cases {
         assert_eq!(rt;
@@ -368,7 +381,8 @@ fn says_what_failed(rt: HostRuntime) -> Result<(), Fail> {
         ),
         (
             Fault::Usage,
-            "usage: dwarf_list abbrev OFFSET | str OFFSET | addr le|be | uleb N | sleb N",
+            "usage: dwarf_list abbrev OFFSET | str OFFSET | addr le|be | uleb N | sleb N \
+             | abbrev-strict OFFSET | str-offsets le|be",
             2,
         ),
         (Fault::Read, "error: cannot read input", 3),

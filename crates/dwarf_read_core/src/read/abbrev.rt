@@ -4,7 +4,7 @@
 //! attributes. The unit's table of abbreviations says what a code stands for: the tag of the entry,
 //! whether it has children, and which attributes follow in which forms.
 
-ghost use Rattle.std.specs.Prelude.{◌≡◌, ◌≢◌, ◌↔◌, ◌==◌, ◌+◌, ◌*◌, ◌≤◌, ◌<◌, length, true, false, IsTrue, IsSome, IsOk, IsErrOf, IfOk, IfSome, OnOk, OnErr, IfErr, option_copied, ℕ, List};
+ghost use Rattle.std.specs.Prelude.{◌≡◌, ◌≢◌, ◌↔◌, ◌==◌, ◌+◌, ◌*◌, ◌≤◌, ◌<◌, length, true, false, IsTrue, IsSome, IsOk, IsErrOf, IfOk, IfSome, OnOk, OnErr, IfErr, option_copied, ⊤, ℕ, List};
 ghost use Rattle.std.specs.Cmp.{partial_equiv_from_equiv};
 ghost use Rattle.std.specs.FinMap as finite;
 ghost use Rattle.std.specs.Fn.{CalledAt, TakesAt};
@@ -13,13 +13,15 @@ ghost use Rattle.dwarf_base_core.specs.declared.common.SectionId.TheVariants.{De
 ghost use Rattle.dwarf_reader_core.specs.Input.{end_of};
 ghost use Rattle.dwarf_read_core.specs.Equality.{same_declaration, same_declaration_equiv};
 ghost use Rattle.dwarf_read_core.specs.Forms.{form_size};
-ghost use Rattle.dwarf_read_core.specs.Grammar.{implicit_const, by_end, attribute_count};
-ghost use Rattle.dwarf_read_core.specs.Answer.{Answers, IsFinal, TakesNoMemory, followed_by};
+ghost use Rattle.dwarf_read_core.specs.Grammar.{implicit_const, by_end, is_by_null, attribute_count};
+ghost use Rattle.dwarf_read_core.specs.Answer.{Answers, AnswersStrictly, IsFinal, IsStrictlyFinal, TakesNoMemory, followed_by};
 ghost use Rattle.dwarf_read_core.specs.Reading.{Gives, tag_at, children_at, specification_at, attributes_in, declared_at, declaration_at, table_in};
 ghost use Rattle.dwarf_read_core.specs.TableEntries.{declared_in, ClosesAt};
 
 use super::section::Section;
-use dwarf_base_core::{DebugAbbrevOffset, Encoding, Endianity, Error, Result, SectionId};
+use dwarf_base_core::{
+    DebugAbbrevOffset, Encoding, Endianity, Error, ReaderOffset, ReaderOffsetId, Result, SectionId,
+};
 use dwarf_code_core::children::{DW_CHILDREN_no, DW_CHILDREN_yes, DwChildren};
 use dwarf_const_core::attribute::{DW_AT_null, DwAt};
 use dwarf_const_core::form::{
@@ -126,6 +128,59 @@ impl<R: Reader> DebugAbbrev<R> {
         let mut input = self.debug_abbrev_section.try_clone()?;
         input.skip(offset.0)?;
         Abbreviations::parse(mem, &mut input)
+    }
+
+    /// The table of abbreviations at `offset`, which a code of value 0 has to close.
+    ///
+    /// This is [`abbreviations`](Self::abbreviations), except that the section's end closes no
+    /// table. It is meant for a section that is still growing, and for checking what a producer
+    /// wrote: a table that is returned remains the table at `offset`, whatever bytes are appended
+    /// to the section.
+    ///
+    /// # Errors
+    ///
+    /// - `UnterminatedAbbreviations`, with the identifier of the section's end, if only that end
+    ///   closes the table. This includes an `offset` that equals the section's length.
+    /// - All errors of [`abbreviations`](Self::abbreviations).
+    #[tactic(auto, using(crate::proofs::Strict::strictly_stays, crate::proofs::Strict::unclosed_stays))]
+    pub fn abbreviations_strict(
+        &self,
+        mem: Global,
+        offset: DebugAbbrevOffset<R::Offset>,
+    ) -> Result<Abbreviations>
+        ensures answer { let section = R.view (debug_abbrev_reader self.now) in
+            AnswersStrictly result section (R.Offset.value offset.0) }
+
+        // A declaration takes five bytes at least, and an attribute two.
+        ensures bound { let section = R.view (debug_abbrev_reader self.now) in
+            IfOk result (λ table. 5 * finite.len table.by_code + 2 * attribute_count table.by_code
+            + R.Offset.value offset.0 ≤ length section.bytes) }
+
+        // Memory is wanted only by a declaration, or by a clone that takes some.
+        ensures memory { let section = R.view (debug_abbrev_reader self.now) in
+            R.clone_is_free ≡ true → TakesNoMemory section (R.Offset.value offset.0)
+            → IsErrOf result Error.OutOfMemory → ⊥ }
+
+        // Bytes behind the section change nothing, also where the result is a table, unless it
+        // tells of the section's end.
+        ensures stable { let section = R.view (debug_abbrev_reader self.now) in
+            IsStrictlyFinal result → (more : List ℕ)
+            → AnswersStrictly result (followed_by section more) (R.Offset.value offset.0) }
+    {
+        let abbreviations = self.abbreviations(mem, offset)?;
+        if abbreviations.closed_by_null() {
+            Ok(abbreviations)
+        } else {
+            Err(Error::UnterminatedAbbreviations(self.end_id()))
+        }
+    }
+
+    // The identifier of the section's end.
+    fn end_id(&self) -> ReaderOffsetId
+        ensures { result.0 ≡ end_of (R.view (debug_abbrev_reader self.now)) }
+    {
+        let section = &self.debug_abbrev_section;
+        ReaderOffsetId(section.offset_id().0 + section.len().into_u64())
     }
 }
 
@@ -269,6 +324,14 @@ impl Abbreviations {
         self.vec.len() + self.map.len()
     }
 
+    /// Whether a code of value 0 closes the table. If not, the section ended where another
+    /// declaration could begin. No code closes the table that [`empty`](Self::empty) makes.
+    pub fn closed_by_null(&self) -> bool
+        ensures { result ≡ is_by_null self.now.close }
+    {
+        self.closed_by_null
+    }
+
     /// Whether the table has no abbreviations.
     pub fn is_empty(&self) -> bool
         ensures { IsTrue result ↔ (finite.len self.now.by_code ≡ 0) }
@@ -347,6 +410,19 @@ impl<'table> Iterator for AbbreviationsIter<'table> {
             Some(abbreviation) => Some(abbreviation),
             None => self.map.next(),
         }
+    }
+}
+
+impl<'table> Clone for AbbreviationsIter<'table> {
+    ghost is_clone = { λ it copy. copy ≡ it };
+
+    ghost is_infallible = { λ _. ⊤ };
+
+    fn clone(&self) -> std::result::Result<Self, AllocError> {
+        Ok(AbbreviationsIter {
+            vec: self.vec.clone()?,
+            map: self.map.clone()?,
+        })
     }
 }
 

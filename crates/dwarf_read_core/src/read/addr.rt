@@ -23,9 +23,6 @@ use dwarf_reader_core::Reader;
 use std::alloc::AllocError;
 use std::marker::Model;
 
-#[cfg(test)]
-mod tests;
-
 // The version of every set: earlier standards have none.
 const VERSION: u16 = 5;
 

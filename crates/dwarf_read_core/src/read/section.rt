@@ -10,9 +10,6 @@ ghost use Rattle.dwarf_read_core.specs.Ranges.{RangeAt};
 use dwarf_base_core::{ReaderOffset, ReaderOffsetId, Result, SectionId};
 use dwarf_reader_core::Reader;
 
-#[cfg(test)]
-mod tests;
-
 /// A section of DWARF over a reader `R` of its bytes.
 ///
 /// A section is made from its reader by `From`, or loaded:

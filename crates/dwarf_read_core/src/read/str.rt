@@ -17,9 +17,6 @@ use dwarf_base_core::{
 };
 use dwarf_reader_core::{EndianSlice, Reader};
 
-#[cfg(test)]
-mod tests;
-
 /// The `.debug_str` section (DWARF 5, 7.5.5): strings, each ended by a zero byte.
 #[derive(Debug, Default, Clone, Copy, Drop)]
 pub struct DebugStr<R> {

@@ -106,7 +106,7 @@ impl Leb128 {
 }
 
 // The lowest seven bits.
-pub(crate) fn low_bits_of_u64(value: u64) -> u8
+fn low_bits_of_u64(value: u64) -> u8
     ensures { result ≡ value % 128 }
 {
     (value & 0x7f) as u8

@@ -5,8 +5,9 @@ ghost use Rattle.std.specs.BTreeMap.{get};
 ghost use Rattle.std.specs.FinMap as finite;
 ghost use Rattle.std.specs.Iterator.{IsFinite};
 ghost use Rattle.std.specs.Ordering.{nat_cmp};
-ghost use Rattle.dwarf_read_core.specs.Answer.{Answer, Answers};
-ghost use Rattle.dwarf_read_core.specs.Cache.{answer_of, KeepsAnswers, least_count, NamesOffsets, GivesBeforeError, GivesSome, IsFaithful, HandsOut};
+ghost use Rattle.dwarf_reader_core.specs.Input.{Input};
+ghost use Rattle.dwarf_read_core.specs.Answer.{Answer, Answers, followed_by};
+ghost use Rattle.dwarf_read_core.specs.Cache.{answer_of, KeepsAnswers, least_count, NamesOffsets, GivesBeforeError, GivesSome, IsFaithful, HandsOut, is_final, still_kept};
 ghost use Rattle.dwarf_read_core.specs.Sections.{debug_abbrev_reader};
 
 use super::{Abbreviations, AbbreviationsCacheStrategy, DebugAbbrev};
@@ -16,9 +17,6 @@ use std::alloc::Global;
 use std::collections::BTreeMap;
 use std::marker::Model;
 use std::rc::Rc;
-
-#[cfg(test)]
-mod tests;
 
 type Entries = BTreeMap<u64, Result<Rc<Abbreviations>>>;
 
@@ -118,6 +116,22 @@ impl AbbreviationsCache {
         Ok(())
     }
 
+    /// Forgets each entry that may be wrong once bytes are appended to the section.
+    ///
+    /// A table that a code of value 0 closes is kept, and so is each error except `UnexpectedEof`:
+    /// no bytes that are appended change these. A table that the section's end closed is dropped,
+    /// and so is an `UnexpectedEof`. After this call [`get`](Self::get) reads them again.
+    ///
+    /// Call it each time the section has grown, before the next `get` on the longer section. The
+    /// call takes no memory.
+    pub fn section_grew(&mut self)
+        ensures kept { (key : ℕ) → finite.get self.new key ≡ still_kept (finite.get self.old key) }
+        ensures faithful { (section : Input) (more : List ℕ)
+            → IsFaithful self.old section → IsFaithful self.new (followed_by section more) }
+    {
+        self.abbreviations.retain(|_, answer| is_final(answer));
+    }
+
     /// What is kept at an offset, and else a fresh reading of `debug_abbrev`, which isn't kept.
     ///
     /// # Errors
@@ -139,6 +153,17 @@ impl AbbreviationsCache {
             Some(Err(fault)) => Err(*fault),
             None => Ok(Rc::new(self.mem, debug_abbrev.abbreviations(self.mem, offset)?)?),
         }
+    }
+}
+
+// Whether appended bytes leave an answer as it is.
+fn is_final(answer: &Result<Rc<Abbreviations>>) -> bool
+    ensures { result ≡ is_final (answer_of answer.now) }
+{
+    match answer {
+        Ok(table) => table.closed_by_null(),
+        Err(Error::UnexpectedEof(_)) => false,
+        Err(_) => true,
     }
 }
 

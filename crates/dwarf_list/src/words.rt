@@ -1,0 +1,46 @@
+//! The words of the command line, as the system gives them.
+
+ghost use Rattle.std.specs.Prelude.{◌≡◌, ◌⊎◌, IfErr};
+
+use crate::fault::Fault;
+use dwarf_read_core::Error;
+use std::alloc::Global;
+use std::env;
+use std::env::{Env, FillError};
+use std::io::ErrorKind;
+
+#[cfg(test)]
+mod tests;
+
+// The words behind the program's own name, which may be no text.
+#[derive(Drop)]
+struct BehindName<'env, E: Env>(&'env E);
+
+impl<E: Env> Env for BehindName<'_, E> {
+    fn arg(&self, i: usize, buf: &mut [u8]) -> Result<usize, FillError> {
+        self.0.arg(i.saturating_add(1), buf)
+    }
+
+    fn var(&self, name: &str, buf: &mut [u8]) -> Result<usize, FillError> {
+        self.0.var(name, buf)
+    }
+
+    fn var_at(&self, i: usize, buf: &mut [u8]) -> Result<usize, FillError> {
+        self.0.var_at(i, buf)
+    }
+}
+
+/// The words of the command line, without the program's name.
+///
+/// # Errors
+///
+/// `Usage` if a word isn't UTF-8, and `OutOfMemory` if memory for the words runs out.
+pub fn command_line<E: Env>(mem: Global, env: &E) -> Result<Vec<String>, Fault>
+    ensures err { IfErr result (λ fault. (fault ≡ Fault.Usage) ⊎ (fault ≡ Fault.Section Error.OutOfMemory)) }
+{
+    match env::args(&(BehindName(env), mem)) {
+        Ok(words) => Ok(words.collect(mem)?),
+        Err(error) if error.kind() == ErrorKind::OutOfMemory => Err(Fault::out_of_memory()),
+        Err(_) => Err(Fault::Usage),
+    }
+}

@@ -1,0 +1,18 @@
+//! A caller that has to show what a call asks of it.
+
+ghost use Rattle.std.specs.Prelude.{◌≡◌, take, drop};
+
+use dwarf_read_core::{EndianSlice, LittleEndian};
+
+/// Returns the first three of ten bytes, and the last seven.
+///
+/// [`split_at`](EndianSlice::split_at) asks that as many bytes are there: a call with 30 in place
+/// of 3 isn't accepted.
+pub fn split_ten(bytes: &[u8; 10]) -> (&[u8], &[u8])
+    ensures front { result.0.now ≡ take 3 bytes.now }
+    ensures rest { result.1.now ≡ drop 3 bytes.now }
+{
+    let ten = EndianSlice::new(bytes.as_slice(), LittleEndian);
+    let (front, rest) = ten.split_at(3);
+    (front.slice(), rest.slice())
+}

@@ -1,0 +1,165 @@
+//! The cache of abbreviation tables.
+
+use super::worked::ENDED;
+use super::{eof, same};
+use dwarf_read_core::{
+    AbbreviationsCache, AbbreviationsCacheStrategy, DebugAbbrev, DebugAbbrevOffset, EndianSlice,
+    Error, LittleEndian, Result,
+};
+use std::alloc::Global;
+use std::process::Abort;
+use std::rc::Rc;
+use std::test::Fail;
+
+type Slice<'a> = EndianSlice<'a, LittleEndian>;
+
+// A section with one declaration, and one whose table is empty.
+fn one() -> DebugAbbrev<Slice<'static>> {
+    DebugAbbrev::new(ENDED, LittleEndian)
+}
+
+fn none() -> DebugAbbrev<Slice<'static>> {
+    DebugAbbrev::new(&[0], LittleEndian)
+}
+
+// The only code of the table that a cache returns, or 0 where it has none.
+fn code_at(
+    cache: &AbbreviationsCache,
+    section: &DebugAbbrev<Slice<'_>>,
+    offset: usize,
+) -> Result<u64> {
+    let table = cache.get(section, DebugAbbrevOffset(offset))?;
+    match table.iter().next() {
+        Some(abbreviation) => Ok(abbreviation.code()),
+        None => Ok(0),
+    }
+}
+
+// What a cache returns for the empty section, at 0 and at 5.
+fn check(
+    rt: &impl Abort,
+    cache: &AbbreviationsCache,
+    at_0: Result<u64>,
+    at_5: Result<u64>,
+    what: &str,
+) {
+    same(rt, code_at(cache, &none(), 0), at_0, what);
+    same(rt, code_at(cache, &none(), 5), at_5, what);
+}
+
+// Keeps the tables at 5, 0, 5, 7, an error, 7.
+fn populate(cache: &mut AbbreviationsCache, strategy: AbbreviationsCacheStrategy) -> Result<()> {
+    let offsets = [
+        Ok(DebugAbbrevOffset(5)),
+        Ok(DebugAbbrevOffset(0)),
+        Ok(DebugAbbrevOffset(5)),
+        Ok(DebugAbbrevOffset(7)),
+        Err(Error::BadUtf8),
+        Ok(DebugAbbrevOffset(7)),
+    ];
+    cache.populate(strategy, &one(), offsets.into_iter())
+}
+
+// Keeps a table with the code 9 at 5.
+fn set_nine(mem: Global, cache: &mut AbbreviationsCache) -> Result<()> {
+    let nine = DebugAbbrev::new(&[0x09, 0x11, 0x00, 0x00, 0x00], LittleEndian);
+    let table = nine.abbreviations(mem, DebugAbbrevOffset(0))?;
+    cache.set::<Slice<'_>>(DebugAbbrevOffset(5), Rc::new(mem, table)?)
+}
+
+#[test]
+fn tables_are_kept_or_read_afresh(rt: HostRuntime) -> std::result::Result<(), Fail> {
+    let mem = rt.alloc();
+    let mut cache = AbbreviationsCache::new(mem);
+    check(&rt, &cache, Ok(0), Err(eof(0)), "new");
+    populate(&mut cache, AbbreviationsCacheStrategy::Duplicates)?;
+    check(&rt, &cache, Ok(0), Ok(0), "duplicates");
+    same(&rt, code_at(&cache, &one(), 7), Err(eof(0)), "7, once");
+    populate(&mut cache, AbbreviationsCacheStrategy::All)?;
+    check(&rt, &cache, Ok(1), Ok(0), "all");
+    set_nine(mem, &mut cache)?;
+    check(&rt, &cache, Ok(1), Ok(9), "set");
+    let wants = [Ok(DebugAbbrevOffset(0)), Err(Error::OutOfMemory)];
+    let strategy = AbbreviationsCacheStrategy::All;
+    let refused = cache.populate(strategy, &none(), wants.into_iter());
+    same(&rt, refused, Err(Error::OutOfMemory), "refused");
+    check(&rt, &cache, Ok(1), Ok(9), "refused");
+    let nothing: [Result<DebugAbbrevOffset<usize>>; 0] = [];
+    cache.populate(strategy, &one(), nothing.into_iter())?;
+    check(&rt, &cache, Ok(0), Err(eof(0)), "no offsets");
+    Ok(())
+}
+
+#[test]
+fn growing_sections_are_read_again(rt: HostRuntime) -> std::result::Result<(), Fail> {
+    let bytes = b"\x80\0\x01\0\x02\x01\x11\0\0\0";
+    let longer = DebugAbbrev::new(b"\x01\x11\0\0\0\0\0\0\0\0\0\0", LittleEndian);
+    let offsets = [
+        Ok(DebugAbbrevOffset(0)),
+        Ok(DebugAbbrevOffset(2)),
+        Ok(DebugAbbrevOffset(5)),
+        Ok(DebugAbbrevOffset(11)),
+    ];
+    let mut cache = AbbreviationsCache::new(rt.alloc());
+    let section = DebugAbbrev::new(bytes, LittleEndian);
+    let strategy = AbbreviationsCacheStrategy::All;
+    cache.populate(strategy, &section, offsets.into_iter())?;
+    for (offset, wanted) in [
+        (0, Ok(0)),
+        (2, Err(Error::AbbreviationTagZero)),
+        (5, Ok(1)),
+        (11, Err(eof(0))),
+    ] {
+        same(&rt, code_at(&cache, &longer, offset), wanted, offset);
+    }
+    cache.section_grew();
+    for (offset, wanted) in [
+        (0, Ok(0)),
+        (2, Err(Error::AbbreviationTagZero)),
+        (5, Ok(0)),
+        (11, Ok(0)),
+    ] {
+        same(&rt, code_at(&cache, &longer, offset), wanted, offset);
+    }
+    Ok(())
+}
+
+fn populated(mem: Global) -> Result<AbbreviationsCache> {
+    let mut cache = AbbreviationsCache::new(mem);
+    populate(&mut cache, AbbreviationsCacheStrategy::All)?;
+    Ok(cache)
+}
+
+// The code is the one that is wanted, or memory for a fresh reading was refused.
+fn code_or_refused(rt: &impl Abort, code: Result<u64>, wanted: u64, what: &str) {
+    match code {
+        Ok(code) => same(rt, code, wanted, what),
+        Err(error) => same(rt, error, Error::OutOfMemory, what),
+    }
+}
+
+// With requests for memory that are refused, a refused call leaves the old cache.
+#[test]
+fn refused_memory(rt: HostRuntime) {
+    let Ok(mut cache) = populated(rt.alloc()) else {
+        return;
+    };
+    let wanted = match set_nine(rt.alloc(), &mut cache) {
+        Ok(()) => 9,
+        Err(error) => {
+            same(&rt, error, Error::OutOfMemory, "set");
+            0
+        }
+    };
+    code_or_refused(&rt, code_at(&cache, &one(), 5), wanted, "set");
+    let offsets = [Ok(DebugAbbrevOffset(0)), Ok(DebugAbbrevOffset(0))];
+    let strategy = AbbreviationsCacheStrategy::Duplicates;
+    let wanted = match cache.populate(strategy, &none(), offsets.into_iter()) {
+        Ok(()) => 0,
+        Err(error) => {
+            same(&rt, error, Error::OutOfMemory, "populate");
+            1
+        }
+    };
+    code_or_refused(&rt, code_at(&cache, &one(), 0), wanted, "populate");
+}

@@ -1,0 +1,209 @@
+//! LEB128 numbers, read and written.
+
+use super::{eof, little, same};
+use dwarf_read_core::leb128::read;
+use dwarf_read_core::leb128::write::{Leb128, sleb128_size, uleb128_size};
+use dwarf_read_core::{EndianSlice, Error, LittleEndian, Reader, ReaderOffsetId, Result};
+
+// The last of the thirty-one bytes alone ends a number.
+const LONG: &[u8] = &[
+    0x82, 0x82, 0x82, 0x82, 0x82, 0x82, 0x82, 0x82, 0x82, 0x82, 0x82, 0x82, 0x82, 0x82, 0x82, 0x82,
+    0x82, 0x82, 0x82, 0x82, 0x82, 0x82, 0x82, 0x82, 0x82, 0x82, 0x82, 0x82, 0x82, 0x82, 0x01,
+];
+
+const NINE: &[u8] = &[0x80, 0x80, 0x80, 0x80, 0x80, 0x80, 0x80, 0x80, 0x80];
+
+// Bytes, what a reading of them returns, and how many of them it consumes.
+static UNSIGNED: &[(&[u8], Result<u64>, u64)] = &[
+    (&[0x02], Ok(2), 1),
+    (&[0x7f], Ok(127), 1),
+    (&[0x80, 0x01], Ok(128), 2),
+    (&[0x81, 0x01], Ok(129), 2),
+    (&[0xb9, 0x64], Ok(12857), 2),
+    (&[0x82, 0x01, 0x01], Ok(130), 2),
+    (
+        &[0x80, 0x80, 0x80, 0x80, 0x80, 0x80, 0x80, 0x80, 0x80, 0x01],
+        Ok(1 << 63),
+        10,
+    ),
+    (
+        &[0x80, 0x80, 0x80, 0x80, 0x80, 0x80, 0x80, 0x80, 0x80, 0x02],
+        Err(Error::BadUnsignedLeb128),
+        10,
+    ),
+    (LONG, Err(Error::BadUnsignedLeb128), 10),
+    (NINE, Err(Error::UnexpectedEof(ReaderOffsetId(9))), 9),
+    (&[0x80], Err(Error::UnexpectedEof(ReaderOffsetId(1))), 1),
+    (&[], Err(Error::UnexpectedEof(ReaderOffsetId(0))), 0),
+];
+
+static SHORT: &[(&[u8], Result<u16>, u64)] = &[
+    (&[0x02], Ok(2), 1),
+    (&[0x7f], Ok(0x7f), 1),
+    (&[0x80, 0x01], Ok(0x80), 2),
+    (&[0x81, 0x01], Ok(0x81), 2),
+    (&[0x82, 0x01], Ok(0x82), 2),
+    (&[0xff, 0x7f], Ok(0x3fff), 2),
+    (&[0x80, 0x80, 0x01], Ok(0x4000), 3),
+    (&[0xff, 0xff, 0x01], Ok(0x7fff), 3),
+    (&[0xff, 0xff, 0x03], Ok(0xffff), 3),
+    (&[0x80, 0x80, 0x04], Err(Error::BadUnsignedLeb128), 3),
+    (&[0x80, 0x80, 0x80, 0x03], Err(Error::BadUnsignedLeb128), 3),
+    (
+        &[0x80, 0x80],
+        Err(Error::UnexpectedEof(ReaderOffsetId(2))),
+        2,
+    ),
+    (&[0x80], Err(Error::UnexpectedEof(ReaderOffsetId(1))), 1),
+];
+
+static SIGNED: &[(&[u8], Result<i64>, u64)] = &[
+    (&[0x02], Ok(2), 1),
+    (&[0x7e], Ok(-2), 1),
+    (&[0xff, 0x00], Ok(127), 2),
+    (&[0x81, 0x7f], Ok(-127), 2),
+    (&[0x80, 0x01], Ok(128), 2),
+    (&[0x80, 0x7f], Ok(-128), 2),
+    (&[0x81, 0x01], Ok(129), 2),
+    (&[0xff, 0x7e], Ok(-129), 2),
+    (
+        &[0x80, 0x80, 0x80, 0x80, 0x80, 0x80, 0x80, 0x80, 0x40],
+        Ok(-(1 << 62)),
+        9,
+    ),
+    (
+        &[0x80, 0x80, 0x80, 0x80, 0x80, 0x80, 0x80, 0x80, 0x80, 0x7f],
+        Ok(i64::MIN),
+        10,
+    ),
+    (LONG, Err(Error::BadSignedLeb128), 10),
+    (NINE, Err(Error::UnexpectedEof(ReaderOffsetId(9))), 9),
+    (&[0x80], Err(Error::UnexpectedEof(ReaderOffsetId(1))), 1),
+];
+
+// Bytes, what a skip of them returns, and how many of them it consumes.
+static SKIPPED: &[(&[u8], Result<()>, u64)] = &[
+    (&[0x82, 0x01, 0x01], Ok(()), 2),
+    (
+        &[
+            0x80, 0x80, 0x80, 0x80, 0x80, 0x80, 0x80, 0x80, 0x80, 0x80, 0x80, 0x00,
+        ],
+        Ok(()),
+        12,
+    ),
+    (NINE, Err(Error::UnexpectedEof(ReaderOffsetId(9))), 9),
+];
+
+// Numbers, and their shortest encodings.
+static WRITTEN: &[(u64, &[u8])] = &[
+    (0, &[0x00]),
+    (12857, &[0xb9, 0x64]),
+    (
+        u64::MAX,
+        &[0xff, 0xff, 0xff, 0xff, 0xff, 0xff, 0xff, 0xff, 0xff, 0x01],
+    ),
+];
+
+static WRITTEN_SIGNED: &[(i64, &[u8])] = &[
+    (0, &[0x00]),
+    (63, &[0x3f]),
+    (64, &[0xc0, 0x00]),
+    (-64, &[0x40]),
+    (-65, &[0xbf, 0x7f]),
+    (
+        i64::MIN,
+        &[0x80, 0x80, 0x80, 0x80, 0x80, 0x80, 0x80, 0x80, 0x80, 0x7f],
+    ),
+    (
+        i64::MAX,
+        &[0xff, 0xff, 0xff, 0xff, 0xff, 0xff, 0xff, 0xff, 0xff, 0x00],
+    ),
+];
+
+#[test]
+fn numbers_are_read(rt: HostRuntime) {
+    for (bytes, wanted, consumed) in UNSIGNED {
+        let mut input = little(bytes);
+        same(&rt, read::unsigned(&mut input), *wanted, bytes);
+        same(&rt, input.offset_id().0, *consumed, bytes);
+    }
+    for (bytes, wanted, consumed) in SHORT {
+        let mut input = little(bytes);
+        same(&rt, read::u16(&mut input), *wanted, bytes);
+        same(&rt, input.offset_id().0, *consumed, bytes);
+    }
+    for (bytes, wanted, consumed) in SIGNED {
+        let mut input = little(bytes);
+        same(&rt, read::signed(&mut input), *wanted, bytes);
+        same(&rt, input.offset_id().0, *consumed, bytes);
+    }
+    for (bytes, wanted, consumed) in SKIPPED {
+        let mut input = little(bytes);
+        same(&rt, read::skip(&mut input), *wanted, bytes);
+        same(&rt, input.offset_id().0, *consumed, bytes);
+    }
+}
+
+#[test]
+fn numbers_are_read_one_behind_the_other(rt: HostRuntime) {
+    let mut input = little(&[0x82, 0x01, 0x01]);
+    same(&rt, read::unsigned(&mut input), Ok(130), "first");
+    same(&rt, read::unsigned(&mut input), Ok(1), "second");
+    same(&rt, read::unsigned(&mut input), Err(eof(3)), "third");
+}
+
+#[test]
+fn numbers_are_written(rt: HostRuntime) {
+    for (value, bytes) in WRITTEN {
+        let written = Leb128::unsigned(*value);
+        same(&rt, written.bytes(), *bytes, *value);
+        let lengths = (written.len(), uleb128_size(*value));
+        same(&rt, lengths, (bytes.len(), bytes.len()), *value);
+    }
+    for (value, bytes) in WRITTEN_SIGNED {
+        let written = Leb128::signed(*value);
+        same(&rt, written.bytes(), *bytes, *value);
+        let lengths = (written.len(), sleb128_size(*value));
+        same(&rt, lengths, (bytes.len(), bytes.len()), *value);
+    }
+}
+
+// A reader of what stands at the front of many zero bytes.
+fn padded<'a>(buffer: &'a mut [u8; 1024], written: &Leb128) -> EndianSlice<'a, LittleEndian> {
+    let bytes = written.bytes();
+    buffer[..bytes.len()].copy_from_slice(bytes);
+    little(buffer.as_slice())
+}
+
+#[test]
+fn written_numbers_are_read(rt: HostRuntime) {
+    for value in 0..1025u64 {
+        let mut buffer = [0; 1024];
+        let written = Leb128::unsigned(value);
+        let mut input = padded(&mut buffer, &written);
+        same(&rt, read::unsigned(&mut input), Ok(value), value);
+        same(&rt, input.offset_id().0, written.len() as u64, value);
+    }
+    for value in (-513..513i64).chain([i64::MIN]) {
+        let mut buffer = [0; 1024];
+        let written = Leb128::signed(value);
+        let mut input = padded(&mut buffer, &written);
+        same(&rt, read::signed(&mut input), Ok(value), value);
+        same(&rt, input.offset_id().0, written.len() as u64, value);
+    }
+}
+
+// The low seven bits of a byte are its digit, and those of a number are its first byte's.
+#[test]
+fn bytes_carry_seven_bits(rt: HostRuntime) {
+    for digit in 0..127u8 {
+        let wide = u64::from(digit);
+        same(&rt, read::unsigned(&mut little(&[digit])), Ok(wide), digit);
+        let padded = [digit + 128, 0];
+        same(&rt, read::unsigned(&mut little(&padded)), Ok(wide), digit);
+        for number in [65536 + wide, 65536 * wide + wide + 128] {
+            let written = Leb128::unsigned(number);
+            same(&rt, written.bytes().first(), Some(&(digit + 128)), number);
+        }
+    }
+}

@@ -1,0 +1,286 @@
+//! Sections: their names, and what they have in common.
+
+use super::{eof, little, same};
+use dwarf_read_core::{
+    DebugAbbrev, DebugAddr, DebugLineStr, DebugStr, DebugStrOffset, DebugStrOffsets, EndianSlice,
+    LittleEndian, Reader, ReaderOffsetId, Result, Section, SectionId,
+};
+use std::test::Fail;
+
+type Slice<'a> = EndianSlice<'a, LittleEndian>;
+
+// An identifier, its name, the name in a split file, and that in XCOFF.
+static SECTIONS: [(SectionId, &str, Option<&str>, Option<&str>); 25] = [
+    (
+        SectionId::DebugAbbrev,
+        ".debug_abbrev",
+        Some(".debug_abbrev.dwo"),
+        Some(".dwabrev"),
+    ),
+    (SectionId::DebugAddr, ".debug_addr", None, None),
+    (
+        SectionId::DebugAranges,
+        ".debug_aranges",
+        None,
+        Some(".dwarnge"),
+    ),
+    (
+        SectionId::DebugCuIndex,
+        ".debug_cu_index",
+        Some(".debug_cu_index"),
+        None,
+    ),
+    (
+        SectionId::DebugFrame,
+        ".debug_frame",
+        None,
+        Some(".dwframe"),
+    ),
+    (SectionId::EhFrame, ".eh_frame", None, None),
+    (SectionId::EhFrameHdr, ".eh_frame_hdr", None, None),
+    (
+        SectionId::DebugGnuPubNames,
+        ".debug_gnu_pubnames",
+        None,
+        None,
+    ),
+    (
+        SectionId::DebugGnuPubTypes,
+        ".debug_gnu_pubtypes",
+        None,
+        None,
+    ),
+    (
+        SectionId::DebugInfo,
+        ".debug_info",
+        Some(".debug_info.dwo"),
+        Some(".dwinfo"),
+    ),
+    (
+        SectionId::DebugLine,
+        ".debug_line",
+        Some(".debug_line.dwo"),
+        Some(".dwline"),
+    ),
+    (SectionId::DebugLineStr, ".debug_line_str", None, None),
+    (
+        SectionId::DebugLoc,
+        ".debug_loc",
+        Some(".debug_loc.dwo"),
+        Some(".dwloc"),
+    ),
+    (
+        SectionId::DebugLocLists,
+        ".debug_loclists",
+        Some(".debug_loclists.dwo"),
+        None,
+    ),
+    (
+        SectionId::DebugMacinfo,
+        ".debug_macinfo",
+        Some(".debug_macinfo.dwo"),
+        Some(".dwmac"),
+    ),
+    (
+        SectionId::DebugMacro,
+        ".debug_macro",
+        Some(".debug_macro.dwo"),
+        None,
+    ),
+    (SectionId::DebugNames, ".debug_names", None, None),
+    (
+        SectionId::DebugPubNames,
+        ".debug_pubnames",
+        None,
+        Some(".dwpbnms"),
+    ),
+    (
+        SectionId::DebugPubTypes,
+        ".debug_pubtypes",
+        None,
+        Some(".dwpbtyp"),
+    ),
+    (
+        SectionId::DebugRanges,
+        ".debug_ranges",
+        None,
+        Some(".dwrnges"),
+    ),
+    (
+        SectionId::DebugRngLists,
+        ".debug_rnglists",
+        Some(".debug_rnglists.dwo"),
+        None,
+    ),
+    (
+        SectionId::DebugStr,
+        ".debug_str",
+        Some(".debug_str.dwo"),
+        Some(".dwstr"),
+    ),
+    (
+        SectionId::DebugStrOffsets,
+        ".debug_str_offsets",
+        Some(".debug_str_offsets.dwo"),
+        None,
+    ),
+    (
+        SectionId::DebugTuIndex,
+        ".debug_tu_index",
+        Some(".debug_tu_index"),
+        None,
+    ),
+    (
+        SectionId::DebugTypes,
+        ".debug_types",
+        Some(".debug_types.dwo"),
+        None,
+    ),
+];
+
+#[test]
+fn names_are_as_published(rt: HostRuntime) {
+    for (id, name, dwo_name, xcoff_name) in &SECTIONS {
+        let names = (id.name(), id.dwo_name(), id.xcoff_name());
+        same(&rt, names, (*name, *dwo_name, *xcoff_name), name);
+        let is_string = *name == ".debug_str" || *name == ".debug_line_str";
+        same(&rt, id.is_string(), is_string, name);
+    }
+    for (row, next) in SECTIONS.iter().zip(SECTIONS.iter().skip(1)) {
+        assert!(rt; row.0 < next.0, "{}", row.1);
+    }
+}
+
+// The identifier of a section type, and whether its names are those of the identifier.
+fn identifier<'a, S: Section<Slice<'a>>>() -> (SectionId, bool) {
+    let id = S::id();
+    let has_names = S::section_name() == id.name()
+        && S::dwo_section_name() == id.dwo_name()
+        && S::xcoff_section_name() == id.xcoff_name();
+    (id, has_names)
+}
+
+#[test]
+fn sections_have_identifiers(rt: HostRuntime) {
+    for (identifier, wanted) in [
+        (
+            identifier::<DebugAbbrev<Slice<'static>>>(),
+            SectionId::DebugAbbrev,
+        ),
+        (
+            identifier::<DebugAddr<Slice<'static>>>(),
+            SectionId::DebugAddr,
+        ),
+        (
+            identifier::<DebugStr<Slice<'static>>>(),
+            SectionId::DebugStr,
+        ),
+        (
+            identifier::<DebugStrOffsets<Slice<'static>>>(),
+            SectionId::DebugStrOffsets,
+        ),
+        (
+            identifier::<DebugLineStr<Slice<'static>>>(),
+            SectionId::DebugLineStr,
+        ),
+    ] {
+        same(&rt, identifier, (wanted, true), wanted);
+    }
+}
+
+#[test]
+fn sections_are_loaded(rt: HostRuntime) {
+    let bytes: &[u8] = b"abc\0";
+    let section = DebugStr::load(|id| {
+        if id == SectionId::DebugStr {
+            Ok(little(bytes))
+        } else {
+            Err(id)
+        }
+    });
+    match section {
+        Ok(section) => same(&rt, section.reader().slice(), bytes, "loaded"),
+        Err(id) => assert!(rt; false, "{id:?}"),
+    }
+    let section: std::result::Result<DebugAddr<Slice<'_>>, SectionId> = DebugAddr::load(|id| Err(
+        id,
+    ));
+    same(&rt, section.err(), Some(SectionId::DebugAddr), "refused");
+}
+
+// Bytes and position of a range of a section.
+fn range<'a, S: Section<Slice<'a>> + Drop>(
+    section: S,
+    offset: u32,
+    size: u32,
+) -> Result<(&'a [u8], u64)> {
+    let part = section.dwp_range(offset, size)?;
+    Ok((part.reader().slice(), part.reader().offset_id().0))
+}
+
+#[test]
+fn ranges_are_cut(rt: HostRuntime) {
+    let ten = little(b"0123456789");
+    let rows: [(u32, u32, Result<(&[u8], u64)>); 6] = [
+        (4, 6, Ok((b"456789", 4))),
+        (0, 3, Ok((b"012", 0))),
+        (10, 0, Ok((b"", 10))),
+        (4, 7, Err(eof(4))),
+        (11, 0, Err(eof(0))),
+        (1, u32::MAX, Err(eof(1))),
+    ];
+    for (offset, size, wanted) in rows {
+        for part in [
+            range(DebugAbbrev::from(ten), offset, size),
+            range(DebugAddr::from(ten), offset, size),
+            range(DebugStr::from(ten), offset, size),
+            range(DebugStrOffsets::from(ten), offset, size),
+            range(DebugLineStr::from(ten), offset, size),
+        ] {
+            same(&rt, part, wanted, (offset, size));
+        }
+    }
+}
+
+#[test]
+fn identifiers_are_places_of_a_section(rt: HostRuntime) {
+    let reader = EndianSlice::with_first_id(b"abc", LittleEndian, ReaderOffsetId(100));
+    let section = DebugLineStr::from(reader);
+    let lines = SectionId::DebugLineStr;
+    for (id, wanted) in [
+        (99, None),
+        (100, Some((lines, 0))),
+        (103, Some((lines, 3))),
+        (104, None),
+    ] {
+        same(
+            &rt,
+            section.lookup_offset_id(ReaderOffsetId(id)),
+            wanted,
+            id,
+        );
+    }
+}
+
+#[test]
+fn sections_are_borrowed(rt: HostRuntime) -> std::result::Result<(), Fail> {
+    let mem = rt.alloc();
+    let wanted: &[u8] = b"abc\0";
+    let strings = DebugStr::from(Vec::from_slice(mem, wanted)?);
+    let section = strings.borrow(|bytes| little(bytes));
+    let string = section.get_str(DebugStrOffset(1))?;
+    same(&rt, string.slice(), b"bc".as_slice(), "strings");
+    let lines = DebugLineStr::from(Vec::from_slice(mem, wanted)?);
+    let section = lines.borrow(|bytes| little(bytes));
+    same(&rt, section.reader().slice(), wanted, "line strings");
+    let offsets = DebugStrOffsets::from(Vec::from_slice(mem, wanted)?);
+    let section = offsets.borrow(|bytes| little(bytes));
+    same(&rt, section.reader().slice(), wanted, "offsets");
+    let addresses = DebugAddr::from(Vec::from_slice(mem, wanted)?);
+    let section = addresses.borrow(|bytes| little(bytes));
+    same(&rt, section.reader().slice(), wanted, "addresses");
+    let tables = DebugAbbrev::from(Vec::from_slice(mem, wanted)?);
+    let section = tables.borrow(|bytes| little(bytes));
+    same(&rt, section.reader().slice(), wanted, "tables");
+    Ok(())
+}

@@ -1,0 +1,585 @@
+//! Abbreviation tables.
+
+use super::worked::{ENDED, FIVE, IMPLICIT, SIX, THREE, UNIT};
+use super::{eof, same};
+use dwarf_read_core::constants::*;
+use dwarf_read_core::{
+    Abbreviations, AttributeSpecification, BigEndian, DebugAbbrev, DebugAbbrevOffset, Encoding,
+    EndianSlice, Error, Format, LittleEndian, ReaderOffsetId, Result, RunTimeEndian,
+};
+use std::alloc::{AllocError, Global};
+use std::process::Abort;
+use std::test::Fail;
+
+fn children(value: u8) -> Error {
+    Error::InvalidAbbreviationChildren(DwChildren(value))
+}
+
+fn unterminated(position: u64) -> Error {
+    Error::UnterminatedAbbreviations(ReaderOffsetId(position))
+}
+
+fn table_at(mem: Global, bytes: &[u8], offset: usize) -> Result<Abbreviations> {
+    DebugAbbrev::new(bytes, LittleEndian).abbreviations(mem, DebugAbbrevOffset(offset))
+}
+
+// A table by rising code, and a `.` where a code of value 0 closes it.
+fn shown(mem: Global, table: &Abbreviations) -> std::result::Result<String, AllocError> {
+    let mut text = String::new(mem);
+    for abbreviation in table.iter() {
+        let (code, tag) = (abbreviation.code(), abbreviation.tag());
+        let yes = abbreviation.has_children();
+        write!(text, "{code} {tag} {yes}")?;
+        for attribute in abbreviation.attributes() {
+            let (name, form) = (attribute.name(), attribute.form());
+            write!(text, ", {name} {form}")?;
+            if let Some(value) = attribute.implicit_const_value() {
+                write!(text, " {value}")?;
+            }
+        }
+        text.push(';')?;
+    }
+    if table.closed_by_null() {
+        text.push('.')?;
+    }
+    Ok(text)
+}
+
+// Bytes, an offset, and the table there.
+static TABLES: &[(&[u8], usize, &str)] = &[
+    (
+        UNIT,
+        0,
+        "1 DW_TAG_compile_unit true, DW_AT_name DW_FORM_string;.",
+    ),
+    (ENDED, 0, "1 DW_TAG_compile_unit false;"),
+    (ENDED, 5, ""),
+    (
+        IMPLICIT,
+        0,
+        "1 DW_TAG_subprogram false, DW_AT_name DW_FORM_implicit_const -42;.",
+    ),
+    (b"\x80\0\xaa", 0, "."),
+    (b"", 0, ""),
+    (
+        b"\x01\x91\x80\0\0\0\0\0",
+        0,
+        "1 DW_TAG_compile_unit false;.",
+    ),
+    (
+        THREE,
+        0,
+        "1 DW_TAG_compile_unit false;2 DW_TAG_compile_unit false;3 DW_TAG_compile_unit false;.",
+    ),
+    (
+        b"\xff\xff\xff\xff\xff\xff\xff\xff\xff\x01\x11\0\0\0\0",
+        0,
+        "18446744073709551615 DW_TAG_compile_unit false;.",
+    ),
+    (
+        b"\x80\x80\x80\x80\x80\x80\x80\x80\x80\x01\x11\0\0\0\0",
+        0,
+        "9223372036854775808 DW_TAG_compile_unit false;.",
+    ),
+    (b"\x80\x80\x80\x80\x80\x80\x80\x80\x80\0", 0, "."),
+    (
+        b"\x01\x11\0\x80\0\x80\x80\0\0",
+        0,
+        "1 DW_TAG_compile_unit false;.",
+    ),
+    (
+        b"\x01\x2e\0\x03\x21\x80\x80\x80\x80\x80\x80\x80\x80\x80\x7f\0\0\0",
+        0,
+        "1 DW_TAG_subprogram false, DW_AT_name DW_FORM_implicit_const -9223372036854775808;.",
+    ),
+    (
+        b"\x01\x02\x03\x04\x02\x2e\0\x03\x08\0\0\x01\x11\x01\x25\x0e\x13\x05\0\0\0\x05\x06\x07\x08",
+        4,
+        "1 DW_TAG_compile_unit true, DW_AT_producer DW_FORM_strp, DW_AT_language DW_FORM_data2;2 DW_TAG_subprogram false, DW_AT_name DW_FORM_string;.",
+    ),
+    (b"\x01\xb4\x24\0\0\0\0", 0, "1 Unknown DwTag: 4660 false;."),
+];
+
+#[test]
+fn tables_are_read(rt: HostRuntime) -> std::result::Result<(), Fail> {
+    for (bytes, offset, wanted) in TABLES {
+        let table = table_at(rt.alloc(), bytes, *offset)?;
+        let text = shown(rt.alloc(), &table)?;
+        same(&rt, text.as_str(), *wanted, (bytes, offset));
+    }
+    Ok(())
+}
+
+#[test]
+fn strict_tables_are_closed(rt: HostRuntime) -> std::result::Result<(), Fail> {
+    let mem = rt.alloc();
+    let unit = "1 DW_TAG_compile_unit true, DW_AT_name DW_FORM_string;.";
+    let rows: [(&[u8], usize, Result<&str>); 8] = [
+        (UNIT, 0, Ok(unit)),
+        (ENDED, 0, Err(unterminated(5))),
+        (ENDED, 5, Err(unterminated(5))),
+        (ENDED, 6, Err(eof(0))),
+        (b"\x80\0\xaa", 0, Ok(".")),
+        (b"\x80\0\xaa", 3, Err(unterminated(3))),
+        (b"\x80", 0, Err(eof(1))),
+        (
+            b"\x01\x11\0\0\0\x01\x11\0\0\0",
+            0,
+            Err(Error::DuplicateAbbreviationCode(1)),
+        ),
+    ];
+    for (bytes, offset, wanted) in rows {
+        let section = DebugAbbrev::new(bytes, LittleEndian);
+        match section.abbreviations_strict(mem, DebugAbbrevOffset(offset)) {
+            Ok(table) => {
+                let text = shown(mem, &table)?;
+                same(&rt, Ok(text.as_str()), wanted, (bytes, offset));
+            }
+            Err(error) => same(&rt, Err(error), wanted, (bytes, offset)),
+        }
+    }
+    let reader = EndianSlice::with_first_id(ENDED, LittleEndian, ReaderOffsetId(100));
+    let table = DebugAbbrev::from(reader).abbreviations_strict(mem, DebugAbbrevOffset(0));
+    same(&rt, table.err(), Some(unterminated(105)), "at 100");
+    Ok(())
+}
+
+#[test]
+fn first_faults_are_returned(rt: HostRuntime) {
+    let mem = rt.alloc();
+    let rows: [(&[u8], usize, Error); 26] = [
+        (ENDED, 6, eof(0)),
+        (b"\x01\x11\0\0\0\x02\0", 0, Error::AbbreviationTagZero),
+        (b"\x01\x2e\0\x03\x21", 0, eof(5)),
+        (b"\x80", 0, eof(1)),
+        (b"\x01\x91\x80\x80\0", 0, Error::BadUnsignedLeb128),
+        (
+            b"\x80\x80\x80\x80\x80\x80\x80\x80\x80\x02",
+            0,
+            Error::BadUnsignedLeb128,
+        ),
+        (
+            b"\x01\x2e\0\x03\x21\x80\x80\x80\x80\x80\x80\x80\x80\x80\x01\0\0\0",
+            0,
+            Error::BadSignedLeb128,
+        ),
+        (b"\x01\0\x02", 0, Error::AbbreviationTagZero),
+        (b"\x01\x11\x02", 0, children(2)),
+        (b"\x01\x11\0\0\x01", 0, Error::AttributeNameZero),
+        (b"\x01\x11\0\0\x01\0\0", 0, Error::AttributeNameZero),
+        (b"\x01\x11\0\0\x21", 0, Error::AttributeNameZero),
+        (b"\x01\x11\0\x01\0", 0, Error::AttributeFormZero),
+        (b"\x01\x11\0\x01\0\0\0", 0, Error::AttributeFormZero),
+        (b"\x01\x11\0\0", 0, eof(4)),
+        (b"\x01\x11\0\0\x80", 0, eof(5)),
+        (b"\x01\x11\0\0\x80\x80\x80\0", 0, Error::BadUnsignedLeb128),
+        (
+            b"\x01\x11\0\0\0\x81\0\x11\0\0\0",
+            0,
+            Error::DuplicateAbbreviationCode(1),
+        ),
+        (b"\x01\x11\0\0\0\x01\0", 0, Error::AbbreviationTagZero),
+        (b"\x02\x11\0\0\0\x02\x11\x02", 0, children(2)),
+        (b"\x01\x11\0\0\0\x01\x11\0\0", 0, eof(9)),
+        (
+            b"\x01\x11\0\0\0\x03\x11\0\0\0\x02\x11\0\0\0\x03\x11\0\0\0\0",
+            0,
+            Error::DuplicateAbbreviationCode(3),
+        ),
+        (
+            b"\x01\x02\x03\x04\x01\x2e\0\x03\x08\0\0\x01\x11\x01\x25\x0e\x13\x05\0\0\0\x05\x06\x07\x08",
+            4,
+            Error::DuplicateAbbreviationCode(1),
+        ),
+        (b"\x01\x11\0\x03", 0, eof(4)),
+        (b"\x01\x11", 0, eof(2)),
+        (b"\x01", 0, eof(1)),
+    ];
+    for (bytes, offset, wanted) in rows {
+        let error = table_at(mem, bytes, offset).err();
+        same(&rt, error, Some(wanted), (bytes, offset));
+    }
+}
+
+#[test]
+fn positions_begin_at_the_first(rt: HostRuntime) -> std::result::Result<(), Fail> {
+    let rows: [(&[u8], usize, Error); 4] = [
+        (b"\x80", 0, eof(101)),
+        (ENDED, 6, eof(100)),
+        (b"\x01\x11\0\0\0\x01", 0, eof(106)),
+        (b"\0\x01\x11\x02", 1, children(2)),
+    ];
+    for (bytes, offset, wanted) in rows {
+        let reader = EndianSlice::with_first_id(bytes, BigEndian, ReaderOffsetId(100));
+        let table = DebugAbbrev::from(reader).abbreviations(rt.alloc(), DebugAbbrevOffset(offset));
+        same(&rt, table.err(), Some(wanted), bytes);
+    }
+    let none: DebugAbbrev<EndianSlice<'_, RunTimeEndian>> = DebugAbbrev::default();
+    let table = none.abbreviations(rt.alloc(), DebugAbbrevOffset(0))?;
+    same(&rt, (table.is_empty(), table.len()), (true, 0), "no bytes");
+    Ok(())
+}
+
+// Bytes, and the lengths of their beginnings that are whole tables, each with its number of
+// declarations.
+static CUTS: &[(&[u8], &[(usize, usize)])] = &[
+    (UNIT, &[(0, 0), (7, 1), (8, 1), (9, 1)]),
+    (IMPLICIT, &[(0, 0), (8, 1), (9, 1)]),
+    (THREE, &[(0, 0), (5, 1), (10, 2), (15, 3), (16, 3)]),
+];
+
+#[test]
+fn cut_tables_end_early(rt: HostRuntime) {
+    for (bytes, whole) in CUTS {
+        for len in 0..bytes.len() + 1 {
+            let mut wanted = Err(eof(len as u64));
+            for (whole_len, count) in *whole {
+                if *whole_len == len {
+                    wanted = Ok(*count);
+                }
+            }
+            let count = match table_at(rt.alloc(), &bytes[..len], 0) {
+                Ok(table) => Ok(table.len()),
+                Err(error) => Err(error),
+            };
+            same(&rt, count, wanted, (bytes, len));
+        }
+    }
+}
+
+#[test]
+fn repeats_are_seen_behind_many(rt: HostRuntime) -> std::result::Result<(), Fail> {
+    let mut bytes = Vec::new(rt.alloc());
+    for code in (1..71u8).rev() {
+        bytes.extend_from_slice(&[code, 0x11, 0, 0, 0])?;
+    }
+    bytes.extend_from_slice(&[35, 0x11, 0, 0, 0, 0])?;
+    let error = table_at(rt.alloc(), &bytes, 0).err();
+    same(&rt, error, Some(Error::DuplicateAbbreviationCode(35)), "35");
+    Ok(())
+}
+
+#[test]
+fn declarations_are_found_by_code(rt: HostRuntime) -> std::result::Result<(), Fail> {
+    let mem = rt.alloc();
+    let name = AttributeSpecification::new(DW_AT_name, DW_FORM_string, None);
+    let value = AttributeSpecification::new(DW_AT_name, DW_FORM_implicit_const, Some(-42));
+    let greatest = b"\xff\xff\xff\xff\xff\xff\xff\xff\xff\x01\x11\0\0\0\0";
+    let rows: [(&[u8], u64, DwTag, bool, &[AttributeSpecification]); 7] = [
+        (UNIT, 1, DW_TAG_compile_unit, true, &[name]),
+        (IMPLICIT, 1, DW_TAG_subprogram, false, &[value]),
+        (
+            b"\x01\x2e\0\x03\x08\0\0\0",
+            1,
+            DW_TAG_subprogram,
+            false,
+            &[name],
+        ),
+        (THREE, 2, DW_TAG_compile_unit, false, &[]),
+        (THREE, 3, DW_TAG_compile_unit, false, &[]),
+        (greatest, u64::MAX, DW_TAG_compile_unit, false, &[]),
+        (SIX, 1, DW_TAG_compile_unit, false, &[name; 6]),
+    ];
+    for (bytes, code, tag, has_children, attributes) in rows {
+        let table = table_at(mem, bytes, 0)?;
+        let found = table.get(code).ok_or("a code is missing")?;
+        same(&rt, found.code(), code, bytes);
+        same(&rt, found.tag(), tag, bytes);
+        same(&rt, found.has_children(), has_children, bytes);
+        same(&rt, found.attributes(), attributes, bytes);
+        let copy = found.try_clone()?;
+        same(&rt, &copy, found, bytes);
+    }
+    let table = table_at(mem, THREE, 0)?;
+    for code in [0, 4, u64::MAX] {
+        same(&rt, table.get(code), None, code);
+    }
+    same(&rt, table_at(mem, greatest, 0)?.get(0), None, "0");
+    Ok(())
+}
+
+#[test]
+fn copies_are_equal(rt: HostRuntime) -> std::result::Result<(), Fail> {
+    for bytes in [UNIT, THREE, SIX] {
+        let table = table_at(rt.alloc(), bytes, 0)?;
+        let copy = table.try_clone()?;
+        assert!(rt; copy.iter().eq(table.iter()), "{bytes:?}");
+    }
+    let (five, six) = (
+        table_at(rt.alloc(), FIVE, 0)?,
+        table_at(rt.alloc(), SIX, 0)?,
+    );
+    assert_ne!(rt; five.get(1), six.get(1));
+    Ok(())
+}
+
+// With requests for memory that are refused, a call returns the whole table or want of memory, and
+// the table only where it asks for none.
+#[test]
+fn refused_memory(rt: HostRuntime) {
+    let rows: [(&[u8], usize); 5] = [
+        (b"", 0),
+        (b"\x80\0\xaa", 0),
+        (UNIT, 1),
+        (THREE, 3),
+        (SIX, 1),
+    ];
+    for (bytes, len) in rows {
+        match table_at(rt.alloc(), bytes, 0) {
+            Ok(table) => {
+                same(&rt, table.len(), len, bytes);
+                copied_or_refused(&rt, &table);
+            }
+            Err(error) => {
+                same(&rt, error, Error::OutOfMemory, bytes);
+                assert!(rt; len > 0);
+            }
+        }
+    }
+}
+
+// A copy of the table and of each of its abbreviations is whole, or memory for it was refused.
+fn copied_or_refused(rt: &impl Abort, table: &Abbreviations) {
+    match table.try_clone() {
+        Ok(copy) => assert!(rt; copy.iter().eq(table.iter())),
+        Err(error) => {
+            same(rt, error, Error::OutOfMemory, "a table");
+            assert!(rt; !table.is_empty());
+        }
+    }
+    for abbreviation in table.iter() {
+        match abbreviation.try_clone() {
+            Ok(copy) => assert!(rt; copy == *abbreviation),
+            Err(error) => {
+                same(rt, error, Error::OutOfMemory, "an abbreviation");
+                assert!(rt; abbreviation.attributes().len() > 5);
+            }
+        }
+    }
+}
+
+// The sizes of values with addresses of four bytes, in the 32-bit format in version 2 and in version
+// 3, and in the 64-bit format in version 2 and in version 3; and the forms that have these.
+static SIZES: &[([Option<usize>; 4], &[DwForm])] = &[
+    ([Some(4); 4], &[DW_FORM_addr]),
+    (
+        [Some(0); 4],
+        &[DW_FORM_implicit_const, DW_FORM_flag_present],
+    ),
+    (
+        [Some(1); 4],
+        &[
+            DW_FORM_data1,
+            DW_FORM_flag,
+            DW_FORM_strx1,
+            DW_FORM_ref1,
+            DW_FORM_addrx1,
+        ],
+    ),
+    (
+        [Some(2); 4],
+        &[DW_FORM_data2, DW_FORM_ref2, DW_FORM_addrx2, DW_FORM_strx2],
+    ),
+    ([Some(3); 4], &[DW_FORM_addrx3, DW_FORM_strx3]),
+    (
+        [Some(4); 4],
+        &[
+            DW_FORM_data4,
+            DW_FORM_ref_sup4,
+            DW_FORM_ref4,
+            DW_FORM_strx4,
+            DW_FORM_addrx4,
+        ],
+    ),
+    (
+        [Some(8); 4],
+        &[
+            DW_FORM_data8,
+            DW_FORM_ref8,
+            DW_FORM_ref_sig8,
+            DW_FORM_ref_sup8,
+        ],
+    ),
+    ([Some(16); 4], &[DW_FORM_data16]),
+    (
+        [Some(4), Some(4), Some(8), Some(8)],
+        &[
+            DW_FORM_sec_offset,
+            DW_FORM_GNU_ref_alt,
+            DW_FORM_strp,
+            DW_FORM_strp_sup,
+            DW_FORM_GNU_strp_alt,
+            DW_FORM_line_strp,
+        ],
+    ),
+    ([Some(4), Some(4), Some(4), Some(8)], &[DW_FORM_ref_addr]),
+    (
+        [None; 4],
+        &[
+            DW_FORM_null,
+            DW_FORM_ref,
+            DW_FORM_block2,
+            DW_FORM_block4,
+            DW_FORM_string,
+            DW_FORM_block,
+            DW_FORM_block1,
+            DW_FORM_sdata,
+            DW_FORM_udata,
+            DW_FORM_ref_udata,
+            DW_FORM_indirect,
+            DW_FORM_exprloc,
+            DW_FORM_strx,
+            DW_FORM_addrx,
+            DW_FORM_loclistx,
+            DW_FORM_rnglistx,
+            DW_FORM_GNU_addr_index,
+            DW_FORM_GNU_str_index,
+            DwForm(0x2137),
+        ],
+    ),
+];
+
+fn sizes_of(form: DwForm) -> [Option<usize>; 4] {
+    let value = if form == DW_FORM_implicit_const {
+        Some(0)
+    } else {
+        None
+    };
+    let attribute = AttributeSpecification::new(DW_AT_name, form, value);
+    [
+        attribute.size(encoding(Format::Dwarf32, 2)),
+        attribute.size(encoding(Format::Dwarf32, 3)),
+        attribute.size(encoding(Format::Dwarf64, 2)),
+        attribute.size(encoding(Format::Dwarf64, 3)),
+    ]
+}
+
+fn encoding(format: Format, version: u16) -> Encoding {
+    Encoding {
+        address_size: 4,
+        format,
+        version,
+    }
+}
+
+#[test]
+fn forms_have_sizes(rt: HostRuntime) {
+    for (sizes, forms) in SIZES {
+        for form in *forms {
+            same(&rt, sizes_of(*form), *sizes, form);
+        }
+    }
+}
+
+const ALPHABET: [u8; 8] = [0x00, 0x01, 0x02, 0x11, 0x21, 0x7f, 0x80, 0xff];
+
+fn digit(number: usize) -> u8 {
+    if number < 10 {
+        b'0' + number as u8
+    } else {
+        b'?'
+    }
+}
+
+// Two characters for the reading of these bytes.
+fn token(mem: Global, bytes: &[u8]) -> [u8; 2] {
+    match table_at(mem, bytes, 0) {
+        Ok(table) if table.closed_by_null() => [b'n', digit(table.len())],
+        Ok(table) => [b'e', digit(table.len())],
+        Err(Error::UnexpectedEof(id)) if id.0 == bytes.len() as u64 => *b"E.",
+        Err(Error::BadUnsignedLeb128) => *b"u.",
+        Err(Error::BadSignedLeb128) => *b"s.",
+        Err(Error::AbbreviationTagZero) => *b"t.",
+        Err(Error::AttributeNameZero) => *b"N.",
+        Err(Error::AttributeFormZero) => *b"F.",
+        Err(Error::InvalidAbbreviationChildren(value)) => [b'c', digit(place_of(value.0))],
+        Err(Error::DuplicateAbbreviationCode(code)) => [b'd', digit(code.min(10) as usize)],
+        Err(_) => *b"??",
+    }
+}
+
+// The place of a byte in the alphabet.
+fn place_of(byte: u8) -> usize {
+    for (place, letter) in ALPHABET.iter().enumerate() {
+        if *letter == byte {
+            return place;
+        }
+    }
+    10
+}
+
+// Prefixes, and for each number of bytes behind it the checksum of all readings. A program that
+// shares nothing with the library prints them, `tools/answers.py`.
+static CHECKSUMS: &[(&[u8], [u64; 5])] = &[
+    (
+        b"",
+        [
+            0x088e_7a07_b539_b6d0,
+            0x3c23_8509_5569_1680,
+            0x59a3_fe3b_ae5a_6365,
+            0x5054_dfc0_3815_a5a7,
+            0x24ea_00d1_81fa_46d5,
+        ],
+    ),
+    (
+        b"\x01\x11\0",
+        [
+            0x08fa_f807_b595_abca,
+            0xe5c7_cfdd_8133_0475,
+            0xae66_7df4_85a6_a73c,
+            0x7efe_d658_acbb_55b3,
+            0xcd18_a197_db6c_15cb,
+        ],
+    ),
+    (
+        b"\x01\x11\0\x03\x21",
+        [
+            0x08fa_f807_b595_abca,
+            0xe5c7_cfdd_8133_0475,
+            0x6a1d_4bc7_97ac_13a5,
+            0x6d0b_bb21_e9b8_ea3d,
+            0x9798_f9e4_d929_a909,
+        ],
+    ),
+    (
+        b"\x01\x11\0\0\0",
+        [
+            0x088e_7b07_b539_b883,
+            0x0f60_e5aa_5bac_a3cf,
+            0xeae3_3091_1fcb_cfae,
+            0xbd25_b5de_abd7_d7c8,
+            0xef3c_9deb_d526_a746,
+        ],
+    ),
+    (
+        b"\x01\x11\0\0\0\x01",
+        [
+            0x08fa_f807_b595_abca,
+            0x7297_b633_366f_dc44,
+            0xd0ed_7a89_1897_60bf,
+            0x2265_08d3_8d97_69f7,
+            0xbc92_ec34_489c_0706,
+        ],
+    ),
+];
+
+#[test]
+fn short_tables_are_read_as_computed(rt: HostRuntime) -> std::result::Result<(), Fail> {
+    let mem = rt.alloc();
+    for (prefix, wanted) in CHECKSUMS {
+        for len in 0..5u32 {
+            let mut checksum = 0xcbf2_9ce4_8422_2325u64;
+            for index in 0..1u32 << (3 * len) {
+                let mut bytes = Vec::from_slice(mem, prefix)?;
+                for place in (0..len).rev() {
+                    bytes.push(ALPHABET[(index >> (3 * place) & 7) as usize])?;
+                }
+                for byte in token(mem, &bytes) {
+                    checksum = (checksum ^ u64::from(byte)).wrapping_mul(0x100_0000_01b3);
+                }
+            }
+            same(&rt, checksum, wanted[len as usize], (prefix, len));
+        }
+    }
+    Ok(())
+}

@@ -1,0 +1,65 @@
+//! Worked sections that several tests read.
+
+use dwarf_read_core::Format;
+use std::alloc::{AllocError, Global};
+
+// A declaration with one attribute and children, a code of value 0, and a byte behind it.
+pub(super) const UNIT: &[u8] = b"\x01\x11\x01\x03\x08\0\0\0\xff";
+
+// A declaration that the section's end follows.
+pub(super) const ENDED: &[u8] = b"\x01\x11\0\0\0";
+
+// A declaration whose attribute has the value -42 in the table itself.
+pub(super) const IMPLICIT: &[u8] = b"\x01\x2e\0\x03\x21\x56\0\0\0";
+
+// Declarations with the codes 1, 3 and 2.
+pub(super) const THREE: &[u8] = b"\x01\x11\0\0\0\x03\x11\0\0\0\x02\x11\0\0\0\0";
+
+// A declaration of five attributes.
+pub(super) const FIVE: &[u8] = b"\x01\x11\0\x03\x08\x03\x08\x03\x08\x03\x08\x03\x08\0\0\0";
+
+// A declaration of six attributes.
+pub(super) const SIX: &[u8] = b"\x01\x11\0\x03\x08\x03\x08\x03\x08\x03\x08\x03\x08\x03\x08\0\0\0";
+
+// Three strings, the last of them empty.
+pub(super) const STRINGS: &[u8] = b"one\0two\0\0";
+
+// A set of one address, and a byte too few for another.
+pub(super) const CUT_SET: &[u8] = b"\x09\0\0\0\x05\0\x04\0\x78\x56\x34\x12\xaa";
+
+// Two sets of two addresses each, one in the 32-bit and one in the 64-bit format.
+pub(super) const TWO_SETS: &[u8] =
+    b"\x0c\0\0\0\x05\0\x04\0\x78\x56\x34\x12\xef\xbe\xad\xde\xff\xff\xff\xff\x14\0\0\0\0\0\0\0\x05\0\x08\0\xf0\xde\xbc\x9a\x78\x56\x34\x12\xef\xbe\xad\xde\xef\xbe\xad\xde";
+
+// A header of string offsets, and then the words 1000 to 1019.
+pub(super) fn twenty_words(
+    mem: Global,
+    format: Format,
+    is_big: bool,
+) -> Result<Vec<u8>, AllocError> {
+    let mut bytes = Vec::new(mem);
+    bytes.extend_from_slice(match (format, is_big) {
+        (Format::Dwarf32, false) => b"\x54\0\0\0\x05\0\0\0".as_slice(),
+        (Format::Dwarf32, true) => b"\0\0\0\x54\0\x05\0\0",
+        (Format::Dwarf64, false) => b"\xff\xff\xff\xff\xa4\0\0\0\0\0\0\0\x05\0\0\0",
+        (Format::Dwarf64, true) => b"\xff\xff\xff\xff\0\0\0\0\0\0\0\xa4\0\x05\0\0",
+    })?;
+    for word in 1000..1020u64 {
+        let (little, big) = (word.to_le_bytes(), word.to_be_bytes());
+        bytes.extend_from_slice(match (format, is_big) {
+            (Format::Dwarf32, false) => &little[..4],
+            (Format::Dwarf32, true) => &big[4..],
+            (Format::Dwarf64, false) => &little,
+            (Format::Dwarf64, true) => &big,
+        })?;
+    }
+    Ok(bytes)
+}
+
+// The addresses of the two sets.
+pub(super) const FOUR_ADDRESSES: [u64; 4] = [
+    0x1234_5678,
+    0xdead_beef,
+    0x1234_5678_9abc_def0,
+    0xdead_beef_dead_beef,
+];
