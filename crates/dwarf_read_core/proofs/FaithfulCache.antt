@@ -1,5 +1,5 @@
 -- What follows for a cache whose entries are those of the section.
-use Rattle.std.proofs.Common.{ℕ, Option, Some, None, Ok, Err, MatchOption, Result, List, ◌≡◌, ◌≢◌, Bool, true, false, cond, refl, sym, subst}
+use Rattle.std.proofs.Common.{ℕ, Option, Some, None, Ok, Err, MatchOption, Result, List, ◌≡◌, Bool, true, false, cond, refl, sym, subst}
 use Rattle.std.specs.Prelude.{IfSome}
 use Rattle.std.specs.FinMap.{get}
 use Rattle.std.specs.declared.rc.Rc.{Rc}

@@ -8,7 +8,7 @@ use Rattle.std.proofs.lemmas.Bool.{eqb-true}
 use Rattle.std.proofs.lemmas.Bool.Decides.{Decides-int_eq}
 use Rattle.std.proofs.lemmas.List.Elements.{All-head, All-tail}
 use Rattle.dwarf_read_core.specs.Equality.{HasValueByForm, same_declaration, same_declaration_equiv, same_specification}
-use Rattle.dwarf_read_core.specs.Grammar.{Declaration, Specification, implicit_const}
+use Rattle.dwarf_read_core.specs.Grammar.{Declaration, Specification}
 
 -- both of two tests
 both : (s t : Bool) → (s && t) ≡ true → (s ≡ true) × (t ≡ true)

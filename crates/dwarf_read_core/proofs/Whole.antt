@@ -12,7 +12,7 @@ use Rattle.dwarf_base_core.specs.declared.error.Error.TheVariants.{DuplicateAbbr
 use Rattle.dwarf_reader_core.specs.Input.{Input, end_of, Takes}
 use Rattle.dwarf_reader_core.specs.Faults.{end_fault, EndsBefore}
 use Rattle.dwarf_read_core.proofs.Numbers.{end_after}
-use Rattle.dwarf_read_core.specs.Grammar.{Declaration, Sequence, IsDeclaration, Declares, AreDistinct, AreDeclarations, ByCode, Table, closed, by_code_of, Close, by_null, by_end, IsTable, closed_by_null, closed_by_end}
+use Rattle.dwarf_read_core.specs.Grammar.{Declaration, Sequence, IsDeclaration, Declares, AreDistinct, AreDeclarations, ByCode, Table, closed, by_code_of, by_null, by_end, IsTable, closed_by_null, closed_by_end}
 use Rattle.dwarf_reader_core.specs.Once.{HasOne}
 use Rattle.dwarf_read_core.specs.Answer.{IsFault, in_declaration, repeated, Answer, Answers, TakesNoMemory, outside, table, fault}
 use Rattle.dwarf_read_core.specs.Reading.{◌>>=◌, Gives, declaration_at, close_of, and_declared, table_at, table_in, answer_at}

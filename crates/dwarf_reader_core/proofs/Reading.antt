@@ -72,6 +72,11 @@ begun_more {old} {k = k} {value = value} {byte = byte} b n more =
       worth = ap (λ p. value + byte % 128 * p) (pow_digits k) ∙ sym (worth_next b n);
     }
 
+-- the same, by what the digits are worth with it
+pub begun_on : {old mid new : Input} {k value byte worth : ℕ} → Begun old k mid value → TakesNext old k byte new
+    → 128 ≤ byte → worth ≡ value + byte % 128 * 2 ^ (7 * k) → Begun old (k + 1) new worth
+begun_on b n more is = rw is (begun_more b n more)
+
 -- the byte is the last of an encoding
 pub record Ended (old : Input) (k byte : ℕ) (new : Input) (value : ℕ) : Type 0 where
   pub enough : k + 1 ≤ length old.bytes

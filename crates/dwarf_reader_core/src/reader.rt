@@ -322,13 +322,18 @@ pub trait Reader: Debug + Drop + Sized {
     /// Answers [`Error::UnexpectedEof`] where the bytes end before the number does, and then has
     /// taken them all. Answers [`Error::BadUnsignedLeb128`] where ten bytes don't end it, or it is
     /// from 2^64 on, and then has taken ten.
-    #[inline]
+    #[inline(always)]
     fn read_uleb128(&mut self) -> Result<u64>
         ensures ok { IfOk result (λ v. ReadsNumber unsigned64 (view self.old) v (view self.new)) }
         ensures err { IfErr result (λ e. RefusesNumber unsigned64 (view self.old) e (view self.new)) }
     {
-        let mut result = 0;
-        for index in 0..9 {
+        // Most numbers have one byte.
+        let first = self.read_u8()?;
+        if !has_continuation_bit(first) {
+            return Ok(u64::from(first));
+        }
+        let mut result = with_digit(0, first, 0);
+        for index in 1..9 {
             let byte = self.read_u8()?;
             result = with_digit(result, byte, 7 * index);
             if !has_continuation_bit(byte) {
@@ -361,24 +366,26 @@ pub trait Reader: Debug + Drop + Sized {
     /// Answers [`Error::UnexpectedEof`] where the bytes end before the number does, and then has
     /// taken them all. Answers [`Error::BadUnsignedLeb128`] where three bytes don't end it, or it is
     /// from 2^16 on, and then has taken three.
-    #[inline]
+    #[inline(always)]
     fn read_uleb128_u16(&mut self) -> Result<u16>
         ensures ok { IfOk result (λ v. ReadsNumber unsigned16 (view self.old) v (view self.new)) }
         ensures err { IfErr result (λ e. RefusesNumber unsigned16 (view self.old) e (view self.new)) }
     {
-        let mut result = 0;
-        for index in 0..2 {
-            let byte = self.read_u8()?;
-            result = with_digit(result, byte, 7 * index);
-            if !has_continuation_bit(byte) {
-                return Ok(result as u16);
-            }
+        let first = self.read_u8()?;
+        if !has_continuation_bit(first) {
+            return Ok(u16::from(first));
         }
-        let byte = self.read_u8()?;
-        if byte > MAX_THIRD_BYTE {
+        let one = with_digit(0, first, 0);
+        let second = self.read_u8()?;
+        let two = with_digit(one, second, 7);
+        if !has_continuation_bit(second) {
+            return Ok(two as u16);
+        }
+        let third = self.read_u8()?;
+        if third > MAX_THIRD_BYTE {
             return Err(Error::BadUnsignedLeb128);
         }
-        Ok(with_digit(result, byte, 14) as u16)
+        Ok(with_digit(two, third, 14) as u16)
     }
 
     /// Takes a signed LEB128 number of at most ten bytes.
@@ -391,8 +398,12 @@ pub trait Reader: Debug + Drop + Sized {
         ensures ok { IfOk result (λ v. ReadsNumber signed64 (view self.old) v (view self.new)) }
         ensures err { IfErr result (λ e. RefusesNumber signed64 (view self.old) e (view self.new)) }
     {
-        let mut result = 0;
-        for index in 0..9 {
+        let first = self.read_u8()?;
+        let mut result = with_digit(0, first, 0);
+        if !has_continuation_bit(first) {
+            return Ok(with_sign(result, has_sign_bit(first), 7));
+        }
+        for index in 1..9 {
             let byte = self.read_u8()?;
             result = with_digit(result, byte, 7 * index);
             if !has_continuation_bit(byte) {

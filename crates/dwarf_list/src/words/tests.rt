@@ -1,13 +1,14 @@
 use super::command_line;
 use crate::fault::Fault;
+use std::alloc::Global;
 use std::env::{Env, FillError};
 use std::test::Fail;
 
 // A system that gives these words, the program's name first.
 #[derive(Drop)]
-struct Given<'words>(&'words [&'words [u8]]);
+struct Given<'list, 'word>(&'list [&'word [u8]]);
 
-impl Env for Given<'_> {
+impl Env for Given<'_, '_> {
     fn arg(&self, i: usize, buf: &mut [u8]) -> Result<usize, FillError> {
         let word = self.0.get(i).ok_or(FillError::NotPresent)?;
         if buf.len() < word.len() {
@@ -26,26 +27,26 @@ impl Env for Given<'_> {
     }
 }
 
+// The words that are taken from a system, each with a `;` behind it.
+fn taken(mem: Global, given: &[&[u8]]) -> Result<String, Fault> {
+    let mut text = String::new(mem);
+    for word in command_line(mem, &Given(given))?.iter() {
+        text.push_str(word.as_str())?;
+        text.push(';')?;
+    }
+    Ok(text)
+}
+
 #[test]
 fn words_of_the_system(rt: HostRuntime) -> Result<(), Fail> {
-    let cases: [(&[&[u8]], Result<&[&str], Fault>); 5] = [
-        (&[], Ok(&[])),
-        (&[b"dwarf_list"], Ok(&[])),
-        (&[b"dwarf_list", b"abbrev", b"0"], Ok(&["abbrev", "0"])),
-        (&[b"caf\xe9/dwarf_list", b"str", b"5"], Ok(&["str", "5"])),
-        (&[b"dwarf_list", b"abbrev", b"\xe9"], Err(Fault::Usage)),
-    ];
-    for (given, wanted) in cases {
-        match (command_line(rt.alloc(), &Given(given)), wanted) {
-            (Ok(words), Ok(wanted)) => {
-                assert_eq!(rt; words.len(), wanted.len());
-                for (word, want) in words.iter().zip(wanted) {
-                    assert_eq!(rt; word.as_str(), *want);
-                }
-            }
-            (Err(fault), Err(wanted)) => assert_eq!(rt; fault, wanted),
-            (_, _) => return Err(Fail::from("another outcome")),
-        }
-    }
+    let mem = rt.alloc();
+    assert_eq!(rt; taken(mem, &[])?.as_str(), "");
+    assert_eq!(rt; taken(mem, &[b"dwarf_list"])?.as_str(), "");
+    let table = taken(mem, &[b"dwarf_list", b"abbrev", b"0"])?;
+    assert_eq!(rt; table.as_str(), "abbrev;0;");
+    let renamed = taken(mem, &[b"caf\xe9/dwarf_list", b"str", b"5"])?;
+    assert_eq!(rt; renamed.as_str(), "str;5;");
+    let unreadable = taken(mem, &[b"dwarf_list", b"abbrev", b"\xe9"]);
+    assert_eq!(rt; unreadable.err(), Some(Fault::Usage));
     Ok(())
 }

@@ -206,7 +206,11 @@ pub(super) fn walked<R: Reader>(
         Err(fault) => return Ok((addresses, Some(fault))),
     };
     for header in headers {
-        let entries = match header.and_then(|header| header.entries()) {
+        let header = match header {
+            Ok(header) => header,
+            Err(fault) => return Ok((addresses, Some(fault))),
+        };
+        let entries = match header.entries() {
             Ok(entries) => entries,
             Err(fault) => return Ok((addresses, Some(fault))),
         };

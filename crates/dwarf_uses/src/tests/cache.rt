@@ -91,6 +91,23 @@ fn tables_are_kept_or_read_afresh(rt: HostRuntime) -> std::result::Result<(), Fa
 }
 
 #[test]
+fn nothing_is_asked_behind_an_error(rt: HostRuntime) -> std::result::Result<(), Fail> {
+    let mut offsets = [
+        Ok(DebugAbbrevOffset(5)),
+        Err(Error::BadUtf8),
+        Ok(DebugAbbrevOffset(7)),
+    ]
+    .into_iter();
+    let mut cache = AbbreviationsCache::new(rt.alloc());
+    let strategy = AbbreviationsCacheStrategy::All;
+    cache.populate(strategy, &one(), offsets.by_ref())?;
+    same(&rt, code_at(&cache, &none(), 5), Ok(0), "before");
+    let left: Option<Result<DebugAbbrevOffset<usize>>> = offsets.next();
+    same(&rt, left, Some(Ok(DebugAbbrevOffset(7))), "behind");
+    Ok(())
+}
+
+#[test]
 fn growing_sections_are_read_again(rt: HostRuntime) -> std::result::Result<(), Fail> {
     let bytes = b"\x80\0\x01\0\x02\x01\x11\0\0\0";
     let longer = DebugAbbrev::new(b"\x01\x11\0\0\0\0\0\0\0\0\0\0", LittleEndian);

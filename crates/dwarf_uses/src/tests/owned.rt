@@ -79,23 +79,21 @@ fn offsets_have_32_bits(rt: HostRuntime) -> std::result::Result<(), Fail> {
 // on what is wanted.
 fn check_depths<T: PartialEq + Debug + Copy>(
     rt: &impl Abort,
-    results: [Result<T>; 4],
+    results: &[Result<T>],
     wanted: T,
     what: &str,
 ) {
     let mut is_refused = true;
-    for result in results {
-        match result {
-            Err(error) if is_refused => same(rt, error, Error::OutOfMemory, what),
-            _ => {
-                is_refused = false;
-                same(rt, result, Ok(wanted), what);
-            }
+    for (depth, result) in results.iter().enumerate() {
+        if *result == Err(Error::OutOfMemory) {
+            assert!(rt; is_refused, "{what} at {depth}");
+        } else {
+            assert!(rt; depth > 0, "{what} at {depth}");
+            same(rt, *result, Ok(wanted), what);
+            is_refused = false;
         }
     }
-    let [first, _, _, last] = results;
-    same(rt, first, Err(Error::OutOfMemory), what);
-    same(rt, last, Ok(wanted), what);
+    assert!(rt; !is_refused, "{what} at any depth");
 }
 
 fn code_in_table(mem: Global, depth: u8) -> Result<Option<u64>> {
@@ -136,7 +134,7 @@ fn counts_of_sets(mem: Global, depth: u8) -> Result<(u8, u8)> {
 // What a call returns where clones may go 0, 1, 2 and 3 deep.
 macro_rules! at_depths {
     ($mem:expr, $call:ident) => {
-        [
+        &[
             $call($mem, 0),
             $call($mem, 1),
             $call($mem, 2),

@@ -2,8 +2,8 @@
 
 use super::{eof, little, same};
 use dwarf_read_core::{
-    DebugAbbrev, DebugAddr, DebugLineStr, DebugStr, DebugStrOffset, DebugStrOffsets, EndianSlice,
-    LittleEndian, Reader, ReaderOffsetId, Result, Section, SectionId,
+    DebugAbbrev, DebugAddr, DebugLineStr, DebugStr, DebugStrOffsets, EndianSlice, LittleEndian,
+    Reader, ReaderOffsetId, Result, Section, SectionId,
 };
 use std::test::Fail;
 
@@ -188,24 +188,28 @@ fn sections_have_identifiers(rt: HostRuntime) {
     }
 }
 
+// A loader that has strings alone.
+fn load(id: SectionId) -> std::result::Result<Slice<'static>, SectionId> {
+    if id == SectionId::DebugStr {
+        Ok(little(b"abc\0"))
+    } else {
+        Err(id)
+    }
+}
+
 #[test]
 fn sections_are_loaded(rt: HostRuntime) {
-    let bytes: &[u8] = b"abc\0";
-    let section = DebugStr::load(|id| {
-        if id == SectionId::DebugStr {
-            Ok(little(bytes))
-        } else {
-            Err(id)
-        }
-    });
-    match section {
-        Ok(section) => same(&rt, section.reader().slice(), bytes, "loaded"),
+    match DebugStr::load(load) {
+        Ok(section) => same(
+            &rt,
+            section.reader().slice(),
+            b"abc\0".as_slice(),
+            "strings",
+        ),
         Err(id) => assert!(rt; false, "{id:?}"),
     }
-    let section: std::result::Result<DebugAddr<Slice<'_>>, SectionId> = DebugAddr::load(|id| Err(
-        id,
-    ));
-    same(&rt, section.err(), Some(SectionId::DebugAddr), "refused");
+    let section: std::result::Result<DebugAddr<Slice<'_>>, SectionId> = DebugAddr::load(load);
+    same(&rt, section.err(), Some(SectionId::DebugAddr), "addresses");
 }
 
 // Bytes and position of a range of a section.
@@ -262,25 +266,48 @@ fn identifiers_are_places_of_a_section(rt: HostRuntime) {
     }
 }
 
+fn borrowed<'a>(bytes: &'a Vec<u8>) -> Slice<'a> {
+    EndianSlice::new(bytes, LittleEndian)
+}
+
 #[test]
 fn sections_are_borrowed(rt: HostRuntime) -> std::result::Result<(), Fail> {
     let mem = rt.alloc();
     let wanted: &[u8] = b"abc\0";
-    let strings = DebugStr::from(Vec::from_slice(mem, wanted)?);
-    let section = strings.borrow(|bytes| little(bytes));
-    let string = section.get_str(DebugStrOffset(1))?;
-    same(&rt, string.slice(), b"bc".as_slice(), "strings");
-    let lines = DebugLineStr::from(Vec::from_slice(mem, wanted)?);
-    let section = lines.borrow(|bytes| little(bytes));
-    same(&rt, section.reader().slice(), wanted, "line strings");
-    let offsets = DebugStrOffsets::from(Vec::from_slice(mem, wanted)?);
-    let section = offsets.borrow(|bytes| little(bytes));
-    same(&rt, section.reader().slice(), wanted, "offsets");
-    let addresses = DebugAddr::from(Vec::from_slice(mem, wanted)?);
-    let section = addresses.borrow(|bytes| little(bytes));
-    same(&rt, section.reader().slice(), wanted, "addresses");
-    let tables = DebugAbbrev::from(Vec::from_slice(mem, wanted)?);
-    let section = tables.borrow(|bytes| little(bytes));
-    same(&rt, section.reader().slice(), wanted, "tables");
+    let strings = DebugStr::from(wanted.to_vec(mem)?);
+    same(
+        &rt,
+        strings.borrow(borrowed).reader().slice(),
+        wanted,
+        "strings",
+    );
+    let lines = DebugLineStr::from(wanted.to_vec(mem)?);
+    same(
+        &rt,
+        lines.borrow(borrowed).reader().slice(),
+        wanted,
+        "line strings",
+    );
+    let offsets = DebugStrOffsets::from(wanted.to_vec(mem)?);
+    same(
+        &rt,
+        offsets.borrow(borrowed).reader().slice(),
+        wanted,
+        "offsets",
+    );
+    let addresses = DebugAddr::from(wanted.to_vec(mem)?);
+    same(
+        &rt,
+        addresses.borrow(borrowed).reader().slice(),
+        wanted,
+        "addresses",
+    );
+    let tables = DebugAbbrev::from(wanted.to_vec(mem)?);
+    same(
+        &rt,
+        tables.borrow(borrowed).reader().slice(),
+        wanted,
+        "tables",
+    );
     Ok(())
 }

@@ -1,4 +1,4 @@
-use Rattle.std.proofs.Common.{◌≡◌, ◌≢◌, [], Ok, sym, ap, ◌∙◌}
+use Rattle.std.proofs.Common.{◌≢◌, [], Ok, sym, ap, ◌∙◌}
 use Rattle.dwarf_read_core.proofs.Steps.{gives_err}
 use Rattle.dwarf_read_core.specs.Grammar.{ByCode, Table, closed, by_null}
 use Rattle.dwarf_read_core.proofs.Whole.{table_fails, table_nulled, table_repeats}
