@@ -1,10 +1,9 @@
 -- Sets of addresses have one text, or one fault, at most.
 use Rattle.std.proofs.Common.{◌≡◌, ◌-◌, ◌^◌, ◌<◌, ℕ, zero, suc, Bool, true, List, [], ◌∷◌, ◌++◌, Result, Ok, Err, refl, sym, ap, ◌∙◌, arith, inl, inr, ◌⊎◌}
-use Rattle.std.specs.Prelude.{IsTrue, All}
+use Rattle.std.specs.Prelude.{IsTrue}
 use Rattle.dwarf_read_core.specs.declared.Error.{Error}
 use Rattle.dwarf_read_core.specs.Entries.{AreEntries, unfit, cut, Entries, StandsForAddresses}
 use Rattle.dwarf_read_core.specs.Entries as addresses
-use Rattle.dwarf_read_core.specs.Faults.{eof}
 use Rattle.dwarf_read_core.specs.Faults.{is_number_size}
 use Rattle.dwarf_read_core.specs.Once.{HasOne}
 use Rattle.dwarf_read_core.specs.Sets.{AreSets, none, set, faulty, address_kind, Headers, Set, StandsForAddressSets, addresses_of}
