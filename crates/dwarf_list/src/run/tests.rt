@@ -419,12 +419,17 @@ impl Write for ArrayWriter {
 #[test]
 fn refused_memory(rt: HostRuntime) -> Result<(), Fail> {
     let mem = rt.alloc();
-    let cases: [(&[&str], &[u8], &[u8]); 5] = [
+    let cases: [(&[&str], &[u8], &[u8]); 6] = [
         (&["str", "4"], b"one\0two\0", b"two\n"),
         (&["uleb", "12857"], b"", b"b9 64\n"),
         (&["sleb", "-65"], b"", b"bf 7f\n"),
         (
             &["abbrev", "0"],
+            b"\x01\x11\x01\x03\x08\0\0\0",
+            b"1 DW_TAG_compile_unit yes\n  DW_AT_name DW_FORM_string\n",
+        ),
+        (
+            &["abbrev-strict", "0"],
             b"\x01\x11\x01\x03\x08\0\0\0",
             b"1 DW_TAG_compile_unit yes\n  DW_AT_name DW_FORM_string\n",
         ),

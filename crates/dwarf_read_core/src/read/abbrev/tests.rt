@@ -1,13 +1,15 @@
-//! Where abbreviations and their attributes stand, which no public call tells.
+//! Where abbreviations and their attributes stand, and which bytes the parsers leave, which no public
+//! call tells.
 
 ghost use Rattle.std.specs.Prelude.{◌≡◌};
 
-use super::{Abbreviation, Abbreviations, AttributeSpecification, Attributes};
-use dwarf_base_core::{Error, Result};
-use dwarf_code_core::children::DW_CHILDREN_no;
+use super::{Abbreviation, Abbreviations, AttributeSpecification, Attributes, TableEntry};
+use dwarf_base_core::{Error, LittleEndian, Result};
+use dwarf_code_core::children::{DW_CHILDREN_no, DW_CHILDREN_yes, DwChildren};
 use dwarf_const_core::attribute::DW_AT_name;
-use dwarf_const_core::form::DW_FORM_string;
-use dwarf_const_core::tag::DW_TAG_compile_unit;
+use dwarf_const_core::form::{DW_FORM_implicit_const, DW_FORM_string};
+use dwarf_const_core::tag::{DW_TAG_compile_unit, DW_TAG_subprogram, DwTag};
+use dwarf_reader_core::EndianSlice;
 use std::alloc::{AllocError, Global};
 use std::test::Fail;
 
@@ -95,12 +97,112 @@ fn repeats_are_refused(rt: HostRuntime) {
     }
 }
 
+fn slice(bytes: &[u8]) -> EndianSlice<'_, LittleEndian> {
+    EndianSlice::new(bytes, LittleEndian)
+}
+
+// The attributes `DW_AT_name` in the form `DW_FORM_string`, so many times.
 fn attributes(mem: Global, count: usize) -> std::result::Result<Attributes, AllocError> {
     let mut attributes = Attributes::new(mem);
     for _ in 0..count {
         attributes.push(AttributeSpecification::new(DW_AT_name, DW_FORM_string, None))?;
     }
     Ok(attributes)
+}
+
+#[test]
+fn fields_are_parsed(rt: HostRuntime) {
+    let input = &mut slice(b"\x01\x02\0");
+    let tags = (
+        Abbreviation::parse_tag(input),
+        Abbreviation::parse_tag(input),
+        Abbreviation::parse_tag(input),
+    );
+    let wanted = (Ok(DwTag(1)), Ok(DwTag(2)), Err(Error::AbbreviationTagZero));
+    assert_eq!(rt; tags, wanted);
+    let input = &mut slice(b"\0\x01\x02");
+    let children = (
+        Abbreviation::parse_has_children(input),
+        Abbreviation::parse_has_children(input),
+        Abbreviation::parse_has_children(input),
+    );
+    let refused = Err(Error::InvalidAbbreviationChildren(DwChildren(2)));
+    assert_eq!(rt;
+        children,
+        (Ok(DW_CHILDREN_no), Ok(DW_CHILDREN_yes), refused)
+    );
+    let rows: [(&[u8], Result<Option<AttributeSpecification>>, usize); 3] = [
+        (b"\0\0\x01", Ok(None), 1),
+        (b"\0\x01\0\0", Err(Error::AttributeNameZero), 2),
+        (b"\x01\0\0\0", Err(Error::AttributeFormZero), 2),
+    ];
+    for (bytes, wanted, left) in rows {
+        let input = &mut slice(bytes);
+        let parsed = AttributeSpecification::parse(input);
+        assert_eq!(rt; (parsed, input.slice().len()), (wanted, left), "{bytes:?}");
+    }
+}
+
+// The declaration that was read, if one was.
+fn declaration(entry: TableEntry) -> Option<Abbreviation> {
+    match entry {
+        TableEntry::Declared(abbreviation) => Some(abbreviation),
+        TableEntry::NullCode | TableEntry::End => None,
+    }
+}
+
+#[test]
+fn entries_of_a_table_are_parsed(rt: HostRuntime) -> std::result::Result<(), Fail> {
+    let mem = rt.alloc();
+    let name = AttributeSpecification::new(DW_AT_name, DW_FORM_string, None);
+    let value = AttributeSpecification::new(DW_AT_name, DW_FORM_implicit_const, Some(-42));
+    let rows: [(&[u8], Option<AttributeSpecification>); 4] = [
+        (b"\x01\x2e\0\x03\x08\0\0\x01\x02\x03\x04", Some(name)),
+        (b"\x01\x2e\0\x03\x21\x56\0\0\x01\x02\x03\x04", Some(value)),
+        (b"\0\x01\x02\x03\x04", None),
+        (b"", None),
+    ];
+    let mut scratch = Vec::new(mem);
+    for (bytes, attribute) in rows {
+        let wanted = match attribute {
+            Some(attribute) => {
+                let list = Attributes::from_slice(mem, &[attribute])?;
+                Some(Abbreviation::new(1, DW_TAG_subprogram, DW_CHILDREN_no, list))
+            }
+            None => None,
+        };
+        let input = &mut slice(bytes);
+        let entry = Abbreviation::parse(mem, input, &mut scratch)?;
+        assert_eq!(rt; declaration(entry), wanted, "{bytes:?}");
+        assert_eq!(rt; input.slice().len(), bytes.len().min(4), "{bytes:?}");
+    }
+    let input = &mut slice(b"\x02\x2e\0\0\0\x01\x11\x01\x25\x0e\0\0\0\x05\x06\x07\x08");
+    let table = Abbreviations::parse(mem, input)?;
+    assert_eq!(rt;
+        (table.len(), input.slice()),
+        (2, b"\x05\x06\x07\x08".as_slice())
+    );
+    Ok(())
+}
+
+#[test]
+fn five_attributes_stay_in_place(rt: HostRuntime) -> std::result::Result<(), Fail> {
+    let mem = rt.alloc();
+    let mut scratch = Vec::new(mem);
+    let rows: [(&[u8], usize); 2] = [
+        (b"\x01\x11\0\x03\x08\x03\x08\x03\x08\x03\x08\x03\x08\0\0", 5),
+        (
+            b"\x01\x11\0\x03\x08\x03\x08\x03\x08\x03\x08\x03\x08\x03\x08\0\0",
+            6,
+        ),
+    ];
+    for (bytes, count) in rows {
+        let entry = Abbreviation::parse(mem, &mut slice(bytes), &mut scratch)?;
+        let found = declaration(entry).ok_or("no declaration")?;
+        let place = (found.attributes.len(), found.attributes.spilled());
+        assert_eq!(rt; place, (count, count > 5));
+    }
+    Ok(())
 }
 
 #[test]
