@@ -1,10 +1,11 @@
 //! Sections: their names, and what they have in common.
 
-use super::{eof, little, same};
+use super::{little, same};
 use dwarf_read_core::{
-    DebugAbbrev, DebugAddr, DebugLineStr, DebugStr, DebugStrOffsets, EndianSlice, LittleEndian,
-    Reader, ReaderOffsetId, Result, Section, SectionId,
+    DebugAbbrev, DebugAddr, DebugLineStr, DebugStr, DebugStrOffsets, EndianSlice, Error,
+    LittleEndian, Reader, ReaderOffsetId, Result, Section, SectionId,
 };
+use std::process::Abort;
 use std::test::Fail;
 
 type Slice<'a> = EndianSlice<'a, LittleEndian>;
@@ -151,41 +152,18 @@ fn names_are_as_published(rt: HostRuntime) {
     }
 }
 
-// The identifier of a section type, and whether its names are those of the identifier.
-fn identifier<'a, S: Section<Slice<'a>>>() -> (SectionId, bool) {
-    let id = S::id();
-    let has_names = S::section_name() == id.name()
-        && S::dwo_section_name() == id.dwo_name()
-        && S::xcoff_section_name() == id.xcoff_name();
-    (id, has_names)
+fn has_identifier<'a, S: Section<Slice<'a>>>(rt: &impl Abort, wanted: SectionId) {
+    same(rt, S::id(), wanted, wanted);
+    same(rt, S::section_name(), wanted.name(), wanted);
 }
 
 #[test]
 fn sections_have_identifiers(rt: HostRuntime) {
-    for (identifier, wanted) in [
-        (
-            identifier::<DebugAbbrev<Slice<'static>>>(),
-            SectionId::DebugAbbrev,
-        ),
-        (
-            identifier::<DebugAddr<Slice<'static>>>(),
-            SectionId::DebugAddr,
-        ),
-        (
-            identifier::<DebugStr<Slice<'static>>>(),
-            SectionId::DebugStr,
-        ),
-        (
-            identifier::<DebugStrOffsets<Slice<'static>>>(),
-            SectionId::DebugStrOffsets,
-        ),
-        (
-            identifier::<DebugLineStr<Slice<'static>>>(),
-            SectionId::DebugLineStr,
-        ),
-    ] {
-        same(&rt, identifier, (wanted, true), wanted);
-    }
+    has_identifier::<DebugAbbrev<Slice<'static>>>(&rt, SectionId::DebugAbbrev);
+    has_identifier::<DebugAddr<Slice<'static>>>(&rt, SectionId::DebugAddr);
+    has_identifier::<DebugStr<Slice<'static>>>(&rt, SectionId::DebugStr);
+    has_identifier::<DebugStrOffsets<Slice<'static>>>(&rt, SectionId::DebugStrOffsets);
+    has_identifier::<DebugLineStr<Slice<'static>>>(&rt, SectionId::DebugLineStr);
 }
 
 // A loader that has strings alone.
@@ -212,38 +190,36 @@ fn sections_are_loaded(rt: HostRuntime) {
     same(&rt, section.err(), Some(SectionId::DebugAddr), "addresses");
 }
 
-// Bytes and position of a range of a section.
-fn range<'a, S: Section<Slice<'a>> + Drop>(
-    section: S,
-    offset: u32,
-    size: u32,
-) -> Result<(&'a [u8], u64)> {
-    let part = section.dwp_range(offset, size)?;
-    Ok((part.reader().slice(), part.reader().offset_id().0))
+// Offset and size of a range of ten bytes, and its bytes and position.
+static RANGES: &[(u32, u32, Result<(&[u8], u64)>)] = &[
+    (4, 6, Ok((b"456789", 4))),
+    (0, 3, Ok((b"012", 0))),
+    (10, 0, Ok((b"", 10))),
+    (4, 7, Err(Error::UnexpectedEof(ReaderOffsetId(4)))),
+    (11, 0, Err(Error::UnexpectedEof(ReaderOffsetId(0)))),
+    (1, u32::MAX, Err(Error::UnexpectedEof(ReaderOffsetId(1)))),
+];
+
+// The bytes and the position of a section.
+fn contents<'a, S: Section<Slice<'a>> + Drop>(section: S) -> (&'a [u8], u64) {
+    (section.reader().slice(), section.reader().offset_id().0)
+}
+
+fn cuts_ranges<'a, S: Section<Slice<'a>> + Drop>(rt: &impl Abort, section: &S) {
+    for (offset, size, wanted) in RANGES {
+        let range = section.dwp_range(*offset, *size).map(contents);
+        same(rt, range, *wanted, offset);
+    }
 }
 
 #[test]
 fn ranges_are_cut(rt: HostRuntime) {
     let ten = little(b"0123456789");
-    let rows: [(u32, u32, Result<(&[u8], u64)>); 6] = [
-        (4, 6, Ok((b"456789", 4))),
-        (0, 3, Ok((b"012", 0))),
-        (10, 0, Ok((b"", 10))),
-        (4, 7, Err(eof(4))),
-        (11, 0, Err(eof(0))),
-        (1, u32::MAX, Err(eof(1))),
-    ];
-    for (offset, size, wanted) in rows {
-        for part in [
-            range(DebugAbbrev::from(ten), offset, size),
-            range(DebugAddr::from(ten), offset, size),
-            range(DebugStr::from(ten), offset, size),
-            range(DebugStrOffsets::from(ten), offset, size),
-            range(DebugLineStr::from(ten), offset, size),
-        ] {
-            same(&rt, part, wanted, (offset, size));
-        }
-    }
+    cuts_ranges(&rt, &DebugAbbrev::from(ten));
+    cuts_ranges(&rt, &DebugAddr::from(ten));
+    cuts_ranges(&rt, &DebugStr::from(ten));
+    cuts_ranges(&rt, &DebugStrOffsets::from(ten));
+    cuts_ranges(&rt, &DebugLineStr::from(ten));
 }
 
 #[test]
