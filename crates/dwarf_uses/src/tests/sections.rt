@@ -200,15 +200,19 @@ static RANGES: &[(u32, u32, Result<(&[u8], u64)>)] = &[
     (1, u32::MAX, Err(Error::UnexpectedEof(ReaderOffsetId(1)))),
 ];
 
-// The bytes and the position of a section.
-fn contents<'a, S: Section<Slice<'a>> + Drop>(section: S) -> (&'a [u8], u64) {
-    (section.reader().slice(), section.reader().offset_id().0)
+// The bytes and the position of a range of a section.
+fn range<'a, S: Section<Slice<'a>> + Drop>(
+    section: &S,
+    offset: u32,
+    size: u32,
+) -> Result<(&'a [u8], u64)> {
+    let part = section.dwp_range(offset, size)?;
+    Ok((part.reader().slice(), part.reader().offset_id().0))
 }
 
 fn cuts_ranges<'a, S: Section<Slice<'a>> + Drop>(rt: &impl Abort, section: &S) {
     for (offset, size, wanted) in RANGES {
-        let range = section.dwp_range(*offset, *size).map(contents);
-        same(rt, range, *wanted, offset);
+        same(rt, range(section, *offset, *size), *wanted, offset);
     }
 }
 
