@@ -18,6 +18,7 @@ ghost use Rattle.dwarf_read_core.specs.Answer.{Answers, AnswersStrictly, IsFinal
 ghost use Rattle.dwarf_read_core.specs.Reading.{Gives, tag_at, children_at, specification_at, attributes_in, declared_at, declaration_at, table_in};
 ghost use Rattle.dwarf_read_core.specs.TableEntries.{declared_in, ClosesAt};
 
+use super::key::Key;
 use super::section::Section;
 use dwarf_base_core::{
     DebugAbbrevOffset, Encoding, Endianity, Error, ReaderOffset, ReaderOffsetId, Result, SectionId,
@@ -213,7 +214,7 @@ pub struct Abbreviations {
     // Those with the codes from 1 on, in order, as compilers number them.
     vec: Vec<Abbreviation>,
     // The others.
-    map: BTreeMap<u64, Abbreviation>,
+    map: BTreeMap<Key, Abbreviation>,
     closed_by_null: bool,
 }
 
@@ -288,13 +289,13 @@ impl Abbreviations {
         }
         if index == len {
             // The code may stand in the map already, and it stays there.
-            if !self.map.is_empty() && self.map.contains_key(&code) {
+            if !self.map.is_empty() && self.map.contains_key(&Key(code)) {
                 return Err(Error::DuplicateAbbreviationCode(code));
             }
             self.vec.push(abbreviation)?;
             return Ok(());
         }
-        let Entry::Vacant(place) = self.map.entry(code)? else {
+        let Entry::Vacant(place) = self.map.entry(Key(code))? else {
             return Err(Error::DuplicateAbbreviationCode(code));
         };
         place.insert(abbreviation);
@@ -312,7 +313,7 @@ impl Abbreviations {
         let index = code.wrapping_sub(1) as usize;
         match self.vec.get(index) {
             Some(abbreviation) => Some(abbreviation),
-            None => self.map.get(&code),
+            None => self.map.get(&Key(code)),
         }
     }
 
@@ -385,7 +386,7 @@ enum TableEntry {
 #[derive(Debug, Drop)]
 pub struct AbbreviationsIter<'table> {
     vec: slice::Iter<'table, Abbreviation>,
-    map: Values<'table, u64, Abbreviation>,
+    map: Values<'table, Key, Abbreviation>,
 }
 
 impl<'table> Model for AbbreviationsIter<'table> {

@@ -10,6 +10,7 @@ ghost use Rattle.dwarf_read_core.specs.Answer.{Answer, Answers, followed_by};
 ghost use Rattle.dwarf_read_core.specs.Cache.{answer_of, KeepsAnswers, least_count, NamesOffsets, GivesBeforeError, GivesSome, IsFaithful, HandsOut, is_final, still_kept};
 ghost use Rattle.dwarf_read_core.specs.Sections.{debug_abbrev_reader};
 
+use super::super::key::Key;
 use super::{Abbreviations, AbbreviationsCacheStrategy, DebugAbbrev};
 use dwarf_base_core::{DebugAbbrevOffset, Error, ReaderOffset, Result};
 use dwarf_reader_core::Reader;
@@ -18,7 +19,7 @@ use std::collections::BTreeMap;
 use std::marker::Model;
 use std::rc::Rc;
 
-type Entries = BTreeMap<u64, Result<Rc<Abbreviations>>>;
+type Entries = BTreeMap<Key, Result<Rc<Abbreviations>>>;
 
 /// Tables of abbreviations by their offsets, kept so that units which share one read it once.
 ///
@@ -32,7 +33,7 @@ type Entries = BTreeMap<u64, Result<Rc<Abbreviations>>>;
 /// ```
 #[derive(Debug, Drop)]
 pub struct AbbreviationsCache {
-    abbreviations: BTreeMap<u64, Result<Rc<Abbreviations>>>,
+    abbreviations: BTreeMap<Key, Result<Rc<Abbreviations>>>,
     mem: Global,
 }
 
@@ -112,7 +113,7 @@ impl AbbreviationsCache {
         ensures unchanged { OnErr result (self.new ≡ self.old) }
     {
         self.abbreviations
-            .insert(offset.0.into_u64(), Ok(abbreviations))?;
+            .insert(Key(offset.0.into_u64()), Ok(abbreviations))?;
         Ok(())
     }
 
@@ -148,7 +149,7 @@ impl AbbreviationsCache {
         ensures answer { MatchOption (finite.get self.now (R.Offset.value offset.0)) (Answers (answer_of result) (R.view (debug_abbrev_reader debug_abbrev.now)) (R.Offset.value offset.0)) (λ kept. HandsOut kept result) }
         ensures faithful { IsFaithful self.now (R.view (debug_abbrev_reader debug_abbrev.now)) → Answers (answer_of result) (R.view (debug_abbrev_reader debug_abbrev.now)) (R.Offset.value offset.0) }
     {
-        match self.abbreviations.get(&offset.0.into_u64()) {
+        match self.abbreviations.get(&Key(offset.0.into_u64())) {
             Some(Ok(table)) => Ok(table.clone()?),
             Some(Err(fault)) => Err(*fault),
             None => Ok(Rc::new(self.mem, debug_abbrev.abbreviations(self.mem, offset)?)?),
@@ -216,7 +217,7 @@ fn entries_kept<R: Reader>(
     let mut counts = BTreeMap::new(mem);
     let mut entries = BTreeMap::new(mem);
     for offset in offsets {
-        let key = offset.0.into_u64();
+        let key = Key(offset.0.into_u64());
         let count = count_once_more(&mut counts, key)?;
         if count == strategy.least_count() {
             keep(
@@ -230,7 +231,7 @@ fn entries_kept<R: Reader>(
 }
 
 // Counts a key once more, and answers how often it has been counted.
-fn count_once_more(counts: &mut BTreeMap<u64, usize>, key: u64) -> Result<usize>
+fn count_once_more(counts: &mut BTreeMap<Key, usize>, key: Key) -> Result<usize>
     requires { unwrap_or (get nat_cmp counts.old key) 0 + 1 < 2 ^ 64 }
     ensures count { IfOk result (λ count. count ≡ unwrap_or (get nat_cmp counts.old key) 0 + 1) }
     ensures counted { OnOk result ((q : ℕ) → unwrap_or (get nat_cmp counts.new q) 0 ≡ unwrap_or (get nat_cmp counts.old q) 0 + (if key == q then 1 else 0)) }
@@ -242,7 +243,7 @@ fn count_once_more(counts: &mut BTreeMap<u64, usize>, key: u64) -> Result<usize>
 }
 
 // Keeps an answer under a key.
-fn keep(entries: &mut Entries, key: u64, answer: Result<Rc<Abbreviations>>) -> Result<()>
+fn keep(entries: &mut Entries, key: Key, answer: Result<Rc<Abbreviations>>) -> Result<()>
     ensures kept { OnOk result ((q : ℕ) → option_map answer_of (get nat_cmp entries.new q)
         ≡ (if q == key then Some (answer_of answer) else option_map answer_of (get nat_cmp entries.old q))) }
     ensures err { IfErr result (λ fault. fault ≡ Error.OutOfMemory) }
