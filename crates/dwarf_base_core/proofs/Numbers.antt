@@ -48,10 +48,12 @@ byte_at-pow (suc k) x = refl
 pow_pos256 : (n : ℕ) → zero < 256 ^ n
 pow_pos256 n = let h = one-le-pow n 256 (omega arith) in omega arith
 
+-- a number is written in as many bytes as were asked for, the highest first
 pub length-bytes_high_first : (k x : ℕ) → length (bytes_high_first k x) ≡ k
 length-bytes_high_first zero x = refl
 length-bytes_high_first (suc k) x = let rest = length-bytes_high_first k x in omega arith
 
+-- a number is written in as many bytes as were asked for, the lowest first
 pub length-bytes_low_first : (i k x : ℕ) → length (bytes_low_first i k x) ≡ k
 length-bytes_low_first i zero x = refl
 length-bytes_low_first i (suc k) x = let rest = length-bytes_low_first (suc i) k x in omega arith

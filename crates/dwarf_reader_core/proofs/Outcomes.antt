@@ -6,6 +6,7 @@ use Rattle.dwarf_reader_core.specs.Leb128.{IsEncoding, NoneIsLast, Kind, Number,
 use Rattle.dwarf_reader_core.specs.Once.{HasOne}
 use Rattle.dwarf_reader_core.proofs.Encodings.{past_none, same_encoding}
 
+-- a byte with a continuation bit before an encoding makes an encoding
 IsEncoding-cons : (b : ℕ) (s : List ℕ) → 128 ≤ b → IsEncoding s → IsEncoding (b ∷ s)
 IsEncoding-cons b [] more encoding = absurd encoding
 IsEncoding-cons b (c ∷ s) more encoding = (more, encoding)
@@ -24,6 +25,7 @@ record IsLong (bound : ℕ) (bytes : List ℕ) : Type 0 where
 abbrev AreShort : ℕ → List ℕ → Type 0
 AreShort bound bytes = (length bytes < bound) × NoneIsLast bytes
 
+-- within a bound bytes end a number, end before it does, or go on past the bound
 three_ways : (bound : ℕ) (bytes : List ℕ) → Ends bound bytes ⊎ (AreShort bound bytes ⊎ IsLong bound bytes)
 three_ways zero bytes = inr (inr (record { enough = omega arith; none = tt }))
 three_ways (suc bound) [] = inr (inl (omega arith, tt))

@@ -29,9 +29,11 @@ pub record TakesNext (old : Input) (k byte : ℕ) (new : Input) : Type 0 where
   pub taken : take (k + 1) old.bytes ≡ take k old.bytes ++ byte ∷ []
   pub left : new ≡ after (k + 1) old
 
+-- before the first byte no digit is read
 pub begun_none : (old : Input) → Begun old 0 old 0
 begun_none old = record { enough = omega arith; none = tt; left = sym (after-zero old); worth = refl }
 
+-- as many bytes are gone as digits are read
 begun_rest : {old mid : Input} {k value : ℕ} → Begun old k mid value → length mid.bytes ≡ length old.bytes - k
 begun_rest {old} {mid} {k} b = ap (λ (i : Input). length i.bytes) b.left ∙ length-drop k old.bytes
 
@@ -84,6 +86,7 @@ pub record Ended (old : Input) (k byte : ℕ) (new : Input) (value : ℕ) : Type
   pub left : new ≡ after (k + 1) old
   pub worth : unsigned_value (take (k + 1) old.bytes) ≡ value + byte % 128 * 2 ^ (7 * k)
 
+-- a byte without a continuation bit ends the number that has begun
 pub begun_ends : {old mid new : Input} {k value byte : ℕ} → Begun old k mid value → TakesNext old k byte new → byte < 128 → Ended old k byte new value
 begun_ends {old} {k = k} {value = value} {byte = byte} b n last =
     record {
@@ -136,6 +139,7 @@ pub is_sign : (sign : Bool) (digit : ℕ) → (IsTrue sign ↔ (64 ≤ digit)) �
 is_sign true digit is = le-leb 64 digit (is.0 refl)
 is_sign false digit is = ⊎_elim (λ low. lt-leb 64 digit low) (λ high. absurd (false≢true (is.1 high))) (cases_lt digit 64)
 
+-- the number that the loop makes of a last byte with its sign is the one of all bytes
 pub signed_worth : {old mid new : Input} {k value byte : ℕ} → Begun old k mid value → TakesNext old k byte new → (sign : Bool) (worth bits : ℕ) → nat_le 64 (byte % 128) ≡ sign → worth ≡ value + byte % 128 * 2 ^ (7 * k) → bits ≡ 7 * (k + 1) → signed_value (take (k + 1) old.bytes) ≡ pos worth -ℤ pos (if sign then 2 ^ bits else 0)
 signed_worth {old} {k = k} {value = value} {byte = byte} b n sign worth bits sign_is is bits_is =
     signed_next b n

@@ -59,7 +59,8 @@ impl Leb128 {
     pub fn unsigned(value: u64) -> Leb128
         ensures shortest { IsShortest unsigned64 value result }
         ensures within { length result ≤ 10 }
-        ensures read { (rest : List ℕ) → HasNumber unsigned64 (result ++ rest) value (length result) }
+        ensures read { (rest : List ℕ)
+            → HasNumber unsigned64 (result ++ rest) value (length result) }
     {
         let mut bytes = [0; 10];
         let mut len = 0;

@@ -84,8 +84,12 @@ impl AbbreviationsCache {
     ) -> Result<()>
         requires can { I.can_next units }
         requires ends { IsFinite (I.remaining units) }
-        ensures ok { OnOk result ((offsets : List ℕ) × NamesOffsets I.next_gives (λ o. R.Offset.value o.0) units offsets × KeepsAnswers (least_count strategy) (R.view (debug_abbrev_reader debug_abbrev.now)) offsets (finite.get self.new)) }
-        ensures faithful { OnOk result (IsFaithful self.new (R.view (debug_abbrev_reader debug_abbrev.now))) }
+        ensures ok { let section = R.view (debug_abbrev_reader debug_abbrev.now) in
+            OnOk result ((offsets : List ℕ)
+            × NamesOffsets I.next_gives (λ o. R.Offset.value o.0) units offsets
+            × KeepsAnswers (least_count strategy) section offsets (finite.get self.new)) }
+        ensures faithful { let section = R.view (debug_abbrev_reader debug_abbrev.now) in
+            OnOk result (IsFaithful self.new section) }
         ensures err { IfErr result (λ fault. fault ≡ Error.OutOfMemory) }
         ensures unchanged { OnErr result (self.new ≡ self.old) }
 
@@ -108,7 +112,8 @@ impl AbbreviationsCache {
         offset: DebugAbbrevOffset<R::Offset>,
         abbreviations: Rc<Abbreviations>,
     ) -> Result<()>
-        ensures ok { OnOk result (self.new ≡ finite.insert self.old (R.Offset.value offset.0) (Ok abbreviations.value)) }
+        ensures ok { OnOk result
+            (self.new ≡ finite.insert self.old (R.Offset.value offset.0) (Ok abbreviations.value)) }
         ensures err { IfErr result (λ fault. fault ≡ Error.OutOfMemory) }
         ensures unchanged { OnErr result (self.new ≡ self.old) }
     {
@@ -145,9 +150,15 @@ impl AbbreviationsCache {
         debug_abbrev: &DebugAbbrev<R>,
         offset: DebugAbbrevOffset<R::Offset>,
     ) -> Result<Rc<Abbreviations>>
-        ensures never_want { finite.get self.now (R.Offset.value offset.0) ≢ Some (Err Error.OutOfMemory) }
-        ensures answer { MatchOption (finite.get self.now (R.Offset.value offset.0)) (Answers (answer_of result) (R.view (debug_abbrev_reader debug_abbrev.now)) (R.Offset.value offset.0)) (λ kept. HandsOut kept result) }
-        ensures faithful { IsFaithful self.now (R.view (debug_abbrev_reader debug_abbrev.now)) → Answers (answer_of result) (R.view (debug_abbrev_reader debug_abbrev.now)) (R.Offset.value offset.0) }
+        ensures never_want { finite.get self.now (R.Offset.value offset.0)
+            ≢ Some (Err Error.OutOfMemory) }
+        ensures answer { let section = R.view (debug_abbrev_reader debug_abbrev.now) in
+            MatchOption (finite.get self.now (R.Offset.value offset.0))
+            (Answers (answer_of result) section (R.Offset.value offset.0))
+            (λ kept. HandsOut kept result) }
+        ensures faithful { let section = R.view (debug_abbrev_reader debug_abbrev.now) in
+            IsFaithful self.now section
+            → Answers (answer_of result) section (R.Offset.value offset.0) }
     {
         match self.abbreviations.get(&Key(offset.0.into_u64())) {
             Some(Ok(table)) => Ok(table.clone()?),
@@ -193,7 +204,8 @@ fn shared_answer<R: Reader>(
     debug_abbrev: &DebugAbbrev<R>,
     offset: DebugAbbrevOffset<R::Offset>,
 ) -> Result<Result<Rc<Abbreviations>>>
-    ensures ok { IfOk result (λ answer. Answer (R.view (debug_abbrev_reader debug_abbrev.now)) (R.Offset.value offset.0) (answer_of answer)) }
+    ensures ok { let section = R.view (debug_abbrev_reader debug_abbrev.now) in
+        IfOk result (λ answer. Answer section (R.Offset.value offset.0) (answer_of answer)) }
     ensures err { IfErr result (λ fault. fault ≡ Error.OutOfMemory) }
 {
     match debug_abbrev.abbreviations(mem, offset) {
@@ -210,7 +222,10 @@ fn entries_kept<R: Reader>(
     debug_abbrev: &DebugAbbrev<R>,
     offsets: &[DebugAbbrevOffset<R::Offset>],
 ) -> Result<Entries>
-    ensures ok { IfOk result (λ entries. KeepsAnswers (least_count strategy) (R.view (debug_abbrev_reader debug_abbrev.now)) (map (λ o. R.Offset.value o.0) offsets.now) (λ key. option_map answer_of (get nat_cmp entries key))) }
+    ensures ok { let section = R.view (debug_abbrev_reader debug_abbrev.now) in
+        IfOk result (λ entries. KeepsAnswers (least_count strategy) section
+        (map (λ o. R.Offset.value o.0) offsets.now)
+        (λ key. option_map answer_of (get nat_cmp entries key))) }
     ensures err { IfErr result (λ fault. fault ≡ Error.OutOfMemory) }
     ensures some { OnErr result (offsets.now ≢ []) }
 {
@@ -234,7 +249,9 @@ fn entries_kept<R: Reader>(
 fn count_once_more(counts: &mut BTreeMap<Key, usize>, key: Key) -> Result<usize>
     requires { unwrap_or (get nat_cmp counts.old key) 0 + 1 < 2 ^ 64 }
     ensures count { IfOk result (λ count. count ≡ unwrap_or (get nat_cmp counts.old key) 0 + 1) }
-    ensures counted { OnOk result ((q : ℕ) → unwrap_or (get nat_cmp counts.new q) 0 ≡ unwrap_or (get nat_cmp counts.old q) 0 + (if key == q then 1 else 0)) }
+    ensures counted { OnOk result
+        ((q : ℕ) → unwrap_or (get nat_cmp counts.new q) 0
+        ≡ unwrap_or (get nat_cmp counts.old q) 0 + (if key == q then 1 else 0)) }
     ensures err { IfErr result (λ fault. fault ≡ Error.OutOfMemory) }
 {
     let count = counts.entry(key)?.or_insert(0);
@@ -244,8 +261,10 @@ fn count_once_more(counts: &mut BTreeMap<Key, usize>, key: Key) -> Result<usize>
 
 // Keeps an answer under a key.
 fn keep(entries: &mut Entries, key: Key, answer: Result<Rc<Abbreviations>>) -> Result<()>
-    ensures kept { OnOk result ((q : ℕ) → option_map answer_of (get nat_cmp entries.new q)
-        ≡ (if q == key then Some (answer_of answer) else option_map answer_of (get nat_cmp entries.old q))) }
+    ensures kept { OnOk result
+        ((q : ℕ) → option_map answer_of (get nat_cmp entries.new q)
+        ≡ (if q == key then Some (answer_of answer)
+        else option_map answer_of (get nat_cmp entries.old q))) }
     ensures err { IfErr result (λ fault. fault ≡ Error.OutOfMemory) }
 {
     entries.insert(key, answer)?;
