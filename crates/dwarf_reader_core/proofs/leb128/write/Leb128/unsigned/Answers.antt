@@ -18,11 +18,13 @@ returns-then-rest-eq0-clause-shortest c =
     let digit = c.low_bits_of_u64-digit.result in
     IsShortest-from unsigned64 _ _
     (rw (take-placed _ _ digit c.digits.invariant.has_room)
-    (c.digits.invariant.completes (digit ∷ []) (unsigned_last_of-is_least c.digits.rest digit c.if-rest-eq0.true c.low_bits_of_u64-digit.ensures)))
+    (c.digits.invariant.completes (digit ∷ [])
+        (unsigned_last_of-is_least c.digits.rest digit c.if-rest-eq0.true c.low_bits_of_u64-digit.ensures)))
 
 pub returns-then-rest-eq0-clause-read : goal.returns-then-rest-eq0-clause-read
 returns-then-rest-eq0-clause-read c rest =
-    HasNumber-append unsigned64 c.args.value _ rest (returns-then-rest-eq0-clause-shortest c).encodes (simp length-take (omega arith)) (lt-ltb _ _ (omega arith))
+    HasNumber-append unsigned64 c.args.value _ rest (returns-then-rest-eq0-clause-shortest c).encodes
+        (simp length-take (omega arith)) (lt-ltb _ _ (omega arith))
 
 pub digits-preserved : goal.digits-preserved
 digits-preserved c =
@@ -30,7 +32,10 @@ digits-preserved c =
     let byte = bit_or digit 128 in
     let room = unsigned_more-has_room c.digits.len c.digits.rest c.digits.invariant.has_room.room c.digits.invariant.fits (omega arith) in
     record {
-      completes = λ tail least. rw (take-placed-append c.digits.bytes c.digits.len byte tail c.digits.invariant.has_room) (c.digits.invariant.completes (byte ∷ tail) (unsigned_more_of-is_least c.digits.rest digit tail (omega arith) c.low_bits_of_u64-digit.ensures least));
+      completes = λ tail least. rw
+          (take-placed-append c.digits.bytes c.digits.len byte tail c.digits.invariant.has_room)
+          (c.digits.invariant.completes (byte ∷ tail)
+          (unsigned_more_of-is_least c.digits.rest digit tail (omega arith) c.low_bits_of_u64-digit.ensures least));
       fits = room.0;
       has_room = HasRoom-more _ _ byte c.digits.invariant.has_room room.1;
     }
