@@ -1,12 +1,17 @@
 //! Small callers of the library, to start from. The README and the documentation quote them.
 
-ghost use Rattle.std.specs.Prelude.{◌≡◌, ◌+◌, ◌⊎◌, ℕ, Ok, Err, IfOk, IfErr, OnOk, length, option_map};
+ghost use Rattle.std.specs.Prelude.{◌≡◌, ◌≢◌, ℕ, Ok, Err, IfOk, IfErr, length, option_map};
 ghost use Rattle.std.specs.FinMap as finite;
+ghost use Rattle.dwarf_read_core.specs.Format.{word_size};
+ghost use Rattle.dwarf_read_core.specs.Answer.{Answer};
+ghost use Rattle.dwarf_read_core.specs.Sections.{debug_abbrev_reader, debug_str_offsets_reader, debug_str_reader};
+ghost use Rattle.dwarf_read_core.specs.Strings.{StringAt};
+ghost use Rattle.dwarf_read_core.specs.Words.{WordAt, slot};
 
 use dwarf_read_core::{
     Abbreviations, AbbreviationsCache, AbbreviationsCacheStrategy, DebugAbbrev, DebugAbbrevOffset,
-    DebugAddr, DebugStr, DebugStrOffsets, DebugStrOffsetsBase, DebugStrOffsetsIndex, DwTag, Format,
-    Reader, Result,
+    DebugAddr, DebugStr, DebugStrOffsets, DebugStrOffsetsBase, DebugStrOffsetsIndex, DwTag, Error,
+    Format, Reader, Result,
 };
 use std::alloc::Global;
 
@@ -30,7 +35,10 @@ pub fn table_text<R: Reader>(
     mem: Global,
     section: &DebugAbbrev<R>,
     offset: DebugAbbrevOffset<R::Offset>,
-) -> Result<String> {
+) -> Result<String>
+    ensures err { let bytes = R.view (debug_abbrev_reader section.now) in
+        IfErr result (λ e. e ≢ Error.OutOfMemory → Answer bytes (R.Offset.value offset.0) (Err e)) }
+{
     let table = section.abbreviations(mem, offset)?;
     let mut text = String::new(mem);
     for abbreviation in table.iter() {
@@ -80,7 +88,12 @@ pub fn string_by_index<R: Reader>(
     format: Format,
     base: DebugStrOffsetsBase<R::Offset>,
     index: DebugStrOffsetsIndex<R::Offset>,
-) -> Result<R> {
+) -> Result<R>
+    ensures ok { let place = slot (R.Offset.value base.0) (R.Offset.value index.0) (word_size format) in
+        IfOk result (λ string. (offset : ℕ)
+        × WordAt R.Offset.GREATEST (R.view (debug_str_offsets_reader offsets.now)) place (Ok offset)
+        × StringAt (R.view (debug_str_reader strings.now)) offset (Ok (R.view string))) }
+{
     let offset = offsets.get_str_offset(format, base, index)?;
     strings.get_str(offset)
 }

@@ -9,6 +9,7 @@ use std::process::Abort;
 
 mod addresses;
 mod cache;
+mod callers;
 mod constants;
 mod errors;
 mod leb128;
