@@ -5,7 +5,7 @@ ghost use Rattle.std.specs.List.{flat_map};
 ghost use Rattle.dwarf_read_core.specs.Entries.{StandsForAddresses};
 ghost use Rattle.dwarf_read_core.specs.Headers.{set_of};
 ghost use Rattle.dwarf_read_core.specs.Sets.{addresses_of};
-ghost use Rattle.dwarf_list.specs.Listing.{Lists, address_line, attribute_line, declaration_lines, header_line, hex_byte, hex_text, line, set_lines, table_text, without_error};
+ghost use Rattle.dwarf_list.specs.Listing.{Lists, address_header_line, address_line, address_listing, attribute_line, declaration_lines, hex_byte, hex_text, line, set_lines, table_text, without_error};
 
 use crate::command::Command;
 use dwarf_read_core::leb128::write::Leb128;
@@ -75,25 +75,25 @@ fn addresses(mem: Global, endian: RunTimeEndian, input: &[u8]) -> Result<Vec<u8>
 
 fn push_set<R: Reader>(text: &mut String, header: &AddrHeader<R>) -> Result<(), Error>
     ensures ok { OnOk result ((numbers : List ℕ) × StandsForAddresses (addresses_of (set_of R.view R.Offset.value header.now)) (without_error numbers)
-        × (string_bytes text.new ≡ string_bytes text.old ++ set_lines (set_of R.view R.Offset.value header.now) numbers)) }
+        × (string_bytes text.new ≡ string_bytes text.old ++ set_lines address_listing (set_of R.view R.Offset.value header.now) numbers)) }
     ensures err { IfErr result (λ error. error ≢ Error.OutOfMemory → (numbers : List ℕ)
         × StandsForAddresses (addresses_of (set_of R.view R.Offset.value header.now)) (without_error numbers ++ Err error ∷ [])) }
 {
     let (offset, length) = (header.offset().0.into_u64(), header.length().into_u64());
     let encoding = header.encoding();
     let (bits, size) = (encoding.format.word_size() * 8, encoding.address_size);
-    push_header(text, offset, length, bits, size)?;
+    push_address_header(text, offset, length, bits, size)?;
     push_addresses(text, header.entries()?)
 }
 
-fn push_header(
+fn push_address_header(
     text: &mut String,
     offset: u64,
     length: u64,
     bits: u8,
     size: u8,
 ) -> Result<(), AllocError>
-    ensures { OnOk result (string_bytes text.new ≡ string_bytes text.old ++ header_line offset length bits size) }
+    ensures { OnOk result (string_bytes text.new ≡ string_bytes text.old ++ address_header_line offset length bits size) }
 {
     writeln!(
         text,
