@@ -13,7 +13,7 @@ use Rattle.dwarf_reader_core.specs.InitialLength.{TakesLength, RefusesLength}
 use Rattle.dwarf_reader_core.specs.Once.{HasOne}
 use Rattle.dwarf_read_core.specs.Items.{ComesFirst, least_taken}
 use Rattle.dwarf_read_core.specs.Layout.{Layout, none, fault}
-use Rattle.dwarf_read_core.specs.Sets.{initial_length, Set, set, address_header, Headers, StandsForSets, followed_headers}
+use Rattle.dwarf_read_core.specs.Sets.{initial_length, Set, set, address_header, string_offsets_header, Headers, StandsForSets, followed_headers}
 use Rattle.dwarf_read_core.proofs.Layouts.{IsDefinite, sized_definite, pure_definite, refuse_definite, when_definite, then_definite, check_definite, inside_definite}
 use Rattle.dwarf_read_core.proofs.Layouts.{IsFront, sized_front, pure_front, refuse_front, when_front, then_front, check_front, inside_front}
 use Rattle.dwarf_read_core.proofs.Layouts.{TakesLeast, sized_least, pure_covers, refuse_covers, when_covers, then_covers, check_least, part_covers, inside_covers}
@@ -152,4 +152,11 @@ unfolding address_header
 address_header-is = record {
   definite = then_definite (sized_definite (fixed_size 2)) (λ version. then_definite (check_definite _ _) (λ known. then_definite (sized_definite byte_size) (λ size. then_definite (check_definite _ _) (λ sized. then_definite (sized_definite byte_size) (λ segment. then_definite (check_definite _ _) (λ flat. pure_definite size))))));
   least = then_covers (sized_least (fixed_size 2)) (λ version. then_covers (check_least _ _) (λ known. then_covers (sized_least byte_size) (λ size. then_covers (check_least _ _) (λ sized. then_covers (sized_least byte_size) (λ segment. then_covers (check_least _ _) (λ flat. pure_covers (omega arith)))))));
+}
+
+pub string_offsets_header-is : IsHeader string_offsets_header
+unfolding string_offsets_header
+string_offsets_header-is = record {
+  definite = then_definite (sized_definite (fixed_size 2)) (λ version. then_definite (check_definite _ _) (λ known. then_definite (sized_definite (fixed_size 2)) (λ padding. pure_definite tt)));
+  least = then_covers (sized_least (fixed_size 2)) (λ version. then_covers (check_least _ _) (λ known. then_covers (sized_least (fixed_size 2)) (λ padding. pure_covers (omega arith))));
 }

@@ -1,9 +1,10 @@
--- Sets of numbers, each with a header, one after the other: sets of addresses (DWARF 5, 7.27).
+-- Sets of numbers, each with a header, one after the other: sets of offsets of strings (DWARF 5, 7.26), and of addresses (7.27).
 use Rattle.std.specs.Prelude.{ℕ, List, Result, nat_lt, nat_le, ◌==◌}
 use Rattle.dwarf_base_core.specs.declared.common.Format.{Format}
 use Rattle.dwarf_base_core.specs.declared.common.Format.TheVariants.{Dwarf32, Dwarf64}
 use Rattle.dwarf_base_core.specs.declared.error.Error.{Error}
 use Rattle.dwarf_base_core.specs.declared.error.Error.TheVariants.{UnknownReservedLength, UnsupportedOffset, UnknownVersion, UnsupportedAddressSize, UnsupportedSegmentSize}
+use Rattle.dwarf_base_core.specs.Format.{word_size}
 use Rattle.dwarf_reader_core.specs.Faults.{is_number_size}
 use Rattle.dwarf_reader_core.specs.Input.{Input}
 use Rattle.dwarf_read_core.specs.Answer.{followed_by}
@@ -44,6 +45,14 @@ address_header = do
   flat ← check (segment == 0) (UnsupportedSegmentSize segment)
   pure size
 
+-- version 5, and two bytes of any value
+unfoldable pub string_offsets_header : Layout (Unit {0})
+string_offsets_header = do
+  version ← fixed 2
+  known ← check (version == 5) (UnknownVersion version)
+  padding ← fixed 2
+  pure tt
+
 -- the sets that are left: the place of the first, and the bytes
 pub record Headers : Type 0 where
   pub offset : ℕ
@@ -57,6 +66,10 @@ StandsForSets header greatest headers items = AreItems (set header greatest) hea
 abbrev pub StandsForAddressSets : ℕ → Headers → List (Result (Set ℕ) Error) → Type 0
 StandsForAddressSets greatest headers items = StandsForSets address_header greatest headers items
 
+-- the sets of string offsets that are left
+abbrev pub StandsForStringOffsetSets : ℕ → Headers → List (Result (Set (Unit {0})) Error) → Type 0
+StandsForStringOffsetSets greatest headers items = StandsForSets string_offsets_header greatest headers items
+
 -- the same with more bytes behind them
 abbrev pub followed_headers : List ℕ → Headers → Headers
 followed_headers more headers = record headers { rest = followed_by headers.rest more }
@@ -64,3 +77,7 @@ followed_headers more headers = record headers { rest = followed_by headers.rest
 -- the entries of a set of addresses
 abbrev pub addresses_of : Set ℕ → Entries
 addresses_of s = record { width = s.header; rest = s.entries }
+
+-- the entries of a set of string offsets: words of its format
+abbrev pub string_offsets_of : Set (Unit {0}) → Entries
+string_offsets_of s = record { width = word_size s.format; rest = s.entries }

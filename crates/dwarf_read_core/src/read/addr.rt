@@ -376,7 +376,7 @@ impl<R: Reader> AddrEntryIter<R> {
     ///
     /// `UnexpectedEof` at the bytes that are left where they are fewer than an address has. After
     /// it the answer is `Ok(None)`. It takes no memory.
-    #[tactic(auto, using(crate::proofs::Entries::addresses_none))]
+    #[tactic(auto, using(crate::proofs::Entries::entries_none))]
     pub fn next(&mut self) -> Result<Option<u64>>
         ensures first { GivesFirst StandsForAddresses (λ address. address) true self.old (result_transpose result) self.new }
         ensures failed { OnErr result (self.new.rest.bytes ≡ []) }
