@@ -2,14 +2,17 @@
 use Rattle.std.proofs.Common.{◌≡◌, ◌-◌, ◌^◌, ◌<◌, ℕ, zero, suc, List, [], ◌∷◌, ◌++◌, Result, Ok, Err, refl, sym, ap, ◌∙◌, arith, inl, inr, ◌⊎◌}
 use Rattle.std.specs.Prelude.{IsTrue, Bool, true, false}
 use Rattle.dwarf_read_core.specs.declared.Error.{Error}
-use Rattle.dwarf_read_core.specs.Entries.{Entries, StandsForEntries}
+use Rattle.dwarf_read_core.specs.declared.Format.{Format}
+use Rattle.dwarf_read_core.specs.declared.Format.TheVariants.{Dwarf32, Dwarf64}
+use Rattle.dwarf_read_core.specs.Entries.{Entries, StandsForEntries, StandsForStringOffsets}
 use Rattle.dwarf_read_core.specs.Faults.{is_number_size}
+use Rattle.dwarf_read_core.specs.Format.{word_size}
 use Rattle.dwarf_read_core.specs.Input.{Input}
 use Rattle.dwarf_read_core.specs.Layout.{Layout, AreItems, none, more, fault, fixed, check}
 use Rattle.dwarf_read_core.specs.Once.{HasOne}
-use Rattle.dwarf_read_core.specs.Sets.{Headers, Set, set, address_header, addresses_of}
+use Rattle.dwarf_read_core.specs.Sets.{Headers, Set, set, address_header, addresses_of, string_offsets_of}
 use Rattle.dwarf_list.specs.Listing as listed
-use Rattle.dwarf_list.specs.Listing.{SetListing, address_listing, HasEntries, HasSets, ListsSection, ListsSets, nothing, bad_header, bad_entry, later, set_lines, without_error}
+use Rattle.dwarf_list.specs.Listing.{SetListing, address_listing, offset_listing, HasEntries, HasSets, ListsSection, ListsSets, nothing, bad_header, bad_entry, later, set_lines, without_error}
 
 abbrev Items : Type 0
 Items = List (Result ℕ Error)
@@ -126,3 +129,13 @@ address_size greatest offset old new s (initial, i, p, (fits, j, q, (unit, k, r,
 
 pub addresses_one_list : ((e : Entries) → 0 < e.width → HasOne (StandsForEntries fixed e)) → HasOneList address_listing
 addresses_one_list entries = record { one = λ greatest offset old new s h. entries (addresses_of s) (address_size greatest offset old new s h) }
+
+-- ---- sets of string offsets
+
+-- a word has bytes
+word_positive : (format : Format) → 0 < word_size format
+word_positive Dwarf32 = omega arith
+word_positive Dwarf64 = omega arith
+
+pub offsets_one_list : ((e : Entries) → 0 < e.width → HasOne (StandsForStringOffsets (2 ^ 64 - 1) e)) → HasOneList offset_listing
+offsets_one_list entries = record { one = λ greatest offset old new s h. entries (string_offsets_of s) (word_positive s.format) }

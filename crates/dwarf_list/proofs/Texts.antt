@@ -4,20 +4,20 @@ use Rattle.std.specs.Prelude.{IsSomeAnd}
 use Rattle.dwarf_read_core.specs.declared.Error.{Error}
 use Rattle.dwarf_read_core.specs.Answer.{Answer, StrictAnswer}
 use Rattle.dwarf_read_core.specs.Once.{HasOne}
-use Rattle.dwarf_read_core.specs.Entries.{Entries, StandsForAddresses}
+use Rattle.dwarf_read_core.specs.Entries.{Entries, StandsForAddresses, StandsForStringOffsets}
 use Rattle.dwarf_read_core.specs.Grammar.{Table}
 use Rattle.dwarf_read_core.specs.Input.{Input}
 use Rattle.dwarf_read_core.specs.Leb128.{Kind, Number, unsigned64, signed64}
-use Rattle.dwarf_read_core.specs.Sets.{Headers, StandsForAddressSets}
+use Rattle.dwarf_read_core.specs.Sets.{Headers, StandsForAddressSets, StandsForStringOffsetSets}
 use Rattle.dwarf_read_core.specs.Shortest.{IsShortest}
 use Rattle.dwarf_read_core.specs.Strings.{StringAt}
-use Rattle.dwarf_list.proofs.SetTexts.{one_section, some_section, addresses_one_list}
-use Rattle.dwarf_list.specs.Listing.{IsText, Lists, address_listing, sets_section, section_of, table_text, line, hex_text}
+use Rattle.dwarf_list.proofs.SetTexts.{one_section, some_section, addresses_one_list, offsets_one_list}
+use Rattle.dwarf_list.specs.Listing.{IsText, Lists, address_listing, offset_listing, sets_section, section_of, table_text, line, hex_text}
 use Rattle.dwarf_list.specs.Command.{command_of}
 use Rattle.dwarf_list.specs.declared.fault.Fault.{Fault}
 use Rattle.dwarf_list.specs.declared.fault.Fault.TheVariants.{Section, Usage, Read, Write}
 use Rattle.dwarf_list.specs.declared.command.Command.{Command}
-use Rattle.dwarf_list.specs.declared.command.Command.TheVariants.{Abbrev, Str, Addr, Uleb, Sleb, AbbrevStrict}
+use Rattle.dwarf_list.specs.declared.command.Command.TheVariants.{Abbrev, Str, Addr, Uleb, Sleb, AbbrevStrict, StrOffsets}
 
 -- what the sections' laws say
 pub record AreLaws : Type 0 where
@@ -26,6 +26,8 @@ pub record AreLaws : Type 0 where
   pub strings : (section : Input) (offset : ℕ) → HasOne (StringAt section offset)
   pub entries : (e : Entries) → 0 < e.width → HasOne (StandsForAddresses e)
   pub sets : (greatest : ℕ) (headers : Headers) → HasOne (StandsForAddressSets greatest headers)
+  pub offsets : (greatest : ℕ) (e : Entries) → 0 < e.width → HasOne (StandsForStringOffsets greatest e)
+  pub offset_sets : (greatest : ℕ) (headers : Headers) → HasOne (StandsForStringOffsetSets greatest headers)
   pub encodings : (k : Kind) (number : Number k) → HasOne (IsShortest k number)
 
 module _ (laws : AreLaws) where
@@ -82,6 +84,7 @@ module _ (laws : AreLaws) where
       let same = same_strict_answer (section_of input) offset (Err d) (Err e) a b in
       let errors : e ≡ d = cc in
       ap (λ (x : Error). let r : Result (List ℕ) Error = Err x in r) errors
+  one_listing (StrOffsets endian) input one other a b = one_section offset_listing (offsets_one_list (laws.offsets (2 ^ 64 - 1))) (laws.offset_sets (2 ^ 64 - 1)) (sets_section endian input) one other a b
 
   abbrev Listing : Type 0
   Listing = Result (List ℕ) Error
@@ -109,6 +112,7 @@ module _ (laws : AreLaws) where
   some_listing (Uleb value) input = let h = laws.encodings unsigned64 value in (Ok (line (hex_text h.0)), (h.0, h.1, refl))
   some_listing (Sleb value) input = let h = laws.encodings signed64 value in (Ok (line (hex_text h.0)), (h.0, h.1, refl))
   some_listing (AbbrevStrict offset) input = let h = laws.strict_answers (section_of input) offset in some_strict_table offset input h.0 h.1
+  some_listing (StrOffsets endian) input = some_section offset_listing (offsets_one_list (laws.offsets (2 ^ 64 - 1))) (laws.offset_sets (2 ^ 64 - 1)) (sets_section endian input)
 
   abbrev Outcome : Type 0
   Outcome = Result (List ℕ) Fault

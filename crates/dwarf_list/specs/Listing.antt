@@ -10,19 +10,19 @@ use Rattle.dwarf_read_core.specs.DwAt.{attribute_text}
 use Rattle.dwarf_read_core.specs.DwForm.{form_text}
 use Rattle.dwarf_read_core.specs.DwTag.{tag_text}
 use Rattle.dwarf_read_core.specs.Endian.{is_big_at_run_time}
-use Rattle.dwarf_read_core.specs.Entries.{Entries, StandsForEntries}
+use Rattle.dwarf_read_core.specs.Entries.{Entries, StandsForEntries, string_offset}
 use Rattle.dwarf_read_core.specs.ErrorText.{hexadecimal}
 use Rattle.dwarf_read_core.specs.Format.{word_size}
 use Rattle.dwarf_read_core.specs.Grammar.{Declaration, Specification, Table}
 use Rattle.dwarf_read_core.specs.Input.{Input}
 use Rattle.dwarf_read_core.specs.Layout.{Layout, fixed}
 use Rattle.dwarf_read_core.specs.Leb128.{unsigned64, signed64}
-use Rattle.dwarf_read_core.specs.Sets.{Headers, Set, StandsForSets, address_header, addresses_of}
+use Rattle.dwarf_read_core.specs.Sets.{Headers, Set, StandsForSets, address_header, addresses_of, string_offsets_header, string_offsets_of}
 use Rattle.dwarf_read_core.specs.Shortest.{IsShortest}
 use Rattle.dwarf_read_core.specs.Strings.{StringAt}
 use Rattle.dwarf_list.specs.Command.{command_of}
 use Rattle.dwarf_list.specs.declared.command.Command.{Command}
-use Rattle.dwarf_list.specs.declared.command.Command.TheVariants.{Abbrev, Str, Addr, Uleb, Sleb, AbbrevStrict}
+use Rattle.dwarf_list.specs.declared.command.Command.TheVariants.{Abbrev, Str, Addr, Uleb, Sleb, AbbrevStrict, StrOffsets}
 use Rattle.dwarf_list.specs.declared.fault.Fault.{Fault}
 use Rattle.dwarf_list.specs.declared.fault.Fault.TheVariants.{Section, Usage, Read, Write}
 
@@ -63,9 +63,17 @@ set_text offset unit_length bits = codes "set " ++ decimal offset ++ codes ": le
 abbrev pub address_header_line : ℕ → ℕ → ℕ → ℕ → List ℕ
 address_header_line offset unit_length bits size = line (set_text offset unit_length bits ++ codes ", address size " ++ decimal size)
 
+-- that alone
+abbrev pub offset_header_line : ℕ → ℕ → ℕ → List ℕ
+offset_header_line offset unit_length bits = line (set_text offset unit_length bits)
+
 -- an address
 abbrev pub address_line : ℕ → List ℕ
 address_line address = line (codes "  0x" ++ hexadecimal address)
+
+-- an offset of a string
+abbrev pub offset_line : ℕ → List ℕ
+offset_line offset = line (codes "  " ++ decimal offset)
 
 -- what is listed of a section of sets: by the layout of a header and of an entry, the entries of a set and the lines of a header and of an entry
 pub record SetListing (H : Type 0) : Type 1 where
@@ -78,6 +86,10 @@ pub record SetListing (H : Type 0) : Type 1 where
 -- sets of addresses
 abbrev pub address_listing : SetListing ℕ
 address_listing = record { header = address_header; entry = fixed; entries = addresses_of; header_line = λ s. address_header_line s.offset s.unit_length (word_size s.format * 8) s.header; entry_line = address_line }
+
+-- sets of string offsets
+abbrev pub offset_listing : SetListing (Unit {0})
+offset_listing = record { header = string_offsets_header; entry = string_offset (2 ^ 64 - 1); entries = string_offsets_of; header_line = λ s. offset_header_line s.offset s.unit_length (word_size s.format * 8); entry_line = offset_line }
 
 -- a set and its entries
 abbrev pub set_lines : {H : Type 0} → SetListing H → Set H → List ℕ → List ℕ
@@ -128,6 +140,7 @@ Lists (Sleb value) input (Ok text) = (bytes : List ℕ) × IsShortest signed64 v
 Lists (Sleb value) input (Err error) = ⊥
 Lists (AbbrevStrict offset) input (Ok text) = (table : Table) × StrictAnswer (section_of input) offset (Ok table) × (text ≡ table_text table)
 Lists (AbbrevStrict offset) input (Err error) = StrictAnswer (section_of input) offset (Err error)
+Lists (StrOffsets endian) input answer = ListsSection offset_listing (sets_section endian input) answer
 
 -- the text that the words ask for of an input, or the fault
 abbrev pub IsText : List (List ℕ) → List ℕ → Result (List ℕ) Fault → Type 0

@@ -19,5 +19,7 @@ pub fn exactly_one_text()
     laws::exactly_one_string();
     laws::exactly_one_list_of_sets();
     laws::exactly_one_list_of_entries();
+    laws::exactly_one_list_of_offset_sets();
+    laws::exactly_one_list_of_string_offsets();
     laws::exactly_one_shortest();
 }

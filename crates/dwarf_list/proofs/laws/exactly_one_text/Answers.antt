@@ -9,6 +9,8 @@ laws c = record {
   strings = c.exactly_one_string.ensures;
   entries = c.exactly_one_list_of_entries.ensures.one;
   sets = c.exactly_one_list_of_sets.ensures.one;
+  offsets = c.exactly_one_list_of_string_offsets.ensures.one;
+  offset_sets = c.exactly_one_list_of_offset_sets.ensures.one;
   encodings = c.exactly_one_shortest.ensures;
 }
 

@@ -10,12 +10,12 @@ returns-in_err-header c =
     rw (p.1, p.2) (λ memory. listed_of (rw (c.from-section.ensures, c.new.ensures) at c.in_ok-headers.ensures.ok) _ (header_fails c.loop-text.invariant _ _ c.in_err-header.ensures.first memory))
 
 pub loop-text-preserved : goal.loop-text-preserved
-loop-text-preserved c = one_set_listed c.loop-text.invariant _ _ _ (rw c.in-Some.is at c.in_ok-header.ensures.first) c.in_ok-push_set.ensures.ok
+loop-text-preserved c = one_set_listed c.loop-text.invariant _ _ _ (rw c.in-Some.is at c.in_ok-header.ensures.first) c.in_ok-push_address_set.ensures.ok
 
-pub returns-in_err-push_set : goal.returns-in_err-push_set
-returns-in_err-push_set c =
-    let p = err_from_is_err_and c.from_residual-in_err-push_set.result c.from_residual-in_err-push_set.ensures.1 in
-    rw (p.1, p.2) (λ memory. listed_of (rw (c.from-section.ensures, c.new.ensures) at c.in_ok-headers.ensures.ok) _ (set_fails c.loop-text.invariant _ _ _ (rw c.in-Some.is at c.in_ok-header.ensures.first) (c.in_err-push_set.ensures.err memory)))
+pub returns-in_err-push_address_set : goal.returns-in_err-push_address_set
+returns-in_err-push_address_set c =
+    let p = err_from_is_err_and c.from_residual-in_err-push_address_set.result c.from_residual-in_err-push_address_set.ensures.1 in
+    rw (p.1, p.2) (λ memory. listed_of (rw (c.from-section.ensures, c.new.ensures) at c.in_ok-headers.ensures.ok) _ (set_fails c.loop-text.invariant _ _ _ (rw c.in-Some.is at c.in_ok-header.ensures.first) (c.in_err-push_address_set.ensures.err memory)))
 
 pub returns : goal.returns
 returns c =

@@ -1,7 +1,7 @@
 use Rattle.dwarf_read_core.specs.Layout.{fixed}
 use Rattle.dwarf_list.specs.Listing.{address_line}
 use Rattle.dwarf_list.proofs.SetLines.{with_header}
-use Rattle.dwarf_list.proofs.listing.push_set.Goals as goal
+use Rattle.dwarf_list.proofs.listing.push_address_set.Goals as goal
 
 pub returns-clause-ok : goal.returns-clause-ok
 returns-clause-ok g c =
