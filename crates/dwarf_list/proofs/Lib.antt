@@ -1,5 +1,5 @@
-pub mod AddressLines
-pub mod AddressTexts
+pub mod SetLines
+pub mod SetTexts
 pub mod Commands
 pub mod Hexadecimal
 pub mod Numbers

@@ -1,23 +1,23 @@
 -- Words and an input have exactly one text, or one fault.
 use Rattle.std.proofs.Common.{◌≡◌, ◌<◌, ◌-◌, ◌^◌, ℕ, List, Option, Some, None, Result, Ok, Err, refl, sym, ap, ◌∙◌}
-use Rattle.std.specs.Prelude.{All, IsSomeAnd}
+use Rattle.std.specs.Prelude.{IsSomeAnd}
 use Rattle.dwarf_read_core.specs.declared.Error.{Error}
 use Rattle.dwarf_read_core.specs.Answer.{Answer, StrictAnswer}
 use Rattle.dwarf_read_core.specs.Once.{HasOne}
-use Rattle.dwarf_read_core.specs.Entries.{Entries, StandsForAddresses}
+use Rattle.dwarf_read_core.specs.Entries.{Entries, StandsForAddresses, StandsForStringOffsets}
 use Rattle.dwarf_read_core.specs.Grammar.{Table}
 use Rattle.dwarf_read_core.specs.Input.{Input}
 use Rattle.dwarf_read_core.specs.Leb128.{Kind, Number, unsigned64, signed64}
-use Rattle.dwarf_read_core.specs.Sets.{Headers, Set, StandsForAddressSets}
+use Rattle.dwarf_read_core.specs.Sets.{Headers, StandsForAddressSets, StandsForStringOffsetSets}
 use Rattle.dwarf_read_core.specs.Shortest.{IsShortest}
 use Rattle.dwarf_read_core.specs.Strings.{StringAt}
-use Rattle.dwarf_list.proofs.AddressTexts.{one_addresses, some_addresses}
-use Rattle.dwarf_list.specs.Listing.{IsText, Lists, address_section, section_of, table_text, line, hex_text}
+use Rattle.dwarf_list.proofs.SetTexts.{one_section, some_section, addresses_one_list, offsets_one_list}
+use Rattle.dwarf_list.specs.Listing.{IsText, Lists, address_listing, offset_listing, sets_section, section_of, table_text, line, hex_text}
 use Rattle.dwarf_list.specs.Command.{command_of}
 use Rattle.dwarf_list.specs.declared.fault.Fault.{Fault}
 use Rattle.dwarf_list.specs.declared.fault.Fault.TheVariants.{Section, Usage, Read, Write}
 use Rattle.dwarf_list.specs.declared.command.Command.{Command}
-use Rattle.dwarf_list.specs.declared.command.Command.TheVariants.{Abbrev, Str, Addr, Uleb, Sleb, AbbrevStrict}
+use Rattle.dwarf_list.specs.declared.command.Command.TheVariants.{Abbrev, Str, Addr, Uleb, Sleb, AbbrevStrict, StrOffsets}
 
 -- what the sections' laws say
 pub record AreLaws : Type 0 where
@@ -25,8 +25,9 @@ pub record AreLaws : Type 0 where
   pub strict_answers : (section : Input) (offset : ℕ) → HasOne (StrictAnswer section offset)
   pub strings : (section : Input) (offset : ℕ) → HasOne (StringAt section offset)
   pub entries : (e : Entries) → 0 < e.width → HasOne (StandsForAddresses e)
-  pub sets : (greatest : ℕ) (headers : Headers) (items others : List (Result (Set ℕ) Error)) → StandsForAddressSets greatest headers items → StandsForAddressSets greatest headers others → items ≡ others
-  pub some_sets : (greatest : ℕ) (headers : Headers) → All (λ b. b < 256) headers.rest.bytes → HasOne (StandsForAddressSets greatest headers)
+  pub sets : (greatest : ℕ) (headers : Headers) → HasOne (StandsForAddressSets greatest headers)
+  pub offsets : (greatest : ℕ) (e : Entries) → 0 < e.width → HasOne (StandsForStringOffsets greatest e)
+  pub offset_sets : (greatest : ℕ) (headers : Headers) → HasOne (StandsForStringOffsetSets greatest headers)
   pub encodings : (k : Kind) (number : Number k) → HasOne (IsShortest k number)
 
 module _ (laws : AreLaws) where
@@ -64,7 +65,7 @@ module _ (laws : AreLaws) where
       let same = same_string (section_of input) offset (Err d) (Err e) a b in
       let errors : e ≡ d = cc in
       ap (λ (x : Error). let r : Result (List ℕ) Error = Err x in r) errors
-  one_listing (Addr endian) input one other a b = one_addresses laws.entries laws.sets (address_section endian input) one other a b
+  one_listing (Addr endian) input one other a b = one_section address_listing (addresses_one_list laws.entries) (laws.sets (2 ^ 64 - 1)) (sets_section endian input) one other a b
   one_listing (Uleb value) input (Ok x) (Ok y) a b =
       ap (λ (t : List ℕ). let r : Result (List ℕ) Error = Ok t in r) (b.2 ∙ ap (λ (s : List ℕ). line (hex_text s)) (same_encoding unsigned64 value a.0 b.0 a.1 b.1) ∙ sym a.2)
   one_listing (Uleb value) input (Ok x) (Err e) a b = absurd b
@@ -83,6 +84,7 @@ module _ (laws : AreLaws) where
       let same = same_strict_answer (section_of input) offset (Err d) (Err e) a b in
       let errors : e ≡ d = cc in
       ap (λ (x : Error). let r : Result (List ℕ) Error = Err x in r) errors
+  one_listing (StrOffsets endian) input one other a b = one_section offset_listing (offsets_one_list (laws.offsets (2 ^ 64 - 1))) (laws.offset_sets (2 ^ 64 - 1)) (sets_section endian input) one other a b
 
   abbrev Listing : Type 0
   Listing = Result (List ℕ) Error
@@ -103,13 +105,14 @@ module _ (laws : AreLaws) where
   some_line offset input (Err e) is = (Err e, is)
 
   -- each command lists something of bytes
-  some_listing : (c : Command) (input : List ℕ) → All (λ b. b < 256) input → (one : Listing) × Lists c input one
-  some_listing (Abbrev offset) input bytes = let h = laws.answers (section_of input) offset in some_table offset input h.0 h.1
-  some_listing (Str offset) input bytes = let h = laws.strings (section_of input) offset in some_line offset input h.0 h.1
-  some_listing (Addr endian) input bytes = some_addresses laws.entries laws.sets (address_section endian input) (laws.some_sets (2 ^ 64 - 1) (address_section endian input) bytes)
-  some_listing (Uleb value) input bytes = let h = laws.encodings unsigned64 value in (Ok (line (hex_text h.0)), (h.0, h.1, refl))
-  some_listing (Sleb value) input bytes = let h = laws.encodings signed64 value in (Ok (line (hex_text h.0)), (h.0, h.1, refl))
-  some_listing (AbbrevStrict offset) input bytes = let h = laws.strict_answers (section_of input) offset in some_strict_table offset input h.0 h.1
+  some_listing : (c : Command) (input : List ℕ) → (one : Listing) × Lists c input one
+  some_listing (Abbrev offset) input = let h = laws.answers (section_of input) offset in some_table offset input h.0 h.1
+  some_listing (Str offset) input = let h = laws.strings (section_of input) offset in some_line offset input h.0 h.1
+  some_listing (Addr endian) input = some_section address_listing (addresses_one_list laws.entries) (laws.sets (2 ^ 64 - 1)) (sets_section endian input)
+  some_listing (Uleb value) input = let h = laws.encodings unsigned64 value in (Ok (line (hex_text h.0)), (h.0, h.1, refl))
+  some_listing (Sleb value) input = let h = laws.encodings signed64 value in (Ok (line (hex_text h.0)), (h.0, h.1, refl))
+  some_listing (AbbrevStrict offset) input = let h = laws.strict_answers (section_of input) offset in some_strict_table offset input h.0 h.1
+  some_listing (StrOffsets endian) input = some_section offset_listing (offsets_one_list (laws.offsets (2 ^ 64 - 1))) (laws.offset_sets (2 ^ 64 - 1)) (sets_section endian input)
 
   abbrev Outcome : Type 0
   Outcome = Result (List ℕ) Fault
@@ -147,10 +150,10 @@ module _ (laws : AreLaws) where
   only_usage input (Err Read) h = absurd h
   only_usage input (Err Write) h = absurd h
 
-  one_outcome : (c : Option Command) (input : List ℕ) → All (λ b. b < 256) input → HasOne (IsOutcome c input)
-  one_outcome None input bytes = (Err Usage, refl, only_usage input)
-  one_outcome (Some c) input bytes =
-      let some = some_listing c input bytes in
+  one_outcome : (c : Option Command) (input : List ℕ) → HasOne (IsOutcome c input)
+  one_outcome None input = (Err Usage, refl, only_usage input)
+  one_outcome (Some c) input =
+      let some = some_listing c input in
       (outcome_of some.0, is_outcome c input some.0 some.1, λ other h. only_outcome c input some.0 other some.1 h)
 
   to_text : (words : List (List ℕ)) (input : List ℕ) (outcome : Outcome) → IsOutcome (command_of words) input outcome → IsText words input outcome
@@ -168,7 +171,7 @@ module _ (laws : AreLaws) where
   from_text words input (Err Write) h = h
 
   -- words and bytes have exactly one text, or one fault
-  pub one_text : (words : List (List ℕ)) (input : List ℕ) → All (λ b. b < 256) input → HasOne (IsText words input)
-  one_text words input bytes =
-      let one = one_outcome (command_of words) input bytes in
+  pub one_text : (words : List (List ℕ)) (input : List ℕ) → HasOne (IsText words input)
+  one_text words input =
+      let one = one_outcome (command_of words) input in
       (one.0, to_text words input one.0 one.1, λ other h. one.2 other (from_text words input other h))

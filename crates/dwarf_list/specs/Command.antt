@@ -6,7 +6,7 @@ use Rattle.dwarf_read_core.specs.declared.RunTimeEndian.{RunTimeEndian}
 use Rattle.dwarf_read_core.specs.declared.RunTimeEndian.TheVariants.{Little, Big}
 use Rattle.dwarf_list.specs.Number.{signed_of, unsigned_of}
 use Rattle.dwarf_list.specs.declared.command.Command.{Command}
-use Rattle.dwarf_list.specs.declared.command.Command.TheVariants.{Abbrev, Str, Addr, Uleb, Sleb, AbbrevStrict}
+use Rattle.dwarf_list.specs.declared.command.Command.TheVariants.{Abbrev, Str, Addr, Uleb, Sleb, AbbrevStrict, StrOffsets}
 
 -- the byte order that a name gives
 abbrev pub endian_of : List ℕ → Option RunTimeEndian
@@ -20,7 +20,8 @@ named_command name argument =
     if bytes_eq name (codes "addr") then option_map Addr (endian_of argument) else (
     if bytes_eq name (codes "uleb") then option_map Uleb (unsigned_of argument) else (
     if bytes_eq name (codes "sleb") then option_map Sleb (signed_of argument) else (
-    if bytes_eq name (codes "abbrev-strict") then option_map AbbrevStrict (unsigned_of argument) else None)))))
+    if bytes_eq name (codes "abbrev-strict") then option_map AbbrevStrict (unsigned_of argument) else (
+    if bytes_eq name (codes "str-offsets") then option_map StrOffsets (endian_of argument) else None))))))
 
 -- the command that the words give
 abbrev pub command_of : List (List ℕ) → Option Command
@@ -35,6 +36,7 @@ reads_input (Addr _) = true
 reads_input (Uleb _) = false
 reads_input (Sleb _) = false
 reads_input (AbbrevStrict _) = true
+reads_input (StrOffsets _) = true
 
 -- the words name no command
 abbrev pub IsUsage : List (List ℕ) → Type 0

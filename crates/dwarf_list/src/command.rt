@@ -21,6 +21,8 @@ pub enum Command {
     Sleb(i64),
     /// The table of abbreviations at an offset, which a code of value 0 has to close.
     AbbrevStrict(u64),
+    /// The sets of string offsets of a whole `.debug_str_offsets` in a byte order.
+    StrOffsets(RunTimeEndian),
 }
 
 /// The command that the words name, if they name one.
@@ -43,6 +45,7 @@ fn named_command(name: &str, argument: &str) -> Option<Command>
         "uleb" => parse_unsigned(argument).map(Command::Uleb),
         "sleb" => parse_signed(argument).map(Command::Sleb),
         "abbrev-strict" => parse_unsigned(argument).map(Command::AbbrevStrict),
+        "str-offsets" => parse_endian(argument).map(Command::StrOffsets),
         _ => None,
     }
 }
@@ -62,7 +65,11 @@ pub fn reads_input(command: Command) -> bool
     ensures { result ≡ reads_input command }
 {
     match command {
-        Command::Abbrev(_) | Command::Str(_) | Command::Addr(_) | Command::AbbrevStrict(_) => true,
+        Command::Abbrev(_)
+        | Command::Str(_)
+        | Command::Addr(_)
+        | Command::AbbrevStrict(_)
+        | Command::StrOffsets(_) => true,
         Command::Uleb(_) | Command::Sleb(_) => false,
     }
 }

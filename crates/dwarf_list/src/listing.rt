@@ -2,17 +2,17 @@
 
 ghost use Rattle.std.specs.Prelude.{◌≡◌, ◌≢◌, ◌++◌, ◌∷◌, ℕ, List, [], Ok, Err, IfOk, IfErr, OnOk, MatchResult, string_bytes};
 ghost use Rattle.std.specs.List.{flat_map};
-ghost use Rattle.dwarf_read_core.specs.Entries.{StandsForAddresses};
-ghost use Rattle.dwarf_read_core.specs.Headers.{set_of};
-ghost use Rattle.dwarf_read_core.specs.Sets.{addresses_of};
-ghost use Rattle.dwarf_list.specs.Listing.{Lists, address_line, attribute_line, declaration_lines, header_line, hex_byte, hex_text, line, set_lines, table_text, without_error};
+ghost use Rattle.dwarf_read_core.specs.Entries.{StandsForAddresses, StandsForStringOffsets};
+ghost use Rattle.dwarf_read_core.specs.Headers.{set_of, string_offset_set_of};
+ghost use Rattle.dwarf_read_core.specs.Sets.{addresses_of, string_offsets_of};
+ghost use Rattle.dwarf_list.specs.Listing.{Lists, address_header_line, address_line, address_listing, attribute_line, declaration_lines, hex_byte, hex_text, line, offset_header_line, offset_line, offset_listing, set_lines, table_text, without_error};
 
 use crate::command::Command;
 use dwarf_read_core::leb128::write::Leb128;
 use dwarf_read_core::{
     Abbreviation, Abbreviations, AddrEntryIter, AddrHeader, AttributeSpecification, DebugAbbrev,
-    DebugAbbrevOffset, DebugAddr, DebugStr, DebugStrOffset, EndianSlice, Error, LittleEndian,
-    Reader, ReaderOffset, RunTimeEndian,
+    DebugAbbrevOffset, DebugAddr, DebugStr, DebugStrOffset, DebugStrOffsets, EndianSlice, Error,
+    LittleEndian, Reader, ReaderOffset, RunTimeEndian, StrOffsetsEntryIter, StrOffsetsHeader,
 };
 use std::alloc::{AllocError, Global};
 
@@ -28,6 +28,7 @@ pub fn listing(mem: Global, command: Command, input: &[u8]) -> Result<Vec<u8>, E
         Command::Uleb(value) => Ok(hex_line(mem, Leb128::unsigned(value).bytes())?),
         Command::Sleb(value) => Ok(hex_line(mem, Leb128::signed(value).bytes())?),
         Command::AbbrevStrict(offset) => abbreviations_strict(mem, offset, input),
+        Command::StrOffsets(endian) => string_offsets(mem, endian, input),
     }
 }
 
@@ -68,32 +69,32 @@ fn addresses(mem: Global, endian: RunTimeEndian, input: &[u8]) -> Result<Vec<u8>
     let mut text = String::new(mem);
     let mut headers = section.headers()?;
     while let Some(header) = headers.next()? {
-        push_set(&mut text, &header)?;
+        push_address_set(&mut text, &header)?;
     }
     Ok(text.into_bytes())
 }
 
-fn push_set<R: Reader>(text: &mut String, header: &AddrHeader<R>) -> Result<(), Error>
+fn push_address_set<R: Reader>(text: &mut String, header: &AddrHeader<R>) -> Result<(), Error>
     ensures ok { OnOk result ((numbers : List ℕ) × StandsForAddresses (addresses_of (set_of R.view R.Offset.value header.now)) (without_error numbers)
-        × (string_bytes text.new ≡ string_bytes text.old ++ set_lines (set_of R.view R.Offset.value header.now) numbers)) }
+        × (string_bytes text.new ≡ string_bytes text.old ++ set_lines address_listing (set_of R.view R.Offset.value header.now) numbers)) }
     ensures err { IfErr result (λ error. error ≢ Error.OutOfMemory → (numbers : List ℕ)
         × StandsForAddresses (addresses_of (set_of R.view R.Offset.value header.now)) (without_error numbers ++ Err error ∷ [])) }
 {
     let (offset, length) = (header.offset().0.into_u64(), header.length().into_u64());
     let encoding = header.encoding();
     let (bits, size) = (encoding.format.word_size() * 8, encoding.address_size);
-    push_header(text, offset, length, bits, size)?;
+    push_address_header(text, offset, length, bits, size)?;
     push_addresses(text, header.entries()?)
 }
 
-fn push_header(
+fn push_address_header(
     text: &mut String,
     offset: u64,
     length: u64,
     bits: u8,
     size: u8,
 ) -> Result<(), AllocError>
-    ensures { OnOk result (string_bytes text.new ≡ string_bytes text.old ++ header_line offset length bits size) }
+    ensures { OnOk result (string_bytes text.new ≡ string_bytes text.old ++ address_header_line offset length bits size) }
 {
     writeln!(
         text,
@@ -117,6 +118,63 @@ fn push_address(text: &mut String, address: u64) -> Result<(), AllocError>
     ensures { OnOk result (string_bytes text.new ≡ string_bytes text.old ++ address_line address) }
 {
     writeln!(text, "  0x{address:x}")
+}
+
+fn string_offsets(mem: Global, endian: RunTimeEndian, input: &[u8]) -> Result<Vec<u8>, Error>
+    ensures { MatchResult result (λ text. Lists (Command.StrOffsets endian) input.now (Ok text.items))
+        (λ error. error ≢ Error.OutOfMemory → Lists (Command.StrOffsets endian) input.now (Err error)) }
+{
+    let section = DebugStrOffsets::from(EndianSlice::new(input, endian));
+    let mut text = String::new(mem);
+    let mut headers = section.headers()?;
+    while let Some(header) = headers.next()? {
+        push_offset_set(&mut text, &header)?;
+    }
+    Ok(text.into_bytes())
+}
+
+fn push_offset_set<R: Reader>(text: &mut String, header: &StrOffsetsHeader<R>) -> Result<(), Error>
+    ensures ok { OnOk result ((numbers : List ℕ) × StandsForStringOffsets R.Offset.GREATEST (string_offsets_of (string_offset_set_of R.view R.Offset.value header.now)) (without_error numbers)
+        × (string_bytes text.new ≡ string_bytes text.old ++ set_lines offset_listing (string_offset_set_of R.view R.Offset.value header.now) numbers)) }
+    ensures err { IfErr result (λ error. error ≢ Error.OutOfMemory → (numbers : List ℕ)
+        × StandsForStringOffsets R.Offset.GREATEST (string_offsets_of (string_offset_set_of R.view R.Offset.value header.now)) (without_error numbers ++ Err error ∷ [])) }
+{
+    let (offset, length) = (header.offset().into_u64(), header.length().into_u64());
+    let bits = header.format().word_size() * 8;
+    push_offset_header(text, offset, length, bits)?;
+    push_offsets(text, header.entries()?)
+}
+
+fn push_offset_header(
+    text: &mut String,
+    offset: u64,
+    length: u64,
+    bits: u8,
+) -> Result<(), AllocError>
+    ensures { OnOk result (string_bytes text.new ≡ string_bytes text.old ++ offset_header_line offset length bits) }
+{
+    writeln!(text, "set {offset}: length {length}, {bits}-bit")
+}
+
+fn push_offsets<R: Reader>(
+    text: &mut String,
+    mut entries: StrOffsetsEntryIter<R>,
+) -> Result<(), Error>
+    ensures ok { OnOk result ((numbers : List ℕ) × StandsForStringOffsets R.Offset.GREATEST entries (without_error numbers)
+        × (string_bytes text.new ≡ string_bytes text.old ++ flat_map offset_line numbers)) }
+    ensures err { IfErr result (λ error. error ≢ Error.OutOfMemory → (numbers : List ℕ)
+        × StandsForStringOffsets R.Offset.GREATEST entries (without_error numbers ++ Err error ∷ [])) }
+{
+    while let Some(offset) = entries.next()? {
+        push_offset(text, offset.0.into_u64())?;
+    }
+    Ok(())
+}
+
+fn push_offset(text: &mut String, offset: u64) -> Result<(), AllocError>
+    ensures { OnOk result (string_bytes text.new ≡ string_bytes text.old ++ offset_line offset) }
+{
+    writeln!(text, "  {offset}")
 }
 
 fn hex_line(mem: Global, bytes: &[u8]) -> Result<Vec<u8>, AllocError>

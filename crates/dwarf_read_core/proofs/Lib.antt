@@ -20,9 +20,9 @@ pub mod NoWant
 pub mod Shown
 pub mod Kept
 pub mod Items
-pub mod SetReading
+pub mod Layouts
+pub mod ItemLists
 pub mod Sets
-pub mod AddressSets
 pub mod Entries
 pub mod SameDeclaration
 pub mod KeptOnce

@@ -6,10 +6,10 @@ pub mod Forms
 pub mod Grammar
 pub mod Headers
 pub mod Items
+pub mod Layout
 pub mod Ranges
 pub mod Reading
 pub mod Sections
-pub mod SetReading
 pub mod Sets
 pub mod Strings
 pub mod TableEntries

@@ -4,16 +4,16 @@ ghost use Rattle.std.specs.Prelude.{◌≡◌, ◌≢◌, ◌↔◌, IsTrue, Opt
 ghost use Rattle.std.specs.List.{sum_by};
 ghost use Rattle.dwarf_base_core.specs.declared.error.Error.{Error as Fault};
 ghost use Rattle.dwarf_reader_core.specs.Faults.{eof};
-ghost use Rattle.dwarf_reader_core.specs.Input.{Input};
+ghost use Rattle.dwarf_reader_core.specs.Input.{Input, Takes};
 ghost use Rattle.dwarf_reader_core.specs.Once.{HasOne};
 ghost use Rattle.dwarf_read_core.specs.Answer.{Answer, IsFinal, IsStrictlyFinal, StrictAnswer, followed_by};
 ghost use Rattle.dwarf_read_core.specs.Cache.{KeepsAnswers};
 ghost use Rattle.dwarf_read_core.specs.Equality.{HasValueByForm, same_declaration};
 ghost use Rattle.dwarf_read_core.specs.Grammar.{Declaration, Table};
-ghost use Rattle.dwarf_read_core.specs.Entries.{Entries, StandsForAddresses};
+ghost use Rattle.dwarf_read_core.specs.Entries.{Entries, StandsForAddresses, StandsForStringOffsets};
 ghost use Rattle.dwarf_read_core.specs.Items.{least_taken};
 ghost use Rattle.dwarf_read_core.specs.Ranges.{RangeAt};
-ghost use Rattle.dwarf_read_core.specs.Sets.{Headers, Set, StandsForAddressSets, followed_headers};
+ghost use Rattle.dwarf_read_core.specs.Sets.{Headers, Set, StandsForAddressSets, StandsForStringOffsetSets, address_header, followed_headers, set, string_offsets_header};
 ghost use Rattle.dwarf_read_core.specs.Strings.{StringAt};
 ghost use Rattle.dwarf_read_core.specs.Words.{AddressAt, IsSettled, Slot, WordAt};
 
@@ -110,31 +110,62 @@ pub fn exactly_one_range()
 
 /// The bytes that are left of a section stand for exactly one list of sets of addresses, an error
 /// as its last item. A set takes eight bytes at least, and an error one.
-#[tactic(auto, using(crate::proofs::AddressSets::one_list_of_sets, crate::proofs::AddressSets::same_list, crate::proofs::AddressSets::sets_bounded))]
 pub fn exactly_one_list_of_sets()
-    ensures one { (greatest : ℕ) (headers : Headers) → All (λ byte. byte < 256) headers.rest.bytes → HasOne (StandsForAddressSets greatest headers) }
-    ensures same { (greatest : ℕ) (headers : Headers) (items others : List (Outcome (Set ℕ) Fault)) → StandsForAddressSets greatest headers items
-        → StandsForAddressSets greatest headers others → items ≡ others }
+    ensures one { (greatest : ℕ) (headers : Headers) → HasOne (StandsForAddressSets greatest headers) }
     ensures bound { (greatest : ℕ) (headers : Headers) (items : List (Outcome (Set ℕ) Fault)) → StandsForAddressSets greatest headers items
         → sum_by (least_taken 8) items ≤ length headers.rest.bytes }
 {}
 
+/// The bytes that are left of a section stand for exactly one list of sets of string offsets, an
+/// error as its last item. A set takes eight bytes at least, and an error one.
+pub fn exactly_one_list_of_offset_sets()
+    ensures one { (greatest : ℕ) (headers : Headers) → HasOne (StandsForStringOffsetSets greatest headers) }
+    ensures bound { (greatest : ℕ) (headers : Headers) (items : List (Outcome (Set (Unit {0})) Fault)) → StandsForStringOffsetSets greatest headers items
+        → sum_by (least_taken 8) items ≤ length headers.rest.bytes }
+{}
+
+/// A set that is read is the front of the bytes, and the rest is left.
+pub fn sets_are_fronts()
+    ensures addresses { (greatest offset : ℕ) (old new : Input) (s : Set ℕ)
+        → (set address_header greatest offset).Reads old s new → (count : ℕ) × Takes count old new }
+    ensures string_offsets { (greatest offset : ℕ) (old new : Input) (s : Set (Unit {0}))
+        → (set string_offsets_header greatest offset).Reads old s new → (count : ℕ) × Takes count old new }
+{}
+
 /// The bytes that are left of a set stand for exactly one list of addresses, an error as its last
 /// item. An address takes its size, and an error one byte at least.
-#[tactic(auto, using(crate::proofs::Entries::one_list_of_entries, crate::proofs::Entries::entries_bounded))]
+#[tactic(auto, using(crate::proofs::Entries::addresses_one, crate::proofs::Entries::addresses_bounded))]
 pub fn exactly_one_list_of_entries()
     ensures one { (entries : Entries) → 0 < entries.width → HasOne (StandsForAddresses entries) }
     ensures bound { (entries : Entries) (items : List (Outcome ℕ Fault)) → StandsForAddresses entries items
         → sum_by (least_taken entries.width) items ≤ length entries.rest.bytes }
 {}
 
-/// A set that comes first, or an error, but that bytes are missing, comes first whatever bytes are
-/// appended.
-#[tactic(auto, using(crate::proofs::AddressSets::set_more, crate::proofs::AddressSets::fault_more))]
+/// The bytes that are left of a set stand for exactly one list of string offsets, an error as its
+/// last item. An offset takes as many bytes as a word has, and an error one byte at least.
+#[tactic(auto, using(crate::proofs::Entries::string_offsets_one, crate::proofs::Entries::string_offsets_bounded))]
+pub fn exactly_one_list_of_string_offsets()
+    ensures one { (greatest : ℕ) (entries : Entries) → 0 < entries.width → HasOne (StandsForStringOffsets greatest entries) }
+    ensures bound { (greatest : ℕ) (entries : Entries) (items : List (Outcome ℕ Fault)) → StandsForStringOffsets greatest entries items
+        → sum_by (least_taken entries.width) items ≤ length entries.rest.bytes }
+{}
+
+/// A set of addresses that comes first, or an error, but that bytes are missing, comes first
+/// whatever bytes are appended.
 pub fn appended_bytes_change_no_set()
     ensures set { (greatest : ℕ) (headers : Headers) (s : Set ℕ) (items others : List (Outcome (Set ℕ) Fault)) (more : List ℕ)
         → StandsForAddressSets greatest headers (Ok s ∷ items) → StandsForAddressSets greatest (followed_headers more headers) others
         → (rest : List (Outcome (Set ℕ) Fault)) × (others ≡ Ok s ∷ rest) }
     ensures fault { (greatest : ℕ) (headers : Headers) (e : Fault) (more : List ℕ) → StandsForAddressSets greatest headers (Err e ∷ [])
         → ((position : ℕ) → e ≢ eof position) → StandsForAddressSets greatest (followed_headers more headers) (Err e ∷ []) }
+{}
+
+/// A set of string offsets that comes first, or an error, but that bytes are missing, comes first
+/// whatever bytes are appended.
+pub fn appended_bytes_change_no_offset_set()
+    ensures set { (greatest : ℕ) (headers : Headers) (s : Set (Unit {0})) (items others : List (Outcome (Set (Unit {0})) Fault)) (more : List ℕ)
+        → StandsForStringOffsetSets greatest headers (Ok s ∷ items) → StandsForStringOffsetSets greatest (followed_headers more headers) others
+        → (rest : List (Outcome (Set (Unit {0})) Fault)) × (others ≡ Ok s ∷ rest) }
+    ensures fault { (greatest : ℕ) (headers : Headers) (e : Fault) (more : List ℕ) → StandsForStringOffsetSets greatest headers (Err e ∷ [])
+        → ((position : ℕ) → e ≢ eof position) → StandsForStringOffsetSets greatest (followed_headers more headers) (Err e ∷ []) }
 {}

@@ -36,7 +36,8 @@ pub use read::{
     Abbreviation, Abbreviations, AbbreviationsCache, AbbreviationsCacheStrategy, AbbreviationsIter,
     AddrEntryIter, AddrHeader, AddrHeaderIter, AttributeSpecification, DebugAbbrev, DebugAddr,
     DebugLineStr, DebugStr, DebugStrOffsets, EndianSlice, Error, Reader, ReaderAddress,
-    ReaderOffset, ReaderOffsetId, Result, Section, StoreOnHeap, UnitOffset, read_u8_array,
+    ReaderOffset, ReaderOffsetId, Result, Section, StoreOnHeap, StrOffsetsEntryIter,
+    StrOffsetsHeader, StrOffsetsHeaderIter, UnitOffset, read_u8_array,
 };
 
 // Attributes: what a value of an entry is about.

@@ -18,4 +18,7 @@ pub use dwarf_base_core::{
 };
 pub use dwarf_reader_core::{EndianSlice, Reader, read_u8_array};
 pub use section::Section;
-pub use str::{DebugLineStr, DebugStr, DebugStrOffsets};
+pub use str::{
+    DebugLineStr, DebugStr, DebugStrOffsets, StrOffsetsEntryIter, StrOffsetsHeader,
+    StrOffsetsHeaderIter,
+};

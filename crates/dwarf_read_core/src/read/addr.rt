@@ -5,12 +5,10 @@ ghost use Rattle.std.specs.Fn.{CalledAt, TakesAt};
 ghost use Rattle.dwarf_base_core.specs.declared.common.SectionId.TheVariants.{DebugAddr as debug_addr};
 ghost use Rattle.std.specs.Result.{result_transpose};
 ghost use Rattle.dwarf_reader_core.specs.Faults.{WantsMemory, is_number_size};
-ghost use Rattle.dwarf_reader_core.specs.Input.{end_of};
 ghost use Rattle.dwarf_read_core.specs.Answer.{followed_by};
 ghost use Rattle.dwarf_read_core.specs.Entries.{StandsForAddresses};
 ghost use Rattle.dwarf_read_core.specs.Items.{GivesFirst, StaysFirst};
-ghost use Rattle.dwarf_read_core.specs.SetReading.{address_header_at, set_at};
-ghost use Rattle.dwarf_read_core.specs.Sets.{StandsForAddressSets, addresses_of, followed_headers};
+ghost use Rattle.dwarf_read_core.specs.Sets.{StandsForAddressSets, address_header, addresses_of, followed_headers, set};
 ghost use Rattle.dwarf_read_core.specs.Words.{AddressAt, IsSettled, slot};
 
 use super::indexed::skip_to_index;
@@ -185,7 +183,7 @@ impl<R: Reader> AddrHeaderIter<R> {
     ///
     /// `OutOfMemory` where memory for a reader of the set was refused. After any error the
     /// answer is `Ok(None)`.
-    #[tactic(auto, using(crate::proofs::AddressSets::no_sets))]
+    #[tactic(auto, using(crate::proofs::Sets::sets_none))]
     pub fn next(&mut self) -> Result<Option<AddrHeader<R>>>
         ensures first { GivesFirst (StandsForAddressSets R.Offset.GREATEST) (set_of R.view R.Offset.value) R.clone_is_free self.old (result_transpose result) self.new }
         ensures failed { OnErr result (self.new.rest.bytes ≡ []) }
@@ -288,13 +286,9 @@ impl<R: Reader> AddrHeader<R> {
     ghost use Rattle.dwarf_read_core.specs.Headers.{set_of};
 
     fn parse(input: &mut R, offset: DebugAddrOffset<R::Offset>) -> Result<AddrHeader<R>>
-        ensures ok { IfOk result (λ header. set_at (address_header_at (R.view input.old).is_big) R.Offset.GREATEST (R.view input.old).is_big (R.Offset.value offset.0) (R.view input.old).position (R.view input.old).bytes
-            ≡ Ok (set_of R.view R.Offset.value header, (R.view input.new).bytes)) }
-        ensures err { IfErr result (λ e. (set_at (address_header_at (R.view input.old).is_big) R.Offset.GREATEST (R.view input.old).is_big (R.Offset.value offset.0) (R.view input.old).position (R.view input.old).bytes ≡ Err e)
-            ⊎ WantsMemory R.clone_is_free e) }
+        ensures ok { IfOk result (λ header. (set address_header R.Offset.GREATEST (R.Offset.value offset.0)).Reads (R.view input.old) (set_of R.view R.Offset.value header) (R.view input.new)) }
+        ensures err { IfErr result (λ e. (set address_header R.Offset.GREATEST (R.Offset.value offset.0)).Fails (R.view input.old) e ⊎ WantsMemory R.clone_is_free e) }
         ensures bound { OnOk result (length (R.view input.new).bytes + 8 ≤ length (R.view input.old).bytes) }
-        ensures end { OnOk result (end_of (R.view input.new) ≡ end_of (R.view input.old)) }
-        ensures order { OnOk result ((R.view input.new).is_big ≡ (R.view input.old).is_big) }
     {
         let (length, format) = input.read_initial_length()?;
         let mut unit = input.split(length)?;
@@ -382,7 +376,7 @@ impl<R: Reader> AddrEntryIter<R> {
     ///
     /// `UnexpectedEof` at the bytes that are left where they are fewer than an address has. After
     /// it the answer is `Ok(None)`. It takes no memory.
-    #[tactic(auto, using(crate::proofs::Entries::no_entries, crate::proofs::Entries::address_first, crate::proofs::Entries::address_fault))]
+    #[tactic(auto, using(crate::proofs::Entries::entries_none))]
     pub fn next(&mut self) -> Result<Option<u64>>
         ensures first { GivesFirst StandsForAddresses (λ address. address) true self.old (result_transpose result) self.new }
         ensures failed { OnErr result (self.new.rest.bytes ≡ []) }

@@ -9,6 +9,8 @@ ghost use Rattle.dwarf_read_core.specs.Answer.{followed_by};
 ghost use Rattle.dwarf_read_core.specs.Strings.{StringAt};
 ghost use Rattle.dwarf_read_core.specs.Words.{IsSettled, WordAt, slot};
 
+mod offsets;
+
 use super::indexed::skip_to_index;
 use super::section::Section;
 use dwarf_base_core::{
@@ -16,6 +18,7 @@ use dwarf_base_core::{
     Format, ReaderOffset, Result, SectionId,
 };
 use dwarf_reader_core::{EndianSlice, Reader};
+pub use offsets::{StrOffsetsEntryIter, StrOffsetsHeader, StrOffsetsHeaderIter};
 
 /// The `.debug_str` section (DWARF 5, 7.5.5): strings, each ended by a zero byte.
 #[derive(Debug, Default, Clone, Copy, Drop)]
@@ -146,6 +149,21 @@ impl<R: Reader> DebugStrOffsets<R> {
         let input = &mut self.section.try_clone()?;
         skip_to_index(input, base.0, index.0, format.word_size())?;
         Ok(DebugStrOffset(input.read_offset(format)?))
+    }
+
+    /// The sets of string offsets, one behind the other from the section's start.
+    ///
+    /// A section of an older standard has no sets: its offsets stand in one row without a header,
+    /// and [`get_str_offset`](DebugStrOffsets::get_str_offset) alone reads them.
+    ///
+    /// # Errors
+    ///
+    /// `OutOfMemory` where a clone of the reader was refused.
+    pub fn headers(&self) -> Result<StrOffsetsHeaderIter<R>>
+        ensures ok { IfOk result (λ headers. headers ≡ record { offset = 0; rest = R.view (debug_str_offsets_reader self.now) }) }
+        ensures err { IfErr result (WantsMemory R.clone_is_free) }
+    {
+        Ok(StrOffsetsHeaderIter::new(self.section.try_clone()?))
     }
 }
 

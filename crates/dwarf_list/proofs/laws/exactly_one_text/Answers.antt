@@ -8,8 +8,9 @@ laws c = record {
   strict_answers = c.exactly_one_strict_answer.ensures.one;
   strings = c.exactly_one_string.ensures;
   entries = c.exactly_one_list_of_entries.ensures.one;
-  sets = c.exactly_one_list_of_sets.ensures.same;
-  some_sets = c.exactly_one_list_of_sets.ensures.one;
+  sets = c.exactly_one_list_of_sets.ensures.one;
+  offsets = c.exactly_one_list_of_string_offsets.ensures.one;
+  offset_sets = c.exactly_one_list_of_offset_sets.ensures.one;
   encodings = c.exactly_one_shortest.ensures;
 }
 

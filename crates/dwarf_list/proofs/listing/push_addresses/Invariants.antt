@@ -1,10 +1,12 @@
 use Rattle.std.proofs.Common.{length, string_bytes}
-use Rattle.dwarf_list.proofs.AddressLines.{AreListed}
+use Rattle.dwarf_read_core.specs.Layout.{fixed}
+use Rattle.dwarf_list.specs.Listing.{address_line}
+use Rattle.dwarf_list.proofs.SetLines.{AreListed}
 use Rattle.dwarf_list.proofs.listing.push_addresses.Given as goal
 
 -- the addresses so far have their lines, and those that are left stand behind them
 abbrev pub invariant-loop-entries : goal.invariant-loop-entries
-invariant-loop-entries g l = AreListed l.initial.entries l.entries (string_bytes l.initial.text) (string_bytes l.text)
+invariant-loop-entries g l = AreListed fixed address_line l.initial.entries l.entries (string_bytes l.initial.text) (string_bytes l.text)
 
 abbrev pub decreases-loop-entries : goal.decreases-loop-entries
 decreases-loop-entries g l = length l.entries.rest.bytes

@@ -1,0 +1,11 @@
+use Rattle.std.proofs.Common.{ap, inl, rules}
+use Rattle.dwarf_reader_core.specs.Input.{Input}
+use Rattle.dwarf_read_core.proofs.Entries.{string_offset_fault, string_offset_first}
+use Rattle.dwarf_read_core.proofs.read.str.offsets.StrOffsetsEntryIter.next.Goals as goal
+
+pub returns-in-Ok-clause-first : goal.returns-in-Ok-clause-first
+returns-in-Ok-clause-first g c = rw (← c.self.view_is) (string_offset_first _ _ _ _ (search rules) c.in-Ok.ensures.ok c.in-Ok.ensures.in_range)
+
+pub returns-in-Err-clause-first : goal.returns-in-Err-clause-first
+returns-in-Err-clause-first g c =
+    rw (← c.self.view_is) (inl (string_offset_fault _ _ _ _ (search rules) c.in-Err.ensures.err (ap (λ (i : Input). i.bytes) c.empty.ensures)))

@@ -1,0 +1,308 @@
+//! Sets of string offsets: the headers and entries of `.debug_str_offsets` (DWARF 5, 7.26).
+
+ghost use Rattle.std.specs.Prelude.{◌≡◌, ◌+◌, ◌≤◌, ◌⊎◌, ℕ, List, [], true, length, IfOk, IfErr, IfSome, OnOk, OnErr};
+ghost use Rattle.std.specs.Result.{result_transpose};
+ghost use Rattle.dwarf_reader_core.specs.Faults.{WantsMemory};
+ghost use Rattle.dwarf_read_core.specs.Entries.{StandsForStringOffsets};
+ghost use Rattle.dwarf_read_core.specs.Items.{GivesFirst, StaysFirst};
+ghost use Rattle.dwarf_read_core.specs.Sets.{StandsForStringOffsetSets, followed_headers, set, string_offsets_header, string_offsets_of};
+
+use dwarf_base_core::{DebugStrOffset, Error, Format, ReaderOffset, Result};
+use dwarf_reader_core::Reader;
+use std::alloc::AllocError;
+use std::marker::Model;
+
+// The version of every set: earlier standards have none.
+const VERSION: u16 = 5;
+
+/// The sets of string offsets that are left of a section, each by its header.
+///
+/// ```
+/// let mut headers = section.headers()?;
+/// while let Some(header) = headers.next()? {
+///     let mut entries = header.entries()?;
+///     while let Some(offset) = entries.next()? {
+///         println!(rt; "{}", offset.0)?;
+///     }
+/// }
+/// ```
+#[derive(Debug, Drop)]
+pub struct StrOffsetsHeaderIter<R: Reader> {
+    input: R,
+    offset: R::Offset,
+}
+
+impl<R: Reader> Model for StrOffsetsHeaderIter<R> {
+    ghost use Rattle.std.specs.Prelude.{◌+◌, ◌≤◌, length};
+    ghost use Rattle.dwarf_read_core.specs.Sets.{Headers};
+
+    ghost Value = { Headers };
+
+    ghost view = { λ headers. record { offset = R.Offset.value headers.offset; rest = R.view headers.input } };
+
+    ghost invariant = { λ headers. R.Offset.value headers.offset + length (R.view headers.input).bytes ≤ R.Offset.GREATEST };
+}
+
+impl<R: Reader> StrOffsetsHeaderIter<R> {
+    ghost use Rattle.dwarf_read_core.specs.Headers.{string_offset_set_of};
+
+    /// The sets of a whole section.
+    pub(super) fn new(input: R) -> Self
+        ensures { result ≡ record { offset = 0; rest = R.view input } }
+    {
+        StrOffsetsHeaderIter {
+            input,
+            offset: R::Offset::from_u8(0),
+        }
+    }
+
+    /// The header of the next set, or `None` where no bytes are left.
+    ///
+    /// A set has eight bytes at least.
+    ///
+    /// # Errors
+    ///
+    /// The first fault of the bytes that are left, where they don't begin with a set. Positions
+    /// are those of the section.
+    ///
+    /// - `UnexpectedEof` at the set where fewer than four bytes are left;
+    /// - `UnknownReservedLength` where the first four bytes are reserved;
+    /// - `UnexpectedEof` behind the first four bytes where they are followed by a length of eight
+    ///   bytes, and fewer are left;
+    /// - `UnsupportedOffset` where the length is no offset;
+    /// - `UnexpectedEof` behind the length where fewer bytes are left, or where the set has no
+    ///   room for the version;
+    /// - `UnknownVersion` for another version than 5;
+    /// - `UnexpectedEof` behind the version where the set has no room for two bytes of padding,
+    ///   which may have any value.
+    ///
+    /// `OutOfMemory` where memory for a reader of the set was refused. After any error the
+    /// answer is `Ok(None)`.
+    #[tactic(auto, using(crate::proofs::Sets::sets_none))]
+    pub fn next(&mut self) -> Result<Option<StrOffsetsHeader<R>>>
+        ensures first { GivesFirst (StandsForStringOffsetSets R.Offset.GREATEST) (string_offset_set_of R.view R.Offset.value) R.clone_is_free self.old (result_transpose result) self.new }
+        ensures failed { OnErr result (self.new.rest.bytes ≡ []) }
+        ensures bound { IfOk result (λ item. IfSome item (λ _. length self.new.rest.bytes + 8 ≤ length self.old.rest.bytes)) }
+        ensures some { OnErr result (1 ≤ length self.old.rest.bytes) }
+
+        // Bytes behind those that are left change neither a set nor a fault, but that bytes are missing.
+        ensures stable { StaysFirst (StandsForStringOffsetSets R.Offset.GREATEST) (string_offset_set_of R.view R.Offset.value) R.clone_is_free followed_headers self.old (result_transpose result) self.new }
+    {
+        if self.input.is_empty() {
+            return Ok(None);
+        }
+        let before = self.input.len();
+        match StrOffsetsHeader::parse(&mut self.input, self.offset) {
+            Err(error) => {
+                // Nothing says where another set would begin.
+                self.input.empty();
+                Err(error)
+            }
+            Ok(header) => {
+                self.offset += before - self.input.len();
+                Ok(Some(header))
+            }
+        }
+    }
+}
+
+impl<R: Reader> Iterator for StrOffsetsHeaderIter<R> {
+    type Item = Result<StrOffsetsHeader<R>>;
+
+    ghost use Rattle.std.specs.Prelude.{length};
+    ghost use Rattle.std.specs.Iterator.{at_most};
+    ghost use Rattle.dwarf_read_core.specs.Headers.{string_offset_set_of};
+    ghost use Rattle.dwarf_read_core.specs.Items.{GivesFirst};
+    ghost use Rattle.dwarf_read_core.specs.Sets.{StandsForStringOffsetSets};
+
+    ghost next_gives = { GivesFirst (StandsForStringOffsetSets R.Offset.GREATEST) (string_offset_set_of R.view R.Offset.value) R.clone_is_free };
+
+    ghost remaining = { λ headers. at_most (length headers.rest.bytes) };
+
+    fn next(&mut self) -> Option<Result<StrOffsetsHeader<R>>> {
+        self.next().transpose()
+    }
+}
+
+impl<R: Reader + Clone> Clone for StrOffsetsHeaderIter<R> {
+    ghost is_clone = { λ headers copy. copy ≡ headers };
+
+    ghost is_infallible = { λ _. R.clone_is_free ≡ true };
+
+    fn clone(&self) -> std::result::Result<Self, AllocError> {
+        match self.input.try_clone() {
+            Ok(input) => Ok(StrOffsetsHeaderIter {
+                input,
+                offset: self.offset,
+            }),
+            Err(_) => Err(AllocError),
+        }
+    }
+}
+
+/// The header of a set of string offsets, and the offsets behind it.
+#[derive(Debug, Drop, PartialEq, Eq)]
+pub struct StrOffsetsHeader<R: Reader> {
+    offset: R::Offset,
+    length: R::Offset,
+    format: Format,
+    entries: R,
+}
+
+impl<R: Reader + Clone> Clone for StrOffsetsHeader<R> {
+    ghost use Rattle.dwarf_read_core.specs.Headers.{string_offset_set_of};
+
+    ghost is_clone = { λ header copy. string_offset_set_of R.view R.Offset.value copy ≡ string_offset_set_of R.view R.Offset.value header };
+
+    ghost is_infallible = { λ _. R.clone_is_free ≡ true };
+
+    fn clone(&self) -> std::result::Result<Self, AllocError> {
+        match self.entries.try_clone() {
+            Ok(entries) => Ok(StrOffsetsHeader {
+                offset: self.offset,
+                length: self.length,
+                format: self.format,
+                entries,
+            }),
+            Err(_) => Err(AllocError),
+        }
+    }
+}
+
+impl<R: Reader> StrOffsetsHeader<R> {
+    ghost use Rattle.dwarf_read_core.specs.Headers.{string_offset_set_of};
+
+    fn parse(input: &mut R, offset: R::Offset) -> Result<StrOffsetsHeader<R>>
+        ensures ok { IfOk result (λ header. (set string_offsets_header R.Offset.GREATEST (R.Offset.value offset)).Reads (R.view input.old) (string_offset_set_of R.view R.Offset.value header) (R.view input.new)) }
+        ensures err { IfErr result (λ e. (set string_offsets_header R.Offset.GREATEST (R.Offset.value offset)).Fails (R.view input.old) e ⊎ WantsMemory R.clone_is_free e) }
+        ensures bound { OnOk result (length (R.view input.new).bytes + 8 ≤ length (R.view input.old).bytes) }
+    {
+        let (length, format) = input.read_initial_length()?;
+        let mut unit = input.split(length)?;
+        let version = unit.read_u16()?;
+        if version != VERSION {
+            return Err(Error::UnknownVersion(u64::from(version)));
+        }
+        let _padding = unit.read_u16()?;
+        Ok(StrOffsetsHeader {
+            offset,
+            length,
+            format,
+            entries: unit,
+        })
+    }
+
+    /// Where the set begins, in bytes from the section's start.
+    pub fn offset(&self) -> R::Offset
+        ensures { R.Offset.value result ≡ (string_offset_set_of R.view R.Offset.value self.now).offset }
+    {
+        self.offset
+    }
+
+    /// How many bytes of the set follow its initial length: the rest of the header, and the
+    /// offsets.
+    pub fn length(&self) -> R::Offset
+        ensures { R.Offset.value result ≡ (string_offset_set_of R.view R.Offset.value self.now).unit_length }
+    {
+        self.length
+    }
+
+    /// The set's format, whose words the offsets are.
+    pub fn format(&self) -> Format
+        ensures { result ≡ (string_offset_set_of R.view R.Offset.value self.now).format }
+    {
+        self.format
+    }
+
+    /// The offsets of the set.
+    ///
+    /// # Errors
+    ///
+    /// `OutOfMemory` where a clone of the reader was refused.
+    pub fn entries(&self) -> Result<StrOffsetsEntryIter<R>>
+        ensures ok { IfOk result (λ entries. entries ≡ string_offsets_of (string_offset_set_of R.view R.Offset.value self.now)) }
+        ensures err { IfErr result (WantsMemory R.clone_is_free) }
+    {
+        Ok(StrOffsetsEntryIter {
+            input: self.entries.try_clone()?,
+            format: self.format,
+        })
+    }
+}
+
+/// The string offsets that are left of a set.
+#[derive(Debug, Drop)]
+pub struct StrOffsetsEntryIter<R: Reader> {
+    input: R,
+    format: Format,
+}
+
+impl<R: Reader> Model for StrOffsetsEntryIter<R> {
+    ghost use Rattle.dwarf_base_core.specs.Format.{word_size};
+    ghost use Rattle.dwarf_read_core.specs.Entries.{Entries};
+
+    ghost Value = { Entries };
+
+    ghost view = { λ entries. record { width = word_size entries.format; rest = R.view entries.input } };
+}
+
+impl<R: Reader> StrOffsetsEntryIter<R> {
+    /// The next offset of a string in `.debug_str`, or `None` where no bytes are left.
+    ///
+    /// # Errors
+    ///
+    /// `UnexpectedEof` at the bytes that are left where they are fewer than a word has, and
+    /// `UnsupportedOffset` where the next word is no offset. After either the answer is `Ok(None)`.
+    /// It takes no memory.
+    #[tactic(auto, using(crate::proofs::Entries::entries_none))]
+    pub fn next(&mut self) -> Result<Option<DebugStrOffset<R::Offset>>>
+        ensures first { GivesFirst (StandsForStringOffsets R.Offset.GREATEST) (λ offset. R.Offset.value offset.0) true self.old (result_transpose result) self.new }
+        ensures failed { OnErr result (self.new.rest.bytes ≡ []) }
+        ensures bound { IfOk result (λ item. IfSome item (λ _. (1 ≤ self.old.width) × (length self.new.rest.bytes + self.old.width ≤ length self.old.rest.bytes))) }
+        ensures some { OnErr result (1 ≤ length self.old.rest.bytes) }
+    {
+        if self.input.is_empty() {
+            return Ok(None);
+        }
+        match self.input.read_offset(self.format) {
+            Ok(entry) => Ok(Some(DebugStrOffset(entry))),
+            Err(fault) => {
+                self.input.empty();
+                Err(fault)
+            }
+        }
+    }
+}
+
+impl<R: Reader> Iterator for StrOffsetsEntryIter<R> {
+    type Item = Result<DebugStrOffset<R::Offset>>;
+
+    ghost use Rattle.std.specs.Prelude.{length, true};
+    ghost use Rattle.std.specs.Iterator.{at_most};
+    ghost use Rattle.dwarf_read_core.specs.Entries.{StandsForStringOffsets};
+    ghost use Rattle.dwarf_read_core.specs.Items.{GivesFirst};
+
+    ghost next_gives = { GivesFirst (StandsForStringOffsets R.Offset.GREATEST) (λ offset. R.Offset.value offset.0) true };
+
+    ghost remaining = { λ entries. at_most (length entries.rest.bytes) };
+
+    fn next(&mut self) -> Option<Result<DebugStrOffset<R::Offset>>> {
+        self.next().transpose()
+    }
+}
+
+impl<R: Reader + Clone> Clone for StrOffsetsEntryIter<R> {
+    ghost is_clone = { λ entries copy. copy ≡ entries };
+
+    ghost is_infallible = { λ _. R.clone_is_free ≡ true };
+
+    fn clone(&self) -> std::result::Result<Self, AllocError> {
+        match self.input.try_clone() {
+            Ok(input) => Ok(StrOffsetsEntryIter {
+                input,
+                format: self.format,
+            }),
+            Err(_) => Err(AllocError),
+        }
+    }
+}
