@@ -32,10 +32,10 @@ use std::fmt::Debug;
 /// An implementation writes the calls up to [`read_slice`](Reader::read_slice). The others have
 /// bodies, and an implementation that writes one anew owes the same contract.
 ///
-/// ```ignore
+/// ```
 /// let mut input = EndianSlice::new(&[0x81, 0x01, 0x00], LittleEndian);
-/// assert_eq!(input.read_uleb128(), Ok(129));
-/// assert_eq!(input.offset_id(), ReaderOffsetId(2));
+/// assert_eq!(rt; input.read_uleb128(), Ok(129));
+/// assert_eq!(rt; input.offset_id(), ReaderOffsetId(2));
 /// ```
 pub trait Reader: Debug + Drop + Sized {
     /// The byte order of numbers.

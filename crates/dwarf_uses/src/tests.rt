@@ -12,6 +12,7 @@ mod cache;
 mod callers;
 mod constants;
 mod errors;
+mod examples;
 mod leb128;
 mod numbers;
 mod owned;

@@ -63,7 +63,7 @@ impl<'input, Endian: Endianity> DebugAbbrev<EndianSlice<'input, Endian>> {
     /// The section with these bytes, whose first byte has position 0.
     ///
     /// ```
-    /// let section = DebugAbbrev::new(&bytes, LittleEndian);
+    /// let section = DebugAbbrev::new(bytes, LittleEndian);
     /// let table = section.abbreviations(mem, DebugAbbrevOffset(0))?;
     /// let tag = table.get(1).map(|abbreviation| abbreviation.tag());
     /// ```

@@ -9,8 +9,9 @@ use std::marker::Model;
 
 /// The bytes of one LEB128 number.
 ///
-/// ```ignore
-/// assert_eq!(Leb128::unsigned(12857).bytes(), [0xb9, 0x64].as_slice());
+/// ```
+/// let number = Leb128::unsigned(12857);
+/// assert_eq!(rt; number.bytes(), [0xb9, 0x64].as_slice());
 /// ```
 #[derive(Debug, Clone, Copy)]
 pub struct Leb128 {
