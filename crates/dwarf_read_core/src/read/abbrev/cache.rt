@@ -28,7 +28,11 @@ type Entries = BTreeMap<Key, Result<Rc<Abbreviations>>>;
 ///
 /// ```
 /// let mut cache = AbbreviationsCache::new(mem);
-/// cache.populate(AbbreviationsCacheStrategy::Duplicates, &debug_abbrev, offsets)?;
+/// cache.populate(
+///     AbbreviationsCacheStrategy::Duplicates,
+///     &debug_abbrev,
+///     offsets,
+/// )?;
 /// let table = cache.get(&debug_abbrev, DebugAbbrevOffset(0))?;
 /// ```
 #[derive(Debug, Drop)]
