@@ -19,6 +19,7 @@ mod owned;
 mod plain_types;
 mod readers;
 mod sections;
+mod string_offset_sets;
 mod strings;
 mod tables;
 mod worked;

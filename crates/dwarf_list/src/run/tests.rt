@@ -91,7 +91,7 @@ fn text_of(mem: Global, texts: &[&str], input: &[u8]) -> Result<Vec<u8>, Fault> 
 fn lists(rt: HostRuntime) -> Result<(), Fail> {
     let mem = rt.alloc();
     let strings: &[u8] = b"one\0two\0\0";
-    let cases: [(&[&str], &[u8], &[u8]); 17] = [
+    let cases: [(&[&str], &[u8], &[u8]); 20] = [
         (
             &["abbrev", "0"],
             b"\x01\x11\x01\x03\x08\0\0\0\xff",
@@ -148,6 +148,18 @@ fn lists(rt: HostRuntime) -> Result<(), Fail> {
             b"set 0: length 5, 32-bit, address size 1\n  0x0\n",
         ),
         (&["addr", "le"], b"", b""),
+        (
+            &["str-offsets", "le"],
+            b"\x0c\0\0\0\x05\0\0\0\xe8\x03\0\0\xe9\x03\0\0\
+              \xff\xff\xff\xff\x0c\0\0\0\0\0\0\0\x05\0\x34\x12\xe8\x03\0\0\0\0\0\0",
+            b"set 0: length 12, 32-bit\n  1000\n  1001\nset 16: length 12, 64-bit\n  1000\n",
+        ),
+        (
+            &["str-offsets", "be"],
+            b"\0\0\0\x08\0\x05\0\0\xff\xff\xff\xff",
+            b"set 0: length 8, 32-bit\n  4294967295\n",
+        ),
+        (&["str-offsets", "be"], b"", b""),
     ];
     for (texts, input, want) in cases {
         let text = text_of(mem, texts, input)?;
@@ -191,7 +203,7 @@ fn writes_numbers(rt: HostRuntime) -> Result<(), Fail> {
 #[test]
 fn tells_the_first_fault(rt: HostRuntime) -> Result<(), Fail> {
     let mem = rt.alloc();
-    let cases: [(&[&str], &[u8], &str); 12] = [
+    let cases: [(&[&str], &[u8], &str); 14] = [
         (
             &["abbrev-strict", "0"],
             b"\x01\x11\0\0\0",
@@ -245,6 +257,17 @@ fn tells_the_first_fault(rt: HostRuntime) -> Result<(), Fail> {
             b"\x04\0\0\0\x05\0\x08\0\x04\0\0\0\x04\0\x08\0",
             "error: unknown DWARF version: 4",
         ),
+        // So do the faults of a set's string offsets.
+        (
+            &["str-offsets", "le"],
+            b"\x05\0\0\0\x05\0\0\0\xaa\x04\0\0\0\x04\0\0\0",
+            "error: unexpected end of input",
+        ),
+        (
+            &["str-offsets", "le"],
+            b"\x04\0\0\0\x05\0\0\0\x04\0\0\0\x04\0\0\0",
+            "error: unknown DWARF version: 4",
+        ),
     ];
     for (texts, input, want) in cases {
         let mut output = Vec::new(mem);
@@ -263,7 +286,7 @@ fn tells_the_first_fault(rt: HostRuntime) -> Result<(), Fail> {
 #[test]
 fn refuses_words(rt: HostRuntime) -> Result<(), Fail> {
     let mem = rt.alloc();
-    let cases: [&[&str]; 32] = [
+    let cases: [&[&str]; 33] = [
         &[],
         &["abbrev"],
         &["abbrev", "x"],
@@ -295,7 +318,8 @@ fn refuses_words(rt: HostRuntime) -> Result<(), Fail> {
         &["sleb", "1", "1"],
         &["abbrev-strict"],
         &["abbrev-strict", "x"],
-        &["str-offsets", "le"],
+        &["str-offsets"],
+        &["str-offsets", "0"],
     ];
     for texts in cases {
         assert_eq!(rt;
@@ -419,7 +443,7 @@ impl Write for ArrayWriter {
 #[test]
 fn refused_memory(rt: HostRuntime) -> Result<(), Fail> {
     let mem = rt.alloc();
-    let cases: [(&[&str], &[u8], &[u8]); 6] = [
+    let cases: [(&[&str], &[u8], &[u8]); 7] = [
         (&["str", "4"], b"one\0two\0", b"two\n"),
         (&["uleb", "12857"], b"", b"b9 64\n"),
         (&["sleb", "-65"], b"", b"bf 7f\n"),
@@ -437,6 +461,11 @@ fn refused_memory(rt: HostRuntime) -> Result<(), Fail> {
             &["addr", "be"],
             b"\0\0\0\x08\0\x05\x04\0\x12\x34\x56\x78",
             b"set 0: length 8, 32-bit, address size 4\n  0x12345678\n",
+        ),
+        (
+            &["str-offsets", "be"],
+            b"\0\0\0\x08\0\x05\0\0\0\0\x03\xe8",
+            b"set 0: length 8, 32-bit\n  1000\n",
         ),
     ];
     for (texts, input, want) in cases {
