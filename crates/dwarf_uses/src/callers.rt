@@ -1,17 +1,20 @@
 //! Small callers of the library, to start from. The README and the documentation quote them.
 
-ghost use Rattle.std.specs.Prelude.{◌≡◌, ◌≢◌, ℕ, Ok, Err, IfOk, IfErr, length, option_map};
+ghost use Rattle.std.specs.Prelude.{◌≡◌, ◌≢◌, ℕ, Ok, Err, IfOk, IfErr, length, map, option_map};
 ghost use Rattle.std.specs.FinMap as finite;
+ghost use Rattle.dwarf_read_core.specs.Entries.{StandsForAddresses};
 ghost use Rattle.dwarf_read_core.specs.Format.{word_size};
+ghost use Rattle.dwarf_read_core.specs.Headers.{set_of};
 ghost use Rattle.dwarf_read_core.specs.Answer.{Answer};
 ghost use Rattle.dwarf_read_core.specs.Sections.{debug_abbrev_reader, debug_str_offsets_reader, debug_str_reader};
+ghost use Rattle.dwarf_read_core.specs.Sets.{addresses_of};
 ghost use Rattle.dwarf_read_core.specs.Strings.{StringAt};
 ghost use Rattle.dwarf_read_core.specs.Words.{WordAt, slot};
 
 use dwarf_read_core::{
-    Abbreviations, AbbreviationsCache, AbbreviationsCacheStrategy, DebugAbbrev, DebugAbbrevOffset,
-    DebugAddr, DebugStr, DebugStrOffsets, DebugStrOffsetsBase, DebugStrOffsetsIndex, DwTag, Error,
-    Format, Reader, Result,
+    Abbreviations, AbbreviationsCache, AbbreviationsCacheStrategy, AddrHeader, DebugAbbrev,
+    DebugAbbrevOffset, DebugStr, DebugStrOffsets, DebugStrOffsetsBase, DebugStrOffsetsIndex, DwTag,
+    Error, Format, Reader, Result,
 };
 use std::alloc::Global;
 
@@ -98,17 +101,20 @@ pub fn string_by_index<R: Reader>(
     strings.get_str(offset)
 }
 
-/// The addresses of all sets, one behind the other.
+/// The addresses of a set, which a walk over [`DebugAddr::headers`](dwarf_read_core::DebugAddr::headers)
+/// gives.
 ///
 /// # Errors
 ///
-/// The first error of a header or an address.
-pub fn all_addresses<R: Reader>(mem: Global, section: &DebugAddr<R>) -> Result<Vec<u64>> {
+/// The set's first error.
+pub fn addresses_in<R: Reader>(mem: Global, header: &AddrHeader<R>) -> Result<Vec<u64>>
+    ensures ok { let entries = addresses_of (set_of R.view R.Offset.value header.now) in
+        IfOk result (λ addresses. StandsForAddresses entries (map (λ n. Ok n) addresses.items)) }
+{
     let mut addresses = Vec::new(mem);
-    for header in section.headers()? {
-        for address in header?.entries()? {
-            addresses.push(address?)?;
-        }
+    let mut entries = header.entries()?;
+    while let Some(address) = entries.next()? {
+        addresses.push(address)?;
     }
     Ok(addresses)
 }

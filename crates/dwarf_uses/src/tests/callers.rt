@@ -2,7 +2,7 @@
 
 use super::same;
 use super::worked::{STRINGS, THREE, TWO_SETS, UNIT};
-use crate::callers::{all_addresses, string_by_index, table_lengths, table_text, tag_of};
+use crate::callers::{addresses_in, string_by_index, table_lengths, table_text, tag_of};
 use dwarf_read_core::constants::{DW_TAG_compile_unit, DwTag};
 use dwarf_read_core::{
     DebugAbbrev, DebugAbbrevOffset, DebugAddr, DebugStr, DebugStrOffsets, DebugStrOffsetsBase,
@@ -42,13 +42,16 @@ fn sections_are_looked_up(rt: HostRuntime) -> std::result::Result<(), Fail> {
     let string = string_by_index(&offsets, &strings, Format::Dwarf32, base, index)?;
     same(&rt, string.slice(), b"two", "string 1");
     let sets = DebugAddr::from(EndianSlice::new(TWO_SETS, LittleEndian));
-    let addresses = all_addresses(mem, &sets)?;
-    let wanted = [
-        0x12345678,
-        0xdeadbeef,
-        0x123456789abcdef0,
-        0xdeadbeefdeadbeef,
-    ];
-    same(&rt, addresses.as_slice(), wanted.as_slice(), "addresses");
+    let mut addresses = Vec::new(mem);
+    for header in sets.headers()? {
+        addresses.push(addresses_in(mem, &header?)?)?;
+    }
+    same(&rt, addresses.len(), 2, "sets");
+    same(
+        &rt,
+        addresses[0].as_slice(),
+        [0x12345678, 0xdeadbeef].as_slice(),
+        "first set",
+    );
     Ok(())
 }
