@@ -1,7 +1,7 @@
 //! The small callers, on worked sections.
 
 use super::same;
-use super::worked::{STRINGS, THREE, TWO_SETS, UNIT};
+use super::worked::{FOUR_ADDRESSES, STRINGS, THREE, TWO_SETS, UNIT};
 use crate::callers::{addresses_in, string_by_index, table_lengths, table_text, tag_of};
 use dwarf_read_core::constants::{DW_TAG_compile_unit, DwTag};
 use dwarf_read_core::{
@@ -44,14 +44,15 @@ fn sections_are_looked_up(rt: HostRuntime) -> std::result::Result<(), Fail> {
     let sets = DebugAddr::from(EndianSlice::new(TWO_SETS, LittleEndian));
     let mut addresses = Vec::new(mem);
     for header in sets.headers()? {
-        addresses.push(addresses_in(mem, &header?)?)?;
+        for address in addresses_in(mem, &header?)? {
+            addresses.push(address)?;
+        }
     }
-    same(&rt, addresses.len(), 2, "sets");
     same(
         &rt,
-        addresses[0].as_slice(),
-        [0x12345678, 0xdeadbeef].as_slice(),
-        "first set",
+        addresses.as_slice(),
+        FOUR_ADDRESSES.as_slice(),
+        "addresses",
     );
     Ok(())
 }

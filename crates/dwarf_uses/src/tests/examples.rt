@@ -83,21 +83,17 @@ fn examples_of_sections(rt: HostRuntime) -> std::result::Result<(), Fail> {
     );
 
     let section = DebugAddr::from(EndianSlice::new(TWO_SETS, LittleEndian));
-    let mut headers = section.headers()?;
-    while let Some(header) = headers.next()? {
-        let mut entries = header.entries()?;
-        while let Some(address) = entries.next()? {
-            println!(rt; "{:#x}", address)?;
+    for header in section.headers()? {
+        for address in header?.entries()? {
+            println!(rt; "{:#x}", address?)?;
         }
     }
 
     let offsets = b"\x08\0\0\0\x05\0\0\0\x04\0\0\0";
     let section = DebugStrOffsets::from(EndianSlice::new(offsets, LittleEndian));
-    let mut headers = section.headers()?;
-    while let Some(header) = headers.next()? {
-        let mut entries = header.entries()?;
-        while let Some(offset) = entries.next()? {
-            println!(rt; "{}", offset.0)?;
+    for header in section.headers()? {
+        for offset in header?.entries()? {
+            println!(rt; "{}", offset?.0)?;
         }
     }
     Ok(())
