@@ -1,0 +1,4 @@
+pub mod Fault
+pub mod Numbers
+pub mod Room
+pub mod Sections

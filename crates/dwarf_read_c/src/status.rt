@@ -1,0 +1,8 @@
+//! What a call returns.
+
+/// The call answered, and its outputs are written.
+pub const DWARF_OK: u32 = 0;
+
+/// There are more items than the caller has places for. How many there are was told, and nothing
+/// else was written.
+pub const DWARF_NO_ROOM: u32 = 100;
