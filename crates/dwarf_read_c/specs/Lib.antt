@@ -2,3 +2,4 @@ pub mod Fault
 pub mod Numbers
 pub mod Room
 pub mod Sections
+pub mod Tables

@@ -13,5 +13,6 @@ pub mod numbers;
 pub mod room;
 pub mod sections;
 pub mod status;
+pub mod tables;
 #[cfg(test)]
 mod tests;

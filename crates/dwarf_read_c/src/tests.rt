@@ -6,6 +6,7 @@ use std::process::Abort;
 
 mod numbers;
 mod sections;
+mod tables;
 
 const SEVEN: DwarfFault = DwarfFault { kind: 7, value: 7 };
 

@@ -6,4 +6,4 @@ pub returns-then-places-count : goal.returns-then-places-count
 returns-then-places-count g c = full c.if-places-count.true refl
 
 pub returns : goal.returns
-returns g c = put c.if-places-count.false (rw c.copy_from_slice.ensures.after)
+returns g c = put (record { room = c.if-places-count.false; is = rw c.copy_from_slice.ensures.after })
