@@ -3,3 +3,4 @@ pub mod Numbers
 pub mod Room
 pub mod Sections
 pub mod Tables
+pub mod Names

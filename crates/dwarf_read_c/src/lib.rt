@@ -9,6 +9,7 @@
 #![tactic(auto)]
 
 pub mod fault;
+pub mod names;
 pub mod numbers;
 pub mod room;
 pub mod sections;

@@ -6,3 +6,6 @@ pub const DWARF_OK: u32 = 0;
 /// There are more items than the caller has places for. How many there are was told, and nothing
 /// else was written.
 pub const DWARF_NO_ROOM: u32 = 100;
+
+/// No constant has this value. Nothing was written.
+pub const DWARF_NO_NAME: u32 = 101;

@@ -4,6 +4,7 @@ use crate::fault::DwarfFault;
 use std::fmt::Debug;
 use std::process::Abort;
 
+mod names;
 mod numbers;
 mod sections;
 mod tables;
