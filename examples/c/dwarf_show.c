@@ -1,0 +1,148 @@
+/*
+ * Reads a section from standard input and writes a part of it, as the program dwarf_list does.
+ *
+ *     dwarf_show abbrev OFFSET    the abbreviation table at an offset of .debug_abbrev
+ *     dwarf_show str OFFSET       the string at an offset of .debug_str
+ *     dwarf_show uleb N           the LEB128 encoding of a number, read again
+ *
+ * It compiles as C and as C++.
+ */
+#include "dwarf_read.h"
+
+#include <inttypes.h>
+#include <stdio.h>
+#include <stdlib.h>
+#include <string.h>
+
+enum { IMPLICIT_CONST = 0x21 };
+
+typedef uint32_t name_call(uint16_t value, char *name, size_t room, size_t *len);
+
+struct bytes {
+    uint8_t *items;
+    size_t len;
+};
+
+static void *or_die(void *block) {
+    if (block == NULL) {
+        fputs("error: out of memory\n", stderr);
+        exit(1);
+    }
+    return block;
+}
+
+static struct bytes read_input(void) {
+    struct bytes input = {NULL, 0};
+    size_t room = 0;
+    for (;;) {
+        if (input.len == room) {
+            room = room * 2 + 4096;
+            input.items = (uint8_t *)or_die(realloc(input.items, room));
+        }
+        size_t count = fread(input.items + input.len, 1, room - input.len, stdin);
+        if (count == 0) {
+            return input;
+        }
+        input.len += count;
+    }
+}
+
+static int failed(const struct dwarf_fault *fault) {
+    fprintf(stderr, "error %" PRIu32 ": %" PRIu64 "\n", fault->kind, fault->value);
+    return 1;
+}
+
+/* Prints the name of a constant, or what stands for one that has none. */
+static void print_name(name_call *call, const char *type, uint16_t value) {
+    char name[64];
+    size_t len;
+    if (call(value, name, sizeof name, &len) == DWARF_OK) {
+        printf("%.*s", (int)len, name);
+    } else {
+        printf("Unknown %s: %u", type, (unsigned)value);
+    }
+}
+
+static void print_attribute(const struct dwarf_attribute *attribute) {
+    fputs("  ", stdout);
+    print_name(dwarf_attribute_name, "DwAt", attribute->name);
+    putchar(' ');
+    print_name(dwarf_form_name, "DwForm", attribute->form);
+    if (attribute->form == IMPLICIT_CONST) {
+        printf(" %" PRId64, attribute->implicit_const);
+    }
+    putchar('\n');
+}
+
+static int show_table(struct bytes section, size_t offset) {
+    struct dwarf_measure measure;
+    struct dwarf_fault fault;
+    if (dwarf_table_measure(section.items, section.len, offset, &measure, &fault) != DWARF_OK) {
+        return failed(&fault);
+    }
+    size_t count = measure.abbreviations;
+    size_t attribute_count = measure.attributes;
+    struct dwarf_abbreviation *abbreviations =
+        (struct dwarf_abbreviation *)or_die(malloc((count + 1) * sizeof *abbreviations));
+    struct dwarf_attribute *attributes =
+        (struct dwarf_attribute *)or_die(malloc((attribute_count + 1) * sizeof *attributes));
+    uint32_t status = dwarf_table_read(section.items, section.len, offset, abbreviations, count,
+                                       attributes, attribute_count, &measure, &fault);
+    if (status != DWARF_OK) {
+        return failed(&fault);
+    }
+    for (size_t i = 0; i < count; i++) {
+        const struct dwarf_abbreviation *it = &abbreviations[i];
+        printf("%" PRIu64 " ", it->code);
+        print_name(dwarf_tag_name, "DwTag", it->tag);
+        puts(it->has_children ? " yes" : " no");
+        for (size_t k = 0; k < it->attribute_count; k++) {
+            print_attribute(&attributes[it->first_attribute + k]);
+        }
+    }
+    free(abbreviations);
+    free(attributes);
+    return 0;
+}
+
+static int show_string(struct bytes section, size_t offset) {
+    size_t len;
+    struct dwarf_fault fault;
+    if (dwarf_string(section.items, section.len, offset, &len, &fault) != DWARF_OK) {
+        return failed(&fault);
+    }
+    fwrite(section.items + offset, 1, len, stdout);
+    putchar('\n');
+    return 0;
+}
+
+static int show_number(uint64_t number) {
+    uint8_t bytes[10];
+    size_t len, taken;
+    struct dwarf_fault fault;
+    uint64_t again = 0;
+    dwarf_uleb128_write(number, bytes, sizeof bytes, &len);
+    if (dwarf_uleb128(bytes, len, &again, &taken, &fault) != DWARF_OK) {
+        return failed(&fault);
+    }
+    for (size_t i = 0; i < len; i++) {
+        printf(i + 1 < len ? "%02x " : "%02x\n", (unsigned)bytes[i]);
+    }
+    return again == number && taken == len ? 0 : 1;
+}
+
+int main(int argc, char **argv) {
+    if (argc != 3) {
+        fputs("usage: dwarf_show abbrev OFFSET | str OFFSET | uleb N\n", stderr);
+        return 2;
+    }
+    uint64_t number = strtoull(argv[2], NULL, 10);
+    if (strcmp(argv[1], "uleb") == 0) {
+        return show_number(number);
+    }
+    struct bytes section = read_input();
+    int status = strcmp(argv[1], "abbrev") == 0 ? show_table(section, (size_t)number)
+                                                : show_string(section, (size_t)number);
+    free(section.items);
+    return status;
+}
