@@ -4,3 +4,4 @@ pub mod Room
 pub mod Sections
 pub mod Tables
 pub mod Names
+pub mod Sets

@@ -13,6 +13,7 @@ pub mod names;
 pub mod numbers;
 pub mod room;
 pub mod sections;
+pub mod sets;
 pub mod status;
 pub mod tables;
 #[cfg(test)]

@@ -128,7 +128,7 @@ pub extern "C" fn dwarf_address(
 }
 
 // The byte order.
-fn order(is_big: bool) -> RunTimeEndian
+pub(crate) fn order(is_big: bool) -> RunTimeEndian
     ensures { is_big_at_run_time result ≡ is_big }
 {
     if is_big {

@@ -9,3 +9,6 @@ pub const DWARF_NO_ROOM: u32 = 100;
 
 /// No constant has this value. Nothing was written.
 pub const DWARF_NO_NAME: u32 = 101;
+
+/// The offset is the section's end, so nothing stands there. Nothing was written.
+pub const DWARF_END: u32 = 102;

@@ -7,6 +7,7 @@ use std::process::Abort;
 mod names;
 mod numbers;
 mod sections;
+mod sets;
 mod tables;
 
 const SEVEN: DwarfFault = DwarfFault { kind: 7, value: 7 };
