@@ -18,3 +18,4 @@ pub mod status;
 pub mod tables;
 #[cfg(test)]
 mod tests;
+pub mod texts;

@@ -9,6 +9,7 @@ mod numbers;
 mod sections;
 mod sets;
 mod tables;
+mod texts;
 
 const SEVEN: DwarfFault = DwarfFault { kind: 7, value: 7 };
 
