@@ -1,6 +1,6 @@
 /*
  * The lowest layer of DWARF reading, proved, for C, C++ and Rust: LEB128 numbers, strings, lookups by
- * an index, abbreviation tables, and names of constants. The section numbers are those of DWARF 5.
+ * an index, abbreviation tables, sets of addresses, and names of constants. The section numbers are those of DWARF 5.
  *
  * Link libdwarf_read_c.a, and dwarf_read_heap.c or three functions of your own (see there).
  *
@@ -59,7 +59,8 @@ enum {
     DWARF_UNTERMINATED_ABBREVIATIONS = 19, /* the value is the position */
 
     DWARF_NO_ROOM = 100, /* fewer places than items */
-    DWARF_NO_NAME = 101  /* no constant has the value */
+    DWARF_NO_NAME = 101, /* no constant has the value, or no error the number */
+    DWARF_END = 102      /* nothing stands there, since it is the section's end */
 };
 
 /* The error that a call was refused with. */
@@ -104,9 +105,30 @@ uint32_t dwarf_address(const uint8_t *section, size_t len, bool is_big, uint8_t 
                        size_t index, uint64_t *address, struct dwarf_fault *fault);
 
 /*
+ * SETS OF ADDRESSES (7.27).
+ */
+
+/* A set of addresses in .debug_addr. */
+struct dwarf_set {
+    size_t next;          /* the end of the set, where the next one may begin */
+    size_t unit_length;   /* how many bytes of the set follow its initial length */
+    size_t first_address; /* where its first address stands; they go up to `next` */
+    uint8_t word_size;    /* 4 in the 32-bit format, 8 in the 64-bit format */
+    uint8_t address_size; /* 1, 2, 4 or 8 */
+};
+
+/* Reads the header of the set at an offset of .debug_addr. Returns DWARF_END, and writes nothing, if the
+   offset is the section's end. The set's addresses are those that dwarf_address reads with
+   `address_size` and `first_address`, in the section's first `next` bytes alone: then an address that
+   the set's end cuts is DWARF_UNEXPECTED_EOF there. */
+uint32_t dwarf_address_set(const uint8_t *section, size_t len, bool is_big, size_t offset,
+                           struct dwarf_set *set, struct dwarf_fault *fault);
+
+/*
  * ABBREVIATION TABLES (7.5.3).
  *
- * These two calls take memory for the table while they run. They may not be called in a signal handler.
+ * These two calls take memory for the table while they run, and are DWARF_OUT_OF_MEMORY where there is
+ * none. They may not be called in a signal handler.
  */
 
 /* How large a table is. */
@@ -145,16 +167,21 @@ uint32_t dwarf_table_read(const uint8_t *section, size_t len, size_t offset,
                           struct dwarf_measure *measure, struct dwarf_fault *fault);
 
 /*
- * NAMES.
+ * NAMES AND TEXTS.
  *
- * Each call writes a name, as DW_TAG_label, with no zero byte behind it. `len` is how many bytes it
- * has. They return DWARF_OK; DWARF_NO_ROOM, and then only `len` is written; or DWARF_NO_NAME, and then
- * nothing is.
+ * Each call writes a name, as DW_TAG_label, or a text, with no zero byte behind it. `len` is how many
+ * bytes it has. They return DWARF_OK; DWARF_NO_ROOM, and then only `len` is written; or DWARF_NO_NAME,
+ * and then nothing is.
  */
 
 uint32_t dwarf_tag_name(uint16_t tag, char *name, size_t room, size_t *len);
 uint32_t dwarf_attribute_name(uint16_t attribute, char *name, size_t room, size_t *len);
 uint32_t dwarf_form_name(uint16_t form, char *name, size_t room, size_t *len);
+
+/* The text of the error that a call was refused with. 64 places are enough for every name and text.
+   The call takes memory while it runs, and is DWARF_OUT_OF_MEMORY where there is none; then nothing is
+   written. It may not be called in a signal handler. */
+uint32_t dwarf_fault_text(const struct dwarf_fault *fault, char *text, size_t room, size_t *len);
 
 #ifdef __cplusplus
 }

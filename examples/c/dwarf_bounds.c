@@ -37,6 +37,12 @@ static void check_no_bytes(void) {
     check(status == DWARF_UNEXPECTED_EOF && is_fault(fault, 1, 0), "no address");
     status = dwarf_str_offset(NULL, 0, true, false, 0, 0, &len, &fault);
     check(status == DWARF_UNEXPECTED_EOF && is_fault(fault, 1, 0), "no offset");
+    struct dwarf_set set = {7, 7, 7, 7, 7};
+    fault.kind = 7;
+    status = dwarf_address_set(NULL, 0, true, 0, &set, &fault);
+    check(status == DWARF_END && set.next == 7 && fault.kind == 7, "no set");
+    status = dwarf_address_set(NULL, 0, true, 1, &set, &fault);
+    check(status == DWARF_UNEXPECTED_EOF && is_fault(fault, 1, 0), "a set past the end");
     check(value == 7 && signed_value == 7 && len == 7, "outputs of refused calls");
 }
 
@@ -47,6 +53,17 @@ static void check_no_room(void) {
     check(dwarf_tag_name(0x11, NULL, 0, &len) == DWARF_NO_ROOM && len == 19, "tag without room");
     len = 7;
     check(dwarf_form_name(0xffff, NULL, 0, &len) == DWARF_NO_NAME && len == 7, "form without name");
+}
+
+static void check_texts(void) {
+    struct dwarf_fault fault = {DWARF_UNKNOWN_VERSION, UINT64_MAX};
+    char text[64];
+    size_t len = 7;
+    check(dwarf_fault_text(&fault, text, sizeof text, &len) == DWARF_OK, "a text");
+    check(len == 43 && memcmp(text, "unknown DWARF version: 18446744073709551615", len) == 0, "its bytes");
+    check(dwarf_fault_text(&fault, NULL, 0, &len) == DWARF_NO_ROOM && len == 43, "text without room");
+    fault.kind = UINT32_MAX;
+    check(dwarf_fault_text(&fault, text, sizeof text, &len) == DWARF_NO_NAME && len == 43, "no error");
 }
 
 static void check_tables(void) {
@@ -90,6 +107,7 @@ static void check_offsets(void) {
 int main(void) {
     check_no_bytes();
     check_no_room();
+    check_texts();
     check_tables();
     check_offsets();
     return failures;

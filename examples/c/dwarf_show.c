@@ -3,6 +3,8 @@
  *
  *     dwarf_show abbrev OFFSET    the abbreviation table at an offset of .debug_abbrev
  *     dwarf_show str OFFSET       the string at an offset of .debug_str
+ *     dwarf_show addr le          the sets of addresses of a whole .debug_addr, in little byte order
+ *     dwarf_show addr be          the same in big byte order
  *     dwarf_show uleb N           the LEB128 encoding of a number, read again
  *
  * It compiles as C and as C++.
@@ -48,7 +50,11 @@ static struct bytes read_input(void) {
 }
 
 static int failed(const struct dwarf_fault *fault) {
-    fprintf(stderr, "error %" PRIu32 ": %" PRIu64 "\n", fault->kind, fault->value);
+    char text[64];
+    size_t len;
+    if (dwarf_fault_text(fault, text, sizeof text, &len) == DWARF_OK) {
+        fprintf(stderr, "error: %.*s\n", (int)len, text);
+    }
     return 1;
 }
 
@@ -116,6 +122,52 @@ static int show_string(struct bytes section, size_t offset) {
     return 0;
 }
 
+/* Prints the addresses of a set, or only looks for a fault. Behind the set's end nothing is read. */
+static int go_over_set(struct bytes section, bool is_big, struct dwarf_set set, bool is_printed) {
+    size_t count = (set.next - set.first_address + set.address_size - 1) / set.address_size;
+    for (size_t i = 0; i < count; i++) {
+        uint64_t address;
+        struct dwarf_fault fault;
+        if (dwarf_address(section.items, set.next, is_big, set.address_size, set.first_address, i,
+                          &address, &fault) != DWARF_OK) {
+            return failed(&fault);
+        }
+        if (is_printed) {
+            printf("  0x%" PRIx64 "\n", address);
+        }
+    }
+    return 0;
+}
+
+/* Prints all sets, or only looks for a fault. */
+static int go_over_sets(struct bytes section, bool is_big, bool is_printed) {
+    size_t offset = 0;
+    for (;;) {
+        struct dwarf_set set;
+        struct dwarf_fault fault;
+        uint32_t status =
+            dwarf_address_set(section.items, section.len, is_big, offset, &set, &fault);
+        if (status != DWARF_OK) {
+            return status == DWARF_END ? 0 : failed(&fault);
+        }
+        if (is_printed) {
+            printf("set %zu: length %zu, %u-bit, address size %u\n", offset, set.unit_length,
+                   set.word_size * 8u, (unsigned)set.address_size);
+        }
+        int failure = go_over_set(section, is_big, set, is_printed);
+        if (failure != 0) {
+            return failure;
+        }
+        offset = set.next;
+    }
+}
+
+/* Nothing is printed before it is known that there is no fault. */
+static int show_sets(struct bytes section, bool is_big) {
+    int failure = go_over_sets(section, is_big, false);
+    return failure != 0 ? failure : go_over_sets(section, is_big, true);
+}
+
 static int show_number(uint64_t number) {
     uint8_t bytes[10];
     size_t len, taken;
@@ -133,7 +185,7 @@ static int show_number(uint64_t number) {
 
 int main(int argc, char **argv) {
     if (argc != 3) {
-        fputs("usage: dwarf_show abbrev OFFSET | str OFFSET | uleb N\n", stderr);
+        fputs("usage: dwarf_show abbrev OFFSET | str OFFSET | addr le|be | uleb N\n", stderr);
         return 2;
     }
     uint64_t number = strtoull(argv[2], NULL, 10);
@@ -141,8 +193,14 @@ int main(int argc, char **argv) {
         return show_number(number);
     }
     struct bytes section = read_input();
-    int status = strcmp(argv[1], "abbrev") == 0 ? show_table(section, (size_t)number)
-                                                : show_string(section, (size_t)number);
+    int status;
+    if (strcmp(argv[1], "abbrev") == 0) {
+        status = show_table(section, (size_t)number);
+    } else if (strcmp(argv[1], "addr") == 0) {
+        status = show_sets(section, strcmp(argv[2], "be") == 0);
+    } else {
+        status = show_string(section, (size_t)number);
+    }
     free(section.items);
     return status;
 }

@@ -19,13 +19,21 @@ pub struct Tried {
 fn tried(block: *mut c_void) -> Tried {
     static mut NONE: u8 = 0;
     let is_block = !block.is_null();
-    let block = if is_block { block } else { addr_of_mut!(NONE).cast() };
+    let block = if is_block {
+        block
+    } else {
+        addr_of_mut!(NONE).cast()
+    };
     Tried { is_block, block }
 }
 
 // A block of no bytes has as many as its alignment, so that null tells of refused memory.
 fn size_of(size: usize, align: usize) -> usize {
-    if size == 0 { align } else { size }
+    if size == 0 {
+        align
+    } else {
+        size
+    }
 }
 
 #[no_mangle]
@@ -34,7 +42,12 @@ extern "C" fn rattle_alloc(size: usize, align: usize) -> Tried {
 }
 
 #[no_mangle]
-unsafe extern "C" fn rattle_realloc(block: *mut c_void, _kept: usize, size: usize, align: usize) -> Tried {
+unsafe extern "C" fn rattle_realloc(
+    block: *mut c_void,
+    _kept: usize,
+    size: usize,
+    align: usize,
+) -> Tried {
     tried(unsafe { realloc(block, size_of(size, align)) })
 }
 

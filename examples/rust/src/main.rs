@@ -3,6 +3,8 @@
 //! ```text
 //! dwarf_show abbrev OFFSET    the abbreviation table at an offset of .debug_abbrev
 //! dwarf_show str OFFSET       the string at an offset of .debug_str
+//! dwarf_show addr le          the sets of addresses of a whole .debug_addr, in little byte order
+//! dwarf_show addr be          the same in big byte order
 //! dwarf_show uleb N           the LEB128 encoding of a number, read again
 //! ```
 
@@ -50,6 +52,26 @@ fn string_text(section: &[u8], offset: usize) -> Result<Vec<u8>, Fault> {
     Ok(text)
 }
 
+fn sets_text(section: &[u8], is_big: bool) -> Result<Vec<u8>, Fault> {
+    let (mut text, mut offset) = (String::new(), 0);
+    while let Some(set) = dwarf_read::address_set(section, is_big, offset)? {
+        let (length, bits, size) = (set.unit_length, set.word_size * 8, set.address_size);
+        let _ = writeln!(
+            text,
+            "set {offset}: length {length}, {bits}-bit, address size {size}"
+        );
+        // Behind the set's end nothing is read, so an address that it cuts is a fault.
+        let in_set = &section[..set.next];
+        let count = (set.next - set.first_address).div_ceil(usize::from(size));
+        for index in 0..count {
+            let address = dwarf_read::address(in_set, is_big, size, set.first_address, index)?;
+            let _ = writeln!(text, "  {address:#x}");
+        }
+        offset = set.next;
+    }
+    Ok(text.into_bytes())
+}
+
 fn number_text(number: u64) -> Result<Vec<u8>, Fault> {
     let bytes = dwarf_read::uleb128_bytes(number);
     assert_eq!(dwarf_read::uleb128(&bytes)?, (number, bytes.len()));
@@ -59,17 +81,18 @@ fn number_text(number: u64) -> Result<Vec<u8>, Fault> {
 
 fn main() -> ExitCode {
     let words: Vec<String> = std::env::args().skip(1).collect();
-    let [command, number] = words.as_slice() else {
-        eprintln!("usage: dwarf_show abbrev OFFSET | str OFFSET | uleb N");
+    let [command, word] = words.as_slice() else {
+        eprintln!("usage: dwarf_show abbrev OFFSET | str OFFSET | addr le|be | uleb N");
         return ExitCode::from(2);
     };
-    let number: u64 = number.parse().unwrap_or(0);
+    let number: u64 = word.parse().unwrap_or(0);
     let mut section = Vec::new();
     if command != "uleb" && std::io::stdin().read_to_end(&mut section).is_err() {
         return ExitCode::from(3);
     }
     let answer = match command.as_str() {
         "abbrev" => table_text(&section, number as usize),
+        "addr" => sets_text(&section, word == "be"),
         "uleb" => number_text(number),
         _ => string_text(&section, number as usize),
     };
@@ -79,7 +102,7 @@ fn main() -> ExitCode {
             ExitCode::SUCCESS
         }
         Err(fault) => {
-            eprintln!("error {}: {}", fault.kind, fault.value);
+            eprintln!("error: {fault}");
             ExitCode::from(1)
         }
     }
