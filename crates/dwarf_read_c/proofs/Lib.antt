@@ -1,0 +1,4 @@
+pub mod NumberLemmas
+pub mod StringLemmas
+pub mod TableLemmas
+pub mod SetLemmas
