@@ -19,26 +19,26 @@ pub shown-requires-clause-within : goal.shown-requires-clause-within
 shown-requires-clause-within c =
     let skipped = rw (c.new-input.ensures, c.order.ensures) at c.in_ok-skip.ensures.ok in
     let start = rw (c.from.ensures, skipped.left) at c.in_ok-headers.ensures.ok in
-    let found = set_found _ _ _ _ _ _ _ start (rw c.in-Some.is at c.in_ok-header.ensures.first) in
+    let found = set_found _ _ _ _ _ _ start (rw c.in-Some.is at c.in_ok-header.ensures.first) in
     omega (arith, found.within, c.well_formed)
 
 pub shown-requires-clause-header : goal.shown-requires-clause-header
 shown-requires-clause-header c =
     let skipped = rw (c.new-input.ensures, c.order.ensures) at c.in_ok-skip.ensures.ok in
     let start = rw (c.from.ensures, skipped.left) at c.in_ok-headers.ensures.ok in
-    let found = set_found _ _ _ _ _ _ _ start (rw c.in-Some.is at c.in_ok-header.ensures.first) in
+    let found = set_found _ _ _ _ _ _ start (rw c.in-Some.is at c.in_ok-header.ensures.first) in
     found.header
 
 pub shown-requires-clause-placed : goal.shown-requires-clause-placed
 shown-requires-clause-placed c =
     let skipped = rw (c.new-input.ensures, c.order.ensures) at c.in_ok-skip.ensures.ok in
     let start = rw (c.from.ensures, skipped.left) at c.in_ok-headers.ensures.ok in
-    let found = set_found _ _ _ _ _ _ _ start (rw c.in-Some.is at c.in_ok-header.ensures.first) in
+    let found = set_found _ _ _ _ _ _ start (rw c.in-Some.is at c.in_ok-header.ensures.first) in
     found.first
 
 pub returns-in-Some-clause-found : goal.returns-in-Some-clause-found
 returns-in-Some-clause-found c =
     let skipped = rw (c.new-input.ensures, c.order.ensures) at c.in_ok-skip.ensures.ok in
     let start = rw (c.from.ensures, skipped.left) at c.in_ok-headers.ensures.ok in
-    let found = set_found _ _ _ _ _ _ _ start (rw c.in-Some.is at c.in_ok-header.ensures.first) in
+    let found = set_found _ _ _ _ _ _ start (rw c.in-Some.is at c.in_ok-header.ensures.first) in
     set_shown _ _ _ _ found c.shown.ensures
