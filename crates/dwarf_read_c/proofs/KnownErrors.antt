@@ -26,7 +26,9 @@ known_number (cut is) = omega arith
 known_number {k} (bad is) = known_refusal k
 
 -- of a string
-pub known_string : {section : Input} {offset : ℕ} {answer : Result Input Error} → StringAt section offset answer → IfErr answer IsKnown
+pub known_string :
+    {section : Input} {offset : ℕ} {answer : Result Input Error} → StringAt section offset answer →
+    IfErr answer IsKnown
 known_string (string_outside past) = omega arith
 known_string (string bytes rest within parts unbroken) = tt
 known_string (unended within none) = omega arith
@@ -38,20 +40,26 @@ known_place (too_far based far) = omega arith
 known_place (place_outside based near past) = omega arith
 
 -- of a word
-pub known_word : {greatest : ℕ} {section : Input} {s : Slot} {answer : Result ℕ Error} → WordAt greatest section s answer → IfErr answer IsKnown
+pub known_word :
+    {greatest : ℕ} {section : Input} {s : Slot} {answer : Result ℕ Error} → WordAt greatest section s answer →
+    IfErr answer IsKnown
 known_word (no_word_place e misplaced) = known_place misplaced
 known_word (word_cut placed short) = omega arith
 known_word (no_offset placed enough over) = omega arith
 known_word (word placed enough fits) = tt
 
 -- of an address
-pub known_address : {greatest : ℕ} {section : Input} {s : Slot} {answer : Result ℕ Error} → AddressAt greatest section s answer → IfErr answer IsKnown
+pub known_address :
+    {greatest : ℕ} {section : Input} {s : Slot} {answer : Result ℕ Error} →
+    AddressAt greatest section s answer → IfErr answer IsKnown
 known_address (no_address_place e misplaced) = known_place misplaced
 known_address (no_size placed unsized) = omega arith
 known_address (address_cut placed sized short) = omega arith
 known_address (address placed sized enough) = tt
 
-known_header : {is_big : Bool} {position : ℕ} {unit : List ℕ} {e : Error} → IsAddressHeaderFault is_big position unit e → IsKnown e
+known_header :
+    {is_big : Bool} {position : ℕ} {unit : List ℕ} {e : Error} → IsAddressHeaderFault is_big position unit e →
+    IsKnown e
 known_header (version_cut unit short) = omega arith
 known_header (version_unknown version rest n is other) = omega arith
 known_header (address_size_cut version is) = omega arith
@@ -59,7 +67,9 @@ known_header (address_size_bad version rest size is unsized) = omega arith
 known_header (segment_size_cut version size is sized) = omega arith
 known_header (segment_size_bad version rest size segment is sized some) = omega arith
 
-known_set_fault : {greatest : ℕ} {is_big : Bool} {position : ℕ} {bytes : List ℕ} {e : Error} → IsSetFault (address_kind is_big) greatest is_big position bytes e → IsKnown e
+known_set_fault :
+    {greatest : ℕ} {is_big : Bool} {position : ℕ} {bytes : List ℕ} {e : Error} →
+    IsSetFault (address_kind is_big) greatest is_big position bytes e → IsKnown e
 known_set_fault (length_cut bytes short) = omega arith
 known_set_fault (length_reserved bytes rest n is low high) = omega arith
 known_set_fault (long_length_cut mark rest is short) = omega arith
@@ -85,7 +95,9 @@ known_fault : {end : ℕ} {bytes : List ℕ} {e : Error} → IsFault end bytes e
 known_fault (in_declaration bytes rest ds e are some is) = known_faulty is
 known_fault (repeated bytes declaration rest ds d are is there) = omega arith
 
-known_answer : {section : Input} {offset : ℕ} {answer : Result Table Error} → Answer section offset answer → IfErr answer IsKnown
+known_answer :
+    {section : Input} {offset : ℕ} {answer : Result Table Error} → Answer section offset answer →
+    IfErr answer IsKnown
 known_answer (table_outside past) = omega arith
 known_answer (table t within is) = tt
 known_answer (fault e within is) = known_fault is

@@ -20,18 +20,24 @@ FirstOf kind greatest is_big offset position bytes [] = bytes ≡ []
 FirstOf kind greatest is_big offset position bytes (Ok s ∷ items) = (front rest : List ℕ) × (bytes ≡ front ++ rest) × IsSet kind is_big offset position front s
 FirstOf kind greatest is_big offset position bytes (Err e ∷ items) = (bytes ≢ []) × IsSetFault kind greatest is_big position bytes e
 
-first_of : {kind : HeaderKind ℕ} {greatest : ℕ} {is_big : Bool} {offset position : ℕ} {bytes : List ℕ} {items : List (Result (Set ℕ) Error)} → AreSets kind greatest is_big offset position bytes items → FirstOf kind greatest is_big offset position bytes items
+first_of :
+    {kind : HeaderKind ℕ} {greatest : ℕ} {is_big : Bool} {offset position : ℕ} {bytes : List ℕ} {items : List (Result (Set ℕ) Error)} →
+    AreSets kind greatest is_big offset position bytes items →
+    FirstOf kind greatest is_big offset position bytes items
 first_of none = refl
 first_of (set bytes rest s items is fits more) = (bytes, rest, refl, is)
 first_of (faulty bytes e some fault) = (some, fault)
 
 -- how many bytes an initial length has
-length_of_initial : {is_big : Bool} {initial : List ℕ} {format : Format} {n : ℕ} → IsInitialLength is_big initial format n → length initial ≡ initial_length_size format
+length_of_initial :
+    {is_big : Bool} {initial : List ℕ} {format : Format} {n : ℕ} → IsInitialLength is_big initial format n →
+    length initial ≡ initial_length_size format
 length_of_initial (of_32 bytes n is below) = is.wide
 length_of_initial (of_64 mark bytes n is_mark is) = rw length-append (omega (arith, is_mark.wide, is.wide))
 
 -- and a header
-length_of_header : {is_big : Bool} {header : List ℕ} {size : ℕ} → IsAddressHeader is_big header size → length header ≡ 4
+length_of_header :
+    {is_big : Bool} {header : List ℕ} {size : ℕ} → IsAddressHeader is_big header size → length header ≡ 4
 length_of_header {is_big} {header} {size} is = ap length is.parts ∙ rw length-append (omega (arith, is.is_version.wide))
 
 -- what is known of a set that is found at an offset
@@ -46,7 +52,10 @@ abbrev pub sets_from : ℕ → Input → Headers
 sets_from offset section = record { offset = 0; rest = after offset section }
 
 -- a set that begins the bytes from an offset on is one of the section
-set_there : (section : Input) (offset : ℕ) (s : Set ℕ) (front rest : List ℕ) → drop offset section.bytes ≡ front ++ rest → IsSet (address_kind section.is_big) section.is_big 0 offset front s → FoundSet section offset s
+set_there :
+    (section : Input) (offset : ℕ) (s : Set ℕ) (front rest : List ℕ) →
+    drop offset section.bytes ≡ front ++ rest →
+    IsSet (address_kind section.is_big) section.is_big 0 offset front s → FoundSet section offset s
 set_there section offset s front rest parts is =
     let initial = length_of_initial is.is_length in
     let header = length_of_header is.is_header in
@@ -76,7 +85,10 @@ set_there section offset s front rest parts is =
     }
 
 -- what a walk from an offset gives first, where it is a set
-pub set_found : (greatest : ℕ) (bytes : List ℕ) (is_big : Bool) (offset : ℕ) (old new : Headers) (s : Set ℕ) → old ≡ sets_from offset (section_of bytes is_big) → ComesFirst (StandsForAddressSets greatest) old (Ok s) new → FoundSet (section_of bytes is_big) offset s
+pub set_found :
+    (greatest : ℕ) (bytes : List ℕ) (is_big : Bool) (offset : ℕ) (old new : Headers) (s : Set ℕ) →
+    old ≡ sets_from offset (section_of bytes is_big) →
+    ComesFirst (StandsForAddressSets greatest) old (Ok s) new → FoundSet (section_of bytes is_big) offset s
 set_found greatest bytes is_big offset old new s start given =
     let items = given.1 given.0.0 given.0.1 in
     let there = subst (λ (h : Headers). StandsForAddressSets greatest h (Ok s ∷ given.0.0)) start items in
@@ -90,7 +102,11 @@ some_left : (bytes : List ℕ) (offset : ℕ) → drop offset bytes ≢ [] → o
 some_left bytes offset some = elim (cases_lt offset (length bytes)) [ inl below ↦ below | inr past ↦ absurd (some (drop_of_length-le bytes past)) ]
 
 -- where it is a fault, no set begins there
-pub set_refused : {P : Type 0} (bytes : List ℕ) (is_big : Bool) (offset : ℕ) (old new : Headers) (e : Error) → old ≡ sets_from offset (section_of bytes is_big) → ComesFirst (StandsForAddressSets (2 ^ 64 - 1)) old (Err e) new ⊎ (WantsMemory true e × P) → LacksSet (section_of bytes is_big) offset e
+pub set_refused :
+    {P : Type 0} (bytes : List ℕ) (is_big : Bool) (offset : ℕ) (old new : Headers) (e : Error) →
+    old ≡ sets_from offset (section_of bytes is_big) →
+    ComesFirst (StandsForAddressSets (2 ^ 64 - 1)) old (Err e) new ⊎ (WantsMemory true e × P) →
+    LacksSet (section_of bytes is_big) offset e
 set_refused bytes is_big offset old new e start (inl given) =
     let items = given.1 given.0.0 given.0.1 in
     let there = subst (λ (h : Headers). StandsForAddressSets (2 ^ 64 - 1) h (Err e ∷ given.0.0)) start items in
@@ -100,11 +116,16 @@ set_refused bytes is_big offset old new e start (inl given) =
 set_refused bytes is_big offset old new e start (inr want) = let costs = want.0.costs in absurd (cc)
 
 -- an offset past the end
-pub set_outside : (section : Input) (offset : ℕ) (e : Error) (new : Input) → EndsBefore offset section e new → LacksSet section offset e
+pub set_outside :
+    (section : Input) (offset : ℕ) (e : Error) (new : Input) → EndsBefore offset section e new →
+    LacksSet section offset e
 set_outside section offset e new short = subst (LacksSet section offset) (sym short.fault) (outside short.short)
 
 -- a set that is found, as C sees it
-pub set_shown : (section : Input) (offset : ℕ) (s : Set ℕ) (to_c : DwarfSet) → FoundSet section offset s → to_c ≡ shown s (offset + initial_length_size s.format + s.unit_length) → (x : Set ℕ) × HasSet section offset to_c.next x × (to_c ≡ shown x to_c.next)
+pub set_shown :
+    (section : Input) (offset : ℕ) (s : Set ℕ) (to_c : DwarfSet) → FoundSet section offset s →
+    to_c ≡ shown s (offset + initial_length_size s.format + s.unit_length) →
+    (x : Set ℕ) × HasSet section offset to_c.next x × (to_c ≡ shown x to_c.next)
 set_shown section offset s to_c found is =
     let next : to_c.next ≡ offset + initial_length_size s.format + s.unit_length = ap (λ (d : DwarfSet). d.next) is in
     (record s { offset = offset }, subst (λ (n : ℕ). HasSet section offset n (record s { offset = offset })) (sym next) found.has, is ∙ ap (λ (n : ℕ). shown s n) (sym next))

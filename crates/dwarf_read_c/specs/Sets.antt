@@ -18,8 +18,16 @@ pub record HasSet (section : Input) (offset next : ℕ) (s : Set ℕ) : Type 0 w
 -- no set is there: the offset is past the end, or the bytes from there on begin with no set
 pub data LacksSet (section : Input) (offset : ℕ) : Error → Type 0 where
   outside : length section.bytes < offset → LacksSet section offset (end_fault section)
-  faulty : (e : Error) → offset < length section.bytes → IsSetFault (address_kind section.is_big) (2 ^ 64 - 1) section.is_big offset (drop offset section.bytes) e → LacksSet section offset e
+  faulty : (e : Error) → offset < length section.bytes →
+      IsSetFault (address_kind section.is_big) (2 ^ 64 - 1) section.is_big offset (drop offset section.bytes) e →
+      LacksSet section offset e
 
 -- a set, and where the next one may begin
 abbrev pub shown : Set ℕ → ℕ → DwarfSet
-shown s next = record { next = next; unit_length = s.unit_length; first_address = s.entries.position; word_size = word_size s.format; address_size = s.header }
+shown s next = record {
+  next = next;
+  unit_length = s.unit_length;
+  first_address = s.entries.position;
+  word_size = word_size s.format;
+  address_size = s.header;
+}
