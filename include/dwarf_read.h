@@ -1,6 +1,7 @@
 /*
  * The lowest layer of DWARF reading, proved, for C, C++ and Rust: LEB128 numbers, strings, lookups by
- * an index, abbreviation tables, sets of addresses, and names of constants. The section numbers are those of DWARF 5.
+ * an index, abbreviation tables, sets of addresses, names of constants, and texts of errors. The
+ * section numbers are those of DWARF 5.
  *
  * Link libdwarf_read_c.a, and dwarf_read_heap.c or three functions of your own (see there).
  *

@@ -1,5 +1,6 @@
 /*
- * Calls with bad input: null with a length of 0, no room, offsets past the end, and huge counts. Each
+ * Calls with bad input: null with a length of 0, no room, offsets past the end,
+     and huge counts. Each
  * has to be refused with the right fault, and to leave its outputs as they were.
  *
  * It compiles as C and as C++, prints a line for each check that fails, and returns how many do.
@@ -60,10 +61,13 @@ static void check_texts(void) {
     char text[64];
     size_t len = 7;
     check(dwarf_fault_text(&fault, text, sizeof text, &len) == DWARF_OK, "a text");
-    check(len == 43 && memcmp(text, "unknown DWARF version: 18446744073709551615", len) == 0, "its bytes");
-    check(dwarf_fault_text(&fault, NULL, 0, &len) == DWARF_NO_ROOM && len == 43, "text without room");
+    check(len == 43 && memcmp(text, "unknown DWARF version: 18446744073709551615", len) == 0,
+        "its bytes");
+    check(dwarf_fault_text(&fault, NULL, 0, &len) == DWARF_NO_ROOM && len == 43,
+        "text without room");
     fault.kind = UINT32_MAX;
-    check(dwarf_fault_text(&fault, text, sizeof text, &len) == DWARF_NO_NAME && len == 43, "no error");
+    check(dwarf_fault_text(&fault, text, sizeof text, &len) == DWARF_NO_NAME && len == 43,
+        "no error");
 }
 
 static void check_tables(void) {
@@ -74,18 +78,24 @@ static void check_tables(void) {
     struct dwarf_attribute attribute;
     memset(&abbreviation, 7, sizeof abbreviation);
     memset(&attribute, 7, sizeof attribute);
-    uint32_t status = dwarf_table_read(section, sizeof section, 0, &abbreviation, 1, NULL, 0, &measure, &fault);
-    check(status == DWARF_NO_ROOM && measure.abbreviations == 1 && measure.attributes == 1, "no room");
+    uint32_t status = dwarf_table_read(section, sizeof section, 0, &abbreviation, 1, NULL, 0,
+        &measure, &fault);
+    check(status == DWARF_NO_ROOM && measure.abbreviations == 1 && measure.attributes == 1,
+        "no room");
     check(abbreviation.tag == 0x0707 && attribute.name == 0x0707, "places without room");
-    status = dwarf_table_read(section, sizeof section, 0, &abbreviation, 1, &attribute, 1, &measure, &fault);
+    status = dwarf_table_read(section, sizeof section, 0, &abbreviation, 1, &attribute, 1,
+        &measure, &fault);
     check(status == DWARF_OK && measure.closed_by_null == 1 && fault.kind == 7, "a table");
-    check(abbreviation.code == 1 && abbreviation.tag == 0x11 && abbreviation.has_children == 1, "its tag");
+    check(abbreviation.code == 1 && abbreviation.tag == 0x11 && abbreviation.has_children == 1,
+        "its tag");
     check(abbreviation.first_attribute == 0 && abbreviation.attribute_count == 1, "its attributes");
-    check(attribute.name == 3 && attribute.form == 8 && attribute.implicit_const == 0, "an attribute");
+    check(attribute.name == 3 && attribute.form == 8 && attribute.implicit_const == 0,
+        "an attribute");
     status = dwarf_table_measure(section, sizeof section, SIZE_MAX, &measure, &fault);
     check(status == DWARF_UNEXPECTED_EOF && is_fault(fault, 1, 0), "a table past the end");
     status = dwarf_table_read(NULL, 0, 0, NULL, 0, NULL, 0, &measure, &fault);
-    check(status == DWARF_OK && measure.abbreviations == 0 && measure.closed_by_null == 0, "an empty table");
+    check(status == DWARF_OK && measure.abbreviations == 0 && measure.closed_by_null == 0,
+        "an empty table");
 }
 
 static void check_offsets(void) {

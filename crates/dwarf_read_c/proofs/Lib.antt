@@ -2,3 +2,4 @@ pub mod NumberLemmas
 pub mod StringLemmas
 pub mod TableLemmas
 pub mod SetLemmas
+pub mod KnownErrors

@@ -8,7 +8,9 @@ use Rattle.dwarf_read_c.specs.Numbers.{LacksNumber, cut, bad}
 use Rattle.dwarf_read_c.specs.Sections.{section_of}
 
 -- the error of a refused reading says what is wrong with the bytes
-pub lacks_number : (k : Kind) (bytes : List ℕ) (e : Error) (new : Input) → RefusesNumber k (section_of bytes false) e new → LacksNumber k bytes e
+pub lacks_number :
+    (k : Kind) (bytes : List ℕ) (e : Error) (new : Input) → RefusesNumber k (section_of bytes false) e new →
+    LacksNumber k bytes e
 lacks_number k bytes e new (inl ends) =
     let counted : 0 + length bytes ≡ length bytes = omega arith in
     let place = ap (λ (i : Input). i.position) ends.left ∙ counted in

@@ -8,7 +8,9 @@ use Rattle.dwarf_read_core.specs.Strings.{StringAt, outside, string, unended}
 use Rattle.dwarf_read_c.specs.Sections.{part_of}
 
 -- it is the part of its length at the offset
-found_is_part : {section : Input} {offset : ℕ} {answer : Result Input Error} → StringAt section offset answer → IfOk answer (λ found. found ≡ part_of section offset (length found.bytes))
+found_is_part :
+    {section : Input} {offset : ℕ} {answer : Result Input Error} → StringAt section offset answer →
+    IfOk answer (λ found. found ≡ part_of section offset (length found.bytes))
 found_is_part (outside past) = tt
 found_is_part {section} {offset} (string bytes rest within parts unbroken) =
     let part : take (length bytes) (drop offset section.bytes) ≡ bytes = rw parts (take-append_seam bytes (0 ∷ rest)) in
@@ -16,5 +18,7 @@ found_is_part {section} {offset} (string bytes rest within parts unbroken) =
 found_is_part (unended within none) = tt
 
 -- so that part is the string
-pub part_is_string : (section : Input) (offset : ℕ) (found : Input) → StringAt section offset (Ok found) → StringAt section offset (Ok (part_of section offset (length found.bytes)))
+pub part_is_string :
+    (section : Input) (offset : ℕ) (found : Input) → StringAt section offset (Ok found) →
+    StringAt section offset (Ok (part_of section offset (length found.bytes)))
 part_is_string section offset found at = subst (λ (i : Input). StringAt section offset (Ok i)) (found_is_part at) at

@@ -20,7 +20,9 @@ pub values_len : (by_code : ByCode) → length (values by_code) ≡ len by_code
 values_len by_code = length-map (entries by_code) (λ e. e.1) ∙ sym (len-entries by_code)
 
 -- a write behind the items so far
-pub set_next : {A : Type 0} (items old now : List A) (n : ℕ) (x : A) → n ≡ length items → n < length old → now ≡ items ++ drop n old → set now n x ≡ (items ++ x ∷ []) ++ drop (n + 1) old
+pub set_next :
+    {A : Type 0} (items old now : List A) (n : ℕ) (x : A) → n ≡ length items → n < length old →
+    now ≡ items ++ drop n old → set now n x ≡ (items ++ x ∷ []) ++ drop (n + 1) old
 set_next items old now n x counted within is =
     let split : now ≡ items ++ get_or old n x ∷ drop (suc n) old = is ∙ ap (λ rest. items ++ rest) (drop-cons old n x within) in
     let moved : set now n x ≡ set (items ++ get_or old n x ∷ drop (suc n) old) (length items) x = cc in
@@ -28,7 +30,9 @@ set_next items old now n x counted within is =
     moved ∙ set-append_seam items (get_or old n x) (drop (suc n) old) x ∙ sym apart
 
 -- one declaration more
-pub laid_next : (first : ℕ) (ds : List Declaration) (d : Declaration) → laid_from first (ds ++ d ∷ []) ≡ laid_from first ds ++ abbreviation_of (first + attributes_count ds) d ∷ []
+pub laid_next :
+    (first : ℕ) (ds : List Declaration) (d : Declaration) →
+    laid_from first (ds ++ d ∷ []) ≡ laid_from first ds ++ abbreviation_of (first + attributes_count ds) d ∷ []
 laid_next first [] d =
     let none : first ≡ first + 0 = omega arith in
     ap (λ (n : ℕ). abbreviation_of n d ∷ []) none
@@ -41,27 +45,40 @@ length-laid_from first [] = refl
 length-laid_from first (d ∷ ds) = ap suc (length-laid_from (first + length d.attributes) ds)
 
 -- where a declaration is left, fewer are done than the table has
-pub less_done : (by_code : ByCode) (done left rest : List Declaration) (d : Declaration) → done ++ left ≡ values by_code → left ≡ d ∷ rest → length done < len by_code
+pub less_done :
+    (by_code : ByCode) (done left rest : List Declaration) (d : Declaration) → done ++ left ≡ values by_code →
+    left ≡ d ∷ rest → length done < len by_code
 less_done by_code done left rest d split next =
     let all : length (done ++ d ∷ rest) ≡ len by_code = ap (λ l. length (done ++ l)) (sym next) ∙ ap length split ∙ values_len by_code in
     omega (arith, all, length-append done (d ∷ rest))
 
 -- so there is a place for it
-pub index_fits : (by_code : ByCode) (done left rest : List Declaration) (d : Declaration) (index now old : ℕ) → done ++ left ≡ values by_code → left ≡ d ∷ rest → index ≡ length done → len by_code ≤ old → now ≡ old → index < now
+pub index_fits :
+    (by_code : ByCode) (done left rest : List Declaration) (d : Declaration) (index now old : ℕ) →
+    done ++ left ≡ values by_code → left ≡ d ∷ rest → index ≡ length done → len by_code ≤ old → now ≡ old →
+    index < now
 index_fits by_code done left rest d index now old split next indexed room same = omega (arith, less_done by_code done left rest d split next)
 
 -- its attributes are counted
-pub count_next : (done : List Declaration) (d : Declaration) (first n : ℕ) → first ≡ attributes_count done → n ≡ length d.attributes → first + n ≡ attributes_count (done ++ d ∷ [])
+pub count_next :
+    (done : List Declaration) (d : Declaration) (first n : ℕ) → first ≡ attributes_count done →
+    n ≡ length d.attributes → first + n ≡ attributes_count (done ++ d ∷ [])
 count_next done d first n counted is =
     let parts : attributes_count (done ++ d ∷ []) ≡ attributes_count done + (length d.attributes + attributes_count []) = rw (sum_by-append, sum_by-cons) in
     omega (arith, parts)
 
 -- a declaration is done
-pub split_next : (done left rest all : List Declaration) (d : Declaration) → done ++ left ≡ all → left ≡ d ∷ rest → (done ++ d ∷ []) ++ rest ≡ all
+pub split_next :
+    (done left rest all : List Declaration) (d : Declaration) → done ++ left ≡ all → left ≡ d ∷ rest →
+    (done ++ d ∷ []) ++ rest ≡ all
 split_next done left rest all d split next = append_assoc done (d ∷ []) rest ∙ ap (λ l. done ++ l) (sym next) ∙ split
 
 -- the abbreviation of a declaration is written behind those so far
-pub abbreviation_next : (done : List Declaration) (d : Declaration) (old now : List DwarfAbbreviation) (index first : ℕ) → index ≡ length done → first ≡ attributes_count done → index < length old → now ≡ laid_from 0 done ++ drop index old → set now index (abbreviation_of first d) ≡ laid_from 0 (done ++ d ∷ []) ++ drop (index + 1) old
+pub abbreviation_next :
+    (done : List Declaration) (d : Declaration) (old now : List DwarfAbbreviation) (index first : ℕ) →
+    index ≡ length done → first ≡ attributes_count done → index < length old →
+    now ≡ laid_from 0 done ++ drop index old →
+    set now index (abbreviation_of first d) ≡ laid_from 0 (done ++ d ∷ []) ++ drop (index + 1) old
 abbreviation_next done d old now index first indexed counted within is =
     let placed = set_next (laid_from 0 done) old now index (abbreviation_of first d) (indexed ∙ sym (length-laid_from 0 done)) within is in
     let begins : first ≡ 0 + attributes_count done = omega (arith, counted) in
@@ -69,7 +86,11 @@ abbreviation_next done d old now index first indexed counted within is =
     placed ∙ ap (λ l. l ++ drop (index + 1) old) (sym laid)
 
 -- an attribute is written behind those so far
-pub attribute_next : (attributes : List Specification) (old now : List DwarfAttribute) (i : ℕ) (s : Specification) (x : DwarfAttribute) → i < length attributes → length attributes ≡ length old → s ≡ get_or attributes i s → x ≡ attribute_of s → now ≡ map attribute_of (take i attributes) ++ drop i old → set now i x ≡ map attribute_of (take (i + 1) attributes) ++ drop (i + 1) old
+pub attribute_next :
+    (attributes : List Specification) (old now : List DwarfAttribute) (i : ℕ) (s : Specification) (x : DwarfAttribute) →
+    i < length attributes → length attributes ≡ length old → s ≡ get_or attributes i s → x ≡ attribute_of s →
+    now ≡ map attribute_of (take i attributes) ++ drop i old →
+    set now i x ≡ map attribute_of (take (i + 1) attributes) ++ drop (i + 1) old
 attribute_next attributes old now i s x within same here written is =
     let le : i ≤ length attributes = omega arith in
     let counted : i ≡ length (map attribute_of (take i attributes)) = sym (length-map (take i attributes) attribute_of ∙ length-take-le i attributes le) in

@@ -1,5 +1,5 @@
 -- How C is told of an error: by its number, and the position or the value that it carries.
-use Rattle.std.specs.Prelude.{◌≡◌, ◌==◌, ◌^◌, ℕ, List, [], ◌∷◌, Option, Some, None, nat_lt, option_and_then, if◌then◌else◌}
+use Rattle.std.specs.Prelude.{◌≡◌, ◌==◌, ◌^◌, ◌≤◌, ℕ, List, [], ◌∷◌, Option, Some, None, nat_lt, option_and_then, if◌then◌else◌}
 use Rattle.std.specs.Map.{lookup}
 use Rattle.dwarf_read_core.specs.declared.Error.{Error}
 use Rattle.dwarf_read_core.specs.declared.Error.TheVariants.{UnexpectedEof, BadUnsignedLeb128, BadSignedLeb128, AbbreviationTagZero, InvalidAbbreviationChildren, AttributeNameZero, AttributeFormZero, DuplicateAbbreviationCode, UnknownReservedLength, UnsupportedOffset, UnknownVersion, UnsupportedAddressSize, UnsupportedSegmentSize, UnsupportedOffsetSize, BadUtf8, AddressOverflow, UnsupportedRegister, OutOfMemory, UnterminatedAbbreviations}
@@ -45,10 +45,15 @@ value_of _ = 0
 abbrev pub fault_of : Error → DwarfFault
 fault_of error = record { kind = kind_of error; value = value_of error }
 
+-- the error has a number of its own
+abbrev pub IsKnown : Error → Type 0
+IsKnown error = kind_of error ≤ 19
+
 -- a call is refused with an error of which this holds: the status is its number, and the fault tells of it
 pub record Refuses (Is : Error → Type 0) (status : ℕ) (fault : DwarfFault) : Type 0 where
   pub error : Error
   pub is : Is error
+  pub known : IsKnown error
   pub numbered : status ≡ kind_of error
   pub told : fault ≡ fault_of error
 

@@ -8,7 +8,10 @@ section_of bytes is_big = record { bytes = bytes; position = 0; is_big = is_big 
 
 -- so many bytes from an offset on
 abbrev pub part_of : Input → ℕ → ℕ → Input
-part_of section offset len = record section { bytes = take len (drop offset section.bytes); position = section.position + offset }
+part_of section offset len = record section {
+  bytes = take len (drop offset section.bytes);
+  position = section.position + offset;
+}
 
 -- how many bytes an offset has
 abbrev pub offset_size : Bool → ℕ

@@ -14,7 +14,11 @@ bit_of false = 0
 
 -- how many declarations and attributes a table has, and how it is closed
 abbrev pub measure_of : Table → DwarfMeasure
-measure_of t = record { abbreviations = len t.by_code; attributes = attribute_count t.by_code; closed_by_null = bit_of (is_by_null t.close) }
+measure_of t = record {
+  abbreviations = len t.by_code;
+  attributes = attribute_count t.by_code;
+  closed_by_null = bit_of (is_by_null t.close);
+}
 
 -- a specification; one without a value has the value 0
 abbrev pub attribute_of : Specification → DwarfAttribute
@@ -22,7 +26,13 @@ attribute_of s = record { name = s.name; form = s.form; implicit_const = unwrap_
 
 -- a declaration whose attributes begin at this index
 abbrev pub abbreviation_of : ℕ → Declaration → DwarfAbbreviation
-abbreviation_of first d = record { code = d.code; tag = d.tag; has_children = bit_of d.children; first_attribute = first; attribute_count = length d.attributes }
+abbreviation_of first d = record {
+  code = d.code;
+  tag = d.tag;
+  has_children = bit_of d.children;
+  first_attribute = first;
+  attribute_count = length d.attributes;
+}
 
 -- declarations, the attributes of which stand one after the other from this index on
 abbrev pub laid_from : ℕ → List Declaration → List DwarfAbbreviation

@@ -26,7 +26,8 @@ pub extern "C" fn dwarf_uleb128(
     fault: &mut DwarfFault,
 ) -> u32
     ensures read { result ≡ DWARF_OK → HasNumber unsigned64 bytes.now value.new taken.new }
-    ensures refused { result ≢ DWARF_OK → Refuses (LacksNumber unsigned64 bytes.now) result fault.new }
+    ensures refused { result ≢ DWARF_OK
+        → Refuses (LacksNumber unsigned64 bytes.now) result fault.new }
     ensures no_value { result ≢ DWARF_OK → (value.new ≡ value.old) × (taken.new ≡ taken.old) }
     ensures no_fault { result ≡ DWARF_OK → fault.new ≡ fault.old }
 {
@@ -57,7 +58,8 @@ pub extern "C" fn dwarf_sleb128(
     fault: &mut DwarfFault,
 ) -> u32
     ensures read { result ≡ DWARF_OK → HasNumber signed64 bytes.now value.new taken.new }
-    ensures refused { result ≢ DWARF_OK → Refuses (LacksNumber signed64 bytes.now) result fault.new }
+    ensures refused { result ≢ DWARF_OK
+        → Refuses (LacksNumber signed64 bytes.now) result fault.new }
     ensures no_value { result ≢ DWARF_OK → (value.new ≡ value.old) × (taken.new ≡ taken.old) }
     ensures no_fault { result ≡ DWARF_OK → fault.new ≡ fault.old }
 {

@@ -22,6 +22,7 @@ use dwarf_read_core::{
 /// 1 (`UnexpectedEof`) at 0 if `offset` is past the end, and at `offset` if no zero byte ends the
 /// string.
 #[unsafe(no_mangle)]
+#[tactic(auto, using(crate::proofs::KnownErrors::known_string))]
 pub extern "C" fn dwarf_string(
     section: &[u8],
     offset: usize,
@@ -56,6 +57,7 @@ pub extern "C" fn dwarf_string(
 /// - 1 at `base` if the entry begins past the end;
 /// - 1 at the entry if it ends past the end.
 #[unsafe(no_mangle)]
+#[tactic(auto, using(crate::proofs::KnownErrors::known_word))]
 pub extern "C" fn dwarf_str_offset(
     section: &[u8],
     is_big: bool,
@@ -65,9 +67,11 @@ pub extern "C" fn dwarf_str_offset(
     offset: &mut usize,
     fault: &mut DwarfFault,
 ) -> u32
-    ensures found { let s = section_of section.now is_big in let place = slot base index (offset_size is_64) in
+    ensures found { let s = section_of section.now is_big in
+        let place = slot base index (offset_size is_64) in
         result ≡ DWARF_OK → WordAt (2 ^ 64 - 1) s place (Ok offset.new) }
-    ensures refused { let s = section_of section.now is_big in let place = slot base index (offset_size is_64) in
+    ensures refused { let s = section_of section.now is_big in
+        let place = slot base index (offset_size is_64) in
         result ≢ DWARF_OK → Refuses (λ e. WordAt (2 ^ 64 - 1) s place (Err e)) result fault.new }
     ensures no_offset { result ≢ DWARF_OK → offset.new ≡ offset.old }
     ensures no_fault { result ≡ DWARF_OK → fault.new ≡ fault.old }
@@ -101,6 +105,7 @@ pub extern "C" fn dwarf_str_offset(
 /// - 12 (`UnsupportedAddressSize`) if `size` isn't 1, 2, 4 or 8;
 /// - 1 at the address if it ends past the end.
 #[unsafe(no_mangle)]
+#[tactic(auto, using(crate::proofs::KnownErrors::known_address))]
 pub extern "C" fn dwarf_address(
     section: &[u8],
     is_big: bool,

@@ -49,6 +49,7 @@ pub struct DwarfSet {
 /// - 12 (`UnsupportedAddressSize`) for another size than 1, 2, 4 or 8;
 /// - 13 (`UnsupportedSegmentSize`) for another size than 0.
 #[unsafe(no_mangle)]
+#[tactic(auto, using(crate::proofs::KnownErrors::known_set))]
 pub extern "C" fn dwarf_address_set(
     section: &[u8],
     is_big: bool,
@@ -58,7 +59,7 @@ pub extern "C" fn dwarf_address_set(
 ) -> u32
     ensures found { let section = section_of section.now is_big in result ≡ DWARF_OK
         → (s : Set ℕ) × HasSet section offset set.new.next s × (set.new ≡ shown s set.new.next) }
-    ensures end { result ≡ DWARF_END → offset ≡ length section.now }
+    ensures end { result ≡ DWARF_END → (offset ≡ length section.now) × (fault.new ≡ fault.old) }
     ensures refused { result ≢ DWARF_OK → result ≢ DWARF_END
         → Refuses (LacksSet (section_of section.now is_big) offset) result fault.new }
     ensures no_set { result ≢ DWARF_OK → set.new ≡ set.old }

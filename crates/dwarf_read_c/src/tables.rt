@@ -70,6 +70,7 @@ pub struct DwarfAttribute {
 ///
 /// 18 (`OutOfMemory`) if memory for the table runs out.
 #[unsafe(no_mangle)]
+#[tactic(auto, using(crate::proofs::KnownErrors::known_table))]
 pub extern "C" fn dwarf_table_measure(
     mem: Global,
     section: &[u8],
@@ -104,6 +105,7 @@ pub extern "C" fn dwarf_table_measure(
 ///
 /// Those of [`dwarf_table_measure`].
 #[unsafe(no_mangle)]
+#[tactic(auto, using(crate::proofs::KnownErrors::known_table))]
 pub extern "C" fn dwarf_table_read(
     mem: Global,
     section: &[u8],
@@ -119,7 +121,8 @@ pub extern "C" fn dwarf_table_read(
         × Fills (attributes_of t) attributes.old attributes.new }
     ensures full { let s = section_of section.now false in result ≡ DWARF_NO_ROOM
         → (t : Table) × Answer s offset (Ok t) × (measure.new ≡ measure_of t)
-        × LacksRoom measure.new (length abbreviations.old) (length attributes.old) }
+        × LacksRoom measure.new (length abbreviations.old) (length attributes.old)
+        × (fault.new ≡ fault.old) }
     ensures refused { let s = section_of section.now false in
         result ≢ DWARF_OK → result ≢ DWARF_NO_ROOM
         → Refuses (λ e. Answers (Err e) s offset) result fault.new × (measure.new ≡ measure.old) }
