@@ -1,7 +1,5 @@
 //! Whole runs: what the words and the bytes of an input write, and what is said of a fault.
 
-ghost use Rattle.std.specs.Prelude.{◌≤◌};
-
 use super::run;
 use crate::fault::Fault;
 use dwarf_read_core::Error;
