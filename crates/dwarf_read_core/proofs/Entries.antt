@@ -13,7 +13,7 @@ use Rattle.dwarf_reader_core.specs.Once.{HasOne}
 use Rattle.dwarf_read_core.specs.Entries.{Entries, StandsForAddresses, StandsForEntries, StandsForStringOffsets, string_offset}
 use Rattle.dwarf_read_core.specs.Items.{ComesFirst, least_taken}
 use Rattle.dwarf_read_core.specs.Layout.{Layout, AreItems, none, more}
-use Rattle.dwarf_read_core.proofs.Layouts.{IsDefinite, TakesLeast, sized_definite, sized_least, fixed_size, pure_definite, check_definite, then_definite, pure_covers, check_least, then_covers}
+use Rattle.dwarf_read_core.proofs.Layouts.{IsDefinite, TakesLeast, sized_definite, sized_least, fixed_size, pure_definite, check_definite, then_definite, pure_covers, check_least, then_covers, IsStable, sized_stable, pure_stable, check_stable, then_stable}
 use Rattle.dwarf_read_core.proofs.ItemLists.{items-one, items-bounded, items-anywhere, fault-first}
 
 module _ {f : Layout ℕ} {width : ℕ} (law : IsDefinite f) (least : TakesLeast width f) (positive : 1 ≤ width) {old new : Input} (some : old.bytes ≢ []) where
@@ -58,9 +58,13 @@ module _ (width : ℕ) (old new : Input) (sized : IsTrue (is_number_size width))
 -- ---- offsets of strings
 
 module _ (greatest : ℕ) where
-  string_offset-definite : (width : ℕ) → IsDefinite (string_offset greatest width)
+  pub string_offset-definite : (width : ℕ) → IsDefinite (string_offset greatest width)
   unfolding string_offset
   string_offset-definite width = then_definite (sized_definite (fixed_size width)) (λ number. then_definite (check_definite _ _) (λ fits. pure_definite number))
+
+  pub string_offset-stable : (width : ℕ) → IsStable (string_offset greatest width)
+  unfolding string_offset
+  string_offset-stable width = then_stable (sized_stable (fixed_size width)) (λ number. then_stable (check_stable _ _) (λ fits. pure_stable number))
 
   string_offset-least : (width : ℕ) → TakesLeast width (string_offset greatest width)
   unfolding string_offset

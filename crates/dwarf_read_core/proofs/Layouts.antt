@@ -8,7 +8,7 @@ use Rattle.dwarf_reader_core.specs.Faults.{eof, end_fault}
 use Rattle.dwarf_reader_core.specs.Input.{Input, after, first as first_of_input, Takes}
 use Rattle.dwarf_reader_core.specs.Once.{HasOne}
 use Rattle.dwarf_read_core.specs.Answer.{followed_by}
-use Rattle.dwarf_read_core.specs.Layout.{Layout, fixed, byte, part, pure, refuse, when◌then◌else◌, check, ◌>>=◌, inside}
+use Rattle.dwarf_read_core.specs.Layout.{Layout, fixed, byte, part, pure, refuse, when◌then◌else◌, check, ◌>>=◌, inside, At, value, refused}
 
 -- what reading comes to: a value and what is left behind it, or a fault
 abbrev pub Comes : {A : Type 0} → Layout A → Input → Result (A × Input) Error → Type 0
@@ -223,7 +223,7 @@ module _ {A B : Type 0} {p : Layout A} {f : A → Layout B} (first : IsDefinite 
 -- ---- the front of the bytes
 
 -- what is left after m bytes, and then after n, is left after both
-after-after : (m n : ℕ) (old : Input) → after m (after n old) ≡ after (n + m) old
+pub after-after : (m n : ℕ) (old : Input) → after m (after n old) ≡ after (n + m) old
 after-after m n old = λ i. record { bytes = bytes i; position = place i; is_big = old.is_big }
   where
     bytes : drop m (drop n old.bytes) ≡ drop (n + m) old.bytes
@@ -318,3 +318,32 @@ then_stable {A} {B} {p} {f} first second = record {
     faulty : (more : List ℕ) (old : Input) (e : Error) → ((position : ℕ) → e ≢ eof position) → (p >>= f).Fails old e → (p >>= f).Fails (followed_by old more) e
     faulty more old e settled (inl h) = inl (first.fault_stays more old e settled h)
     faulty more old e settled (inr h) = inr (h.0, followed_by h.1 more, first.stays more old h.0 h.1 h.2, (second h.0).fault_stays more h.1 e settled h.3)
+
+-- ---- what stands at the front of a section
+
+-- a section has exactly one answer
+pub at_one : {A : Type 0} {f : Layout A} (section : Input) → IsDefinite f → HasOne (At f section)
+at_one {A} {f} section law = go (law.one section)
+  where
+    go : HasOne (Comes f section) → HasOne (At f section)
+    go (Ok (x, new), is, only) = (Ok x, value new is, other)
+      where
+        other : (r : Result A Error) → At f section r → r ≡ Ok x
+        other r (value {x = y} behind h) =
+            let c : ◌≡◌ {A = Result (A × Input) Error} (Ok (y, behind)) (Ok (x, new)) = only (Ok (y, behind)) h in
+            let p : ◌≡◌ {A = A × Input} (y, behind) (x, new) = cc in
+            λ i. Ok ((p i).0)
+        other r (refused {e = d} h) = absurd (let c = only (Err d) h in cc)
+    go (Err e, is, only) = (Err e, refused is, other)
+      where
+        other : (r : Result A Error) → At f section r → r ≡ Err e
+        other r (value {x = y} behind h) = absurd (let c = only (Ok (y, behind)) h in cc)
+        other r (refused {e = d} h) =
+            let c : ◌≡◌ {A = Result (A × Input) Error} (Err d) (Err e) = only (Err d) h in
+            let p : d ≡ e = cc in
+            λ i. Err (p i)
+
+-- more bytes change no answer, but that bytes are missing
+pub at_more : {A : Type 0} {f : Layout A} {section : Input} {answer : Result A Error} → IsStable f → (more : List ℕ) → At f section answer → ((position : ℕ) → answer ≢ Err (eof position)) → At f (followed_by section more) answer
+at_more {section = section} law more (value {x = x} behind h) settled = value (followed_by behind more) (law.stays more section x behind h)
+at_more {section = section} law more (refused {e = e} h) settled = refused (law.fault_stays more section e (λ p q. settled p (λ i. Err (q i))) h)

@@ -56,3 +56,8 @@ pub data AreItems {A : Type 0} (item : ℕ → Layout A) : ℕ → Input → Lis
   none : {offset : ℕ} {old : Input} → old.bytes ≡ [] → AreItems item offset old []
   more : {offset : ℕ} {old new : Input} {x : A} {items : List (Result A Error)} → old.bytes ≢ [] → (item offset).Reads old x new → AreItems item (offset + (length old.bytes - length new.bytes)) new items → AreItems item offset old (Ok x ∷ items)
   fault : {offset : ℕ} {old : Input} {e : Error} → old.bytes ≢ [] → (item offset).Fails old e → AreItems item offset old (Err e ∷ [])
+
+-- the value at the front of an input, whatever is left behind it, or the first fault
+pub data At {A : Type 0} (f : Layout A) (section : Input) : Result A Error → Type 0 where
+  value : {x : A} (behind : Input) → f.Reads section x behind → At f section (Ok x)
+  refused : {e : Error} → f.Fails section e → At f section (Err e)
