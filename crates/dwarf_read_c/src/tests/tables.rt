@@ -117,3 +117,12 @@ fn few_places_are_left_alone(rt: HostRuntime) {
         "places",
     );
 }
+
+// Meant for runs in which a request for memory is refused; the other tests ask for ample memory.
+#[test]
+fn refused_memory(rt: HostRuntime) {
+    let (mut m, mut fault) = (NOTHING, SEVEN);
+    let status = dwarf_table_measure(rt.alloc(), TABLE, 0, &mut m, &mut fault);
+    let wanted = if status == 0 { (2, 7) } else { (7, 18) };
+    same(&rt, (m.abbreviations, fault.kind), wanted, status);
+}
