@@ -20,6 +20,7 @@ use Rattle.dwarf_list.specs.Listing.{SetListing, HasEntries, HasSets, ListsSecti
 pub record HasTaken (entry : ℕ → Layout ℕ) (start now : Entries) (numbers : List ℕ) : Type 0 where
   pub stands : (items : List (Result ℕ Error)) → StandsForEntries entry now items → StandsForEntries entry start (without_error numbers ++ items)
 
+-- at first nothing was taken
 none_taken : (entry : ℕ → Layout ℕ) (start : Entries) → HasTaken entry start start []
 none_taken entry start = record { stands = λ items h. h }
 
@@ -28,11 +29,13 @@ one_behind : (numbers : List ℕ) (n : ℕ) (items : List (Result ℕ Error)) �
 one_behind [] n items = refl
 one_behind (m ∷ numbers) n items = ap (λ (x : List (Result ℕ Error)). Ok m ∷ x) (one_behind numbers n items)
 
+-- the entry that comes first is taken
 one_taken : (entry : ℕ → Layout ℕ) (start now next : Entries) (numbers : List ℕ) (n : ℕ) → HasTaken entry start now numbers → ComesFirst (StandsForEntries entry) now (Ok n) next → HasTaken entry start next (numbers ++ n ∷ [])
 one_taken entry start now next numbers n taken first = record {
   stands = λ items h. subst (StandsForEntries entry start) (sym (one_behind numbers n items)) (taken.stands (Ok n ∷ items) (first.1 items h));
 }
 
+-- nothing stands behind all numbers
 behind_none : (numbers : List ℕ) → without_error numbers ++ [] ≡ without_error numbers
 behind_none [] = refl
 behind_none (n ∷ numbers) = ap (λ (x : List (Result ℕ Error)). Ok n ∷ x) (behind_none numbers)
@@ -47,10 +50,12 @@ pub record AreListed (entry : ℕ → Layout ℕ) (entry_line : ℕ → List ℕ
   pub taken : HasTaken entry start now numbers
   pub lines : text ≡ before ++ flat_map entry_line numbers
 
+-- at first there is no line
 pub none_listed : (entry : ℕ → Layout ℕ) (entry_line : ℕ → List ℕ) (start : Entries) (text : List ℕ) → AreListed entry entry_line start start text text
 none_listed entry entry_line start text = record { numbers = []; taken = none_taken entry start; lines = sym (append-nil text) }
 
 module _ {entry : ℕ → Layout ℕ} {entry_line : ℕ → List ℕ} {start now : Entries} {before text : List ℕ} (listed : AreListed entry entry_line start now before text) where
+  -- an entry has its line
   pub one_listed : (next : Entries) (more : List ℕ) (n : ℕ) → ComesFirst (StandsForEntries entry) now (Ok n) next → more ≡ text ++ entry_line n → AreListed entry entry_line start next before more
   one_listed next more n first line = record {
     numbers = listed.numbers ++ n ∷ [];
@@ -58,6 +63,7 @@ module _ {entry : ℕ → Layout ℕ} {entry_line : ℕ → List ℕ} {start now
     lines = line ∙ ap (λ t. t ++ entry_line n) listed.lines ∙ append_assoc before (flat_map entry_line listed.numbers) (entry_line n) ∙ ap (λ l. before ++ l) (sym (one_line_more entry_line listed.numbers n));
   }
 
+  -- in the end all entries have their lines
   pub all_listed : StandsForEntries entry now [] → (numbers : List ℕ) × StandsForEntries entry start (without_error numbers) × (text ≡ before ++ flat_map entry_line numbers)
   all_listed h = (listed.numbers, subst (StandsForEntries entry start) (behind_none listed.numbers) (listed.taken.stands [] h), listed.lines)
 
@@ -65,6 +71,7 @@ module _ {entry : ℕ → Layout ℕ} {entry_line : ℕ → List ℕ} {start now
 last_entry : {item : ℕ → Layout ℕ} {offset : ℕ} {rest : _} {e : Error} {others : List (Result ℕ Error)} → AreItems item offset rest (Err e ∷ others) → AreItems item offset rest (Err e ∷ [])
 last_entry (fault some h) = fault some h
 
+-- an error of the entries comes behind those that were taken
 pub entries_fail : {entry : ℕ → Layout ℕ} {entry_line : ℕ → List ℕ} {start now : Entries} {before text : List ℕ} → AreListed entry entry_line start now before text → (next : Entries) (e : Error) → GivesFirst (StandsForEntries entry) (λ (n : ℕ). n) true now (Some (Err e)) next → e ≢ OutOfMemory
     → (numbers : List ℕ) × StandsForEntries entry start (without_error numbers ++ Err e ∷ [])
 entries_fail listed next e (inl first) memory = (listed.numbers, listed.taken.stands (Err e ∷ []) (last_entry (first.1 first.0.0 first.0.1)))
@@ -87,6 +94,7 @@ after_text before (Err e) = Err e
 pub record AreSetsListed {H : Type 0} (listing : SetListing H) (start now : Headers) (text : List ℕ) : Type 0 where
   pub completes : (items : List (Result (Set H) Error)) (answer : Result (List ℕ) Error) → HasSets listing now items → ListsSets listing items answer → ListsSection listing start (after_text text answer)
 
+-- at first no set is listed
 pub no_sets_listed : {H : Type 0} (listing : SetListing H) (start : Headers) → AreSetsListed listing start start []
 no_sets_listed listing start = record { completes = λ items answer h l. (items, h, subst (ListsSets listing items) (sym (nothing_before answer)) l) }
   where
@@ -95,6 +103,7 @@ no_sets_listed listing start = record { completes = λ items answer h l. (items,
     nothing_before (Err e) = refl
 
 module _ {H : Type 0} {listing : SetListing H} {start now : Headers} {text : List ℕ} (listed : AreSetsListed listing start now text) where
+  -- a set whose entries have their lines is listed
   pub one_set_listed : (next : Headers) (more : List ℕ) (s : Set H) → ComesFirst (HasSets listing) now (Ok s) next
       → ((numbers : List ℕ) × HasEntries listing s (without_error numbers) × (more ≡ text ++ set_lines listing s numbers)) → AreSetsListed listing start next more
   one_set_listed next more s first lines = record { completes = go }
@@ -105,6 +114,7 @@ module _ {H : Type 0} {listing : SetListing H} {start now : Headers} {text : Lis
           subst (λ (t : List ℕ). ListsSection listing start (Ok t)) whole (listed.completes (Ok s ∷ items) (Ok (set_lines listing s lines.0 ++ behind)) (first.1 items h) (set s items lines.0 behind lines.1 l))
       go items (Err e) h l = listed.completes (Ok s ∷ items) (Err e) (first.1 items h) (later s items lines.0 e lines.1 l)
 
+  -- in the end all sets are listed
   pub all_sets_listed : HasSets listing now [] → ListsSection listing start (Ok text)
   all_sets_listed h = subst (λ (t : List ℕ). ListsSection listing start (Ok t)) (append-nil text) (listed.completes [] (Ok []) h nothing)
 

@@ -17,6 +17,7 @@ use Rattle.dwarf_list.specs.Listing.{SetListing, address_listing, offset_listing
 abbrev Items : Type 0
 Items = List (Result ℕ Error)
 
+-- items that are the same are the same numbers
 same_numbers : (a b : List ℕ) → without_error a ≡ without_error b → a ≡ b
 same_numbers [] [] e = refl
 same_numbers [] (y ∷ b) e = absurd cc
@@ -26,12 +27,14 @@ same_numbers (x ∷ a) (y ∷ b) e =
     let tails : without_error a ≡ without_error b = cc in
     rw (heads, same_numbers a b tails) refl
 
+-- numbers end in no error
 no_error : (a b : List ℕ) (e : Error) → without_error a ++ Err e ∷ [] ≡ without_error b → ⊥
 no_error [] [] e q = cc
 no_error [] (y ∷ b) e q = cc
 no_error (x ∷ a) [] e q = cc
 no_error (x ∷ a) (y ∷ b) e q = no_error a b e (let tails : without_error a ++ Err e ∷ [] ≡ without_error b = cc in tails)
 
+-- items that are the same end in the same error
 same_error : (a b : List ℕ) (d e : Error) → without_error a ++ Err d ∷ [] ≡ without_error b ++ Err e ∷ [] → d ≡ e
 same_error [] [] d e q = cc
 same_error [] (y ∷ b) d e q = absurd cc
@@ -42,10 +45,12 @@ same_error (x ∷ a) (y ∷ b) d e q = same_error a b d e (let tails : without_e
 abbrev Split : Items → Type 0
 Split items = ((numbers : List ℕ) × (items ≡ without_error numbers)) ⊎ ((numbers : List ℕ) × (e : Error) × (items ≡ without_error numbers ++ Err e ∷ []))
 
+-- a number stands before entries of either form
 longer : (n : ℕ) (items : Items) → Split items → Split (Ok n ∷ items)
 longer n items (inl h) = inl (n ∷ h.0, ap (λ (xs : Items). Ok n ∷ xs) h.1)
 longer n items (inr h) = inr (n ∷ h.0, h.1, ap (λ (xs : Items). Ok n ∷ xs) h.2)
 
+-- all items have one of the forms
 split : {item : ℕ → Layout ℕ} {offset : ℕ} {old : Input} {items : Items} → AreItems item offset old items → Split items
 split (none empty) = inl ([], refl)
 split (more {x = x} {items = items} some h others) = longer x items (split others)
@@ -59,6 +64,7 @@ pub record HasOneList {H : Type 0} (listing : SetListing H) : Type 0 where
   pub one : (greatest offset : ℕ) (old new : Input) (s : Set H) → (set listing.header greatest offset).Reads old s new → HasOne (HasEntries listing s)
 
 module _ {H : Type 0} {listing : SetListing H} (law : HasOneList listing) (greatest : ℕ) where
+  -- sets list one text at most, or one fault
   one_text : {offset : ℕ} {old : Input} {items : List (Result (Set H) Error)} → AreItems (set listing.header greatest) offset old items → (one other : Text) → ListsSets listing items one → ListsSets listing items other → other ≡ one
   one_text (none empty) one other nothing nothing = refl
   one_text (fault some h) one other (bad_header _ _) (bad_header _ _) = refl
@@ -84,11 +90,13 @@ module _ {H : Type 0} {listing : SetListing H} (law : HasOneList listing) (great
       both again one other (later _ _ m d i l) (listed.ListsSets.set _ _ n y j k) = absurd (let behind : ◌≡◌ {A = Text} (Ok y) (Err d) = again (Err d) (Ok y) l k in cc)
       both again one other (later _ _ m d i l) (later _ _ n e j k) = again (Err d) (Err e) l k
 
+  -- the text of a set and of those behind it
   behind : (s : Set H) (items : List (Result (Set H) Error)) (list : Items) → HasEntries listing s list → Split list → ((one : Text) × ListsSets listing items one) → (one : Text) × ListsSets listing (Ok s ∷ items) one
   behind s items list is (inl h) (Ok text, l) = (Ok (set_lines listing s h.0 ++ text), listed.ListsSets.set s items h.0 text (rw h.1 at is) l)
   behind s items list is (inl h) (Err e, l) = (Err e, later s items h.0 e (rw h.1 at is) l)
   behind s items list is (inr h) l = (Err h.1, bad_entry s items h.0 h.1 (rw h.2 at is))
 
+  -- sets list a text, or a fault
   some_text : {offset : ℕ} {old : Input} {items : List (Result (Set H) Error)} → AreItems (set listing.header greatest) offset old items → (one : Text) × ListsSets listing items one
   some_text (none empty) = (Ok [], nothing)
   some_text (fault {e = e} some h) = (Err e, bad_header e [])
@@ -127,6 +135,7 @@ address_size greatest offset old new s (initial, i, p, (fits, j, q, (unit, k, r,
     let same : s.header ≡ size = ap (λ (x : Set ℕ). x.header) all.0 ∙ is.0 in
     rw same (positive size (checked (is_number_size size) _ c d w))
 
+-- the addresses of each set are one list
 pub addresses_one_list : ((e : Entries) → 0 < e.width → HasOne (StandsForEntries fixed e)) → HasOneList address_listing
 addresses_one_list entries = record { one = λ greatest offset old new s h. entries (addresses_of s) (address_size greatest offset old new s h) }
 
@@ -137,5 +146,6 @@ word_positive : (format : Format) → 0 < word_size format
 word_positive Dwarf32 = omega arith
 word_positive Dwarf64 = omega arith
 
+-- the string offsets of each set are one list
 pub offsets_one_list : ((e : Entries) → 0 < e.width → HasOne (StandsForStringOffsets (2 ^ 64 - 1) e)) → HasOneList offset_listing
 offsets_one_list entries = record { one = λ greatest offset old new s h. entries (string_offsets_of s) (word_positive s.format) }

@@ -58,14 +58,17 @@ module _ (width : ℕ) (old new : Input) (sized : IsTrue (is_number_size width))
 -- ---- offsets of strings
 
 module _ (greatest : ℕ) where
+  -- an offset has exactly one outcome
   pub string_offset-definite : (width : ℕ) → IsDefinite (string_offset greatest width)
   unfolding string_offset
   string_offset-definite width = then_definite (sized_definite (fixed_size width)) (λ number. then_definite (check_definite _ _) (λ fits. pure_definite number))
 
+  -- more bytes don't change it
   pub string_offset-stable : (width : ℕ) → IsStable (string_offset greatest width)
   unfolding string_offset
   string_offset-stable width = then_stable (sized_stable (fixed_size width)) (λ number. then_stable (check_stable _ _) (λ fits. pure_stable number))
 
+  -- it takes its width
   string_offset-least : (width : ℕ) → TakesLeast width (string_offset greatest width)
   unfolding string_offset
   string_offset-least width = then_covers (sized_least (fixed_size width)) (λ number. then_covers (check_least _ _) (λ fits. pure_covers (omega arith)))

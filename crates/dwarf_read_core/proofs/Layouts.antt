@@ -112,6 +112,7 @@ module _ {A : Type 0} {n : ℕ} {f : Layout A} (size : HasSize n f) where
   sized_read old enough (Ok x) h = let k = size.only old x.1 x.0 h in same_read k.1 k.2
   sized_read old enough (Err e) h = absurd (let k = size.fault old e h in omega (arith, k.0, enough))
 
+  -- so it has exactly one outcome
   pub sized_definite : IsDefinite f
   sized_definite = record {
     one = λ old. elim (cases_lt (length old.bytes) n) [
@@ -120,12 +121,15 @@ module _ {A : Type 0} {n : ℕ} {f : Layout A} (size : HasSize n f) where
     ];
   }
 
+  -- what it reads is the front
   pub sized_front : IsFront f
   sized_front = record { takes = λ old x new r. let k = size.only old new x r in (n, record { enough = k.0; left = k.2 }) }
 
+  -- it takes its size
   pub sized_least : TakesLeast n f
   sized_least = record { all = λ old x new r. let k = size.only old new x r in omega (arith, same_length k.2, length-drop n old.bytes, k.0) }
 
+  -- more bytes change no value
   pub sized_stable : IsStable f
   sized_stable = record {
     stays = λ more old x new r.
@@ -159,10 +163,12 @@ refuse_definite {A} e = record { one = λ old. (Err e, refl, only old) }
     only old (Ok x) h = absurd h
     only old (Err d) h = same_fault h
 
+-- whichever of two layouts a test chooses has one outcome where both have
 pub when_definite : {A : Type 0} {f g : Layout A} (b : Bool) → IsDefinite f → IsDefinite g → IsDefinite (when b then f else g)
 when_definite true f g = f
 when_definite false f g = g
 
+-- a check has one outcome
 pub check_definite : (b : Bool) (e : Error) → IsDefinite (check b e)
 check_definite b e = when_definite b (pure_definite tt) (refuse_definite e)
 
@@ -207,10 +213,12 @@ module _ {A B : Type 0} {p : Layout A} {f : A → Layout B} (first : IsDefinite 
       let s : ◌≡◌ {A = A × Input} (h.0, h.1) (x, mid) = cc in
       subst (λ (z : A × Input). (f z.0).Fails z.1 d) s h.3
 
+  -- what the second comes to, behind the value of the first, is what both come to
   then-whole : (old : Input) (x : A) (mid : Input) → p.Reads old x mid → (r : Result (B × Input) Error) → Comes (f x) mid r → Comes both old r
   then-whole old x mid is (Ok y) h = (x, mid, is, h)
   then-whole old x mid is (Err d) h = inr (x, mid, is, h)
 
+  -- two layouts one behind the other have one outcome where each has
   pub then_definite : IsDefinite both
   then_definite = record { one = λ old. go old (first.one old) }
     where
@@ -236,22 +244,28 @@ after-after m n old = λ i. record { bytes = bytes i; position = place i; is_big
 nothing-taken : (old new : Input) → new ≡ old → (n : ℕ) × Takes n old new
 nothing-taken old new e = (0, record { enough = omega arith; left = e ∙ λ i. record { bytes = old.bytes; position = (let p : old.position ≡ old.position + 0 = omega arith in p) i; is_big = old.is_big } })
 
+-- what is read of a part takes no more bytes
 pub inside_front : {A : Type 0} (f : Layout A) (unit : Input) → IsFront (inside unit f)
 inside_front f unit = record { takes = λ old x new r. nothing-taken old new r.1 }
 
+-- a value takes none
 pub pure_front : {A : Type 0} (a : A) → IsFront (pure a)
 pure_front a = record { takes = λ old x new r. nothing-taken old new r.1 }
 
+-- a fault reads nothing
 pub refuse_front : {A : Type 0} (e : Error) → IsFront {A = A} (refuse e)
 refuse_front e = record { takes = λ old x new r. absurd r }
 
+-- either of two layouts reads the front
 pub when_front : {A : Type 0} {f g : Layout A} (b : Bool) → IsFront f → IsFront g → IsFront (when b then f else g)
 when_front true f g = f
 when_front false f g = g
 
+-- a check takes none
 pub check_front : (b : Bool) (e : Error) → IsFront (check b e)
 check_front b e = when_front b (pure_front tt) (refuse_front e)
 
+-- two layouts one behind the other take the bytes of both
 pub then_front : {A B : Type 0} {p : Layout A} {f : A → Layout B} → IsFront p → ((x : A) → IsFront (f x)) → IsFront (p >>= f)
 then_front first second = record {
   takes = λ old y new h.
@@ -274,19 +288,24 @@ inside_covers {unit = unit} n least rest = record {
 }
 
 module _ {A : Type 0} {credit : ℕ} {size : A → ℕ} where
+  -- no bytes cover what the credit does
   pub pure_covers : {a : A} → size a ≤ credit → Covers credit size (pure a)
   pure_covers le = record { all = λ old x new h. let p = ap size h.0 in omega (arith, p, same_length h.1, le) }
 
+  -- a fault reads nothing that has to be covered
   pub refuse_covers : {e : Error} → Covers credit size (refuse e)
   refuse_covers = record { all = λ old x new h. absurd h }
 
+  -- either of two layouts covers what it reads
   pub when_covers : {f g : Layout A} (b : Bool) → Covers credit size f → Covers credit size g → Covers credit size (when b then f else g)
   when_covers true f g = f
   when_covers false f g = g
 
+  -- what the first covers is a credit of the second
   pub then_covers : {B : Type 0} {p : Layout B} {f : B → Layout A} {front : B → ℕ} → Covers 0 front p → ((x : B) → Covers (credit + front x) size (f x)) → Covers credit size (p >>= f)
   then_covers a b = record { all = λ old y new h. omega (arith, a.all old h.0 h.1 h.2, (b h.0).all h.1 y new h.3) }
 
+-- a check takes no bytes
 pub check_least : (b : Bool) (e : Error) → TakesLeast 0 (check b e)
 check_least b e = when_covers b (pure_covers (omega arith)) refuse_covers
 
@@ -296,19 +315,24 @@ check_least b e = when_covers b (pure_covers (omega arith)) refuse_covers
 pub inside_stable : {A : Type 0} (f : Layout A) (unit : Input) → IsStable (inside unit f)
 inside_stable f unit = record { stays = λ more old x new h. (h.0, ap (λ (i : Input). followed_by i more) h.1); fault_stays = λ more old e settled h. h }
 
+-- a value without bytes stays
 pub pure_stable : {A : Type 0} (a : A) → IsStable (pure a)
 pure_stable a = record { stays = λ more old x new h. (h.0, ap (λ (i : Input). followed_by i more) h.1); fault_stays = λ more old e settled h. h }
 
+-- a fault without bytes stays
 pub refuse_stable : {A : Type 0} (e : Error) → IsStable {A = A} (refuse e)
 refuse_stable e = record { stays = λ more old x new h. h; fault_stays = λ more old e settled h. h }
 
+-- either of two layouts stays
 pub when_stable : {A : Type 0} {f g : Layout A} (b : Bool) → IsStable f → IsStable g → IsStable (when b then f else g)
 when_stable true f g = f
 when_stable false f g = g
 
+-- a check stays
 pub check_stable : (b : Bool) (e : Error) → IsStable (check b e)
 check_stable b e = when_stable b (pure_stable tt) (refuse_stable e)
 
+-- two layouts one behind the other stay where each does
 pub then_stable : {A B : Type 0} {p : Layout A} {f : A → Layout B} → IsStable p → ((x : A) → IsStable (f x)) → IsStable (p >>= f)
 then_stable {A} {B} {p} {f} first second = record {
   stays = λ more old y new h. (h.0, followed_by h.1 more, first.stays more old h.0 h.1 h.2, (second h.0).stays more h.1 y new h.3);

@@ -22,10 +22,12 @@ use Rattle.dwarf_read_core.proofs.ItemLists.{items-one, items-bounded, item-firs
 
 -- ---- the laws of an initial length
 
+-- an initial length has exactly one outcome
 initial_length-definite : IsDefinite initial_length
 unfolding initial_length
 initial_length-definite = then_definite (sized_definite (fixed_size 4)) (λ short. when_definite (nat_lt short 0xffff_fff0) (pure_definite _) (when_definite (nat_lt short 0xffff_ffff) (refuse_definite _) (then_definite (sized_definite (fixed_size 8)) (λ long. pure_definite _))))
 
+-- it is the front of the bytes
 initial_length-front : IsFront initial_length
 unfolding initial_length
 initial_length-front = then_front (sized_front (fixed_size 4)) (λ short. when_front (nat_lt short 0xffff_fff0) (pure_front _) (when_front (nat_lt short 0xffff_ffff) (refuse_front _) (then_front (sized_front (fixed_size 8)) (λ long. pure_front _))))
@@ -35,12 +37,14 @@ initial_length-least : TakesLeast 4 initial_length
 unfolding initial_length
 initial_length-least = then_covers (sized_least (fixed_size 4)) (λ short. when_covers (nat_lt short 0xffff_fff0) (pure_covers (omega arith)) (when_covers (nat_lt short 0xffff_ffff) refuse_covers (then_covers (sized_least (fixed_size 8)) (λ long. pure_covers (omega arith)))))
 
+-- more bytes don't change it
 initial_length-stable : IsStable initial_length
 unfolding initial_length
 initial_length-stable = then_stable (sized_stable (fixed_size 4)) (λ short. when_stable (nat_lt short 0xffff_fff0) (pure_stable _) (when_stable (nat_lt short 0xffff_ffff) (refuse_stable _) (then_stable (sized_stable (fixed_size 8)) (λ long. pure_stable _))))
 
 -- ---- the laws of a set
 
+-- a set has exactly one outcome where its header has
 pub set_definite : {H : Type 0} {header : Layout H} (greatest : ℕ) → IsDefinite header → (offset : ℕ) → IsDefinite (set header greatest offset)
 unfolding set
 set_definite greatest law offset = then_definite initial_length-definite (λ initial. then_definite (check_definite _ _) (λ fits. then_definite (sized_definite (part_size initial.1)) (λ unit. then_definite (inside_definite unit law) (λ said. pure_definite _))))
@@ -51,10 +55,11 @@ unfolding set
 set_front header greatest offset = then_front initial_length-front (λ initial. then_front (check_front _ _) (λ fits. then_front (sized_front (part_size initial.1)) (λ unit. then_front (inside_front header unit) (λ said. pure_front _))))
 
 -- it takes four bytes, and those of the header
-pub set_of-least : {H : Type 0} {header : Layout H} (n greatest : ℕ) → TakesLeast n header → (offset : ℕ) → TakesLeast (4 + n) (set header greatest offset)
+pub set-at_least : {H : Type 0} {header : Layout H} (n greatest : ℕ) → TakesLeast n header → (offset : ℕ) → TakesLeast (4 + n) (set header greatest offset)
 unfolding set
-set_of-least n greatest law offset = then_covers initial_length-least (λ initial. then_covers (check_least _ _) (λ fits. then_covers (part_covers initial.1) (λ unit. inside_covers n law (λ said enough. pure_covers (omega (arith, enough))))))
+set-at_least n greatest law offset = then_covers initial_length-least (λ initial. then_covers (check_least _ _) (λ fits. then_covers (part_covers initial.1) (λ unit. inside_covers n law (λ said enough. pure_covers (omega (arith, enough))))))
 
+-- more bytes don't change a set, whatever its header
 pub set_stable : {H : Type 0} (header : Layout H) (greatest offset : ℕ) → IsStable (set header greatest offset)
 unfolding set
 set_stable header greatest offset = then_stable initial_length-stable (λ initial. then_stable (check_stable _ _) (λ fits. then_stable (sized_stable (part_size initial.1)) (λ unit. then_stable (inside_stable header unit) (λ said. pure_stable _))))
@@ -108,7 +113,7 @@ sets_none header greatest headers empty = none empty
 module _ {H : Type 0} {header : Layout H} (is : IsHeader header) (greatest : ℕ) where
   -- a set takes eight bytes
   pub set_least : (offset : ℕ) → TakesLeast 8 (set header greatest offset)
-  set_least = set_of-least 4 greatest is.least
+  set_least = set-at_least 4 greatest is.least
 
   -- bytes stand for exactly one list of sets
   pub sets_one : (headers : Headers) → HasOne (StandsForSets header greatest headers)
@@ -147,6 +152,7 @@ set_fault_stays header greatest old {e} some h settled more = fault (bytes-still
 
 -- ---- headers
 
+-- the header of a set of addresses
 pub address_header-is : IsHeader address_header
 unfolding address_header
 address_header-is = record {
@@ -154,6 +160,7 @@ address_header-is = record {
   least = then_covers (sized_least (fixed_size 2)) (λ version. then_covers (check_least _ _) (λ known. then_covers (sized_least byte_size) (λ size. then_covers (check_least _ _) (λ sized. then_covers (sized_least byte_size) (λ segment. then_covers (check_least _ _) (λ flat. pure_covers (omega arith)))))));
 }
 
+-- the header of a set of string offsets
 pub string_offsets_header-is : IsHeader string_offsets_header
 unfolding string_offsets_header
 string_offsets_header-is = record {
