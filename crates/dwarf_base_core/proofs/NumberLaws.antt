@@ -14,6 +14,7 @@ after_first x xs bytes k d small = bytes (suc k) d (omega arith)
 first : (x : ℕ) (xs : List ℕ) → All (λ b. b < 256) (x ∷ xs) → x < 256
 first x xs bytes = bytes 0 0 (omega arith)
 
+-- bytes with the lowest first are a number below 256 to the power of their count
 little_number-lt : (xs : List ℕ) → All (λ b. b < 256) xs → little_number xs < 256 ^ length xs
 little_number-lt [] bytes = omega arith
 little_number-lt (x ∷ xs) bytes =
@@ -22,6 +23,7 @@ little_number-lt (x ∷ xs) bytes =
     let room : 256 * (little_number xs + 1) ≤ 256 * 256 ^ length xs = mul-le-mul_left 256 (omega arith) in
     rw (pow-succ' 256 (length xs)) (omega arith)
 
+-- bytes with the highest first are a number below 256 to the power of their count
 big_number-lt : (xs : List ℕ) → All (λ b. b < 256) xs → big_number xs < 256 ^ length xs
 big_number-lt [] bytes = omega arith
 big_number-lt (x ∷ xs) bytes =
@@ -30,10 +32,12 @@ big_number-lt (x ∷ xs) bytes =
     let room : (x + 1) * 256 ^ length xs ≤ 256 * 256 ^ length xs = mul-le-mul_right (256 ^ length xs) (omega arith) in
     rw (big_number-cons x xs, pow-succ' 256 (length xs)) (grind arith)
 
+-- so bytes in either order are
 pub number_is_bounded : NumberIsBounded
 number_is_bounded true xs bytes = big_number-lt xs bytes
 number_is_bounded false xs bytes = little_number-lt xs bytes
 
+-- lists of bytes of one length with the lowest first are equal if their numbers are
 little_number-tells : (xs ys : List ℕ) → All (λ b. b < 256) xs → All (λ b. b < 256) ys → length xs ≡ length ys
     → little_number xs ≡ little_number ys → xs ≡ ys
 little_number-tells [] [] of_xs of_ys long same = refl
@@ -51,6 +55,7 @@ little_number-tells (x ∷ xs) (y ∷ ys) of_xs of_ys long same =
 split_high : (x c r n : ℕ) → r < c → n ≡ x * c + r → (n / c ≡ x) × (n % c ≡ r)
 split_high x c r n small is = rw is (div-mul-add x c r small, mod-mul-add x c r small)
 
+-- lists of bytes of one length with the highest first are equal if their numbers are
 big_number-tells : (xs ys : List ℕ) → All (λ b. b < 256) xs → All (λ b. b < 256) ys → length xs ≡ length ys
     → big_number xs ≡ big_number ys → xs ≡ ys
 big_number-tells [] [] of_xs of_ys long same = refl
@@ -68,6 +73,7 @@ big_number-tells (x ∷ xs) (y ∷ ys) of_xs of_ys long same =
     let tails = big_number-tells xs ys (after_first x xs of_xs) (after_first y ys of_ys) short rest in
     cc
 
+-- so are lists of bytes in either order
 pub number_tells_bytes : NumberTellsBytes
 number_tells_bytes true xs ys of_xs of_ys long same = big_number-tells xs ys of_xs of_ys long same
 number_tells_bytes false xs ys of_xs of_ys long same = little_number-tells xs ys of_xs of_ys long same

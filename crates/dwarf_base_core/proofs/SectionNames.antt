@@ -35,6 +35,7 @@ section_of name =
     if pointwise ◌==◌ name (codes ".debug_tu_index") then DebugTuIndex else
     DebugTypes
 
+-- the section with the name of a section is that section
 section_of-name : (id : SectionId) → section_of (section_names id).name ≡ id
 section_of-name DebugAbbrev = refl
 section_of-name DebugAddr = refl
@@ -62,5 +63,6 @@ section_of-name DebugStrOffsets = refl
 section_of-name DebugTuIndex = refl
 section_of-name DebugTypes = refl
 
+-- no two sections have one name
 pub names_are_distinct : NamesAreDistinct
 names_are_distinct x y same = sym (section_of-name x) ∙ ap section_of same ∙ section_of-name y

@@ -1,7 +1,8 @@
 -- Numbers of a fixed width as bytes.
 use Rattle.std.specs.Prelude.{ℕ, ◌≡◌, ◌<◌, ◌+◌, ◌*◌, ◌^◌, Bool, List, [], ◌∷◌, length, reverse, All, ℤ, pos, ◌-ℤ◌, nat_lt, if◌then◌else◌}
 
--- the number whose digits in a base are these, the lowest first: the sum of each digit times the base to the power of its place
+-- the number whose digits in a base are these, the lowest first: the sum of each digit times the base to the power
+-- of its place
 abbrev pub number_in_base : ℕ → List ℕ → ℕ
 number_in_base base [] = 0
 number_in_base base (digit ∷ higher) = digit + base * number_in_base base higher

@@ -221,7 +221,8 @@ impl<Offset: ReaderOffset> DebugStrOffsetsBase<Offset> {
         encoding: Encoding,
         file_type: DwarfFileType,
     ) -> DebugStrOffsetsBase<Offset>
-        ensures { Offset.value result.0 ≡ default_str_offsets_base encoding.version encoding.format file_type }
+        ensures { Offset.value result.0
+            ≡ default_str_offsets_base encoding.version encoding.format file_type }
     {
         if encoding.version >= 5 && file_type == DwarfFileType::Dwo {
             // The header has an initial length, a version and two bytes of padding.

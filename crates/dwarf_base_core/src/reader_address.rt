@@ -26,7 +26,8 @@ pub trait ReaderAddress: Sized {
     fn add_sized(self, length: u64, size: u8) -> Result<Self>
         requires low { 1 ≤ size }
         requires high { size ≤ 8 }
-        ensures { OkBelow (address_count size) value (value self + length) Error.AddressOverflow result };
+        ensures { OkBelow (address_count size) value
+            (value self + length) Error.AddressOverflow result };
 
     /// The sum of the address and a length in bytes, modulo the number of addresses of the size.
     fn wrapping_add_sized(self, length: u64, size: u8) -> Self

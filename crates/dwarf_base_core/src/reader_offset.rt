@@ -31,7 +31,10 @@ pub struct ReaderOffsetId(pub u64);
 /// ```
 /// // The end of a part, at any type of offsets.
 /// fn end_of<O: ReaderOffset>(start: O, len: O) -> Result<O> {
-///     let end = start.into_u64().checked_add(len.into_u64()).ok_or(Error::UnsupportedOffset)?;
+///     let end = start
+///         .into_u64()
+///         .checked_add(len.into_u64())
+///         .ok_or(Error::UnsupportedOffset)?;
 ///     O::from_u64(end)
 /// }
 /// ```

@@ -50,9 +50,11 @@ pub fn pad_name<W: fmt::Write>(
     value: u64,
 ) -> fmt::Result
     requires { length type_name.now ≤ MAX_TYPE_NAME_LEN }
-    ensures writes { let text = unwrap_or (option_map (λ s. s.now) name.entry) (unknown_text type_name.now value) in
+    ensures writes { let known = option_map (λ s. s.now) name.entry in
+        let text = unwrap_or known (unknown_text type_name.now value) in
         WritesOnOk W.write_str_gives f.old result text f.new }
-    ensures styled { let text = unwrap_or (option_map (λ s. s.now) name.entry) (unknown_text type_name.now value) in
+    ensures styled { let known = option_map (λ s. s.now) name.entry in
+        let text = unwrap_or known (unknown_text type_name.now value) in
         WritesStyledOnOk W.write_str_gives f.old result (padded (formatter_spec f.old) text) f.new }
 {
     match name {
@@ -62,7 +64,8 @@ pub fn pad_name<W: fmt::Write>(
 }
 
 fn pad_unknown<W: fmt::Write>(f: &mut fmt::Formatter<W>, type_name: &str, value: u64) -> fmt::Result
-    ensures writes { WritesOnOk W.write_str_gives f.old result (unknown_text type_name.now value) f.new }
+    ensures writes { WritesOnOk W.write_str_gives f.old result
+        (unknown_text type_name.now value) f.new }
     ensures styled { WritesStyledOnOk W.write_str_gives f.old result
         (padded (formatter_spec f.old) (unknown_text type_name.now value)) f.new }
 {

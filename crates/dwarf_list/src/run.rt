@@ -61,7 +61,7 @@ fn read_input<I: Read>(mem: Global, input: &mut I) -> Result<Vec<u8>, Fault>
     ensures faults { IfErr result IsReadFault }
 {
     let mut bytes = Vec::new(mem);
-    let mut buffer = [0; 4096];
+    let mut buffer = [0; 65536];
     // No input has so many calls; the bound shows that the loop ends.
     for _ in 0..u64::MAX {
         match input.read(&mut buffer) {

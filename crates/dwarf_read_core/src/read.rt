@@ -4,6 +4,7 @@
 mod abbrev;
 mod addr;
 mod indexed;
+mod key;
 mod section;
 mod str;
 

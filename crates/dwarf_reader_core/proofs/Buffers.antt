@@ -10,11 +10,15 @@ pub record HasRoom (bytes : List ℕ) (len : ℕ) : Type 0 where
   pub room : len < 10
   pub zeros : drop len bytes ≡ replicate (10 - len) 0
 
-zeros-more : (bytes : List ℕ) (len b : ℕ) → HasRoom bytes len → drop (len + 1) (set bytes len b) ≡ replicate (10 - (len + 1)) 0
+-- behind one byte more there are zeros still
+zeros-more : (bytes : List ℕ) (len b : ℕ) → HasRoom bytes len
+    → drop (len + 1) (set bytes len b) ≡ replicate (10 - (len + 1)) 0
 zeros-more bytes len b has_room =
     let one_less : 10 - len - 1 ≡ 10 - (len + 1) = omega arith in
-    drop-set-lt (len + 1) bytes len b (omega arith) ∙ sym (drop-drop 1 len bytes) ∙ ap (drop 1) has_room.zeros ∙ drop-replicate 1 (10 - len) 0 ∙ ap (λ n. replicate n 0) one_less
+    drop-set-lt (len + 1) bytes len b (omega arith) ∙ sym (drop-drop 1 len bytes) ∙ ap (drop 1) has_room.zeros
+        ∙ drop-replicate 1 (10 - len) 0 ∙ ap (λ n. replicate n 0) one_less
 
+-- a buffer with one byte more has room for the others
 pub HasRoom-more : (bytes : List ℕ) (len b : ℕ) → HasRoom bytes len → len + 1 < 10 → HasRoom (set bytes len b) (len + 1)
 HasRoom-more bytes len b has_room more = record {
   places = length-set bytes len b ∙ has_room.places;
@@ -22,14 +26,20 @@ HasRoom-more bytes len b has_room more = record {
   zeros = zeros-more bytes len b has_room;
 }
 
-pub take-placed : (bytes : List ℕ) (len b : ℕ) → HasRoom bytes len → take (len + 1) (set bytes len b) ≡ take len bytes ++ b ∷ []
+-- the bytes so far end with the one that was placed last
+pub take-placed : (bytes : List ℕ) (len b : ℕ) → HasRoom bytes len
+    → take (len + 1) (set bytes len b) ≡ take len bytes ++ b ∷ []
 take-placed bytes len b has_room = take_more_set bytes len b (rw has_room.places has_room.room)
 
-pub take-placed-append : (bytes : List ℕ) (len b : ℕ) (tail : List ℕ) → HasRoom bytes len → take (len + 1) (set bytes len b) ++ tail ≡ take len bytes ++ b ∷ tail
-take-placed-append bytes len b tail has_room = ap (λ front. front ++ tail) (take-placed bytes len b has_room) ∙ append_assoc (take len bytes) (b ∷ []) tail
+-- so they do with others behind them
+pub take-placed-append : (bytes : List ℕ) (len b : ℕ) (tail : List ℕ) → HasRoom bytes len
+    → take (len + 1) (set bytes len b) ++ tail ≡ take len bytes ++ b ∷ tail
+take-placed-append bytes len b tail has_room =
+    ap (λ front. front ++ tail) (take-placed bytes len b has_room) ∙ append_assoc (take len bytes) (b ∷ []) tail
 
 -- the last byte of an encoding is placed
-pub IsPadded-last : (bytes : List ℕ) (len b : ℕ) → HasRoom bytes len → IsSpelled (take len bytes ++ b ∷ []) → IsPadded record { bytes = set bytes len b; len = len + 1 }
+pub IsPadded-last : (bytes : List ℕ) (len b : ℕ) → HasRoom bytes len → IsSpelled (take len bytes ++ b ∷ [])
+    → IsPadded record { bytes = set bytes len b; len = len + 1 }
 IsPadded-last bytes len b has_room spelled = record {
   places = length-set bytes len b ∙ has_room.places;
   within = omega arith;

@@ -25,7 +25,8 @@ IsEncoding-last (x ∷ []) b encoding = encoding.1
 IsEncoding-last (x ∷ y ∷ xs) b encoding = IsEncoding-last (y ∷ xs) b encoding.1
 
 -- one more digit
-pub unsigned_value-push : (xs : List ℕ) (b : ℕ) → unsigned_value (xs ++ b ∷ []) ≡ unsigned_value xs + b % 128 * 128 ^ length xs
+pub unsigned_value-push : (xs : List ℕ) (b : ℕ)
+    → unsigned_value (xs ++ b ∷ []) ≡ unsigned_value xs + b % 128 * 128 ^ length xs
 unsigned_value-push [] b = omega arith
 unsigned_value-push (x ∷ xs) b = rw pow-suc (omega (arith, unsigned_value-push xs b))
 
@@ -35,14 +36,16 @@ unsigned_value-lt [] = omega arith
 unsigned_value-lt (x ∷ xs) = omega (arith, unsigned_value-lt xs, pow-suc 128 (length xs))
 
 -- an encoding ends past bytes of which none is the last
-pub past_none : (bytes : List ℕ) (k n : ℕ) → k ≤ length bytes → NoneIsLast (take k bytes) → IsEncoding (take n bytes) → k < n
+pub past_none : (bytes : List ℕ) (k n : ℕ) → k ≤ length bytes → NoneIsLast (take k bytes)
+    → IsEncoding (take n bytes) → k < n
 past_none bytes zero zero enough none encoding = absurd encoding
 past_none bytes zero (suc n) enough none encoding = omega arith
 past_none [] (suc k) n enough none encoding = absurd (omega arith)
 past_none (b ∷ bs) (suc k) zero enough none encoding = absurd encoding
 past_none (b ∷ bs) (suc k) (suc zero) enough none encoding = absurd (omega (arith, none.0, encoding))
 past_none (b ∷ []) (suc k) (suc (suc n)) enough none encoding = absurd (omega (arith, none.0, encoding))
-past_none (b ∷ c ∷ bs) (suc k) (suc (suc n)) enough none encoding = omega (arith, past_none (c ∷ bs) k (suc n) (omega arith) none.1 encoding.1)
+past_none (b ∷ c ∷ bs) (suc k) (suc (suc n)) enough none encoding =
+    omega (arith, past_none (c ∷ bs) k (suc n) (omega arith) none.1 encoding.1)
 
 -- n digits are worth less than a place from n on
 pub worth_below : (bytes : List ℕ) (n m : ℕ) → n ≤ length bytes → n ≤ m → unsigned_value (take n bytes) < 2 ^ (7 * m)

@@ -6,6 +6,7 @@ use Rattle.dwarf_reader_core.specs.Leb128.{IsEncoding, NoneIsLast, Kind, Number,
 use Rattle.dwarf_reader_core.specs.Once.{HasOne}
 use Rattle.dwarf_reader_core.proofs.Encodings.{past_none, same_encoding}
 
+-- a byte with a continuation bit before an encoding makes an encoding
 IsEncoding-cons : (b : ℕ) (s : List ℕ) → 128 ≤ b → IsEncoding s → IsEncoding (b ∷ s)
 IsEncoding-cons b [] more encoding = absurd encoding
 IsEncoding-cons b (c ∷ s) more encoding = (more, encoding)
@@ -24,6 +25,7 @@ record IsLong (bound : ℕ) (bytes : List ℕ) : Type 0 where
 abbrev AreShort : ℕ → List ℕ → Type 0
 AreShort bound bytes = (length bytes < bound) × NoneIsLast bytes
 
+-- within a bound bytes end a number, end before it does, or go on past the bound
 three_ways : (bound : ℕ) (bytes : List ℕ) → Ends bound bytes ⊎ (AreShort bound bytes ⊎ IsLong bound bytes)
 three_ways zero bytes = inr (inr (record { enough = omega arith; none = tt }))
 three_ways (suc bound) [] = inr (inl (omega arith, tt))
@@ -32,7 +34,8 @@ three_ways (suc bound) (b ∷ bs) =
     (λ last. inl (record { len = 1; enough = omega arith; short = omega arith; encoding = last }))
     (λ more.
     ⊎_elim
-    (λ e. inl (record { len = suc e.len; enough = omega (arith, e.enough); short = omega (arith, e.short); encoding = IsEncoding-cons b _ more e.encoding }))
+    (λ e. inl (record { len = suc e.len; enough = omega (arith, e.enough); short = omega (arith, e.short);
+        encoding = IsEncoding-cons b _ more e.encoding }))
     (λ r.
     ⊎_elim
     (λ cut. inr (inl (omega (arith, cut.0), (more, cut.1))))
@@ -42,15 +45,18 @@ three_ways (suc bound) (b ∷ bs) =
     (cases_lt b 128)
 
 -- no encoding begins another
-same_length : (bytes : List ℕ) (m n : ℕ) → m ≤ length bytes → n ≤ length bytes → IsEncoding (take m bytes) → IsEncoding (take n bytes) → m ≡ n
+same_length : (bytes : List ℕ) (m n : ℕ) → m ≤ length bytes → n ≤ length bytes → IsEncoding (take m bytes)
+    → IsEncoding (take n bytes) → m ≡ n
 same_length bytes m n p q s t =
-    let same = same_encoding (take m bytes) (take n bytes) (drop m bytes) (drop n bytes) s t (take-append-drop m bytes ∙ sym (take-append-drop n bytes)) in
+    let same = same_encoding (take m bytes) (take n bytes) (drop m bytes) (drop n bytes) s t
+        (take-append-drop m bytes ∙ sym (take-append-drop n bytes)) in
     omega (arith, length-take-le m bytes p, length-take-le n bytes q, ap length same.0)
 
 module _ (k : Kind) (bytes : List ℕ) where
   cut_apart : (v : Number k) (n : ℕ) → HasNumber k bytes v n → IsCut k bytes → ⊥
   cut_apart v n found cut =
-      let none : NoneIsLast (take (length bytes) bytes) = rw (take_all (length bytes) bytes (omega arith)) cut.unended in
+      let none : NoneIsLast (take (length bytes) bytes) = rw
+          (take_all (length bytes) bytes (omega arith)) cut.unended in
       omega (arith, past_none bytes (length bytes) n (omega arith) none found.is_number.encoding, found.enough)
 
   -- a number has the length and the value of any other that begins the bytes
@@ -71,22 +77,28 @@ module _ (k : Kind) (bytes : List ℕ) where
   unique Bad Bad f g = refl
 
   -- what an encoding is worth is in the range of the kind or not
-  judged : (e : Ends (limit k) bytes) (b : Bool) → is_in_range k (value k (take e.len bytes)) ≡ b → (o : Outcome k) × HasOutcome k bytes o
+  judged : (e : Ends (limit k) bytes) (b : Bool) → is_in_range k (value k (take e.len bytes)) ≡ b
+      → (o : Outcome k) × HasOutcome k bytes o
   judged e true h =
       let within : length (take e.len bytes) ≤ limit k = omega (arith, e.short, length-take-le e.len bytes e.enough) in
-      let is : IsNumber k (take e.len bytes) (value k (take e.len bytes)) = record { encoding = e.encoding; within = within; means = refl; in_range = h } in
+      let is : IsNumber k (take e.len bytes) (value k (take e.len bytes)) = record { encoding = e.encoding;
+          within = within; means = refl; in_range = h } in
       (Value (value k (take e.len bytes)) e.len, record { enough = e.enough; is_number = is })
   judged e false h =
       let other : (v : Number k) (n : ℕ) → HasNumber k bytes v n → ⊥ = λ v n f.
       let same = same_length bytes e.len n e.enough f.enough e.encoding f.is_number.encoding in
       let has : is_in_range k (value k (take e.len bytes)) ≡ true =
-      ap (λ i. is_in_range k (value k (take i bytes))) same ∙ ap (is_in_range k) f.is_number.means ∙ f.is_number.in_range
+      ap (λ i. is_in_range k (value k (take i bytes))) same ∙ ap (is_in_range k) f.is_number.means
+          ∙ f.is_number.in_range
       in
       let clash : false ≡ true = sym h ∙ has in
       cc clash
       in
-      let none : NoneIsLast (take (length bytes) bytes) → ⊥ = λ none. omega (arith, past_none bytes (length bytes) e.len (omega arith) none e.encoding, e.enough) in
-      (Bad, record { no_number = other; not_cut = λ cut. none (rw (take_all (length bytes) bytes (omega arith)) cut.unended) })
+      let none : NoneIsLast (take (length bytes) bytes)
+          → ⊥ = λ none. omega (arith, past_none bytes (length bytes) e.len
+          (omega arith) none e.encoding, e.enough) in
+      (Bad, record { no_number = other; not_cut = λ cut. none
+          (rw (take_all (length bytes) bytes (omega arith)) cut.unended) })
 
   some : (o : Outcome k) × HasOutcome k bytes o
   some =

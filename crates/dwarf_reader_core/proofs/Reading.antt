@@ -29,19 +29,23 @@ pub record TakesNext (old : Input) (k byte : ℕ) (new : Input) : Type 0 where
   pub taken : take (k + 1) old.bytes ≡ take k old.bytes ++ byte ∷ []
   pub left : new ≡ after (k + 1) old
 
+-- before the first byte no digit is read
 pub begun_none : (old : Input) → Begun old 0 old 0
 begun_none old = record { enough = omega arith; none = tt; left = sym (after-zero old); worth = refl }
 
+-- as many bytes are gone as digits are read
 begun_rest : {old mid : Input} {k value : ℕ} → Begun old k mid value → length mid.bytes ≡ length old.bytes - k
 begun_rest {old} {mid} {k} b = ap (λ (i : Input). length i.bytes) b.left ∙ length-drop k old.bytes
 
 -- what a read of a byte gives
-pub begun_next : {old mid new : Input} {k value byte : ℕ} → Begun old k mid value → TakesByte mid byte new → TakesNext old k byte new
+pub begun_next : {old mid new : Input} {k value byte : ℕ} → Begun old k mid value → TakesByte mid byte new
+    → TakesNext old k byte new
 begun_next {old} {mid} {new} {k} {value} {byte} b t =
     let rest = begun_rest b in
     let enough : k < length old.bytes = omega (arith, rest, t.enough) in
     let found : byte ≡ get_or old.bytes k 0 =
-    t.is ∙ ap (λ (i : Input). get_or i.bytes 0 0) b.left ∙ get_or-drop k old.bytes 0 0 ∙ ap (λ i. get_or old.bytes i 0) (add-zero k)
+    t.is ∙ ap (λ (i : Input). get_or i.bytes 0 0) b.left ∙ get_or-drop k old.bytes 0 0
+        ∙ ap (λ i. get_or old.bytes i 0) (add-zero k)
     in
     record {
       enough = enough;
@@ -50,7 +54,8 @@ begun_next {old} {mid} {new} {k} {value} {byte} b t =
     }
 
 -- what k + 1 digits are worth
-worth_next : {old mid new : Input} {k value byte : ℕ} → Begun old k mid value → TakesNext old k byte new → unsigned_value (take (k + 1) old.bytes) ≡ value + byte % 128 * 128 ^ k
+worth_next : {old mid new : Input} {k value byte : ℕ} → Begun old k mid value → TakesNext old k byte new
+    → unsigned_value (take (k + 1) old.bytes) ≡ value + byte % 128 * 128 ^ k
 worth_next {old} {k = k} {value = value} {byte = byte} b n =
     ap unsigned_value n.taken
     ∙ unsigned_value-push (take k old.bytes) byte
@@ -63,7 +68,8 @@ begun_below {old} {k = k} b =
     rw b.worth (worth_below old.bytes k k b.enough (omega arith))
 
 -- one more byte that isn't the last
-pub begun_more : {old mid new : Input} {k value byte : ℕ} → Begun old k mid value → TakesNext old k byte new → 128 ≤ byte → Begun old (k + 1) new (value + byte % 128 * 2 ^ (7 * k))
+pub begun_more : {old mid new : Input} {k value byte : ℕ} → Begun old k mid value → TakesNext old k byte new
+    → 128 ≤ byte → Begun old (k + 1) new (value + byte % 128 * 2 ^ (7 * k))
 begun_more {old} {k = k} {value = value} {byte = byte} b n more =
     record {
       enough = omega (arith, n.enough);
@@ -84,7 +90,9 @@ pub record Ended (old : Input) (k byte : ℕ) (new : Input) (value : ℕ) : Type
   pub left : new ≡ after (k + 1) old
   pub worth : unsigned_value (take (k + 1) old.bytes) ≡ value + byte % 128 * 2 ^ (7 * k)
 
-pub begun_ends : {old mid new : Input} {k value byte : ℕ} → Begun old k mid value → TakesNext old k byte new → byte < 128 → Ended old k byte new value
+-- a byte without a continuation bit ends the number that has begun
+pub begun_ends : {old mid new : Input} {k value byte : ℕ} → Begun old k mid value → TakesNext old k byte new
+    → byte < 128 → Ended old k byte new value
 begun_ends {old} {k = k} {value = value} {byte = byte} b n last =
     record {
       enough = omega (arith, n.enough);
@@ -94,22 +102,30 @@ begun_ends {old} {k = k} {value = value} {byte = byte} b n last =
     }
 
 -- the number is read, where the encoding is worth one of the kind
-pub begun_reads : {old mid new : Input} {n worth byte : ℕ} (k : Kind) (v : Number k) → Begun old n mid worth → TakesNext old n byte new → byte < 128 → n < limit k → value k (take (n + 1) old.bytes) ≡ v → IsTrue (is_in_range k v) → ReadsNumber k old v new
+pub begun_reads : {old mid new : Input} {n worth byte : ℕ} (k : Kind) (v : Number k) → Begun old n mid worth
+    → TakesNext old n byte new → byte < 128 → n < limit k → value k (take (n + 1) old.bytes) ≡ v
+    → IsTrue (is_in_range k v) → ReadsNumber k old v new
 begun_reads {old} {n = n} k v b next last short means in_range =
     let e = begun_ends b next last in
-    let within : length (take (n + 1) old.bytes) ≤ limit k = omega (arith, short, length-take-le (n + 1) old.bytes e.enough) in
+    let within : length (take (n + 1) old.bytes)
+        ≤ limit k = omega (arith, short, length-take-le (n + 1) old.bytes e.enough) in
     record {
       len = n + 1;
-      is = record { enough = e.enough; is_number = record { encoding = e.encoding; within = within; means = means; in_range = in_range } };
+      is = record { enough = e.enough; is_number = record { encoding = e.encoding; within = within; means = means;
+          in_range = in_range } };
       left = e.left;
     }
 
 -- the number is refused, where no encoding ends before the limit, and none that ends there is worth one of the kind
-pub begun_bad : {old mid new : Input} {n worth byte : ℕ} (k : Kind) → Begun old n mid worth → TakesNext old n byte new → n + 1 ≡ limit k → (byte < 128 → Ended old n byte new worth → IsTrue (is_in_range k (value k (take (n + 1) old.bytes))) → ⊥) → RefusesNumber k old (refusal k) new
+pub begun_bad : {old mid new : Input} {n worth byte : ℕ} (k : Kind) → Begun old n mid worth
+    → TakesNext old n byte new → n + 1 ≡ limit k
+    → (byte < 128 → Ended old n byte new worth → IsTrue (is_in_range k (value k (take (n + 1) old.bytes))) → ⊥)
+    → RefusesNumber k old (refusal k) new
 begun_bad {old} {mid} {new} {n} {worth} {byte} k b next whole out =
     let none : (v : Number k) (m : ℕ) → HasNumber k old.bytes v m → ⊥ = λ v m found.
     let past = past_none old.bytes n m b.enough b.none found.is_number.encoding in
-    let m_is : m ≡ n + 1 = omega (arith, past, found.is_number.within, length-take-le m old.bytes found.enough, whole) in
+    let m_is : m
+        ≡ n + 1 = omega (arith, past, found.is_number.within, length-take-le m old.bytes found.enough, whole) in
     let encoding : IsEncoding (take (n + 1) old.bytes) = rw (← m_is) found.is_number.encoding in
     let last : byte < 128 = IsEncoding-last (take n old.bytes) byte (rw next.taken at encoding) in
     out last (begun_ends b next last) (rw (← m_is, found.is_number.means) found.is_number.in_range)
@@ -118,11 +134,14 @@ begun_bad {old} {mid} {new} {n} {worth} {byte} k b next whole out =
     inr (record { bad = record { no_number = none; not_cut = cut }; left = rw (← whole) next.left; fault = refl })
 
 -- an encoding is worth its digits, less the next place where its last digit is from 64
-signed_next : {old mid new : Input} {k value byte : ℕ} → Begun old k mid value → TakesNext old k byte new → signed_value (take (k + 1) old.bytes) ≡ pos (value + byte % 128 * 2 ^ (7 * k)) -ℤ pos (if nat_le 64 (byte % 128) then 2 ^ (7 * (k + 1)) else 0)
+signed_next : {old mid new : Input} {k value byte : ℕ} → Begun old k mid value → TakesNext old k byte new
+    → signed_value (take (k + 1) old.bytes)
+    ≡ pos (value + byte % 128 * 2 ^ (7 * k)) -ℤ pos (if nat_le 64 (byte % 128) then 2 ^ (7 * (k + 1)) else 0)
 signed_next {old} {k = k} {value = value} {byte = byte} b n =
     let s = take (k + 1) old.bytes in
     let sign = nat_le 64 (byte % 128) in
-    let worth : unsigned_value s ≡ value + byte % 128 * 2 ^ (7 * k) = worth_next b n ∙ ap (λ p. value + byte % 128 * p) (sym (pow_digits k)) in
+    let worth : unsigned_value s ≡ value + byte % 128 * 2 ^ (7 * k) = worth_next b n
+        ∙ ap (λ p. value + byte % 128 * p) (sym (pow_digits k)) in
     let signs : is_negative s ≡ sign = ap is_negative n.taken ∙ is_negative-push (take k old.bytes) byte in
     let place : 128 ^ length s ≡ 2 ^ (7 * (k + 1)) =
     ap (λ i. 128 ^ i) (length-take-le (k + 1) old.bytes (omega (arith, n.enough))) ∙ sym (pow_digits (k + 1))
@@ -134,9 +153,13 @@ signed_next {old} {k = k} {value = value} {byte = byte} b n =
 -- whether the digit has the sign, as it is found
 pub is_sign : (sign : Bool) (digit : ℕ) → (IsTrue sign ↔ (64 ≤ digit)) → nat_le 64 digit ≡ sign
 is_sign true digit is = le-leb 64 digit (is.0 refl)
-is_sign false digit is = ⊎_elim (λ low. lt-leb 64 digit low) (λ high. absurd (false≢true (is.1 high))) (cases_lt digit 64)
+is_sign false digit is =
+    ⊎_elim (λ low. lt-leb 64 digit low) (λ high. absurd (false≢true (is.1 high))) (cases_lt digit 64)
 
-pub signed_worth : {old mid new : Input} {k value byte : ℕ} → Begun old k mid value → TakesNext old k byte new → (sign : Bool) (worth bits : ℕ) → nat_le 64 (byte % 128) ≡ sign → worth ≡ value + byte % 128 * 2 ^ (7 * k) → bits ≡ 7 * (k + 1) → signed_value (take (k + 1) old.bytes) ≡ pos worth -ℤ pos (if sign then 2 ^ bits else 0)
+-- the number that the loop makes of a last byte with its sign is the one of all bytes
+pub signed_worth : {old mid new : Input} {k value byte : ℕ} → Begun old k mid value → TakesNext old k byte new
+    → (sign : Bool) (worth bits : ℕ) → nat_le 64 (byte % 128) ≡ sign → worth ≡ value + byte % 128 * 2 ^ (7 * k)
+    → bits ≡ 7 * (k + 1) → signed_value (take (k + 1) old.bytes) ≡ pos worth -ℤ pos (if sign then 2 ^ bits else 0)
 signed_worth {old} {k = k} {value = value} {byte = byte} b n sign worth bits sign_is is bits_is =
     signed_next b n
     ∙ ap (λ c. pos (value + byte % 128 * 2 ^ (7 * k)) -ℤ pos (if c then 2 ^ (7 * (k + 1)) else 0)) sign_is
@@ -144,7 +167,8 @@ signed_worth {old} {k = k} {value = value} {byte = byte} b n sign worth bits sig
     ∙ ap (λ i. pos worth -ℤ pos (if sign then 2 ^ i else 0)) (sym bits_is)
 
 -- one more digit fits below each place from the next on
-pub next_below : {old mid new : Input} {k value byte : ℕ} → Begun old k mid value → TakesNext old k byte new → (m : ℕ) → k < m → value + byte % 128 * 2 ^ (7 * k) < 2 ^ (7 * m)
+pub next_below : {old mid new : Input} {k value byte : ℕ} → Begun old k mid value → TakesNext old k byte new
+    → (m : ℕ) → k < m → value + byte % 128 * 2 ^ (7 * k) < 2 ^ (7 * m)
 next_below {old} {k = k} {value = value} {byte = byte} b n m within =
     let worth : value + byte % 128 * 2 ^ (7 * k) ≡ unsigned_value (take (k + 1) old.bytes) =
     ap (λ p. value + byte % 128 * p) (pow_digits k) ∙ sym (worth_next b n)

@@ -7,48 +7,54 @@ use Rattle.dwarf_reader_core.specs.Leb128.{Kind, unsigned64, unsigned16, signed6
 use Rattle.dwarf_reader_core.specs.Once.{HasOne}
 use Rattle.dwarf_reader_core.specs.Shortest.{IsShortest}
 use Rattle.dwarf_reader_core.proofs.Shortest.{IsLeast, IsShortest-from}
-use Rattle.dwarf_reader_core.proofs.ShortestSigned as signed
-use Rattle.dwarf_reader_core.proofs.ShortestUnsigned as unsigned
+use Rattle.dwarf_reader_core.proofs.ShortestSigned.{signed_last-is_least, signed_more-is_least, signed_value-high, signed_value-low}
+use Rattle.dwarf_reader_core.proofs.ShortestUnsigned.{unsigned_last-is_least, unsigned_more-is_least}
 
 -- an unsigned number, by its digits from the lowest
 shortest_unsigned : (room v : ℕ) → v ≤ room → (bytes : List ℕ) × IsLeast unsigned_value v bytes
-shortest_unsigned zero v within = (v ∷ [], unsigned.IsLeast-last v (omega arith))
+shortest_unsigned zero v within = (v ∷ [], unsigned_last-is_least v (omega arith))
 shortest_unsigned (suc room) v within =
     elim (cases_lt v 128) [
-      | inl small ↦ (v ∷ [], unsigned.IsLeast-last v small)
+      | inl small ↦ (v ∷ [], unsigned_last-is_least v small)
       | inr large ↦
           let above = shortest_unsigned room (v / 128) (omega arith) in
-          ((v % 128 + 128) ∷ above.0, unsigned.IsLeast-more v (v % 128) (v / 128) above.0 (omega arith) (omega arith) (omega arith) above.1)
+          ((v % 128 + 128) ∷ above.0, unsigned_more-is_least v (v % 128) (v / 128) above.0 (omega arith)
+              (omega arith) (omega arith) above.1)
     ]
 
 -- a signed number from 0 on
 shortest_positive : (room n : ℕ) → n ≤ room → (bytes : List ℕ) × IsLeast signed_value (pos n) bytes
-shortest_positive zero n within = (n ∷ [], signed.IsLeast-last (pos n) n (omega arith) (signed.signed_value-low n (omega arith)))
+shortest_positive zero n within =
+    (n ∷ [], signed_last-is_least (pos n) n (omega arith) (signed_value-low n (omega arith)))
 shortest_positive (suc room) n within =
     elim (cases_lt n 64) [
-      | inl small ↦ (n ∷ [], signed.IsLeast-last (pos n) n (omega arith) (signed.signed_value-low n small))
+      | inl small ↦ (n ∷ [], signed_last-is_least (pos n) n (omega arith) (signed_value-low n small))
       | inr large ↦
           let above = shortest_positive room (n / 128) (omega arith) in
           let parts : pos n ≡ pos (n % 128) +ℤ (pos 128 *ℤ pos (n / 128)) = omega (arith, ints) in
-          ((n % 128 + 128) ∷ above.0, signed.IsLeast-more (pos n) (n % 128) (pos (n / 128)) above.0 (omega arith) (λ fits. omega (arith, ints, large, fits.1)) parts above.1)
+          ((n % 128 + 128) ∷ above.0, signed_more-is_least (pos n) (n % 128) (pos (n / 128)) above.0 (omega arith)
+              (λ fits. omega (arith, ints, large, fits.1)) parts above.1)
     ]
 
 -- the last byte of a number from -64 to -1
 byte_of_negative : (n : ℕ) → n < 64 → signed_value ((127 - n) ∷ []) ≡ negsuc n
-byte_of_negative n small = let is = signed.signed_value-high (127 - n) (omega arith) (omega arith) in omega (arith, ints, is)
+byte_of_negative n small = let is = signed_value-high (127 - n) (omega arith) (omega arith) in omega (arith, ints, is)
 
 -- a negative number
 shortest_negative : (room n : ℕ) → n ≤ room → (bytes : List ℕ) × IsLeast signed_value (negsuc n) bytes
-shortest_negative zero n within = ((127 - n) ∷ [], signed.IsLeast-last (negsuc n) (127 - n) (omega arith) (byte_of_negative n (omega arith)))
+shortest_negative zero n within =
+    ((127 - n) ∷ [], signed_last-is_least (negsuc n) (127 - n) (omega arith) (byte_of_negative n (omega arith)))
 shortest_negative (suc room) n within =
     elim (cases_lt n 64) [
-      | inl small ↦ ((127 - n) ∷ [], signed.IsLeast-last (negsuc n) (127 - n) (omega arith) (byte_of_negative n small))
+      | inl small ↦ ((127 - n) ∷ [], signed_last-is_least (negsuc n) (127 - n) (omega arith) (byte_of_negative n small))
       | inr large ↦
           let above = shortest_negative room (n / 128) (omega arith) in
           let parts : negsuc n ≡ pos (127 - n % 128) +ℤ (pos 128 *ℤ negsuc (n / 128)) = omega (arith, ints) in
-          ((127 - n % 128 + 128) ∷ above.0, signed.IsLeast-more (negsuc n) (127 - n % 128) (negsuc (n / 128)) above.0 (omega arith) (λ fits. omega (arith, ints, large, fits.0)) parts above.1)
+          ((127 - n % 128 + 128) ∷ above.0, signed_more-is_least (negsuc n) (127 - n % 128)
+              (negsuc (n / 128)) above.0 (omega arith) (λ fits. omega (arith, ints, large, fits.0)) parts above.1)
     ]
 
+-- each signed number has a least spelling
 shortest_signed : (v : ℤ) → (bytes : List ℕ) × IsLeast signed_value v bytes
 shortest_signed (pos n) = shortest_positive n n (omega arith)
 shortest_signed (negsuc n) = shortest_negative n n (omega arith)
@@ -75,9 +81,12 @@ only_shortest : (k : Kind) (number : Number k) (a b : List ℕ) → IsShortest k
 only_shortest k number a b is_a is_b =
     elim (same_or_not a b) [
       | inl same ↦ same
-      | inr apart ↦ absurd (omega (arith, is_a.shorter b is_b.encodes (λ e. apart (sym e)), is_b.shorter a is_a.encodes apart))
+      | inr apart ↦
+          absurd (omega (arith, is_a.shorter b is_b.encodes
+          (λ e. apart (sym e)), is_b.shorter a is_a.encodes apart))
     ]
 
+-- each number has exactly one shortest encoding
 pub exactly_one_shortest : (k : Kind) (number : Number k) → HasOne (IsShortest k number)
 exactly_one_shortest k number =
     let some = some_shortest k number in

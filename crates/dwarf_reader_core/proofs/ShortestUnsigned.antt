@@ -6,48 +6,59 @@ use Rattle.dwarf_reader_core.proofs.Bytes.{continued}
 use Rattle.dwarf_reader_core.specs.Leb128.{unsigned_value}
 use Rattle.dwarf_reader_core.proofs.Shortest.{IsSpelled, IsLeast}
 
+-- a byte with a continuation bit before a spelling makes a spelling
 pub IsSpelled-cons : (b : ℕ) (bytes : List ℕ) → 128 ≤ b → b < 256 → IsSpelled bytes → IsSpelled (b ∷ bytes)
 IsSpelled-cons b [] low high spelled = absurd spelled
 IsSpelled-cons b (c ∷ bytes) low high spelled = (low, high, spelled)
 
-no_other_last : (v : ℕ) → v < 128 → (other : List ℕ) → IsSpelled other → unsigned_value other ≡ v → other ≢ (v ∷ []) → 1 < length other
-no_other_last v small [] spelled same apart = absurd spelled
-no_other_last v small (b ∷ []) spelled same apart = let b_is : b ≡ v = omega arith in absurd (apart (ap (λ x. x ∷ []) b_is))
-no_other_last v small (b ∷ c ∷ bytes) spelled same apart = omega arith
+-- any other spelling of a number below 128 is longer than a byte
+unsigned_last-no_other : (v : ℕ) → v < 128 → (other : List ℕ) → IsSpelled other → unsigned_value other ≡ v
+    → other ≢ (v ∷ []) → 1 < length other
+unsigned_last-no_other v small [] spelled same apart = absurd spelled
+unsigned_last-no_other v small (b ∷ []) spelled same apart =
+    let b_is : b ≡ v = omega arith in absurd (apart (ap (λ x. x ∷ []) b_is))
+unsigned_last-no_other v small (b ∷ c ∷ bytes) spelled same apart = omega arith
 
-no_other_more : (v digit rest : ℕ) (tail : List ℕ) → digit < 128 → 0 < rest → v ≡ digit + 128 * rest → IsLeast unsigned_value rest tail
-    → (other : List ℕ) → IsSpelled other → unsigned_value other ≡ v → other ≢ ((digit + 128) ∷ tail) → length ((digit + 128) ∷ tail) < length other
-no_other_more v digit rest tail small more v_is shortest [] spelled same apart = absurd spelled
-no_other_more v digit rest tail small more v_is shortest (b ∷ []) spelled same apart = absurd (omega arith)
-no_other_more v digit rest tail small more v_is shortest (b ∷ c ∷ bytes) spelled same apart =
+-- any other spelling of a number from 128 on is longer than the least one
+unsigned_more-no_other : (v digit rest : ℕ) (tail : List ℕ) → digit < 128 → 0 < rest → v ≡ digit + 128 * rest
+    → IsLeast unsigned_value rest tail
+    → (other : List ℕ) → IsSpelled other → unsigned_value other ≡ v → other ≢ ((digit + 128) ∷ tail)
+        → length ((digit + 128) ∷ tail) < length other
+unsigned_more-no_other v digit rest tail small more v_is shortest [] spelled same apart = absurd spelled
+unsigned_more-no_other v digit rest tail small more v_is shortest (b ∷ []) spelled same apart = absurd (omega arith)
+unsigned_more-no_other v digit rest tail small more v_is shortest (b ∷ c ∷ bytes) spelled same apart =
     let b_is : b ≡ digit + 128 = omega arith in
     let rest_is : unsigned_value (c ∷ bytes) ≡ rest = omega arith in
-    let longer : length tail < length (c ∷ bytes) = shortest.shorter (c ∷ bytes) spelled.2 rest_is (λ tail_is. apart cc) in
+    let longer : length tail < length (c ∷ bytes) = shortest.shorter (c ∷ bytes) spelled.2 rest_is
+        (λ tail_is. apart cc) in
     omega arith
 
 -- a number below 128 is a byte of its own
-pub IsLeast-last : (v : ℕ) → v < 128 → IsLeast unsigned_value v (v ∷ [])
-IsLeast-last v small = record {
+pub unsigned_last-is_least : (v : ℕ) → v < 128 → IsLeast unsigned_value v (v ∷ [])
+unsigned_last-is_least v small = record {
   is_spelled = small;
   has_value = omega arith;
-  shorter = no_other_last v small;
+  shorter = unsigned_last-no_other v small;
 }
 
 -- the lowest digit goes before the shortest encoding of what stands above it
-pub IsLeast-more : (v digit rest : ℕ) (tail : List ℕ) → digit < 128 → 0 < rest → v ≡ digit + 128 * rest → IsLeast unsigned_value rest tail → IsLeast unsigned_value v ((digit + 128) ∷ tail)
-IsLeast-more v digit rest tail small more v_is shortest = record {
+pub unsigned_more-is_least : (v digit rest : ℕ) (tail : List ℕ) → digit < 128 → 0 < rest → v ≡ digit + 128 * rest
+    → IsLeast unsigned_value rest tail → IsLeast unsigned_value v ((digit + 128) ∷ tail)
+unsigned_more-is_least v digit rest tail small more v_is shortest = record {
   is_spelled = IsSpelled-cons (digit + 128) tail (omega arith) (omega arith) shortest.is_spelled;
   has_value = omega (arith, shortest.has_value);
-  shorter = no_other_more v digit rest tail small more v_is shortest;
+  shorter = unsigned_more-no_other v digit rest tail small more v_is shortest;
 }
 
+-- a number above 0 has a digit
 no_power_of_zero : (left n : ℕ) → 0 < n → n < 128 ^ left → 0 < left
 no_power_of_zero zero n some below = absurd (omega arith)
 no_power_of_zero (suc left) n some below = omega arith
 
 -- a number that goes on for more than one byte leaves room for the next
-pub room_for_more : (len rest : ℕ) → len < 10 → rest < 128 ^ (10 - len) → 0 < rest / 128 → (rest / 128 < 128 ^ (10 - (len + 1))) × (len + 1 < 10)
-room_for_more len rest room fits more =
+pub unsigned_more-has_room : (len rest : ℕ) → len < 10 → rest < 128 ^ (10 - len) → 0 < rest / 128
+    → (rest / 128 < 128 ^ (10 - (len + 1))) × (len + 1 < 10)
+unsigned_more-has_room len rest room fits more =
     let left : ℕ = 10 - (len + 1) in
     let one_more : 10 - len ≡ suc left = omega arith in
     let above : rest < 128 ^ left * 128 = rw (← pow-suc 128 left, ← one_more) fits in
@@ -56,12 +67,16 @@ room_for_more len rest room fits more =
     (below, omega arith)
 
 -- the two, as the code computes the bytes
-pub IsLeast-last_of : (rest digit : ℕ) → rest / 128 ≡ 0 → digit ≡ rest % 128 → IsLeast unsigned_value rest (digit ∷ [])
-IsLeast-last_of rest digit none_above is =
+pub unsigned_last_of-is_least : (rest digit : ℕ) → rest / 128 ≡ 0 → digit ≡ rest % 128
+    → IsLeast unsigned_value rest (digit ∷ [])
+unsigned_last_of-is_least rest digit none_above is =
     let small : rest < 128 = omega arith in
     let digit_is : digit ≡ rest = omega arith in
-    rw digit_is (IsLeast-last rest small)
+    rw digit_is (unsigned_last-is_least rest small)
 
-pub IsLeast-more_of : (rest digit : ℕ) (tail : List ℕ) → 0 < rest / 128 → digit ≡ rest % 128 → IsLeast unsigned_value (rest / 128) tail → IsLeast unsigned_value rest (bit_or digit 128 ∷ tail)
-IsLeast-more_of rest digit tail more is least =
-    rw (continued digit (omega arith)) (IsLeast-more rest digit (rest / 128) tail (omega arith) more (omega arith) least)
+-- a digit with a continuation bit before the least spelling of the digits above is the least one
+pub unsigned_more_of-is_least : (rest digit : ℕ) (tail : List ℕ) → 0 < rest / 128 → digit ≡ rest % 128
+    → IsLeast unsigned_value (rest / 128) tail → IsLeast unsigned_value rest (bit_or digit 128 ∷ tail)
+unsigned_more_of-is_least rest digit tail more is least =
+    rw (continued digit (omega arith)) (unsigned_more-is_least rest digit (rest / 128) tail (omega arith) more
+        (omega arith) least)

@@ -54,9 +54,11 @@ pub record IsNoSize (refusal : ℕ → Error) (size : ℕ) (old : Input) (e : Er
 
 -- no address of this size: it is no size, or bytes are missing
 abbrev pub RefusesAddress : ℕ → Input → Error → Input → Type 0
-RefusesAddress size old e new = IsNoSize UnsupportedAddressSize size old e new ⊎ (IsTrue (is_number_size size) × EndsBefore size old e new)
+RefusesAddress size old e new =
+    IsNoSize UnsupportedAddressSize size old e new ⊎ (IsTrue (is_number_size size) × EndsBefore size old e new)
 
 -- no offset of this size: it is no size, bytes are missing, or the number is no offset
 abbrev pub RefusesOffset : ℕ → ℕ → Input → Error → Input → Type 0
 RefusesOffset greatest size old e new =
-    IsNoSize UnsupportedOffsetSize size old e new ⊎ (IsTrue (is_number_size size) × (EndsBefore size old e new ⊎ IsNoOffset greatest size old e new))
+    IsNoSize UnsupportedOffsetSize size old e new
+        ⊎ (IsTrue (is_number_size size) × (EndsBefore size old e new ⊎ IsNoOffset greatest size old e new))

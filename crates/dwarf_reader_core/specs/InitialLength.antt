@@ -1,4 +1,5 @@
--- The initial length of a unit (DWARF 5, 7.4): four bytes in the 32-bit format, or 0xffffffff and eight bytes in the 64-bit format.
+-- The initial length of a unit (DWARF 5, 7.4): four bytes in the 32-bit format, or 0xffffffff and eight bytes in
+-- the 64-bit format.
 use Rattle.std.specs.Prelude.{◌≡◌, ℕ, ◌<◌, ◌≤◌, ◌⊎◌}
 use Rattle.dwarf_base_core.specs.declared.common.Format.{Format}
 use Rattle.dwarf_base_core.specs.declared.common.Format.TheVariants.{Dwarf32, Dwarf64}
@@ -36,4 +37,5 @@ pub record IsNoLength (greatest : ℕ) (old : Input) (e : Error) (new : Input) :
 
 -- no length is read
 abbrev pub RefusesLength : ℕ → Input → Error → Input → Type 0
-RefusesLength greatest old e new = EndsBefore 4 old e new ⊎ (IsReservedLength old e new ⊎ (EndsInLength old e new ⊎ IsNoLength greatest old e new))
+RefusesLength greatest old e new =
+    EndsBefore 4 old e new ⊎ (IsReservedLength old e new ⊎ (EndsInLength old e new ⊎ IsNoLength greatest old e new))

@@ -100,7 +100,9 @@ impl<'input, Endian: Endianity> EndianSlice<'input, Endian> {
     /// A reader of these bytes, at position 0.
     #[inline]
     pub fn new(slice: &'input [u8], endian: Endian) -> EndianSlice<'input, Endian>
-        ensures { ⟦<EndianSlice<'input, Endian> as Reader>⟧.view result ≡ record { bytes = slice.now; position = 0; is_big = Endian.is_big endian } }
+        ensures { let reader = ⟦<EndianSlice<'input, Endian> as Reader>⟧ in
+            reader.view result
+            ≡ record { bytes = slice.now; position = 0; is_big = Endian.is_big endian } }
     {
         EndianSlice {
             slice,
@@ -120,7 +122,9 @@ impl<'input, Endian: Endianity> EndianSlice<'input, Endian> {
         first: ReaderOffsetId,
     ) -> EndianSlice<'input, Endian>
         requires { first.0 + length slice.now < 2 ^ 64 }
-        ensures { ⟦<EndianSlice<'input, Endian> as Reader>⟧.view result ≡ record { bytes = slice.now; position = first.0; is_big = Endian.is_big endian } }
+        ensures { let reader = ⟦<EndianSlice<'input, Endian> as Reader>⟧ in
+            reader.view result
+            ≡ record { bytes = slice.now; position = first.0; is_big = Endian.is_big endian } }
     {
         EndianSlice {
             slice,
@@ -162,8 +166,10 @@ impl<'input, Endian: Endianity> EndianSlice<'input, Endian> {
     /// The offset, from the position, of the first byte of this value, or `None`.
     #[inline]
     pub fn find(&self, byte: u8) -> Option<usize>
-        ensures found { IfSome result (IsFirst byte (⟦<EndianSlice<'input, Endian> as Reader>⟧.view self.now).bytes) }
-        ensures none { IfNone result (All (λ b. b ≢ byte) (⟦<EndianSlice<'input, Endian> as Reader>⟧.view self.now).bytes) }
+        ensures found { let reader = ⟦<EndianSlice<'input, Endian> as Reader>⟧ in
+            IfSome result (IsFirst byte (reader.view self.now).bytes) }
+        ensures none { let reader = ⟦<EndianSlice<'input, Endian> as Reader>⟧ in
+            IfNone result (All (λ b. b ≢ byte) (reader.view self.now).bytes) }
     {
         find_byte(self.slice, byte)
     }
@@ -173,7 +179,8 @@ impl<'input, Endian: Endianity> EndianSlice<'input, Endian> {
     /// The caller has to make sure that what is left here is a part of what is left of `base`.
     #[inline]
     pub fn offset_from(&self, base: EndianSlice<'input, Endian>) -> usize
-        requires { IsPartOf (⟦<EndianSlice<'input, Endian> as Reader>⟧.view self.now) (⟦<EndianSlice<'input, Endian> as Reader>⟧.view base) }
+        requires { let reader = ⟦<EndianSlice<'input, Endian> as Reader>⟧ in
+            IsPartOf (reader.view self.now) (reader.view base) }
         ensures { result + (⟦<EndianSlice<'input, Endian> as Reader>⟧.view base.entry).position
             ≡ (⟦<EndianSlice<'input, Endian> as Reader>⟧.view self.now).position }
     {
@@ -185,8 +192,10 @@ impl<'input, Endian: Endianity> EndianSlice<'input, Endian> {
     /// Answers [`Error::BadUtf8`] exactly where they aren't UTF-8.
     #[inline]
     pub fn to_string(&self) -> Result<&'input str>
-        ensures ok { IfOk result (λ text. text.now ≡ (⟦<EndianSlice<'input, Endian> as Reader>⟧.view self.now).bytes) }
-        ensures utf8 { IsOk result ↔ IsUtf8 (⟦<EndianSlice<'input, Endian> as Reader>⟧.view self.now).bytes }
+        ensures ok { let reader = ⟦<EndianSlice<'input, Endian> as Reader>⟧ in
+            IfOk result (λ text. text.now ≡ (reader.view self.now).bytes) }
+        ensures utf8 { let reader = ⟦<EndianSlice<'input, Endian> as Reader>⟧ in
+            IsOk result ↔ IsUtf8 (reader.view self.now).bytes }
         ensures err { IfErr result (λ e. e ≡ BadUtf8) }
     {
         str::from_utf8(self.slice).map_err(|_| Error::BadUtf8)
@@ -198,8 +207,10 @@ impl<'input, Endian: Endianity> EndianSlice<'input, Endian> {
     /// Takes memory, and can answer [`Error::OutOfMemory`], only where they aren't UTF-8.
     #[inline]
     pub fn to_string_lossy(&self, mem: Global) -> Result<CowStr<'input>>
-        ensures ok { IfOk result (λ text. cow_str_bytes text ≡ utf8_lossy (⟦<EndianSlice<'input, Endian> as Reader>⟧.view self.now).bytes) }
-        ensures free { IsUtf8 (⟦<EndianSlice<'input, Endian> as Reader>⟧.view self.now).bytes → IsOk result }
+        ensures ok { let reader = ⟦<EndianSlice<'input, Endian> as Reader>⟧ in
+            IfOk result (λ text. cow_str_bytes text ≡ utf8_lossy (reader.view self.now).bytes) }
+        ensures free { let reader = ⟦<EndianSlice<'input, Endian> as Reader>⟧ in
+            IsUtf8 (reader.view self.now).bytes → IsOk result }
         ensures err { IfErr result (λ e. e ≡ OutOfMemory) }
     {
         match self.slice.to_str_lossy(mem) {
@@ -215,9 +226,11 @@ impl<'input, Endian: Endianity> EndianSlice<'input, Endian> {
     #[inline]
     pub fn range(&self, range: Range<usize>) -> EndianSlice<'input, Endian>
         requires ordered { range.start ≤ range.end }
-        requires within { range.end ≤ length (⟦<EndianSlice<'input, Endian> as Reader>⟧.view self.now).bytes }
-        ensures { ⟦<EndianSlice<'input, Endian> as Reader>⟧.view result
-            ≡ first (range.end - range.start) (after range.start (⟦<EndianSlice<'input, Endian> as Reader>⟧.view self.now)) }
+        requires within { let reader = ⟦<EndianSlice<'input, Endian> as Reader>⟧ in
+            range.end ≤ length (reader.view self.now).bytes }
+        ensures { let reader = ⟦<EndianSlice<'input, Endian> as Reader>⟧ in
+            reader.view result
+            ≡ first (range.end - range.start) (after range.start (reader.view self.now)) }
     {
         EndianSlice {
             slice: &self.slice[range.start..range.end],
@@ -231,7 +244,8 @@ impl<'input, Endian: Endianity> EndianSlice<'input, Endian> {
     /// The caller has to make sure that at least `range.start` bytes are left.
     #[inline]
     pub fn range_from(&self, range: RangeFrom<usize>) -> EndianSlice<'input, Endian>
-        requires { range.start ≤ length (⟦<EndianSlice<'input, Endian> as Reader>⟧.view self.now).bytes }
+        requires { let reader = ⟦<EndianSlice<'input, Endian> as Reader>⟧ in
+            range.start ≤ length (reader.view self.now).bytes }
         ensures { ⟦<EndianSlice<'input, Endian> as Reader>⟧.view result
             ≡ after range.start (⟦<EndianSlice<'input, Endian> as Reader>⟧.view self.now) }
     {
@@ -243,7 +257,8 @@ impl<'input, Endian: Endianity> EndianSlice<'input, Endian> {
     /// The caller has to make sure that at least `range.end` bytes are left.
     #[inline]
     pub fn range_to(&self, range: RangeTo<usize>) -> EndianSlice<'input, Endian>
-        requires { range.end ≤ length (⟦<EndianSlice<'input, Endian> as Reader>⟧.view self.now).bytes }
+        requires { let reader = ⟦<EndianSlice<'input, Endian> as Reader>⟧ in
+            range.end ≤ length (reader.view self.now).bytes }
         ensures { ⟦<EndianSlice<'input, Endian> as Reader>⟧.view result
             ≡ first range.end (⟦<EndianSlice<'input, Endian> as Reader>⟧.view self.now) }
     {
@@ -369,7 +384,8 @@ impl<'input, Endian: Endianity> Reader for EndianSlice<'input, Endian> {
     /// All bytes that are left, borrowed, so that it takes no memory.
     #[inline]
     fn to_slice(&self) -> Result<CowSlice<'_, u8>>
-        ensures ok { IfOk result (λ bytes. cow_slice_items bytes ≡ (⟦<EndianSlice<'input, Endian> as Reader>⟧.view self.now).bytes) }
+        ensures ok { let reader = ⟦<EndianSlice<'input, Endian> as Reader>⟧ in
+            IfOk result (λ bytes. cow_slice_items bytes ≡ (reader.view self.now).bytes) }
         ensures err { IfErr result (λ e. e ≡ OutOfMemory) }
         ensures free { IsOk result }
     {
@@ -381,9 +397,13 @@ impl<'input, Endian: Endianity> Reader for EndianSlice<'input, Endian> {
     /// Answers [`Error::BadUtf8`] exactly where they aren't UTF-8.
     #[inline]
     fn to_string(&self) -> Result<CowStr<'_>>
-        ensures ok { IfOk result (λ text. cow_str_bytes text ≡ (⟦<EndianSlice<'input, Endian> as Reader>⟧.view self.now).bytes) }
-        ensures utf8 { OnOk result (IsUtf8 (⟦<EndianSlice<'input, Endian> as Reader>⟧.view self.now).bytes) }
-        ensures err { IfErr result (λ e. (¬ (IsUtf8 (⟦<EndianSlice<'input, Endian> as Reader>⟧.view self.now).bytes) × (e ≡ BadUtf8)) ⊎ (e ≡ OutOfMemory)) }
+        ensures ok { let reader = ⟦<EndianSlice<'input, Endian> as Reader>⟧ in
+            IfOk result (λ text. cow_str_bytes text ≡ (reader.view self.now).bytes) }
+        ensures utf8 { let reader = ⟦<EndianSlice<'input, Endian> as Reader>⟧ in
+            OnOk result (IsUtf8 (reader.view self.now).bytes) }
+        ensures err { let reader = ⟦<EndianSlice<'input, Endian> as Reader>⟧ in
+            IfErr result
+            (λ e. (¬ (IsUtf8 (reader.view self.now).bytes) × (e ≡ BadUtf8)) ⊎ (e ≡ OutOfMemory)) }
         ensures free { IfErr result (λ e. e ≡ BadUtf8) }
     {
         Ok(CowStr::Borrowed(self.to_string()?))
@@ -392,8 +412,10 @@ impl<'input, Endian: Endianity> Reader for EndianSlice<'input, Endian> {
     /// As the trait's call; takes memory only where the bytes aren't UTF-8.
     #[inline]
     fn to_string_lossy(&self, mem: Global) -> Result<CowStr<'_>>
-        ensures ok { IfOk result (λ text. cow_str_bytes text ≡ utf8_lossy (⟦<EndianSlice<'input, Endian> as Reader>⟧.view self.now).bytes) }
-        ensures free { IsUtf8 (⟦<EndianSlice<'input, Endian> as Reader>⟧.view self.now).bytes → IsOk result }
+        ensures ok { let reader = ⟦<EndianSlice<'input, Endian> as Reader>⟧ in
+            IfOk result (λ text. cow_str_bytes text ≡ utf8_lossy (reader.view self.now).bytes) }
+        ensures free { let reader = ⟦<EndianSlice<'input, Endian> as Reader>⟧ in
+            IsUtf8 (reader.view self.now).bytes → IsOk result }
         ensures err { IfErr result (λ e. e ≡ OutOfMemory) }
     {
         self.to_string_lossy(mem)

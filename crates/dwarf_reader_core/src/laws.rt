@@ -20,7 +20,8 @@ pub fn one_outcome()
 
 /// No encoding begins another.
 pub fn no_encoding_begins_another()
-    ensures { (a b x y : List ℕ) → IsEncoding a → IsEncoding b → a ++ x ≡ b ++ y → (a ≡ b) × (x ≡ y) }
+    ensures { (a b x y : List ℕ) → IsEncoding a → IsEncoding b → a ++ x ≡ b ++ y
+        → (a ≡ b) × (x ≡ y) }
 {}
 
 /// Every number has exactly one shortest encoding.
@@ -31,18 +32,25 @@ pub fn exactly_one_shortest()
 
 /// What encodes a number, within the limit of its kind, is read as the number, whatever follows.
 pub fn written_is_read()
-    ensures { (k : Kind) (number : Number k) (bytes rest : List ℕ) → Encodes k bytes number → length bytes ≤ limit k → IsTrue (is_in_range k number) → HasNumber k (bytes ++ rest) number (length bytes) }
+    ensures { (k : Kind) (number : Number k) (bytes rest : List ℕ) → Encodes k bytes number
+        → length bytes ≤ limit k → IsTrue (is_in_range k number)
+        → HasNumber k (bytes ++ rest) number (length bytes) }
 {}
 
 /// Bytes begin with one string, or have no zero byte.
 pub fn one_string()
-    ensures taken { (old s t x y : Input) → TakesString old s x → TakesString old t y → (s ≡ t) × (x ≡ y) }
+    ensures taken { (old s t x y : Input) → TakesString old s x → TakesString old t y
+        → (s ≡ t) × (x ≡ y) }
     ensures either { (old s x : Input) (e : Error) → TakesString old s x → Lacks 0 old e → ⊥ }
 {}
 
 /// Bytes begin with one initial length, or are refused for one reason.
 pub fn one_length()
-    ensures taken { (greatest m n : ℕ) (old x y : Input) (f g : Format) → TakesLength greatest old m f x → TakesLength greatest old n g y → (m ≡ n) × (f ≡ g) × (x ≡ y) }
-    ensures refused { (greatest : ℕ) (old x y : Input) (d e : Error) → RefusesLength greatest old d x → RefusesLength greatest old e y → (d ≡ e) × (x ≡ y) }
-    ensures either { (greatest n : ℕ) (old x y : Input) (f : Format) (e : Error) → TakesLength greatest old n f x → RefusesLength greatest old e y → ⊥ }
+    ensures taken { (greatest m n : ℕ) (old x y : Input) (f g : Format)
+        → TakesLength greatest old m f x → TakesLength greatest old n g y
+        → (m ≡ n) × (f ≡ g) × (x ≡ y) }
+    ensures refused { (greatest : ℕ) (old x y : Input) (d e : Error)
+        → RefusesLength greatest old d x → RefusesLength greatest old e y → (d ≡ e) × (x ≡ y) }
+    ensures either { (greatest n : ℕ) (old x y : Input) (f : Format) (e : Error)
+        → TakesLength greatest old n f x → RefusesLength greatest old e y → ⊥ }
 {}

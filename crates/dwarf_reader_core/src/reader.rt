@@ -32,10 +32,10 @@ use std::fmt::Debug;
 /// An implementation writes the calls up to [`read_slice`](Reader::read_slice). The others have
 /// bodies, and an implementation that writes one anew owes the same contract.
 ///
-/// ```ignore
+/// ```
 /// let mut input = EndianSlice::new(&[0x81, 0x01, 0x00], LittleEndian);
-/// assert_eq!(input.read_uleb128(), Ok(129));
-/// assert_eq!(input.offset_id(), ReaderOffsetId(2));
+/// assert_eq!(rt; input.read_uleb128(), Ok(129));
+/// assert_eq!(rt; input.offset_id(), ReaderOffsetId(2));
 /// ```
 pub trait Reader: Debug + Drop + Sized {
     /// The byte order of numbers.
@@ -85,7 +85,8 @@ pub trait Reader: Debug + Drop + Sized {
     fn truncate(&mut self, len: Self::Offset) -> Result<()>
         ensures ok { OnOk result (view self.new ≡ first (Self.Offset.value len) (view self.old)) }
         ensures enough { OnOk result (Self.Offset.value len ≤ length (view self.old).bytes) }
-        ensures err { IfErr result (λ e. EndsBefore (Self.Offset.value len) (view self.old) e (view self.new)) };
+        ensures err { IfErr result
+            (λ e. EndsBefore (Self.Offset.value len) (view self.old) e (view self.new)) };
 
     /// How many bytes the position lies behind that of `base`.
     ///
@@ -101,14 +102,16 @@ pub trait Reader: Debug + Drop + Sized {
     /// The offset, in bytes from the position, of the place that the identifier names, or `None` if
     /// it is neither one of the bytes that are left nor their end.
     fn lookup_offset_id(&self, id: ReaderOffsetId) -> Option<Self::Offset>
-        ensures found { IfSome result (λ offset. (view self.now).position + Self.Offset.value offset ≡ id.0) }
+        ensures found { IfSome result
+            (λ offset. (view self.now).position + Self.Offset.value offset ≡ id.0) }
         ensures covered { IsSome result ↔ Covers (view self.now) id.0 };
 
     /// The offset, in bytes from the position, of the first byte of this value.
     ///
     /// Answers [`Error::UnexpectedEof`] where there is none.
     fn find(&self, byte: u8) -> Result<Self::Offset>
-        ensures ok { IfOk result (λ index. IsFirst byte (view self.now).bytes (Self.Offset.value index)) }
+        ensures ok { IfOk result
+            (λ index. IsFirst byte (view self.now).bytes (Self.Offset.value index)) }
         ensures err { IfErr result (Lacks byte (view self.now)) };
 
     /// Takes `len` bytes.
@@ -116,16 +119,19 @@ pub trait Reader: Debug + Drop + Sized {
     /// Answers [`Error::UnexpectedEof`] where fewer are left, and then takes none.
     fn skip(&mut self, len: Self::Offset) -> Result<()>
         ensures ok { OnOk result (Takes (Self.Offset.value len) (view self.old) (view self.new)) }
-        ensures err { IfErr result (λ e. EndsBefore (Self.Offset.value len) (view self.old) e (view self.new)) };
+        ensures err { IfErr result
+            (λ e. EndsBefore (Self.Offset.value len) (view self.old) e (view self.new)) };
 
     /// Takes `len` bytes, and gives a reader of them that begins at their position.
     ///
     /// Answers [`Error::UnexpectedEof`] where fewer are left, and [`Error::OutOfMemory`] where there
     /// is no memory for the reader; then it takes none.
     fn split(&mut self, len: Self::Offset) -> Result<Self>
-        ensures part { IfOk result (λ part. view part ≡ first (Self.Offset.value len) (view self.old)) }
+        ensures part { IfOk result
+            (λ part. view part ≡ first (Self.Offset.value len) (view self.old)) }
         ensures ok { OnOk result (Takes (Self.Offset.value len) (view self.old) (view self.new)) }
-        ensures err { IfErr result (λ e. EndsBefore (Self.Offset.value len) (view self.old) e (view self.new)
+        ensures err { IfErr result
+            (λ e. EndsBefore (Self.Offset.value len) (view self.old) e (view self.new)
             ⊎ (WantsMemory clone_is_free e × (view self.new ≡ view self.old))) };
 
     /// All bytes that are left; none is taken.
@@ -142,7 +148,8 @@ pub trait Reader: Debug + Drop + Sized {
     fn to_string(&self) -> Result<CowStr<'_>>
         ensures ok { IfOk result (λ text. cow_str_bytes text ≡ (view self.now).bytes) }
         ensures utf8 { OnOk result (IsUtf8 (view self.now).bytes) }
-        ensures err { IfErr result (λ e. (¬ (IsUtf8 (view self.now).bytes) × (e ≡ BadUtf8)) ⊎ (e ≡ OutOfMemory)) };
+        ensures err { IfErr result
+            (λ e. (¬ (IsUtf8 (view self.now).bytes) × (e ≡ BadUtf8)) ⊎ (e ≡ OutOfMemory)) };
 
     /// All bytes that are left, as text; none is taken.
     ///
@@ -160,7 +167,8 @@ pub trait Reader: Debug + Drop + Sized {
     fn read_slice(&mut self, buf: &mut [u8]) -> Result<()>
         ensures filled { OnOk result (buf.new ≡ take (length buf.old) (view self.old).bytes) }
         ensures ok { OnOk result (Takes (length buf.old) (view self.old) (view self.new)) }
-        ensures err { IfErr result (λ e. EndsBefore (length buf.old) (view self.old) e (view self.new)) }
+        ensures err { IfErr result
+            (λ e. EndsBefore (length buf.old) (view self.old) e (view self.new)) }
         ensures kept { OnErr result (buf.new ≡ buf.old) };
 
     /// Whether no bytes are left.
@@ -290,7 +298,8 @@ pub trait Reader: Debug + Drop + Sized {
     /// there is no memory for the reader; then it takes none.
     #[inline]
     fn read_null_terminated_slice(&mut self) -> Result<Self>
-        ensures ok { IfOk result (λ string. TakesString (view self.old) (view string) (view self.new)) }
+        ensures ok { IfOk result
+            (λ string. TakesString (view self.old) (view string) (view self.new)) }
         ensures err { IfErr result (λ e. Lacks 0 (view self.old) e ⊎ WantsMemory clone_is_free e) }
         ensures kept { OnErr result (view self.new ≡ view self.old) }
     {
@@ -325,7 +334,8 @@ pub trait Reader: Debug + Drop + Sized {
     #[inline(always)]
     fn read_uleb128(&mut self) -> Result<u64>
         ensures ok { IfOk result (λ v. ReadsNumber unsigned64 (view self.old) v (view self.new)) }
-        ensures err { IfErr result (λ e. RefusesNumber unsigned64 (view self.old) e (view self.new)) }
+        ensures err { IfErr result
+            (λ e. RefusesNumber unsigned64 (view self.old) e (view self.new)) }
     {
         // Most numbers have one byte.
         let first = self.read_u8()?;
@@ -369,7 +379,8 @@ pub trait Reader: Debug + Drop + Sized {
     #[inline(always)]
     fn read_uleb128_u16(&mut self) -> Result<u16>
         ensures ok { IfOk result (λ v. ReadsNumber unsigned16 (view self.old) v (view self.new)) }
-        ensures err { IfErr result (λ e. RefusesNumber unsigned16 (view self.old) e (view self.new)) }
+        ensures err { IfErr result
+            (λ e. RefusesNumber unsigned16 (view self.old) e (view self.new)) }
     {
         let first = self.read_u8()?;
         if !has_continuation_bit(first) {
@@ -428,9 +439,12 @@ pub trait Reader: Debug + Drop + Sized {
     /// [`Error::UnsupportedOffset`] where the length is no offset, having taken all twelve.
     #[inline]
     fn read_initial_length(&mut self) -> Result<(Self::Offset, Format)>
-        ensures ok { IfOk result (λ found. TakesLength Self.Offset.GREATEST (view self.old) (Self.Offset.value found.0) found.1 (view self.new)) }
+        ensures ok { IfOk result
+            (λ found. TakesLength Self.Offset.GREATEST (view self.old)
+            (Self.Offset.value found.0) found.1 (view self.new)) }
         ensures in_range { IfOk result (λ found. Self.Offset.value found.0 ≤ Self.Offset.GREATEST) }
-        ensures err { IfErr result (λ e. RefusesLength Self.Offset.GREATEST (view self.old) e (view self.new)) }
+        ensures err { IfErr result
+            (λ e. RefusesLength Self.Offset.GREATEST (view self.old) e (view self.new)) }
     {
         const FIRST_RESERVED: u32 = 0xffff_fff0;
         const DWARF_64: u32 = 0xffff_ffff;
@@ -452,8 +466,12 @@ pub trait Reader: Debug + Drop + Sized {
     /// [`Error::UnsupportedAddressSize`].
     #[inline]
     fn read_address_size(&mut self) -> Result<u8>
-        ensures ok { IfOk result (λ size. TakesByte (view self.old) size (view self.new) × IsTrue (is_number_size size)) }
-        ensures err { IfErr result (λ e. EndsBefore 1 (view self.old) e (view self.new) ⊎ IsNoAddressSize (view self.old) e (view self.new)) }
+        ensures ok { IfOk result
+            (λ size. TakesByte (view self.old) size (view self.new)
+            × IsTrue (is_number_size size)) }
+        ensures err { IfErr result
+            (λ e. EndsBefore 1 (view self.old) e (view self.new)
+            ⊎ IsNoAddressSize (view self.old) e (view self.new)) }
     {
         match self.read_u8()? {
             size @ (1 | 2 | 4 | 8) => Ok(size),
@@ -467,7 +485,9 @@ pub trait Reader: Debug + Drop + Sized {
     /// [`Error::UnexpectedEof`] where fewer bytes are left; then it takes none.
     #[inline]
     fn read_address(&mut self, size: u8) -> Result<u64>
-        ensures ok { IfOk result (λ address. TakesNumber size (view self.old) address (view self.new) × IsTrue (is_number_size size)) }
+        ensures ok { IfOk result
+            (λ address. TakesNumber size (view self.old) address (view self.new)
+            × IsTrue (is_number_size size)) }
         ensures err { IfErr result (λ e. RefusesAddress size (view self.old) e (view self.new)) }
     {
         match size {
@@ -485,10 +505,13 @@ pub trait Reader: Debug + Drop + Sized {
     /// offset is taken and is [`Error::UnsupportedOffset`].
     #[inline]
     fn read_word(&mut self, format: Format) -> Result<Self::Offset>
-        ensures ok { IfOk result (λ x. TakesNumber (word_size format) (view self.old) (Self.Offset.value x) (view self.new)) }
+        ensures ok { IfOk result
+            (λ x. TakesNumber (word_size format)
+            (view self.old) (Self.Offset.value x) (view self.new)) }
         ensures in_range { IfOk result (λ x. Self.Offset.value x ≤ Self.Offset.GREATEST) }
-        ensures err { IfErr result (λ e. EndsBefore (word_size format) (view self.old) e (view self.new)
-            ⊎ IsNoOffset Self.Offset.GREATEST (word_size format) (view self.old) e (view self.new)) }
+        ensures err { IfErr result
+            (λ e. EndsBefore (word_size format) (view self.old) e (view self.new) ⊎ IsNoOffset
+            Self.Offset.GREATEST (word_size format) (view self.old) e (view self.new)) }
     {
         let word = match format {
             Format::Dwarf32 => self.read_u32()? as u64,
@@ -500,10 +523,13 @@ pub trait Reader: Debug + Drop + Sized {
     /// Takes a word that is a length; refuses as [`read_word`](Reader::read_word) does.
     #[inline]
     fn read_length(&mut self, format: Format) -> Result<Self::Offset>
-        ensures ok { IfOk result (λ x. TakesNumber (word_size format) (view self.old) (Self.Offset.value x) (view self.new)) }
+        ensures ok { IfOk result
+            (λ x. TakesNumber (word_size format)
+            (view self.old) (Self.Offset.value x) (view self.new)) }
         ensures in_range { IfOk result (λ x. Self.Offset.value x ≤ Self.Offset.GREATEST) }
-        ensures err { IfErr result (λ e. EndsBefore (word_size format) (view self.old) e (view self.new)
-            ⊎ IsNoOffset Self.Offset.GREATEST (word_size format) (view self.old) e (view self.new)) }
+        ensures err { IfErr result
+            (λ e. EndsBefore (word_size format) (view self.old) e (view self.new) ⊎ IsNoOffset
+            Self.Offset.GREATEST (word_size format) (view self.old) e (view self.new)) }
     {
         self.read_word(format)
     }
@@ -511,10 +537,13 @@ pub trait Reader: Debug + Drop + Sized {
     /// Takes a word that is an offset; refuses as [`read_word`](Reader::read_word) does.
     #[inline]
     fn read_offset(&mut self, format: Format) -> Result<Self::Offset>
-        ensures ok { IfOk result (λ x. TakesNumber (word_size format) (view self.old) (Self.Offset.value x) (view self.new)) }
+        ensures ok { IfOk result
+            (λ x. TakesNumber (word_size format)
+            (view self.old) (Self.Offset.value x) (view self.new)) }
         ensures in_range { IfOk result (λ x. Self.Offset.value x ≤ Self.Offset.GREATEST) }
-        ensures err { IfErr result (λ e. EndsBefore (word_size format) (view self.old) e (view self.new)
-            ⊎ IsNoOffset Self.Offset.GREATEST (word_size format) (view self.old) e (view self.new)) }
+        ensures err { IfErr result
+            (λ e. EndsBefore (word_size format) (view self.old) e (view self.new) ⊎ IsNoOffset
+            Self.Offset.GREATEST (word_size format) (view self.old) e (view self.new)) }
     {
         self.read_word(format)
     }
@@ -526,9 +555,12 @@ pub trait Reader: Debug + Drop + Sized {
     /// offset is taken and is [`Error::UnsupportedOffset`].
     #[inline]
     fn read_sized_offset(&mut self, size: u8) -> Result<Self::Offset>
-        ensures ok { IfOk result (λ x. TakesNumber size (view self.old) (Self.Offset.value x) (view self.new) × IsTrue (is_number_size size)) }
+        ensures ok { IfOk result
+            (λ x. TakesNumber size (view self.old) (Self.Offset.value x) (view self.new)
+            × IsTrue (is_number_size size)) }
         ensures in_range { IfOk result (λ x. Self.Offset.value x ≤ Self.Offset.GREATEST) }
-        ensures err { IfErr result (λ e. RefusesOffset Self.Offset.GREATEST size (view self.old) e (view self.new)) }
+        ensures err { IfErr result
+            (λ e. RefusesOffset Self.Offset.GREATEST size (view self.old) e (view self.new)) }
     {
         let number = match size {
             1 => self.read_u8()? as u64,

@@ -7,6 +7,7 @@
 
 #![tactic(auto)]
 
+pub mod callers;
 pub mod owned_reader;
 pub mod parts;
 #[cfg(test)]

@@ -1,16 +1,24 @@
 //! All public calls, each by worked answers.
 
-ghost use Rattle.std.specs.Prelude.{◌≡◌, false};
-
-use dwarf_read_core::{EndianSlice, Error, LittleEndian, Reader, ReaderOffsetId};
+use dwarf_read_core::{EndianSlice, Error, LittleEndian};
+use std::alloc::Global;
 use std::fmt::Debug;
 use std::hash::{DefaultHasher, Hash, Hasher};
 use std::process::Abort;
 
+// The same in a constant, where no function can be called.
+macro_rules! eof {
+    ($position:expr) => {
+        dwarf_read_core::Error::UnexpectedEof(dwarf_read_core::ReaderOffsetId($position))
+    };
+}
+
 mod addresses;
 mod cache;
+mod callers;
 mod constants;
 mod errors;
+mod examples;
 mod leb128;
 mod numbers;
 mod owned;
@@ -29,14 +37,20 @@ fn same<T: PartialEq + Debug + Drop, W: Debug + Copy>(rt: &impl Abort, got: T, w
 
 // The error that bytes are missing at a position.
 fn eof(position: u64) -> Error {
-    Error::UnexpectedEof(ReaderOffsetId(position))
+    eof!(position)
 }
 
 // A reader of these bytes, at position 0.
-fn little(bytes: &[u8]) -> EndianSlice<'_, LittleEndian>
-    ensures { ⟦<EndianSlice<'static, LittleEndian> as Reader>⟧.view result ≡ record { bytes = bytes.now; position = 0; is_big = false } }
-{
+fn little(bytes: &[u8]) -> EndianSlice<'_, LittleEndian> {
     EndianSlice::new(bytes, LittleEndian)
+}
+
+// Makes the last request for memory of a test whose requests `tools/fail-alloc` refuses in turn. Where
+// it is refused, each one before it was refused in an earlier run of the test.
+fn end_requests(rt: &impl Print, mem: Global) {
+    if Vec::from_slice(mem, &[0u8]).is_err() {
+        let _ = println!(rt; "every request was refused");
+    }
 }
 
 fn hash_of<T: Hash>(value: &T) -> u64 {

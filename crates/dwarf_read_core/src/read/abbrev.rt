@@ -18,6 +18,7 @@ ghost use Rattle.dwarf_read_core.specs.Answer.{Answers, AnswersStrictly, IsFinal
 ghost use Rattle.dwarf_read_core.specs.Reading.{Gives, tag_at, children_at, specification_at, attributes_in, declared_at, declaration_at, table_in};
 ghost use Rattle.dwarf_read_core.specs.TableEntries.{declared_in, ClosesAt};
 
+use super::key::Key;
 use super::section::Section;
 use dwarf_base_core::{
     DebugAbbrevOffset, Encoding, Endianity, Error, ReaderOffset, ReaderOffsetId, Result, SectionId,
@@ -62,12 +63,13 @@ impl<'input, Endian: Endianity> DebugAbbrev<EndianSlice<'input, Endian>> {
     /// The section with these bytes, whose first byte has position 0.
     ///
     /// ```
-    /// let section = DebugAbbrev::new(&bytes, LittleEndian);
+    /// let section = DebugAbbrev::new(bytes, LittleEndian);
     /// let table = section.abbreviations(mem, DebugAbbrevOffset(0))?;
     /// let tag = table.get(1).map(|abbreviation| abbreviation.tag());
     /// ```
     pub fn new(debug_abbrev_section: &'input [u8], endian: Endian) -> Self
-        ensures { ⟦<EndianSlice<'input, Endian> as Reader>⟧.view (debug_abbrev_reader result)
+        ensures { let reader = ⟦<EndianSlice<'input, Endian> as Reader>⟧ in
+            reader.view (debug_abbrev_reader result)
             ≡ record { bytes = debug_abbrev_section.now; position = 0; is_big = Endian.is_big endian } }
     {
         Self::from(EndianSlice::new(debug_abbrev_section, endian))
@@ -114,16 +116,23 @@ impl<R: Reader> DebugAbbrev<R> {
         mem: Global,
         offset: DebugAbbrevOffset<R::Offset>,
     ) -> Result<Abbreviations>
-        ensures answer { Answers result (R.view (debug_abbrev_reader self.now)) (R.Offset.value offset.0) }
+        ensures answer { let section = R.view (debug_abbrev_reader self.now) in
+            Answers result section (R.Offset.value offset.0) }
 
         // A declaration takes five bytes at least, and an attribute two.
-        ensures bound { IfOk result (λ table. 5 * finite.len table.by_code + 2 * attribute_count table.by_code + R.Offset.value offset.0 ≤ length (R.view (debug_abbrev_reader self.now)).bytes) }
+        ensures bound { let section = R.view (debug_abbrev_reader self.now) in
+            IfOk result (λ table. 5 * finite.len table.by_code + 2 * attribute_count table.by_code
+            + R.Offset.value offset.0 ≤ length section.bytes) }
 
         // Memory is wanted only by a declaration, or by a clone that takes some.
-        ensures memory { R.clone_is_free ≡ true → TakesNoMemory (R.view (debug_abbrev_reader self.now)) (R.Offset.value offset.0) → IsErrOf result Error.OutOfMemory → ⊥ }
+        ensures memory { let section = R.view (debug_abbrev_reader self.now) in
+            R.clone_is_free ≡ true → TakesNoMemory section (R.Offset.value offset.0)
+            → IsErrOf result Error.OutOfMemory → ⊥ }
 
         // Bytes behind the section change nothing, where the answer doesn't tell of its end.
-        ensures stable { IsFinal result → (more : List ℕ) → Answers result (followed_by (R.view (debug_abbrev_reader self.now)) more) (R.Offset.value offset.0) }
+        ensures stable { let section = R.view (debug_abbrev_reader self.now) in
+            IsFinal result → (more : List ℕ)
+            → Answers result (followed_by section more) (R.Offset.value offset.0) }
     {
         let mut input = self.debug_abbrev_section.try_clone()?;
         input.skip(offset.0)?;
@@ -213,7 +222,7 @@ pub struct Abbreviations {
     // Those with the codes from 1 on, in order, as compilers number them.
     vec: Vec<Abbreviation>,
     // The others.
-    map: BTreeMap<u64, Abbreviation>,
+    map: BTreeMap<Key, Abbreviation>,
     closed_by_null: bool,
 }
 
@@ -277,7 +286,8 @@ impl Abbreviations {
             × (self.new.by_code ≡ finite.insert self.old.by_code abbreviation.code abbreviation)) }
         ensures close { OnOk result (self.new.close ≡ self.old.close) }
         ensures repeated { IfErr result (λ e. e ≢ Error.OutOfMemory
-            → (finite.contains_key self.old.by_code abbreviation.code ≡ true) × (e ≡ Error.DuplicateAbbreviationCode abbreviation.code)) }
+            → (finite.contains_key self.old.by_code abbreviation.code ≡ true)
+            × (e ≡ Error.DuplicateAbbreviationCode abbreviation.code)) }
         ensures unchanged { OnErr result (self.new ≡ self.old) }
     {
         let code = abbreviation.code();
@@ -288,13 +298,13 @@ impl Abbreviations {
         }
         if index == len {
             // The code may stand in the map already, and it stays there.
-            if !self.map.is_empty() && self.map.contains_key(&code) {
+            if !self.map.is_empty() && self.map.contains_key(&Key(code)) {
                 return Err(Error::DuplicateAbbreviationCode(code));
             }
             self.vec.push(abbreviation)?;
             return Ok(());
         }
-        let Entry::Vacant(place) = self.map.entry(code)? else {
+        let Entry::Vacant(place) = self.map.entry(Key(code))? else {
             return Err(Error::DuplicateAbbreviationCode(code));
         };
         place.insert(abbreviation);
@@ -306,13 +316,14 @@ impl Abbreviations {
     #[tactic(auto, using(crate::proofs::Tables::found_in_vec, crate::proofs::Tables::found_in_map, crate::proofs::Tables::not_found, crate::proofs::Tables::keyed_in_vec, crate::proofs::Tables::keyed_in_map))]
     pub fn get(&self, code: u64) -> Option<&Abbreviation>
         ensures found { option_copied result ≡ finite.get self.now.by_code code }
-        ensures coded { IfSome result (λ abbreviation. (abbreviation.now.code ≡ code) × (0 < code)) }
+        ensures coded { IfSome result
+            (λ abbreviation. (abbreviation.now.code ≡ code) × (0 < code)) }
     {
         // Code 0 wraps to an index past every vector's end.
         let index = code.wrapping_sub(1) as usize;
         match self.vec.get(index) {
             Some(abbreviation) => Some(abbreviation),
-            None => self.map.get(&code),
+            None => self.map.get(&Key(code)),
         }
     }
 
@@ -353,8 +364,11 @@ impl Abbreviations {
     // Reads a table, and the code of value 0 that closes it, if there is one.
     #[tactic(auto, using(crate::proofs::Whole::table_fails, crate::proofs::Whole::table_ends, crate::proofs::Whole::table_repeats, crate::proofs::Whole::table_goes_on, crate::proofs::Declarations::declaration_shorter))]
     fn parse<R: Reader>(mem: Global, input: &mut R) -> Result<Abbreviations>
-        ensures ends { (rest : List ℕ) → declaration_at (end_of (R.view input.old)) (R.view input.old).bytes ≡ Ok (None, rest) → IsOk result }
-        ensures read { Gives (λ t. t) result (table_in (end_of (R.view input.old)) finite.empty (R.view input.old).bytes) }
+        ensures ends { (rest : List ℕ)
+            → declaration_at (end_of (R.view input.old)) (R.view input.old).bytes ≡ Ok (None, rest)
+            → IsOk result }
+        ensures read { Gives (λ t. t) result
+            (table_in (end_of (R.view input.old)) finite.empty (R.view input.old).bytes) }
     {
         let mut abbreviations = Abbreviations::empty(mem);
         // One list for the whole table, in which each declaration's attributes are collected.
@@ -385,7 +399,7 @@ enum TableEntry {
 #[derive(Debug, Drop)]
 pub struct AbbreviationsIter<'table> {
     vec: slice::Iter<'table, Abbreviation>,
-    map: Values<'table, u64, Abbreviation>,
+    map: Values<'table, Key, Abbreviation>,
 }
 
 impl<'table> Model for AbbreviationsIter<'table> {
@@ -486,7 +500,12 @@ impl Eq for Abbreviation {
 
 impl Abbreviation {
     fn new(code: u64, tag: DwTag, has_children: DwChildren, attributes: Attributes) -> Abbreviation
-        ensures { result ≡ record { code = code; tag = tag.0; children = has_children.0 == 1; attributes = attributes.items } }
+        ensures { result ≡ record {
+          code = code;
+          tag = tag.0;
+          children = has_children.0 == 1;
+          attributes = attributes.items;
+        } }
     {
         Abbreviation {
             code,
@@ -539,7 +558,8 @@ impl Abbreviation {
 
     #[tactic(auto, using(crate::proofs::Declarations::DeclarationFound, crate::proofs::Again::end_again, crate::proofs::Numbers::number_read, crate::proofs::Numbers::refused, crate::proofs::Numbers::end_stays), unfolding(crate::specs::Reading::tag_at))]
     fn parse_tag<R: Reader>(input: &mut R) -> Result<DwTag>
-        ensures read { Gives (λ t. (t.0, (R.view input.new).bytes)) result (tag_at (end_of (R.view input.old)) (R.view input.old).bytes) }
+        ensures read { Gives (λ t. (t.0, (R.view input.new).bytes)) result
+            (tag_at (end_of (R.view input.old)) (R.view input.old).bytes) }
         ensures stays { OnOk result (end_of (R.view input.new) ≡ end_of (R.view input.old)) }
     {
         let value = input.read_uleb128_u16()?;
@@ -552,7 +572,8 @@ impl Abbreviation {
 
     #[tactic(auto, unfolding(crate::specs::Reading::children_at))]
     fn parse_has_children<R: Reader>(input: &mut R) -> Result<DwChildren>
-        ensures read { Gives (λ c. (c.0 == 1, (R.view input.new).bytes)) result (children_at (end_of (R.view input.old)) (R.view input.old).bytes) }
+        ensures read { Gives (λ c. (c.0 == 1, (R.view input.new).bytes)) result
+            (children_at (end_of (R.view input.old)) (R.view input.old).bytes) }
         ensures stays { OnOk result (end_of (R.view input.new) ≡ end_of (R.view input.old)) }
     {
         let value = DwChildren(input.read_u8()?);
@@ -569,7 +590,8 @@ impl Abbreviation {
         input: &mut R,
         scratch: &mut Vec<AttributeSpecification>,
     ) -> Result<Attributes>
-        ensures read { Gives (λ v. (v.items, (R.view input.new).bytes)) result (attributes_in (end_of (R.view input.old)) (R.view input.old).bytes) }
+        ensures read { Gives (λ v. (v.items, (R.view input.new).bytes)) result
+            (attributes_in (end_of (R.view input.old)) (R.view input.old).bytes) }
         ensures stays { OnOk result (end_of (R.view input.new) ≡ end_of (R.view input.old)) }
     {
         scratch.clear();
@@ -588,7 +610,8 @@ impl Abbreviation {
         scratch: &mut Vec<AttributeSpecification>,
     ) -> Result<Abbreviation>
         ensures coded { IfOk result (λ d. d.code ≡ code) }
-        ensures read { Gives (λ d. (d, (R.view input.new).bytes)) result (declared_at (end_of (R.view input.old)) code (R.view input.old).bytes) }
+        ensures read { Gives (λ d. (d, (R.view input.new).bytes)) result
+            (declared_at (end_of (R.view input.old)) code (R.view input.old).bytes) }
         ensures stays { OnOk result (end_of (R.view input.new) ≡ end_of (R.view input.old)) }
     {
         let tag = Self::parse_tag(input)?;
@@ -606,8 +629,11 @@ impl Abbreviation {
     ) -> Result<TableEntry>
         ensures coded { IfOk result (λ entry. IfSome (declared_in entry) (λ d. 0 < d.code)) }
         ensures closes { IfOk result (ClosesAt (R.view input.old).bytes) }
-        ensures ends { (rest : List ℕ) → declaration_at (end_of (R.view input.old)) (R.view input.old).bytes ≡ Ok (None, rest) → IsOk result }
-        ensures read { Gives (λ entry. (declared_in entry, (R.view input.new).bytes)) result (declaration_at (end_of (R.view input.old)) (R.view input.old).bytes) }
+        ensures ends { (rest : List ℕ)
+            → declaration_at (end_of (R.view input.old)) (R.view input.old).bytes ≡ Ok (None, rest)
+            → IsOk result }
+        ensures read { Gives (λ entry. (declared_in entry, (R.view input.new).bytes)) result
+            (declaration_at (end_of (R.view input.old)) (R.view input.old).bytes) }
         ensures stays { OnOk result (end_of (R.view input.new) ≡ end_of (R.view input.old)) }
     {
         if input.is_empty() {
@@ -716,7 +742,8 @@ impl AttributeSpecification {
     // Reads an attribute, or `None` where name and form are 0, which ends the declaration.
     #[tactic(auto, using(crate::proofs::Numbers::number_read, crate::proofs::Numbers::refused, crate::proofs::Numbers::end_stays), unfolding(crate::specs::Reading::specification_at, crate::specs::Reading::value_at))]
     fn parse<R: Reader>(input: &mut R) -> Result<Option<AttributeSpecification>>
-        ensures read { Gives (λ s. (s, (R.view input.new).bytes)) result (specification_at (end_of (R.view input.old)) (R.view input.old).bytes) }
+        ensures read { Gives (λ s. (s, (R.view input.new).bytes)) result
+            (specification_at (end_of (R.view input.old)) (R.view input.old).bytes) }
         ensures stays { OnOk result (end_of (R.view input.new) ≡ end_of (R.view input.old)) }
     {
         let name = DwAt(input.read_uleb128_u16()?);
@@ -744,7 +771,9 @@ impl<T> DebugAbbrev<T> {
     where
         F: FnMut(&'a T) -> R + Drop,
         requires { TakesAt F.FnMut borrow (debug_abbrev_reader self.now) }
-        ensures { (after : F) × CalledAt F.FnMut borrow (debug_abbrev_reader self.now) (debug_abbrev_reader result) after }
+        ensures { (after : F)
+            × CalledAt F.FnMut borrow
+            (debug_abbrev_reader self.now) (debug_abbrev_reader result) after }
     {
         borrow(&self.debug_abbrev_section).into()
     }

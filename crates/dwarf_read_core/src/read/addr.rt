@@ -132,11 +132,9 @@ impl<R> From<R> for DebugAddr<R> {
 /// The sets of addresses that are left of a section, each by its header.
 ///
 /// ```
-/// let mut headers = section.headers()?;
-/// while let Some(header) = headers.next()? {
-///     let mut entries = header.entries()?;
-///     while let Some(address) = entries.next()? {
-///         println!(rt; "{:#x}", address)?;
+/// for header in section.headers()? {
+///     for address in header?.entries()? {
+///         println!(rt; "{:#x}", address?)?;
 ///     }
 /// }
 /// ```

@@ -88,8 +88,10 @@ pub trait Section<R>: From<R> + Sized {
     fn dwp_range(&self, offset: u32, size: u32) -> Result<Self>
     where
         R: Reader,
-        ensures ok { IfOk result (λ section. RangeAt (R.view (section_reader self.now)) offset size (Ok (R.view (section_reader section)))) }
-        ensures err { IfErr result (λ e. RangeAt (R.view (section_reader self.now)) offset size (Err e) ⊎ WantsMemory R.clone_is_free e) }
+        ensures ok { let section = R.view (section_reader self.now) in
+            IfOk result (λ part. RangeAt section offset size (Ok (R.view (section_reader part)))) }
+        ensures err { let section = R.view (section_reader self.now) in
+            IfErr result (λ e. RangeAt section offset size (Err e) ⊎ WantsMemory R.clone_is_free e) }
     {
         let mut part = self.reader().try_clone()?;
         part.skip(R::Offset::from_u32(offset))?;
@@ -102,7 +104,9 @@ pub trait Section<R>: From<R> + Sized {
     fn lookup_offset_id(&self, id: ReaderOffsetId) -> Option<(SectionId, R::Offset)>
     where
         R: Reader,
-        ensures found { IfSome result (λ found. (found.0 ≡ section_id) × ((R.view (section_reader self.now)).position + R.Offset.value found.1 ≡ id.0)) }
+        ensures found { let section = R.view (section_reader self.now) in
+            IfSome result (λ found. (found.0 ≡ section_id)
+            × (section.position + R.Offset.value found.1 ≡ id.0)) }
         ensures covered { IsSome result ↔ Covers (R.view (section_reader self.now)) id.0 }
     {
         self.reader()

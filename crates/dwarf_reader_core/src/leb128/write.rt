@@ -9,8 +9,9 @@ use std::marker::Model;
 
 /// The bytes of one LEB128 number.
 ///
-/// ```ignore
-/// assert_eq!(Leb128::unsigned(12857).bytes(), [0xb9, 0x64].as_slice());
+/// ```
+/// let number = Leb128::unsigned(12857);
+/// assert_eq!(rt; number.bytes(), [0xb9, 0x64].as_slice());
 /// ```
 #[derive(Debug, Clone, Copy)]
 pub struct Leb128 {
@@ -59,7 +60,8 @@ impl Leb128 {
     pub fn unsigned(value: u64) -> Leb128
         ensures shortest { IsShortest unsigned64 value result }
         ensures within { length result ≤ 10 }
-        ensures read { (rest : List ℕ) → HasNumber unsigned64 (result ++ rest) value (length result) }
+        ensures read { (rest : List ℕ)
+            → HasNumber unsigned64 (result ++ rest) value (length result) }
     {
         let mut bytes = [0; 10];
         let mut len = 0;

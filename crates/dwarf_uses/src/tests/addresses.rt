@@ -3,10 +3,11 @@
 use super::worked::{CUT_SET, FOUR_ADDRESSES, TWO_SETS, twenty_words};
 use super::{eof, same};
 use dwarf_read_core::{
-    AddrHeaderIter, BigEndian, DebugAddr, DebugAddrBase, DebugAddrIndex, DebugAddrOffset, Encoding,
-    EndianSlice, Error, Format, LittleEndian, Reader, ReaderOffsetId, Result,
+    AddrEntryIter, AddrHeader, AddrHeaderIter, DebugAddr, DebugAddrBase, DebugAddrIndex,
+    EndianSlice, Error, Format, Reader, ReaderOffset, ReaderOffsetId, Result, RunTimeEndian,
 };
 use std::alloc::{AllocError, Global};
+use std::process::Abort;
 use std::test::Fail;
 
 const BYTES: &[u8] =
@@ -23,16 +24,25 @@ static ADDRESSES: &[(u8, usize, usize, u64, u64)] = &[
     (1, 8, 3, 0x12, 0x12),
 ];
 
+// The address that an index names.
+fn address_at(
+    bytes: &[u8],
+    order: RunTimeEndian,
+    size: u8,
+    base: usize,
+    index: usize,
+) -> Result<u64> {
+    let section = section_at(bytes, order, false);
+    section.get_address(size, DebugAddrBase(base), DebugAddrIndex(index))
+}
+
 #[test]
 fn addresses_are_looked_up(rt: HostRuntime) {
-    let little = DebugAddr::from(EndianSlice::new(BYTES, LittleEndian));
-    let big = DebugAddr::from(EndianSlice::new(BYTES, BigEndian));
     for (size, base, index, in_little, in_big) in ADDRESSES {
-        let place = (DebugAddrBase(*base), DebugAddrIndex(*index));
-        let address = little.get_address(*size, place.0, place.1);
-        same(&rt, address, Ok(*in_little), place);
-        let address = big.get_address(*size, place.0, place.1);
-        same(&rt, address, Ok(*in_big), place);
+        let address = address_at(BYTES, RunTimeEndian::Little, *size, *base, *index);
+        same(&rt, address, Ok(*in_little), index);
+        let address = address_at(BYTES, RunTimeEndian::Big, *size, *base, *index);
+        same(&rt, address, Ok(*in_big), index);
     }
 }
 
@@ -40,50 +50,59 @@ fn addresses_are_looked_up(rt: HostRuntime) {
 fn twenty_addresses_are_looked_up(rt: HostRuntime) -> std::result::Result<(), Fail> {
     for (format, size, base) in [(Format::Dwarf32, 4, 8), (Format::Dwarf64, 8, 16)] {
         let bytes = twenty_words(rt.alloc(), format, false)?;
-        let section = DebugAddr::from(EndianSlice::new(&bytes, LittleEndian));
-        for (index, wanted) in (1000..1020u64).enumerate() {
-            let address = section.get_address(size, DebugAddrBase(base), DebugAddrIndex(index));
-            same(&rt, address, Ok(wanted), (size, index));
+        for index in 0..20usize {
+            let address = address_at(&bytes, RunTimeEndian::Little, size, base, index);
+            same(&rt, address, Ok(1000 + index as u64), index);
         }
     }
     Ok(())
 }
 
+// Bytes, size, base and index, and the fault.
+static FAULTS: &[(&[u8], u8, usize, usize, Error)] = &[
+    (BYTES, 4, 8, 4, eof!(24)),
+    (BYTES, 4, 8, 5, eof!(8)),
+    (BYTES, 4, 10, 3, eof!(22)),
+    (BYTES, 8, 8, 2, eof!(24)),
+    (BYTES, 4, 24, 0, eof!(24)),
+    (BYTES, 4, 25, 0, eof!(0)),
+    (BYTES, 0, 8, 7, Error::UnsupportedAddressSize(0)),
+    (&[0; 64], 8, 0, 1 << 61, Error::UnsupportedOffset),
+    (&[0; 66], 8, 0, 1 << 61, Error::UnsupportedOffset),
+    (&[0; 64], 8, 65, 1 << 61, eof!(0)),
+    (&[0; 64], 3, 0, 21, Error::UnsupportedAddressSize(3)),
+    (&[0; 66], 3, 0, 21, Error::UnsupportedAddressSize(3)),
+    (&[0; 64], 3, 0, 22, eof!(0)),
+    (&[0; 66], 3, 0, 22, Error::UnsupportedAddressSize(3)),
+    (&[0; 64], 3, 0, usize::MAX, Error::UnsupportedOffset),
+    (&[0; 64], 255, 0, usize::MAX, Error::UnsupportedOffset),
+    (&[0; 64], 8, 60, 0, eof!(60)),
+    (&[0; 64], 8, 1, 8, eof!(1)),
+    (&[], 4, 0, 0, eof!(0)),
+];
+
 #[test]
 fn first_faults_of_addresses_are_returned(rt: HostRuntime) {
-    let (zeros, none) = ([0; 64], []);
-    let rows: [(&[u8], u8, usize, usize, Error); 16] = [
-        (BYTES, 4, 8, 4, eof(24)),
-        (BYTES, 4, 8, 5, eof(8)),
-        (BYTES, 4, 10, 3, eof(22)),
-        (BYTES, 8, 8, 2, eof(24)),
-        (BYTES, 4, 24, 0, eof(24)),
-        (BYTES, 4, 25, 0, eof(0)),
-        (BYTES, 0, 8, 7, Error::UnsupportedAddressSize(0)),
-        (&zeros, 8, 0, 1 << 61, Error::UnsupportedOffset),
-        (&zeros, 8, 65, 1 << 61, eof(0)),
-        (&zeros, 3, 0, 21, Error::UnsupportedAddressSize(3)),
-        (&zeros, 3, 0, 22, eof(0)),
-        (&zeros, 3, 0, usize::MAX, Error::UnsupportedOffset),
-        (&zeros, 255, 0, usize::MAX, Error::UnsupportedOffset),
-        (&zeros, 8, 60, 0, eof(60)),
-        (&zeros, 8, 1, 8, eof(1)),
-        (&none, 4, 0, 0, eof(0)),
-    ];
-    for (bytes, size, base, index, fault) in rows {
-        let section = DebugAddr::from(EndianSlice::new(bytes, LittleEndian));
-        let address = section.get_address(size, DebugAddrBase(base), DebugAddrIndex(index));
-        same(&rt, address, Err(fault), (size, base, index));
+    for (bytes, size, base, index, fault) in FAULTS {
+        let address = address_at(bytes, RunTimeEndian::Little, *size, *base, *index);
+        same(&rt, address, Err(*fault), (size, base, index));
     }
 }
 
-// The reader at the first position 0, or at 100.
-fn reader_at<'a>(bytes: &'a [u8], is_far: bool) -> EndianSlice<'a, LittleEndian> {
+type Slice<'a> = EndianSlice<'a, RunTimeEndian>;
+
+// A section at the first position 0, or at 100.
+fn section_at(bytes: &[u8], order: RunTimeEndian, is_far: bool) -> DebugAddr<Slice<'_>> {
     if is_far && bytes.len() < 1000 {
-        EndianSlice::with_first_id(bytes, LittleEndian, ReaderOffsetId(100))
+        let first = ReaderOffsetId(100);
+        DebugAddr::from(EndianSlice::with_first_id(bytes, order, first))
     } else {
-        EndianSlice::new(bytes, LittleEndian)
+        DebugAddr::from(EndianSlice::new(bytes, order))
     }
+}
+
+fn headers_at(bytes: &[u8], is_far: bool) -> Result<AddrHeaderIter<Slice<'_>>> {
+    section_at(bytes, RunTimeEndian::Little, is_far).headers()
 }
 
 // The fault at the first position 0, or at 100.
@@ -94,201 +113,288 @@ fn fault_at(fault: Error, is_far: bool) -> Error {
     }
 }
 
-// Whether three calls find no set.
-pub(super) fn is_over<R: Reader>(headers: &mut AddrHeaderIter<R>) -> bool {
-    for _ in 0..3u8 {
-        match headers.next() {
-            Ok(None) => {}
-            _ => return false,
-        }
-    }
-    true
+// What four calls return of a section's sets: of each its length.
+pub(super) fn next_lengths<R: Reader>(headers: &mut AddrHeaderIter<R>) -> [Result<Option<u64>>; 4] {
+    [
+        next_length(headers),
+        next_length(headers),
+        next_length(headers),
+        next_length(headers),
+    ]
 }
 
+fn next_length<R: Reader>(headers: &mut AddrHeaderIter<R>) -> Result<Option<u64>> {
+    match headers.next()? {
+        Some(header) => Ok(Some(header.length().into_u64())),
+        None => Ok(None),
+    }
+}
+
+// What four calls return of a set's addresses.
+fn next_addresses<R: Reader>(entries: &mut AddrEntryIter<R>) -> [Result<Option<u64>>; 4] {
+    [
+        next_address(entries),
+        next_address(entries),
+        next_address(entries),
+        next_address(entries),
+    ]
+}
+
+fn next_address<R: Reader>(entries: &mut AddrEntryIter<R>) -> Result<Option<u64>> {
+    entries.next()
+}
+
+fn lengths_at(bytes: &[u8], is_far: bool) -> Result<[Result<Option<u64>>; 4]> {
+    let mut headers = headers_at(bytes, is_far)?;
+    Ok(next_lengths(&mut headers))
+}
+
+// Bytes, and the fault of their first set.
+static SET_FAULTS: &[(&[u8], Error)] = &[
+    (b"\0\0\0\0", eof!(4)),
+    (b"\x01\0\0\0\x05", eof!(4)),
+    (b"\x02\0\0\0\x05\0", eof!(6)),
+    (b"\x03\0\0\0\x05\0\x08", eof!(7)),
+    (b"\x05\0\0\0\x05\0\x08\0", eof!(4)),
+    (b"\x04\0\0\0\x05\0\x03\0", Error::UnsupportedAddressSize(3)),
+    (
+        b"\x04\0\0\0\x05\0\x08\x01",
+        Error::UnsupportedSegmentSize(1),
+    ),
+    (
+        b"\xf0\xff\xff\xff",
+        Error::UnknownReservedLength(0xffff_fff0),
+    ),
+    (b"\xff\xff\xff", eof!(0)),
+    (b"\xff\xff\xff\xff\x12\x34\x56\x78", eof!(4)),
+    (b"\x04\0\0\0\x04\0\x08\0", Error::UnknownVersion(4)),
+    (
+        b"\x04\0\0\0\x04\0\x08\0\x09\0\0\0\x05\0\x04\0\x78\x56\x34\x12\xaa",
+        Error::UnknownVersion(4),
+    ),
+];
+
+// No set follows a fault.
 #[test]
-fn first_faults_of_sets_are_returned(rt: HostRuntime) -> std::result::Result<(), Fail> {
-    let rows: [(&[u8], Error); 12] = [
-        (b"\0\0\0\0", eof(4)),
-        (b"\x01\0\0\0\x05", eof(4)),
-        (b"\x02\0\0\0\x05\0", eof(6)),
-        (b"\x03\0\0\0\x05\0\x08", eof(7)),
-        (b"\x05\0\0\0\x05\0\x08\0", eof(4)),
-        (b"\x04\0\0\0\x05\0\x03\0", Error::UnsupportedAddressSize(3)),
-        (
-            b"\x04\0\0\0\x05\0\x08\x01",
-            Error::UnsupportedSegmentSize(1),
-        ),
-        (
-            b"\xf0\xff\xff\xff",
-            Error::UnknownReservedLength(0xffff_fff0),
-        ),
-        (b"\xff\xff\xff", eof(0)),
-        (b"\xff\xff\xff\xff\x12\x34\x56\x78", eof(4)),
-        (b"\x04\0\0\0\x04\0\x08\0", Error::UnknownVersion(4)),
-        (
-            b"\x04\0\0\0\x04\0\x08\0\x09\0\0\0\x05\0\x04\0\x78\x56\x34\x12\xaa",
-            Error::UnknownVersion(4),
-        ),
-    ];
-    for (bytes, fault) in rows {
+fn first_faults_of_sets_are_returned(rt: HostRuntime) {
+    for (bytes, fault) in SET_FAULTS {
         for is_far in [false, true] {
-            let mut headers = DebugAddr::from(reader_at(bytes, is_far)).headers()?;
-            let wanted = Some(fault_at(fault, is_far));
-            same(&rt, headers.next().err(), wanted, bytes);
-            same(&rt, is_over(&mut headers), true, bytes);
+            let wanted = [Err(fault_at(*fault, is_far)), Ok(None), Ok(None), Ok(None)];
+            same(&rt, lengths_at(bytes, is_far), Ok(wanted), bytes);
         }
     }
-    Ok(())
 }
 
-// A set: its offset, its length, its address size and format, and three results of its entries.
-type Set = (usize, usize, u8, Format, [Result<Option<u64>>; 3]);
+// A set's offset, its length, its address size and its format.
+type Header = (u64, u64, u8, Format);
+
+// The next set, and what four calls return of its addresses.
+fn next_set<R: Reader>(
+    headers: &mut AddrHeaderIter<R>,
+) -> Result<Option<(Header, [Result<Option<u64>>; 4])>> {
+    let Some(header) = headers.next()? else {
+        return Ok(None);
+    };
+    let encoding = header.encoding();
+    let addresses = next_addresses(&mut header.entries()?);
+    let (offset, length) = (header.offset().0.into_u64(), header.length().into_u64());
+    Ok(Some((
+        (offset, length, encoding.address_size, encoding.format),
+        addresses,
+    )))
+}
+
+// Bytes, whether the first position is 100, and the sets.
+static SETS: &[(&[u8], bool, &[(Header, &[Result<Option<u64>>])])] = &[
+    (b"", false, &[]),
+    (
+        b"\x04\0\0\0\x05\0\x08\0",
+        false,
+        &[((0, 4, 8, Format::Dwarf32), &[Ok(None); 4])],
+    ),
+    (
+        CUT_SET,
+        false,
+        &[(
+            (0, 9, 4, Format::Dwarf32),
+            &[Ok(Some(0x1234_5678)), Err(eof!(12)), Ok(None), Ok(None)],
+        )],
+    ),
+    (
+        CUT_SET,
+        true,
+        &[(
+            (0, 9, 4, Format::Dwarf32),
+            &[Ok(Some(0x1234_5678)), Err(eof!(112)), Ok(None), Ok(None)],
+        )],
+    ),
+    (
+        TWO_SETS,
+        true,
+        &[
+            (
+                (0, 12, 4, Format::Dwarf32),
+                &[
+                    Ok(Some(0x1234_5678)),
+                    Ok(Some(0xdead_beef)),
+                    Ok(None),
+                    Ok(None),
+                ],
+            ),
+            (
+                (16, 20, 8, Format::Dwarf64),
+                &[
+                    Ok(Some(0x1234_5678_9abc_def0)),
+                    Ok(Some(0xdead_beef_dead_beef)),
+                    Ok(None),
+                    Ok(None),
+                ],
+            ),
+        ],
+    ),
+];
 
 #[test]
 fn sets_are_walked(rt: HostRuntime) -> std::result::Result<(), Fail> {
-    let [one, two, three, four] = FOUR_ADDRESSES;
-    let short = Format::Dwarf32;
-    let two_sets = [
-        (0, 12, 4, short, [Ok(Some(one)), Ok(Some(two)), Ok(None)]),
-        (
-            16,
-            20,
-            8,
-            Format::Dwarf64,
-            [Ok(Some(three)), Ok(Some(four)), Ok(None)],
-        ),
-    ];
-    let cut_set = (0, 9, 4, short, [Ok(Some(one)), Err(eof(12)), Ok(None)]);
-    let no_entries = (0, 4, 8, short, [Ok(None), Ok(None), Ok(None)]);
-    let rows: [(&[u8], &[Set]); 4] = [
-        (b"", &[]),
-        (b"\x04\0\0\0\x05\0\x08\0", &[no_entries]),
-        (CUT_SET, &[cut_set]),
-        (TWO_SETS, &two_sets),
-    ];
-    for (bytes, sets) in rows {
-        for is_far in [false, true] {
-            let mut headers = DebugAddr::from(reader_at(bytes, is_far)).headers()?;
-            for (offset, length, address_size, format, entries) in sets {
-                let header = headers.next()?.ok_or("a set is missing")?;
-                let place = (header.offset(), header.length());
-                same(&rt, place, (DebugAddrOffset(*offset), *length), bytes);
-                let encoding = Encoding {
-                    address_size: *address_size,
-                    format: *format,
-                    version: 5,
-                };
-                same(&rt, header.encoding(), encoding, bytes);
-                let mut found = header.entries()?;
-                for entry in *entries {
-                    let wanted = match entry {
-                        Ok(address) => Ok(address),
-                        Err(fault) => Err(fault_at(fault, is_far)),
-                    };
-                    same(&rt, found.next(), wanted, bytes);
-                }
-                same(&rt, found.next(), Ok(None), bytes);
-            }
-            same(&rt, is_over(&mut headers), true, bytes);
+    for (bytes, is_far, sets) in SETS {
+        let mut headers = headers_at(bytes, *is_far)?;
+        for (wanted, addresses) in *sets {
+            let (header, found) = next_set(&mut headers)?.ok_or("a set is missing")?;
+            same(&rt, header, *wanted, bytes);
+            same(&rt, found.as_slice(), *addresses, bytes);
+        }
+        same(&rt, next_lengths(&mut headers), [Ok(None); 4], bytes);
+    }
+    Ok(())
+}
+
+// Appends the addresses of a section's sets, up to the first fault.
+pub(super) fn walk<R: Reader>(section: &DebugAddr<R>, addresses: &mut Vec<u64>) -> Result<()> {
+    for header in section.headers()? {
+        for address in header?.entries()? {
+            addresses.push(address?)?;
         }
     }
     Ok(())
 }
 
-// The addresses of a section's sets one behind the other, and the first fault.
-pub(super) fn walked<R: Reader>(
+// Ends the test where a section's sets have other addresses, or another fault.
+pub(super) fn check_walk<R: Reader>(
+    rt: &impl Abort,
     mem: Global,
     section: &DebugAddr<R>,
-) -> std::result::Result<(Vec<u64>, Option<Error>), AllocError> {
-    let mut addresses = Vec::new(mem);
-    let headers = match section.headers() {
-        Ok(headers) => headers,
-        Err(fault) => return Ok((addresses, Some(fault))),
-    };
-    for header in headers {
-        let header = match header {
-            Ok(header) => header,
-            Err(fault) => return Ok((addresses, Some(fault))),
-        };
-        let entries = match header.entries() {
-            Ok(entries) => entries,
-            Err(fault) => return Ok((addresses, Some(fault))),
-        };
-        for entry in entries {
-            match entry {
-                Ok(address) => addresses.push(address)?,
-                Err(fault) => return Ok((addresses, Some(fault))),
-            }
-        }
-    }
-    Ok((addresses, None))
+    addresses: &[u64],
+    outcome: Result<()>,
+) {
+    let mut found = Vec::new(mem);
+    same(rt, walk(section, &mut found), outcome, addresses);
+    same(rt, found.as_slice(), addresses, "addresses");
+}
+
+fn check_section(
+    rt: &impl Abort,
+    mem: Global,
+    bytes: &[u8],
+    order: RunTimeEndian,
+    addresses: &[u64],
+    outcome: Result<()>,
+) {
+    let section = section_at(bytes, order, false);
+    check_walk(rt, mem, &section, addresses, outcome);
 }
 
 #[test]
-fn sets_are_iterated(rt: HostRuntime) -> std::result::Result<(), Fail> {
-    let mem = rt.alloc();
-    let big = b"\0\0\0\x08\0\x05\x04\0\x12\x34\x56\x78";
-    let section = DebugAddr::from(EndianSlice::new(big, BigEndian));
-    let header = section.headers()?.next()?.ok_or("no set")?;
-    let place = (header.offset(), header.length());
-    same(&rt, place, (DebugAddrOffset(0), 8), "big");
-    let (addresses, fault) = walked(mem, &section)?;
-    same(&rt, addresses.as_slice(), &[0x1234_5678], "big");
-    same(&rt, fault, None, "big");
-    let (addresses, fault) = walked(mem, &DebugAddr::from(reader_at(CUT_SET, false)))?;
-    same(&rt, addresses.as_slice(), &[0x1234_5678], "cut");
-    same(&rt, fault, Some(eof(12)), "cut");
-    Ok(())
+fn sets_are_iterated(rt: HostRuntime) {
+    let (mem, little, big) = (rt.alloc(), RunTimeEndian::Little, RunTimeEndian::Big);
+    let bytes = b"\0\0\0\x08\0\x05\x04\0\x12\x34\x56\x78";
+    check_section(&rt, mem, bytes, big, &[0x1234_5678], Ok(()));
+    check_section(&rt, mem, CUT_SET, little, &[0x1234_5678], Err(eof(12)));
 }
 
 #[test]
-fn cut_sets_end_early(rt: HostRuntime) -> std::result::Result<(), Fail> {
+fn cut_sets_end_early(rt: HostRuntime) {
+    let little = RunTimeEndian::Little;
     for len in 0..49usize {
-        let section = DebugAddr::from(EndianSlice::new(&TWO_SETS[..len], LittleEndian));
-        let (addresses, fault) = walked(rt.alloc(), &section)?;
-        let (count, wanted) = match len {
-            0 => (0, None),
-            1..=3 => (0, Some(eof(0))),
-            4..=15 => (0, Some(eof(4))),
-            16 => (2, None),
-            17..=19 => (2, Some(eof(16))),
-            20..=27 => (2, Some(eof(20))),
-            28..=47 => (2, Some(eof(28))),
-            _ => (4, None),
+        let (count, outcome) = match len {
+            0 => (0, Ok(())),
+            1..=3 => (0, Err(eof(0))),
+            4..=15 => (0, Err(eof(4))),
+            16 => (2, Ok(())),
+            17..=19 => (2, Err(eof(16))),
+            20..=27 => (2, Err(eof(20))),
+            28..=47 => (2, Err(eof(28))),
+            _ => (4, Ok(())),
         };
-        same(&rt, addresses.as_slice(), &FOUR_ADDRESSES[..count], len);
-        same(&rt, fault, wanted, len);
+        let addresses = &FOUR_ADDRESSES[..count];
+        check_section(
+            &rt,
+            rt.alloc(),
+            &TWO_SETS[..len],
+            little,
+            addresses,
+            outcome,
+        );
     }
-    Ok(())
 }
 
 fn cloned<T: Clone>(value: &T) -> std::result::Result<T, AllocError> {
     value.clone()
 }
 
+// What two iterators return in four calls each.
+type Twice = [[Result<Option<u64>>; 4]; 2];
+
+// What four calls return behind the first set, of an iterator and then of its clone.
+fn cloned_headers<R: Reader + Clone>(section: &DebugAddr<R>) -> Result<Twice> {
+    let mut headers = section.headers()?;
+    next_length(&mut headers)?;
+    let mut copy = cloned(&headers)?;
+    Ok([next_lengths(&mut headers), next_lengths(&mut copy)])
+}
+
+// The headers of the first two sets.
+fn two_headers<R: Reader>(
+    section: &DebugAddr<R>,
+) -> Result<(Option<AddrHeader<R>>, Option<AddrHeader<R>>)> {
+    let mut headers = section.headers()?;
+    Ok((headers.next()?, headers.next()?))
+}
+
+// What four calls return behind the second set's first address, of an iterator and then of its clone.
+fn cloned_entries<R: Reader + Clone>(section: &DebugAddr<R>) -> Result<Option<Twice>> {
+    let (_, second) = two_headers(section)?;
+    let Some(second) = second else {
+        return Ok(None);
+    };
+    let mut entries = second.entries()?;
+    next_address(&mut entries)?;
+    let mut copy = cloned(&entries)?;
+    Ok(Some([next_addresses(&mut entries), next_addresses(&mut copy)]))
+}
+
+// Whether the second header is equal to its clone, and to the first.
+fn equalities<R: Reader + Clone + PartialEq>(section: &DebugAddr<R>) -> Result<(bool, bool)> {
+    let (first, second) = two_headers(section)?;
+    let copy = cloned(&second)?;
+    Ok((second == copy, second == first))
+}
+
+fn cloned_parts<R: Reader + Clone + PartialEq>(
+    section: &DebugAddr<R>,
+) -> Result<(Twice, Option<Twice>, (bool, bool))> {
+    let headers = cloned_headers(section)?;
+    Ok((headers, cloned_entries(section)?, equalities(section)?))
+}
+
+// A clone goes on where its original does, and neither moves the other.
 #[test]
 fn clones_go_on_alike(rt: HostRuntime) -> std::result::Result<(), Fail> {
-    let [_, _, three, four] = FOUR_ADDRESSES;
-    let section = DebugAddr::from(EndianSlice::new(TWO_SETS, LittleEndian));
-    let mut headers = section.headers()?;
-    let first = headers.next()?.ok_or("no set")?;
-    let mut headers_copy = cloned(&headers)?;
-    let second = headers.next()?.ok_or("no second set")?;
-    same(&rt, headers_copy.next()?.as_ref(), Some(&second), "headers");
-    let are_over = (is_over(&mut headers), is_over(&mut headers_copy));
-    same(&rt, are_over, (true, true), "headers");
-    let copy = cloned(&second)?;
-    same(&rt, &copy, &second, "a header");
-    assert_ne!(rt; first, second);
-    let place = (copy.offset(), copy.length(), copy.encoding());
-    let wanted = (DebugAddrOffset(16), 20, second.encoding());
-    same(&rt, place, wanted, "a header");
-    let mut entries = copy.entries()?;
-    same(&rt, entries.next(), Ok(Some(three)), "entries");
-    let mut entries_copy = cloned(&entries)?;
-    for wanted in [Some(four), None] {
-        same(&rt, entries.next(), Ok(wanted), "entries");
-        same(&rt, entries_copy.next(), Ok(wanted), "entries");
-    }
+    let section = section_at(TWO_SETS, RunTimeEndian::Little, false);
+    let (headers, entries, are_equal) = cloned_parts(&section)?;
+    let left = [Ok(Some(20)), Ok(None), Ok(None), Ok(None)];
+    same(&rt, headers, [left; 2], "headers");
+    let left = [Ok(Some(FOUR_ADDRESSES[3])), Ok(None), Ok(None), Ok(None)];
+    same(&rt, entries, Some([left; 2]), "entries");
+    same(&rt, are_equal, (true, false), "a header");
     Ok(())
 }

@@ -1,7 +1,7 @@
 //! The cache of abbreviation tables.
 
 use super::worked::ENDED;
-use super::{eof, same};
+use super::{end_requests, eof, same};
 use dwarf_read_core::{
     AbbreviationsCache, AbbreviationsCacheStrategy, DebugAbbrev, DebugAbbrevOffset, EndianSlice,
     Error, LittleEndian, Result,
@@ -157,26 +157,33 @@ fn code_or_refused(rt: &impl Abort, code: Result<u64>, wanted: u64, what: &str) 
 
 // With requests for memory that are refused, a refused call leaves the old cache.
 #[test]
-fn refused_memory(rt: HostRuntime) {
-    let Ok(mut cache) = populated(rt.alloc()) else {
-        return;
-    };
-    let wanted = match set_nine(rt.alloc(), &mut cache) {
-        Ok(()) => 9,
-        Err(error) => {
-            same(&rt, error, Error::OutOfMemory, "set");
-            0
-        }
-    };
-    code_or_refused(&rt, code_at(&cache, &one(), 5), wanted, "set");
-    let offsets = [Ok(DebugAbbrevOffset(0)), Ok(DebugAbbrevOffset(0))];
-    let strategy = AbbreviationsCacheStrategy::Duplicates;
-    let wanted = match cache.populate(strategy, &none(), offsets.into_iter()) {
-        Ok(()) => 0,
-        Err(error) => {
-            same(&rt, error, Error::OutOfMemory, "populate");
-            1
-        }
-    };
-    code_or_refused(&rt, code_at(&cache, &one(), 0), wanted, "populate");
+fn refused_memory_for_one_table(rt: HostRuntime) {
+    if let Ok(mut cache) = populated(rt.alloc()) {
+        let wanted = match set_nine(rt.alloc(), &mut cache) {
+            Ok(()) => 9,
+            Err(error) => {
+                same(&rt, error, Error::OutOfMemory, "set");
+                0
+            }
+        };
+        code_or_refused(&rt, code_at(&cache, &one(), 5), wanted, "set");
+    }
+    end_requests(&rt, rt.alloc());
+}
+
+#[test]
+fn refused_memory_for_all_tables(rt: HostRuntime) {
+    if let Ok(mut cache) = populated(rt.alloc()) {
+        let offsets = [Ok(DebugAbbrevOffset(0)), Ok(DebugAbbrevOffset(0))];
+        let strategy = AbbreviationsCacheStrategy::Duplicates;
+        let wanted = match cache.populate(strategy, &none(), offsets.into_iter()) {
+            Ok(()) => 0,
+            Err(error) => {
+                same(&rt, error, Error::OutOfMemory, "populate");
+                1
+            }
+        };
+        code_or_refused(&rt, code_at(&cache, &one(), 0), wanted, "populate");
+    }
+    end_requests(&rt, rt.alloc());
 }

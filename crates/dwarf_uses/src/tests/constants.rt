@@ -22,79 +22,72 @@ mod families;
 mod operations;
 
 // Each constant has the published value, and prints as its name.
-fn check_rows<T: fmt::Display + Copy>(
-    rt: &impl Abort,
-    mem: Global,
-    rows: &[Row<T>],
-) -> Result<(), Fail> {
+fn check_rows<T: fmt::Display + Copy>(rt: &impl Abort, mem: Global, rows: &[Row<T>]) {
     for (constant, value, published, name) in rows {
         same(rt, *value, *published, name);
-        let text = format!(in mem; "{constant}")?;
-        same(rt, text.as_str(), *name, name);
+        match format!(in mem; "{constant}") {
+            Ok(text) => same(rt, text.as_str(), *name, name),
+            Err(_) => assert!(rt; false, "{name}"),
+        }
     }
-    Ok(())
 }
 
 #[test]
-fn attributes_are_as_published(rt: HostRuntime) -> Result<(), Fail> {
+fn attributes_are_as_published(rt: HostRuntime) {
     let mem = rt.alloc();
-    check_rows(&rt, mem, attributes::FIRST_ATTRIBUTES)?;
-    check_rows(&rt, mem, attributes::LATER_ATTRIBUTES)?;
-    check_rows(&rt, mem, attributes::MIPS_AND_GNU_ATTRIBUTES)?;
-    check_rows(&rt, mem, attributes::VENDOR_ATTRIBUTES)?;
-    Ok(())
+    check_rows(&rt, mem, attributes::FIRST_ATTRIBUTES);
+    check_rows(&rt, mem, attributes::LATER_ATTRIBUTES);
+    check_rows(&rt, mem, attributes::MIPS_AND_GNU_ATTRIBUTES);
+    check_rows(&rt, mem, attributes::VENDOR_ATTRIBUTES);
 }
 
 #[test]
-fn tags_and_forms_are_as_published(rt: HostRuntime) -> Result<(), Fail> {
+fn tags_and_forms_are_as_published(rt: HostRuntime) {
     let mem = rt.alloc();
-    check_rows(&rt, mem, families::TAGS)?;
-    check_rows(&rt, mem, families::FORMS)?;
-    check_rows(&rt, mem, families::LANGUAGES)?;
-    check_rows(&rt, mem, families::INDEX_ATTRIBUTES)?;
-    check_rows(&rt, mem, families::LINE_CONTENTS)?;
-    Ok(())
+    check_rows(&rt, mem, families::TAGS);
+    check_rows(&rt, mem, families::FORMS);
+    check_rows(&rt, mem, families::LANGUAGES);
+    check_rows(&rt, mem, families::INDEX_ATTRIBUTES);
+    check_rows(&rt, mem, families::LINE_CONTENTS);
 }
 
 #[test]
-fn operations_are_as_published(rt: HostRuntime) -> Result<(), Fail> {
+fn operations_are_as_published(rt: HostRuntime) {
     let mem = rt.alloc();
-    check_rows(&rt, mem, operations::OPERATIONS)?;
-    check_rows(&rt, mem, operations::REGISTERS)?;
-    check_rows(&rt, mem, operations::LATER_OPERATIONS)?;
-    Ok(())
+    check_rows(&rt, mem, operations::OPERATIONS);
+    check_rows(&rt, mem, operations::REGISTERS);
+    check_rows(&rt, mem, operations::LATER_OPERATIONS);
 }
 
 #[test]
-fn codes_are_as_published(rt: HostRuntime) -> Result<(), Fail> {
+fn codes_are_as_published(rt: HostRuntime) {
     let mem = rt.alloc();
-    check_rows(&rt, mem, codes::UNIT_TYPES)?;
-    check_rows(&rt, mem, codes::CALL_FRAMES)?;
-    check_rows(&rt, mem, codes::CHILDREN)?;
-    check_rows(&rt, mem, codes::BASE_TYPE_ENCODINGS)?;
-    check_rows(&rt, mem, codes::LOCATION_LIST_ENTRIES)?;
-    check_rows(&rt, mem, codes::DECIMAL_SIGNS)?;
-    check_rows(&rt, mem, codes::ENDIANITIES)?;
-    check_rows(&rt, mem, codes::ACCESSIBILITIES)?;
-    check_rows(&rt, mem, codes::VISIBILITIES)?;
-    check_rows(&rt, mem, codes::VIRTUALITIES)?;
-    check_rows(&rt, mem, codes::IDENTIFIER_CASES)?;
-    check_rows(&rt, mem, codes::CALLING_CONVENTIONS)?;
-    check_rows(&rt, mem, codes::INLININGS)?;
-    check_rows(&rt, mem, codes::ARRAY_ORDERINGS)?;
-    check_rows(&rt, mem, codes::DISCRIMINANTS)?;
-    check_rows(&rt, mem, codes::DEFAULTED)?;
-    check_rows(&rt, mem, codes::LINE_STANDARD)?;
-    check_rows(&rt, mem, codes::LINE_EXTENDED)?;
-    check_rows(&rt, mem, codes::MACINFO)?;
-    check_rows(&rt, mem, codes::MACRO_ENTRIES)?;
-    check_rows(&rt, mem, codes::RANGE_LIST_ENTRIES)?;
-    check_rows(&rt, mem, codes::POINTER_ENCODINGS)?;
-    check_rows(&rt, mem, codes::GDB_INDEX_SYMBOL_KINDS)?;
-    check_rows(&rt, mem, codes::SECTIONS)?;
-    check_rows(&rt, mem, codes::SECTIONS_V2)?;
-    check_rows(&rt, mem, codes::ADDRESS_CLASSES)?;
-    Ok(())
+    check_rows(&rt, mem, codes::UNIT_TYPES);
+    check_rows(&rt, mem, codes::CALL_FRAMES);
+    check_rows(&rt, mem, codes::CHILDREN);
+    check_rows(&rt, mem, codes::BASE_TYPE_ENCODINGS);
+    check_rows(&rt, mem, codes::LOCATION_LIST_ENTRIES);
+    check_rows(&rt, mem, codes::DECIMAL_SIGNS);
+    check_rows(&rt, mem, codes::ENDIANITIES);
+    check_rows(&rt, mem, codes::ACCESSIBILITIES);
+    check_rows(&rt, mem, codes::VISIBILITIES);
+    check_rows(&rt, mem, codes::VIRTUALITIES);
+    check_rows(&rt, mem, codes::IDENTIFIER_CASES);
+    check_rows(&rt, mem, codes::CALLING_CONVENTIONS);
+    check_rows(&rt, mem, codes::INLININGS);
+    check_rows(&rt, mem, codes::ARRAY_ORDERINGS);
+    check_rows(&rt, mem, codes::DISCRIMINANTS);
+    check_rows(&rt, mem, codes::DEFAULTED);
+    check_rows(&rt, mem, codes::LINE_STANDARD);
+    check_rows(&rt, mem, codes::LINE_EXTENDED);
+    check_rows(&rt, mem, codes::MACINFO);
+    check_rows(&rt, mem, codes::MACRO_ENTRIES);
+    check_rows(&rt, mem, codes::RANGE_LIST_ENTRIES);
+    check_rows(&rt, mem, codes::POINTER_ENCODINGS);
+    check_rows(&rt, mem, codes::GDB_INDEX_SYMBOL_KINDS);
+    check_rows(&rt, mem, codes::SECTIONS);
+    check_rows(&rt, mem, codes::SECTIONS_V2);
+    check_rows(&rt, mem, codes::ADDRESS_CLASSES);
 }
 
 #[test]

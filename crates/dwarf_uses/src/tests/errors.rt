@@ -263,7 +263,7 @@ fn texts_are_as_published(rt: HostRuntime) -> Result<(), Fail> {
 }
 
 #[test]
-fn refused_memory_is_an_error(rt: HostRuntime) {
+fn want_of_memory_is_an_error(rt: HostRuntime) {
     let errors = [
         Error::from(AllocError),
         Error::from(AllocFailed { value: 5u8 }),

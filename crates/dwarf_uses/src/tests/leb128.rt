@@ -120,27 +120,40 @@ static WRITTEN_SIGNED: &[(i64, &[u8])] = &[
     ),
 ];
 
+// What a reading returns, and how many bytes it consumes.
+fn unsigned(bytes: &[u8]) -> (Result<u64>, u64) {
+    let mut input = little(bytes);
+    (read::unsigned(&mut input), input.offset_id().0)
+}
+
+fn short(bytes: &[u8]) -> (Result<u16>, u64) {
+    let mut input = little(bytes);
+    (read::u16(&mut input), input.offset_id().0)
+}
+
+fn signed(bytes: &[u8]) -> (Result<i64>, u64) {
+    let mut input = little(bytes);
+    (read::signed(&mut input), input.offset_id().0)
+}
+
+fn skipped(bytes: &[u8]) -> (Result<()>, u64) {
+    let mut input = little(bytes);
+    (read::skip(&mut input), input.offset_id().0)
+}
+
 #[test]
 fn numbers_are_read(rt: HostRuntime) {
     for (bytes, wanted, consumed) in UNSIGNED {
-        let mut input = little(bytes);
-        same(&rt, read::unsigned(&mut input), *wanted, bytes);
-        same(&rt, input.offset_id().0, *consumed, bytes);
+        same(&rt, unsigned(bytes), (*wanted, *consumed), bytes);
     }
     for (bytes, wanted, consumed) in SHORT {
-        let mut input = little(bytes);
-        same(&rt, read::u16(&mut input), *wanted, bytes);
-        same(&rt, input.offset_id().0, *consumed, bytes);
+        same(&rt, short(bytes), (*wanted, *consumed), bytes);
     }
     for (bytes, wanted, consumed) in SIGNED {
-        let mut input = little(bytes);
-        same(&rt, read::signed(&mut input), *wanted, bytes);
-        same(&rt, input.offset_id().0, *consumed, bytes);
+        same(&rt, signed(bytes), (*wanted, *consumed), bytes);
     }
     for (bytes, wanted, consumed) in SKIPPED {
-        let mut input = little(bytes);
-        same(&rt, read::skip(&mut input), *wanted, bytes);
-        same(&rt, input.offset_id().0, *consumed, bytes);
+        same(&rt, skipped(bytes), (*wanted, *consumed), bytes);
     }
 }
 

@@ -1,13 +1,13 @@
 //! The owned reader: 32-bit offsets, and clones that are refused.
 
-use super::addresses::{is_over, walked};
+use super::addresses::{check_walk, next_lengths, walk};
 use super::worked::{FOUR_ADDRESSES, STRINGS, TWO_SETS, UNIT};
-use super::{eof, little, same};
+use super::{end_requests, eof, little, same};
 use crate::OwnedReader;
 use dwarf_read_core::{
     DebugAbbrev, DebugAbbrevOffset, DebugAddr, DebugAddrBase, DebugAddrIndex, DebugStr,
     DebugStrOffset, DebugStrOffsets, DebugStrOffsetsBase, DebugStrOffsetsIndex, Error, Format,
-    LittleEndian, Reader, Result, read_u8_array,
+    LittleEndian, Reader, ReaderOffset, Result, read_u8_array,
 };
 use std::alloc::Global;
 use std::fmt::Debug;
@@ -51,28 +51,45 @@ fn parts_have_one_clone_fewer(rt: HostRuntime) -> std::result::Result<(), Fail> 
     Ok(())
 }
 
+// A length of 2^32 in the 64-bit format.
+const LONG: &[u8] = &[0xff, 0xff, 0xff, 0xff, 0, 0, 0, 0, 1, 0, 0, 0];
+
+// What the reading of an initial length returns, and how many bytes it consumes.
+fn initial_length(mem: Global) -> Result<(Result<(u32, Format)>, u64)> {
+    let mut input = owned(mem, LONG, 0)?;
+    Ok((input.read_initial_length(), input.offset_id().0))
+}
+
+fn addresses(mem: Global, bytes: &[u8], depth: u8) -> Result<DebugAddr<Owned>> {
+    Ok(DebugAddr::from(owned(mem, bytes, depth)?))
+}
+
+// What four calls return of the sets, of readers whose clones may go so deep.
+fn lengths(mem: Global, bytes: &[u8], depth: u8) -> Result<[Result<Option<u64>>; 4]> {
+    let mut headers = addresses(mem, bytes, depth)?.headers()?;
+    Ok(next_lengths(&mut headers))
+}
+
+// The offset that an index names of a section of one word of 2^32.
+fn offset_at(mem: Global, format: Format, index: u32) -> Result<u32> {
+    let section = DebugStrOffsets::from(owned(mem, &LONG[4..], 1)?);
+    let (base, index) = (DebugStrOffsetsBase(0), DebugStrOffsetsIndex(index));
+    Ok(section.get_str_offset(format, base, index)?.0)
+}
+
 #[test]
-fn offsets_have_32_bits(rt: HostRuntime) -> std::result::Result<(), Fail> {
-    let mem = rt.alloc();
-    let long = [0xff, 0xff, 0xff, 0xff, 0, 0, 0, 0, 1, 0, 0, 0];
-    let mut input = owned(mem, &long, 0)?;
-    let fault = Error::UnsupportedOffset;
-    same(&rt, input.read_initial_length(), Err(fault), "2^32");
-    same(&rt, input.offset_id().0, 12, "2^32");
-    let mut headers = DebugAddr::from(owned(mem, &long, 2)?).headers()?;
-    same(&rt, headers.next().err(), Some(fault), "2^32");
-    same(&rt, is_over(&mut headers), true, "2^32");
-    let offsets = DebugStrOffsets::from(owned(mem, &long[4..], 1)?);
+fn offsets_have_32_bits(rt: HostRuntime) {
+    let (mem, fault) = (rt.alloc(), Error::UnsupportedOffset);
+    same(&rt, initial_length(mem), Ok((Err(fault), 12)), "a length");
+    let sets = [Err(fault), Ok(None), Ok(None), Ok(None)];
+    same(&rt, lengths(mem, LONG, 2), Ok(sets), "a set");
     for (format, index, fault) in [
         (Format::Dwarf64, 0, fault),
         (Format::Dwarf32, 1 << 30, fault),
         (Format::Dwarf32, (1 << 30) - 1, eof(0)),
     ] {
-        let (base, index) = (DebugStrOffsetsBase(0), DebugStrOffsetsIndex(index));
-        let offset = offsets.get_str_offset(format, base, index);
-        same(&rt, offset, Err(fault), index);
+        same(&rt, offset_at(mem, format, index), Err(fault), index);
     }
-    Ok(())
 }
 
 // What a call returns where clones may go 0, 1, 2 and 3 deep: first OutOfMemory, and from some depth
@@ -105,25 +122,27 @@ fn code_in_table(mem: Global, depth: u8) -> Result<Option<u64>> {
     }
 }
 
-fn second_string(mem: Global, depth: u8) -> Result<([u8; 3], u64)> {
-    let section = DebugStr::from(owned(mem, STRINGS, depth)?);
-    let mut string = section.get_str(DebugStrOffset(4))?;
+// The first three bytes of a string, and its position.
+fn string_at<R: Reader>(section: &DebugStr<R>, offset: u8) -> Result<([u8; 3], u64)> {
+    let mut string = section.get_str(DebugStrOffset(R::Offset::from_u8(offset)))?;
     let position = string.offset_id().0;
     Ok((read_u8_array::<_, 3>(&mut string)?, position))
 }
 
+fn second_string(mem: Global, depth: u8) -> Result<([u8; 3], u64)> {
+    string_at(&DebugStr::from(owned(mem, STRINGS, depth)?), 4)
+}
+
 fn second_address(mem: Global, depth: u8) -> Result<u64> {
-    let section = DebugAddr::from(owned(mem, TWO_SETS, depth)?);
+    let section = addresses(mem, TWO_SETS, depth)?;
     section.get_address(4, DebugAddrBase(8), DebugAddrIndex(1))
 }
 
 // How many addresses all sets have.
 fn count_of_addresses(mem: Global, depth: u8) -> Result<usize> {
-    let section = DebugAddr::from(owned(mem, TWO_SETS, depth)?);
-    match walked(mem, &section)? {
-        (_, Some(fault)) => Err(fault),
-        (addresses, None) => Ok(addresses.len()),
-    }
+    let mut found = Vec::new(mem);
+    walk(&addresses(mem, TWO_SETS, depth)?, &mut found)?;
+    Ok(found.len())
 }
 
 // What a call returns where clones may go 0, 1, 2 and 3 deep.
@@ -149,43 +168,57 @@ fn refused_clones_are_returned(rt: HostRuntime) {
     check_depths(&rt, at_depths!(mem, count_of_addresses), 4, "sets");
 }
 
+// The error that is returned in place of the first set's addresses.
+fn fault_of_entries<R: Reader>(section: &DebugAddr<R>) -> Result<Option<Error>> {
+    match section.headers()?.next()? {
+        Some(header) => Ok(header.entries().err()),
+        None => Ok(None),
+    }
+}
+
+// An iterator that returned want of memory has no other item.
 #[test]
 fn refused_clones_end_a_walk(rt: HostRuntime) -> std::result::Result<(), Fail> {
     let mem = rt.alloc();
-    let mut headers = DebugAddr::from(owned(mem, TWO_SETS, 1)?).headers()?;
-    same(&rt, headers.next().err(), Some(Error::OutOfMemory), "1");
-    same(&rt, is_over(&mut headers), true, "1");
-    let mut headers = DebugAddr::from(owned(mem, TWO_SETS, 2)?).headers()?;
-    let header = headers.next()?.ok_or("no set")?;
-    same(&rt, header.length(), 12, "2");
-    same(&rt, header.entries().err(), Some(Error::OutOfMemory), "2");
-    let (addresses, fault) = walked(mem, &DebugAddr::from(owned(mem, TWO_SETS, 3)?))?;
-    same(&rt, addresses.as_slice(), FOUR_ADDRESSES.as_slice(), "3");
-    same(&rt, fault, None, "3");
+    let sets = [Err(Error::OutOfMemory), Ok(None), Ok(None), Ok(None)];
+    same(&rt, lengths(mem, TWO_SETS, 1), Ok(sets), "1");
+    let fault = fault_of_entries(&addresses(mem, TWO_SETS, 2)?);
+    same(&rt, fault, Ok(Some(Error::OutOfMemory)), "2");
+    let section = addresses(mem, TWO_SETS, 3)?;
+    check_walk(&rt, mem, &section, &FOUR_ADDRESSES, Ok(()));
     Ok(())
 }
 
-// With requests for memory that are refused, the addresses are all there or the fault is want of
-// memory, and no set follows it.
+// With requests for memory that are refused, the addresses up to some are there, and all where the
+// outcome isn't want of memory.
 #[test]
-fn refused_memory(rt: HostRuntime) {
+fn refused_memory_for_clones(rt: HostRuntime) {
     let mem = rt.alloc();
-    let Ok(reader) = owned(mem, TWO_SETS, 3) else {
-        return;
-    };
-    let section = DebugAddr::from(reader);
-    if let Ok((addresses, fault)) = walked(mem, &section) {
-        let count = addresses.len().min(4);
-        same(&rt, addresses.as_slice(), &FOUR_ADDRESSES[..count], "sets");
-        match fault {
-            Some(fault) => same(&rt, fault, Error::OutOfMemory, "sets"),
-            None => same(&rt, count, 4, "sets"),
+    if let Ok(section) = addresses(mem, TWO_SETS, 3) {
+        let mut found = Vec::new(mem);
+        let outcome = walk(&section, &mut found);
+        let count = found.len().min(4);
+        same(&rt, found.as_slice(), &FOUR_ADDRESSES[..count], "sets");
+        match outcome {
+            Ok(()) => same(&rt, count, 4, "sets"),
+            Err(fault) => same(&rt, fault, Error::OutOfMemory, "sets"),
         }
     }
-    if let Ok(mut headers) = section.headers() {
-        if let Err(fault) = headers.next() {
-            same(&rt, fault, Error::OutOfMemory, "headers");
-            same(&rt, is_over(&mut headers), true, "headers");
-        }
+    end_requests(&rt, mem);
+}
+
+// Where a request for memory is refused, no set follows it.
+#[test]
+fn refused_memory_for_headers(rt: HostRuntime) {
+    if let Ok(sets) = lengths(rt.alloc(), TWO_SETS, 3) {
+        let wanted = if sets[0].is_err() {
+            [Err(Error::OutOfMemory), Ok(None), Ok(None), Ok(None)]
+        } else if sets[1].is_err() {
+            [Ok(Some(12)), Err(Error::OutOfMemory), Ok(None), Ok(None)]
+        } else {
+            [Ok(Some(12)), Ok(Some(20)), Ok(None), Ok(None)]
+        };
+        same(&rt, sets, wanted, "sets");
     }
+    end_requests(&rt, rt.alloc());
 }

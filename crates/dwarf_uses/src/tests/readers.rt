@@ -1,6 +1,6 @@
 //! Readers: numbers of a fixed width, lengths, positions, parts and texts.
 
-use super::{eof, hash_of, little, same};
+use super::{end_requests, eof, hash_of, little, same};
 use crate::parts::split_ten;
 use dwarf_read_core::{
     BigEndian, EndianSlice, Error, Format, LittleEndian, Reader, ReaderOffsetId, Result,
@@ -17,29 +17,35 @@ fn big(bytes: &[u8]) -> EndianSlice<'_, BigEndian> {
 }
 
 #[test]
-fn numbers_have_a_width(rt: HostRuntime) {
+fn little_numbers_have_a_width(rt: HostRuntime) {
     same(&rt, little(SIXTEEN).read_u8(), Ok(0xfe), "u8");
     same(&rt, little(SIXTEEN).read_i8(), Ok(-2), "i8");
-    same(&rt, little(SIXTEEN).read_u16(), Ok(0x01fe), "little u16");
-    same(&rt, big(SIXTEEN).read_u16(), Ok(0xfe01), "big u16");
-    same(&rt, big(SIXTEEN).read_i16(), Ok(-511), "big i16");
-    same(
-        &rt,
-        little(SIXTEEN).read_u32(),
-        Ok(0x0302_01fe),
-        "little u32",
-    );
-    same(&rt, big(SIXTEEN).read_i32(), Ok(-0x01fe_fdfd), "big i32");
+    same(&rt, little(SIXTEEN).read_u16(), Ok(0x01fe), "u16");
+    same(&rt, little(SIXTEEN).read_u32(), Ok(0x0302_01fe), "u32");
     let eight = little(SIXTEEN).read_u64();
-    same(&rt, eight, Ok(0x0706_0504_0302_01fe), "little u64");
+    same(&rt, eight, Ok(0x0706_0504_0302_01fe), "u64");
+}
+
+#[test]
+fn big_numbers_have_a_width(rt: HostRuntime) {
+    same(&rt, big(SIXTEEN).read_u16(), Ok(0xfe01), "u16");
+    same(&rt, big(SIXTEEN).read_i16(), Ok(-511), "i16");
+    same(&rt, big(SIXTEEN).read_i32(), Ok(-0x01fe_fdfd), "i32");
     let eight = big(SIXTEEN).read_i64();
-    same(&rt, eight, Ok(-0x01fe_fdfc_fbfa_f9f9), "big i64");
-    let mut one = [0; 16];
-    one[0] = 1;
+    same(&rt, eight, Ok(-0x01fe_fdfc_fbfa_f9f9), "i64");
+}
+
+#[test]
+fn long_and_odd_numbers_are_read(rt: HostRuntime) {
+    let one = [1, 0, 0, 0, 0, 0, 0, 0, 0, 0, 0, 0, 0, 0, 0, 0];
     same(&rt, little(&one).read_u128(), Ok(1), "little u128");
     same(&rt, big(&one).read_u128(), Ok(1 << 120), "big u128");
     same(&rt, little(&[1, 2, 3]).read_uint(3), Ok(197_121), "little");
     same(&rt, big(&[1, 2, 3]).read_uint(3), Ok(66_051), "big");
+}
+
+#[test]
+fn refused_reads_consume_nothing(rt: HostRuntime) {
     let mut three = little(&[1, 2, 3]);
     same(&rt, three.read_u32(), Err(eof(0)), "4 of 3 bytes");
     let array = read_u8_array::<_, 3>(&mut three);
@@ -174,7 +180,7 @@ fn offset_behind<R: Reader>(mut input: R, len: R::Offset) -> Result<R::Offset> {
 
 #[test]
 fn parts_are_cut(rt: HostRuntime) {
-    let ten = little(TEN);
+    let ten = EndianSlice::new(TEN, LittleEndian);
     let (front, rest) = ten.split_at(3);
     let middle = rest.range(1..3);
     for (part, wanted, position) in [
@@ -212,7 +218,7 @@ fn long_slices_are_searched(rt: HostRuntime) {
 #[test]
 fn slices_are_equal_by_bytes_and_order(rt: HostRuntime) {
     let twice = [1, 2, 1, 2];
-    let (front, rest) = little(&twice).split_at(2);
+    let (front, rest) = EndianSlice::new(&twice, LittleEndian).split_at(2);
     same(&rt, front, rest, "at 0 and at 2");
     same(&rt, hash_of(&front), hash_of(&rest), "hash at 0 and at 2");
     assert_ne!(rt; front, little(&twice));
@@ -254,13 +260,14 @@ fn lossy_texts_are_texts(rt: HostRuntime) -> std::result::Result<(), Fail> {
 
 // With requests for memory that are refused, a call returns the text or want of memory.
 #[test]
-fn refused_memory(rt: HostRuntime) {
+fn refused_memory_for_a_text(rt: HostRuntime) {
     for (bytes, wanted) in TEXTS {
         match little(bytes).to_string_lossy(rt.alloc()) {
             Ok(text) => same(&rt, text.as_str(), *wanted, bytes),
             Err(error) => same(&rt, error, Error::OutOfMemory, bytes),
         }
     }
+    end_requests(&rt, rt.alloc());
 }
 
 #[test]

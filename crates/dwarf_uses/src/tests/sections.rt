@@ -6,7 +6,6 @@ use dwarf_read_core::{
     LittleEndian, Reader, ReaderOffsetId, Result, Section, SectionId,
 };
 use std::process::Abort;
-use std::test::Fail;
 
 type Slice<'a> = EndianSlice<'a, LittleEndian>;
 
@@ -152,18 +151,42 @@ fn names_are_as_published(rt: HostRuntime) {
     }
 }
 
-fn has_identifier<'a, S: Section<Slice<'a>>>(rt: &impl Abort, wanted: SectionId) {
-    same(rt, S::id(), wanted, wanted);
-    same(rt, S::section_name(), wanted.name(), wanted);
+// Offset and size of a range of ten bytes, and its bytes and position.
+static RANGES: &[(u32, u32, Result<(&[u8], u64)>)] = &[
+    (4, 6, Ok((b"456789", 4))),
+    (0, 3, Ok((b"012", 0))),
+    (10, 0, Ok((b"", 10))),
+    (4, 7, Err(Error::UnexpectedEof(ReaderOffsetId(4)))),
+    (11, 0, Err(Error::UnexpectedEof(ReaderOffsetId(0)))),
+    (1, u32::MAX, Err(Error::UnexpectedEof(ReaderOffsetId(1)))),
+];
+
+// The bytes and the position of a range of a section.
+fn range<S: Section<Slice<'static>> + Drop>(
+    section: &S,
+    offset: u32,
+    size: u32,
+) -> Result<(&'static [u8], u64)> {
+    let part = section.dwp_range(offset, size)?;
+    Ok((part.reader().slice(), part.reader().offset_id().0))
+}
+
+fn check_section<S: Section<Slice<'static>> + Drop>(rt: &impl Abort, id: SectionId) {
+    same(rt, S::id(), id, id);
+    same(rt, S::section_name(), id.name(), id);
+    let section = S::from(little(b"0123456789"));
+    for (offset, size, wanted) in RANGES {
+        same(rt, range(&section, *offset, *size), *wanted, (id, offset));
+    }
 }
 
 #[test]
-fn sections_have_identifiers(rt: HostRuntime) {
-    has_identifier::<DebugAbbrev<Slice<'static>>>(&rt, SectionId::DebugAbbrev);
-    has_identifier::<DebugAddr<Slice<'static>>>(&rt, SectionId::DebugAddr);
-    has_identifier::<DebugStr<Slice<'static>>>(&rt, SectionId::DebugStr);
-    has_identifier::<DebugStrOffsets<Slice<'static>>>(&rt, SectionId::DebugStrOffsets);
-    has_identifier::<DebugLineStr<Slice<'static>>>(&rt, SectionId::DebugLineStr);
+fn sections_have_identifiers_and_ranges(rt: HostRuntime) {
+    check_section::<DebugAbbrev<Slice<'static>>>(&rt, SectionId::DebugAbbrev);
+    check_section::<DebugAddr<Slice<'static>>>(&rt, SectionId::DebugAddr);
+    check_section::<DebugStr<Slice<'static>>>(&rt, SectionId::DebugStr);
+    check_section::<DebugStrOffsets<Slice<'static>>>(&rt, SectionId::DebugStrOffsets);
+    check_section::<DebugLineStr<Slice<'static>>>(&rt, SectionId::DebugLineStr);
 }
 
 // A loader that has strings alone.
@@ -190,42 +213,6 @@ fn sections_are_loaded(rt: HostRuntime) {
     same(&rt, section.err(), Some(SectionId::DebugAddr), "addresses");
 }
 
-// Offset and size of a range of ten bytes, and its bytes and position.
-static RANGES: &[(u32, u32, Result<(&[u8], u64)>)] = &[
-    (4, 6, Ok((b"456789", 4))),
-    (0, 3, Ok((b"012", 0))),
-    (10, 0, Ok((b"", 10))),
-    (4, 7, Err(Error::UnexpectedEof(ReaderOffsetId(4)))),
-    (11, 0, Err(Error::UnexpectedEof(ReaderOffsetId(0)))),
-    (1, u32::MAX, Err(Error::UnexpectedEof(ReaderOffsetId(1)))),
-];
-
-// The bytes and the position of a range of a section.
-fn range<'a, S: Section<Slice<'a>> + Drop>(
-    section: &S,
-    offset: u32,
-    size: u32,
-) -> Result<(&'a [u8], u64)> {
-    let part = section.dwp_range(offset, size)?;
-    Ok((part.reader().slice(), part.reader().offset_id().0))
-}
-
-fn cuts_ranges<'a, S: Section<Slice<'a>> + Drop>(rt: &impl Abort, section: &S) {
-    for (offset, size, wanted) in RANGES {
-        same(rt, range(section, *offset, *size), *wanted, offset);
-    }
-}
-
-#[test]
-fn ranges_are_cut(rt: HostRuntime) {
-    let ten = little(b"0123456789");
-    cuts_ranges(&rt, &DebugAbbrev::from(ten));
-    cuts_ranges(&rt, &DebugAddr::from(ten));
-    cuts_ranges(&rt, &DebugStr::from(ten));
-    cuts_ranges(&rt, &DebugStrOffsets::from(ten));
-    cuts_ranges(&rt, &DebugLineStr::from(ten));
-}
-
 #[test]
 fn identifiers_are_places_of_a_section(rt: HostRuntime) {
     let reader = EndianSlice::with_first_id(b"abc", LittleEndian, ReaderOffsetId(100));
@@ -246,48 +233,26 @@ fn identifiers_are_places_of_a_section(rt: HostRuntime) {
     }
 }
 
-fn borrowed<'a>(bytes: &'a Vec<u8>) -> Slice<'a> {
+fn borrowed<'a>(bytes: &'a [u8; 4]) -> Slice<'a> {
     EndianSlice::new(bytes, LittleEndian)
 }
 
 #[test]
-fn sections_are_borrowed(rt: HostRuntime) -> std::result::Result<(), Fail> {
-    let mem = rt.alloc();
-    let wanted: &[u8] = b"abc\0";
-    let strings = DebugStr::from(wanted.to_vec(mem)?);
-    same(
-        &rt,
-        strings.borrow(borrowed).reader().slice(),
-        wanted,
-        "strings",
-    );
-    let lines = DebugLineStr::from(wanted.to_vec(mem)?);
-    same(
-        &rt,
-        lines.borrow(borrowed).reader().slice(),
-        wanted,
-        "line strings",
-    );
-    let offsets = DebugStrOffsets::from(wanted.to_vec(mem)?);
-    same(
-        &rt,
-        offsets.borrow(borrowed).reader().slice(),
-        wanted,
-        "offsets",
-    );
-    let addresses = DebugAddr::from(wanted.to_vec(mem)?);
-    same(
-        &rt,
-        addresses.borrow(borrowed).reader().slice(),
-        wanted,
-        "addresses",
-    );
-    let tables = DebugAbbrev::from(wanted.to_vec(mem)?);
-    same(
-        &rt,
-        tables.borrow(borrowed).reader().slice(),
-        wanted,
-        "tables",
-    );
-    Ok(())
+fn sections_are_borrowed(rt: HostRuntime) {
+    let (bytes, wanted) = (*b"abc\0", b"abc\0".as_slice());
+    let strings = DebugStr::from(bytes);
+    let reader = *strings.borrow(borrowed).reader();
+    same(&rt, reader.slice(), wanted, "strings");
+    let lines = DebugLineStr::from(bytes);
+    let reader = *lines.borrow(borrowed).reader();
+    same(&rt, reader.slice(), wanted, "line strings");
+    let offsets = DebugStrOffsets::from(bytes);
+    let reader = *offsets.borrow(borrowed).reader();
+    same(&rt, reader.slice(), wanted, "offsets");
+    let addresses = DebugAddr::from(bytes);
+    let reader = *addresses.borrow(borrowed).reader();
+    same(&rt, reader.slice(), wanted, "addresses");
+    let tables = DebugAbbrev::from(bytes);
+    let reader = *tables.borrow(borrowed).reader();
+    same(&rt, reader.slice(), wanted, "tables");
 }

@@ -5,34 +5,36 @@ use super::{eof, same};
 use dwarf_read_core::{
     BigEndian, DebugLineStr, DebugLineStrOffset, DebugStr, DebugStrOffset, DebugStrOffsets,
     DebugStrOffsetsBase, DebugStrOffsetsIndex, EndianSlice, Error, Format, LittleEndian, Reader,
-    ReaderOffsetId, Result,
+    ReaderOffsetId, Result, RunTimeEndian,
 };
 use std::test::Fail;
 
 // The bytes of a string, and its position.
-fn place<'a>(string: Result<EndianSlice<'a, LittleEndian>>) -> Result<(&'a [u8], u64)> {
-    let string = string?;
+fn string(bytes: &[u8], offset: usize) -> Result<(&[u8], u64)> {
+    let string = DebugStr::new(bytes, LittleEndian).get_str(DebugStrOffset(offset))?;
     Ok((string.slice(), string.offset_id().0))
 }
 
+fn line_string(bytes: &[u8], offset: usize) -> Result<(&[u8], u64)> {
+    let string = DebugLineStr::new(bytes, LittleEndian).get_str(DebugLineStrOffset(offset))?;
+    Ok((string.slice(), string.offset_id().0))
+}
+
+static PLACES: &[(&[u8], usize, Result<(&[u8], u64)>)] = &[
+    (STRINGS, 0, Ok((b"one", 0))),
+    (STRINGS, 4, Ok((b"two", 4))),
+    (STRINGS, 6, Ok((b"o", 6))),
+    (STRINGS, 8, Ok((b"", 8))),
+    (STRINGS, 9, Err(eof!(9))),
+    (STRINGS, 10, Err(eof!(0))),
+    (b"ab", 1, Err(eof!(1))),
+];
+
 #[test]
 fn strings_end_at_a_zero_byte(rt: HostRuntime) {
-    let rows: [(&[u8], usize, Result<(&[u8], u64)>); 7] = [
-        (STRINGS, 0, Ok((b"one", 0))),
-        (STRINGS, 4, Ok((b"two", 4))),
-        (STRINGS, 6, Ok((b"o", 6))),
-        (STRINGS, 8, Ok((b"", 8))),
-        (STRINGS, 9, Err(eof(9))),
-        (STRINGS, 10, Err(eof(0))),
-        (b"ab", 1, Err(eof(1))),
-    ];
-    for (bytes, offset, wanted) in rows {
-        let strings = DebugStr::new(bytes, LittleEndian);
-        let string = strings.get_str(DebugStrOffset(offset));
-        same(&rt, place(string), wanted, (bytes, offset));
-        let strings = DebugLineStr::new(bytes, LittleEndian);
-        let string = strings.get_str(DebugLineStrOffset(offset));
-        same(&rt, place(string), wanted, (bytes, offset));
+    for (bytes, offset, wanted) in PLACES {
+        same(&rt, string(bytes, *offset), *wanted, offset);
+        same(&rt, line_string(bytes, *offset), *wanted, offset);
     }
 }
 
@@ -52,55 +54,61 @@ fn positions_begin_at_the_first(rt: HostRuntime) -> std::result::Result<(), Fail
     Ok(())
 }
 
+// The offset that an index names.
+fn offset_at(
+    bytes: &[u8],
+    order: RunTimeEndian,
+    format: Format,
+    base: usize,
+    index: usize,
+) -> Result<usize> {
+    let section = DebugStrOffsets::from(EndianSlice::new(bytes, order));
+    let place = (DebugStrOffsetsBase(base), DebugStrOffsetsIndex(index));
+    Ok(section.get_str_offset(format, place.0, place.1)?.0)
+}
+
+static OFFSETS: &[(Format, usize, usize, Result<usize>)] = &[
+    (Format::Dwarf32, 8, 0, Ok(1000)),
+    (Format::Dwarf32, 8, 1, Ok(1001)),
+    (Format::Dwarf32, 8, 19, Ok(1019)),
+    (Format::Dwarf32, 12, 18, Ok(1019)),
+    (Format::Dwarf32, 8, 20, Err(eof!(88))),
+    (Format::Dwarf32, 8, 21, Err(eof!(8))),
+    (Format::Dwarf32, 89, 0, Err(eof!(0))),
+    (Format::Dwarf64, 16, 0, Ok(1000)),
+    (Format::Dwarf64, 16, 19, Ok(1019)),
+    (Format::Dwarf64, 16, 20, Err(eof!(176))),
+    (Format::Dwarf64, 16, 21, Err(eof!(16))),
+];
+
 #[test]
 fn offsets_are_looked_up(rt: HostRuntime) -> std::result::Result<(), Fail> {
-    let rows: [(Format, usize, usize, Result<usize>); 11] = [
-        (Format::Dwarf32, 8, 0, Ok(1000)),
-        (Format::Dwarf32, 8, 1, Ok(1001)),
-        (Format::Dwarf32, 8, 19, Ok(1019)),
-        (Format::Dwarf32, 12, 18, Ok(1019)),
-        (Format::Dwarf32, 8, 20, Err(eof(88))),
-        (Format::Dwarf32, 8, 21, Err(eof(8))),
-        (Format::Dwarf32, 89, 0, Err(eof(0))),
-        (Format::Dwarf64, 16, 0, Ok(1000)),
-        (Format::Dwarf64, 16, 19, Ok(1019)),
-        (Format::Dwarf64, 16, 20, Err(eof(176))),
-        (Format::Dwarf64, 16, 21, Err(eof(16))),
-    ];
-    for (format, base, index, wanted) in rows {
-        let wanted = match wanted {
-            Ok(offset) => Ok(DebugStrOffset(offset)),
-            Err(error) => Err(error),
-        };
-        let place = (DebugStrOffsetsBase(base), DebugStrOffsetsIndex(index));
-        let bytes = twenty_words(rt.alloc(), format, false)?;
-        let section = DebugStrOffsets::from(EndianSlice::new(&bytes, LittleEndian));
-        let offset = section.get_str_offset(format, place.0, place.1);
-        same(&rt, offset, wanted, place);
-        let bytes = twenty_words(rt.alloc(), format, true)?;
-        let section = DebugStrOffsets::from(EndianSlice::new(&bytes, BigEndian));
-        let offset = section.get_str_offset(format, place.0, place.1);
-        same(&rt, offset, wanted, place);
+    for (format, base, index, wanted) in OFFSETS {
+        for (order, is_big) in [(RunTimeEndian::Little, false), (RunTimeEndian::Big, true)] {
+            let bytes = twenty_words(rt.alloc(), *format, is_big)?;
+            let offset = offset_at(&bytes, order, *format, *base, *index);
+            same(&rt, offset, *wanted, (base, index));
+        }
     }
     Ok(())
 }
 
+// Of 64 zero bytes.
+static FAULTS: &[(Format, usize, usize, Error)] = &[
+    (Format::Dwarf64, 0, 1 << 61, Error::UnsupportedOffset),
+    (Format::Dwarf64, 0, 1 << 62, Error::UnsupportedOffset),
+    (Format::Dwarf32, 0, 1 << 62, Error::UnsupportedOffset),
+    (Format::Dwarf32, 0, 1 << 61, eof!(0)),
+    (Format::Dwarf64, 65, 0, eof!(0)),
+    (Format::Dwarf64, 65, 1 << 62, eof!(0)),
+    (Format::Dwarf64, 60, 0, eof!(60)),
+    (Format::Dwarf32, 61, 1, eof!(61)),
+];
+
 #[test]
 fn first_faults_are_returned(rt: HostRuntime) {
-    let zeros = [0; 64];
-    let section = DebugStrOffsets::from(EndianSlice::new(&zeros, LittleEndian));
-    for (format, base, index, fault) in [
-        (Format::Dwarf64, 0, 1 << 61, Error::UnsupportedOffset),
-        (Format::Dwarf64, 0, 1 << 62, Error::UnsupportedOffset),
-        (Format::Dwarf32, 0, 1 << 62, Error::UnsupportedOffset),
-        (Format::Dwarf32, 0, 1 << 61, eof(0)),
-        (Format::Dwarf64, 65, 0, eof(0)),
-        (Format::Dwarf64, 65, 1 << 62, eof(0)),
-        (Format::Dwarf64, 60, 0, eof(60)),
-        (Format::Dwarf32, 61, 1, eof(61)),
-    ] {
-        let place = (DebugStrOffsetsBase(base), DebugStrOffsetsIndex(index));
-        let offset = section.get_str_offset(format, place.0, place.1);
-        same(&rt, offset, Err(fault), place);
+    for (format, base, index, fault) in FAULTS {
+        let offset = offset_at(&[0; 64], RunTimeEndian::Little, *format, *base, *index);
+        same(&rt, offset, Err(*fault), (base, index));
     }
 }

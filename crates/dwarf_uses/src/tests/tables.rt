@@ -1,7 +1,7 @@
 //! Abbreviation tables.
 
 use super::worked::{ENDED, FIVE, IMPLICIT, SIX, THREE, UNIT};
-use super::{eof, same};
+use super::{end_requests, eof, same};
 use dwarf_read_core::constants::*;
 use dwarf_read_core::{
     Abbreviations, AttributeSpecification, BigEndian, DebugAbbrev, DebugAbbrevOffset, Encoding,
@@ -72,7 +72,7 @@ static TABLES: &[(&[u8], usize, &str)] = &[
         "1 DW_TAG_compile_unit false;2 DW_TAG_compile_unit false;3 DW_TAG_compile_unit false;.",
     ),
     (
-        b"\xff\xff\xff\xff\xff\xff\xff\xff\xff\x01\x11\0\0\0\0",
+        GREATEST,
         0,
         "18446744073709551615 DW_TAG_compile_unit false;.",
     ),
@@ -110,94 +110,120 @@ fn tables_are_read(rt: HostRuntime) -> std::result::Result<(), Fail> {
     Ok(())
 }
 
-#[test]
-fn strict_tables_are_closed(rt: HostRuntime) -> std::result::Result<(), Fail> {
-    let mem = rt.alloc();
-    let unit = "1 DW_TAG_compile_unit true, DW_AT_name DW_FORM_string;.";
-    let rows: [(&[u8], usize, Result<&str>); 8] = [
-        (UNIT, 0, Ok(unit)),
-        (ENDED, 0, Err(unterminated(5))),
-        (ENDED, 5, Err(unterminated(5))),
-        (ENDED, 6, Err(eof(0))),
-        (b"\x80\0\xaa", 0, Ok(".")),
-        (b"\x80\0\xaa", 3, Err(unterminated(3))),
-        (b"\x80", 0, Err(eof(1))),
-        (
-            b"\x01\x11\0\0\0\x01\x11\0\0\0",
-            0,
-            Err(Error::DuplicateAbbreviationCode(1)),
-        ),
-    ];
-    for (bytes, offset, wanted) in rows {
-        let section = DebugAbbrev::new(bytes, LittleEndian);
-        match section.abbreviations_strict(mem, DebugAbbrevOffset(offset)) {
-            Ok(table) => {
-                let text = shown(mem, &table)?;
-                same(&rt, Ok(text.as_str()), wanted, (bytes, offset));
-            }
-            Err(error) => same(&rt, Err(error), wanted, (bytes, offset)),
-        }
-    }
-    let reader = EndianSlice::with_first_id(ENDED, LittleEndian, ReaderOffsetId(100));
-    let table = DebugAbbrev::from(reader).abbreviations_strict(mem, DebugAbbrevOffset(0));
-    same(&rt, table.err(), Some(unterminated(105)), "at 100");
-    Ok(())
+// Bytes, an offset, and the strict table there.
+static STRICT: &[(&[u8], usize, Result<&str>)] = &[
+    (
+        UNIT,
+        0,
+        Ok("1 DW_TAG_compile_unit true, DW_AT_name DW_FORM_string;."),
+    ),
+    (
+        ENDED,
+        0,
+        Err(Error::UnterminatedAbbreviations(ReaderOffsetId(5))),
+    ),
+    (
+        ENDED,
+        5,
+        Err(Error::UnterminatedAbbreviations(ReaderOffsetId(5))),
+    ),
+    (ENDED, 6, Err(eof!(0))),
+    (b"\x80\0\xaa", 0, Ok(".")),
+    (
+        b"\x80\0\xaa",
+        3,
+        Err(Error::UnterminatedAbbreviations(ReaderOffsetId(3))),
+    ),
+    (b"\x80", 0, Err(eof!(1))),
+    (
+        b"\x01\x11\0\0\0\x01\x11\0\0\0",
+        0,
+        Err(Error::DuplicateAbbreviationCode(1)),
+    ),
+];
+
+fn strict_text(mem: Global, bytes: &[u8], offset: usize) -> Result<String> {
+    let section = DebugAbbrev::new(bytes, LittleEndian);
+    let table = section.abbreviations_strict(mem, DebugAbbrevOffset(offset))?;
+    Ok(shown(mem, &table)?)
 }
 
 #[test]
+fn strict_tables_are_closed(rt: HostRuntime) {
+    for (bytes, offset, wanted) in STRICT {
+        match strict_text(rt.alloc(), bytes, *offset) {
+            Ok(text) => same(&rt, Ok(text.as_str()), *wanted, bytes),
+            Err(error) => same(&rt, Err(error), *wanted, bytes),
+        }
+    }
+    let reader = EndianSlice::with_first_id(ENDED, LittleEndian, ReaderOffsetId(100));
+    let table = DebugAbbrev::from(reader).abbreviations_strict(rt.alloc(), DebugAbbrevOffset(0));
+    same(&rt, table.err(), Some(unterminated(105)), "at 100");
+}
+
+// Bytes, an offset, and the first fault there.
+static FAULTS: &[(&[u8], usize, Error)] = &[
+    (ENDED, 6, eof!(0)),
+    (b"\x01\x11\0\0\0\x02\0", 0, Error::AbbreviationTagZero),
+    (b"\x01\x2e\0\x03\x21", 0, eof!(5)),
+    (b"\x80", 0, eof!(1)),
+    (b"\x01\x91\x80\x80\0", 0, Error::BadUnsignedLeb128),
+    (
+        b"\x80\x80\x80\x80\x80\x80\x80\x80\x80\x02",
+        0,
+        Error::BadUnsignedLeb128,
+    ),
+    (
+        b"\x01\x2e\0\x03\x21\x80\x80\x80\x80\x80\x80\x80\x80\x80\x01\0\0\0",
+        0,
+        Error::BadSignedLeb128,
+    ),
+    (b"\x01\0\x02", 0, Error::AbbreviationTagZero),
+    (
+        b"\x01\x11\x02",
+        0,
+        Error::InvalidAbbreviationChildren(DwChildren(2)),
+    ),
+    (b"\x01\x11\0\0\x01", 0, Error::AttributeNameZero),
+    (b"\x01\x11\0\0\x01\0\0", 0, Error::AttributeNameZero),
+    (b"\x01\x11\0\0\x21", 0, Error::AttributeNameZero),
+    (b"\x01\x11\0\x01\0", 0, Error::AttributeFormZero),
+    (b"\x01\x11\0\x01\0\0\0", 0, Error::AttributeFormZero),
+    (b"\x01\x11\0\0", 0, eof!(4)),
+    (b"\x01\x11\0\0\x80", 0, eof!(5)),
+    (b"\x01\x11\0\0\x80\x80\x80\0", 0, Error::BadUnsignedLeb128),
+    (
+        b"\x01\x11\0\0\0\x81\0\x11\0\0\0",
+        0,
+        Error::DuplicateAbbreviationCode(1),
+    ),
+    (b"\x01\x11\0\0\0\x01\0", 0, Error::AbbreviationTagZero),
+    (
+        b"\x02\x11\0\0\0\x02\x11\x02",
+        0,
+        Error::InvalidAbbreviationChildren(DwChildren(2)),
+    ),
+    (b"\x01\x11\0\0\0\x01\x11\0\0", 0, eof!(9)),
+    (
+        b"\x01\x11\0\0\0\x03\x11\0\0\0\x02\x11\0\0\0\x03\x11\0\0\0\0",
+        0,
+        Error::DuplicateAbbreviationCode(3),
+    ),
+    (
+        b"\x01\x02\x03\x04\x01\x2e\0\x03\x08\0\0\x01\x11\x01\x25\x0e\x13\x05\0\0\0\x05\x06\x07\x08",
+        4,
+        Error::DuplicateAbbreviationCode(1),
+    ),
+    (b"\x01\x11\0\x03", 0, eof!(4)),
+    (b"\x01\x11", 0, eof!(2)),
+    (b"\x01", 0, eof!(1)),
+];
+
+#[test]
 fn first_faults_are_returned(rt: HostRuntime) {
-    let mem = rt.alloc();
-    let rows: [(&[u8], usize, Error); 26] = [
-        (ENDED, 6, eof(0)),
-        (b"\x01\x11\0\0\0\x02\0", 0, Error::AbbreviationTagZero),
-        (b"\x01\x2e\0\x03\x21", 0, eof(5)),
-        (b"\x80", 0, eof(1)),
-        (b"\x01\x91\x80\x80\0", 0, Error::BadUnsignedLeb128),
-        (
-            b"\x80\x80\x80\x80\x80\x80\x80\x80\x80\x02",
-            0,
-            Error::BadUnsignedLeb128,
-        ),
-        (
-            b"\x01\x2e\0\x03\x21\x80\x80\x80\x80\x80\x80\x80\x80\x80\x01\0\0\0",
-            0,
-            Error::BadSignedLeb128,
-        ),
-        (b"\x01\0\x02", 0, Error::AbbreviationTagZero),
-        (b"\x01\x11\x02", 0, children(2)),
-        (b"\x01\x11\0\0\x01", 0, Error::AttributeNameZero),
-        (b"\x01\x11\0\0\x01\0\0", 0, Error::AttributeNameZero),
-        (b"\x01\x11\0\0\x21", 0, Error::AttributeNameZero),
-        (b"\x01\x11\0\x01\0", 0, Error::AttributeFormZero),
-        (b"\x01\x11\0\x01\0\0\0", 0, Error::AttributeFormZero),
-        (b"\x01\x11\0\0", 0, eof(4)),
-        (b"\x01\x11\0\0\x80", 0, eof(5)),
-        (b"\x01\x11\0\0\x80\x80\x80\0", 0, Error::BadUnsignedLeb128),
-        (
-            b"\x01\x11\0\0\0\x81\0\x11\0\0\0",
-            0,
-            Error::DuplicateAbbreviationCode(1),
-        ),
-        (b"\x01\x11\0\0\0\x01\0", 0, Error::AbbreviationTagZero),
-        (b"\x02\x11\0\0\0\x02\x11\x02", 0, children(2)),
-        (b"\x01\x11\0\0\0\x01\x11\0\0", 0, eof(9)),
-        (
-            b"\x01\x11\0\0\0\x03\x11\0\0\0\x02\x11\0\0\0\x03\x11\0\0\0\0",
-            0,
-            Error::DuplicateAbbreviationCode(3),
-        ),
-        (
-            b"\x01\x02\x03\x04\x01\x2e\0\x03\x08\0\0\x01\x11\x01\x25\x0e\x13\x05\0\0\0\x05\x06\x07\x08",
-            4,
-            Error::DuplicateAbbreviationCode(1),
-        ),
-        (b"\x01\x11\0\x03", 0, eof(4)),
-        (b"\x01\x11", 0, eof(2)),
-        (b"\x01", 0, eof(1)),
-    ];
-    for (bytes, offset, wanted) in rows {
-        let error = table_at(mem, bytes, offset).err();
-        same(&rt, error, Some(wanted), (bytes, offset));
+    for (bytes, offset, wanted) in FAULTS {
+        let error = table_at(rt.alloc(), bytes, *offset).err();
+        same(&rt, error, Some(*wanted), (bytes, offset));
     }
 }
 
@@ -221,11 +247,23 @@ fn positions_begin_at_the_first(rt: HostRuntime) -> std::result::Result<(), Fail
 }
 
 // Bytes, and the lengths of their beginnings that are whole tables, each with its number of
-// declarations.
-static CUTS: &[(&[u8], &[(usize, usize)])] = &[
-    (UNIT, &[(0, 0), (7, 1), (8, 1), (9, 1)]),
-    (IMPLICIT, &[(0, 0), (8, 1), (9, 1)]),
-    (THREE, &[(0, 0), (5, 1), (10, 2), (15, 3), (16, 3)]),
+// declarations, and whether a code of value 0 closes it.
+static CUTS: &[(&[u8], &[(usize, usize, bool)])] = &[
+    (
+        UNIT,
+        &[(0, 0, false), (7, 1, false), (8, 1, true), (9, 1, true)],
+    ),
+    (IMPLICIT, &[(0, 0, false), (8, 1, false), (9, 1, true)]),
+    (
+        THREE,
+        &[
+            (0, 0, false),
+            (5, 1, false),
+            (10, 2, false),
+            (15, 3, false),
+            (16, 3, true),
+        ],
+    ),
 ];
 
 #[test]
@@ -233,16 +271,16 @@ fn cut_tables_end_early(rt: HostRuntime) {
     for (bytes, whole) in CUTS {
         for len in 0..bytes.len() + 1 {
             let mut wanted = Err(eof(len as u64));
-            for (whole_len, count) in *whole {
+            for (whole_len, count, is_closed) in *whole {
                 if *whole_len == len {
-                    wanted = Ok(*count);
+                    wanted = Ok((*count, *is_closed));
                 }
             }
-            let count = match table_at(rt.alloc(), &bytes[..len], 0) {
-                Ok(table) => Ok(table.len()),
+            let found = match table_at(rt.alloc(), &bytes[..len], 0) {
+                Ok(table) => Ok((table.len(), table.closed_by_null())),
                 Err(error) => Err(error),
             };
-            same(&rt, count, wanted, (bytes, len));
+            same(&rt, found, wanted, (bytes, len));
         }
     }
 }
@@ -259,43 +297,68 @@ fn repeats_are_seen_behind_many(rt: HostRuntime) -> std::result::Result<(), Fail
     Ok(())
 }
 
+const GREATEST: &[u8] = b"\xff\xff\xff\xff\xff\xff\xff\xff\xff\x01\x11\0\0\0\0";
+
+// Bytes, a code, and the declaration with that code: its tag, whether it has children, and how many
+// attributes it has.
+static FOUND: &[(&[u8], u64, Option<(DwTag, bool, usize)>)] = &[
+    (UNIT, 1, Some((DW_TAG_compile_unit, true, 1))),
+    (IMPLICIT, 1, Some((DW_TAG_subprogram, false, 1))),
+    (
+        b"\x01\x2e\0\x03\x08\0\0\0",
+        1,
+        Some((DW_TAG_subprogram, false, 1)),
+    ),
+    (THREE, 2, Some((DW_TAG_compile_unit, false, 0))),
+    (THREE, 3, Some((DW_TAG_compile_unit, false, 0))),
+    (GREATEST, u64::MAX, Some((DW_TAG_compile_unit, false, 0))),
+    (FIVE, 1, Some((DW_TAG_compile_unit, false, 5))),
+    (SIX, 1, Some((DW_TAG_compile_unit, false, 6))),
+    (THREE, 0, None),
+    (THREE, 4, None),
+    (THREE, u64::MAX, None),
+    (GREATEST, 0, None),
+];
+
+fn found(mem: Global, bytes: &[u8], code: u64) -> Result<Option<(DwTag, bool, usize)>> {
+    match table_at(mem, bytes, 0)?.get(code) {
+        Some(it) if it.code() == code => {
+            Ok(Some((it.tag(), it.has_children(), it.attributes().len())))
+        }
+        _ => Ok(None),
+    }
+}
+
 #[test]
-fn declarations_are_found_by_code(rt: HostRuntime) -> std::result::Result<(), Fail> {
+fn declarations_are_found_by_code(rt: HostRuntime) {
+    for (bytes, code, wanted) in FOUND {
+        same(&rt, found(rt.alloc(), bytes, *code), Ok(*wanted), code);
+    }
+}
+
+fn check_attributes(
+    rt: &impl Abort,
+    mem: Global,
+    bytes: &[u8],
+    wanted: &[AttributeSpecification],
+) -> Result<()> {
+    for abbreviation in table_at(mem, bytes, 0)?.iter() {
+        same(rt, abbreviation.attributes(), wanted, bytes);
+        let copy = abbreviation.try_clone()?;
+        same(rt, &copy, abbreviation, bytes);
+    }
+    Ok(())
+}
+
+#[test]
+fn attributes_are_in_their_order(rt: HostRuntime) -> std::result::Result<(), Fail> {
     let mem = rt.alloc();
     let name = AttributeSpecification::new(DW_AT_name, DW_FORM_string, None);
     let value = AttributeSpecification::new(DW_AT_name, DW_FORM_implicit_const, Some(-42));
-    let greatest = b"\xff\xff\xff\xff\xff\xff\xff\xff\xff\x01\x11\0\0\0\0";
-    let rows: [(&[u8], u64, DwTag, bool, &[AttributeSpecification]); 8] = [
-        (UNIT, 1, DW_TAG_compile_unit, true, &[name]),
-        (IMPLICIT, 1, DW_TAG_subprogram, false, &[value]),
-        (
-            b"\x01\x2e\0\x03\x08\0\0\0",
-            1,
-            DW_TAG_subprogram,
-            false,
-            &[name],
-        ),
-        (THREE, 2, DW_TAG_compile_unit, false, &[]),
-        (THREE, 3, DW_TAG_compile_unit, false, &[]),
-        (greatest, u64::MAX, DW_TAG_compile_unit, false, &[]),
-        (FIVE, 1, DW_TAG_compile_unit, false, &[name; 5]),
-        (SIX, 1, DW_TAG_compile_unit, false, &[name; 6]),
-    ];
-    for (bytes, code, tag, has_children, attributes) in rows {
-        let table = table_at(mem, bytes, 0)?;
-        let found = table.get(code).ok_or("a code is missing")?;
-        same(&rt, found.code(), code, bytes);
-        same(&rt, found.tag(), tag, bytes);
-        same(&rt, found.has_children(), has_children, bytes);
-        same(&rt, found.attributes(), attributes, bytes);
-        let copy = found.try_clone()?;
-        same(&rt, &copy, found, bytes);
-    }
-    let table = table_at(mem, THREE, 0)?;
-    for code in [0, 4, u64::MAX] {
-        same(&rt, table.get(code), None, code);
-    }
-    same(&rt, table_at(mem, greatest, 0)?.get(0), None, "0");
+    check_attributes(&rt, mem, UNIT, &[name])?;
+    check_attributes(&rt, mem, IMPLICIT, &[value])?;
+    check_attributes(&rt, mem, FIVE, &[name; 5])?;
+    check_attributes(&rt, mem, SIX, &[name; 6])?;
     Ok(())
 }
 
@@ -312,7 +375,7 @@ fn copies_are_equal(rt: HostRuntime) -> std::result::Result<(), Fail> {
 // With requests for memory that are refused, a call returns the whole table or want of memory, and
 // the table only where it asks for none.
 #[test]
-fn refused_memory(rt: HostRuntime) {
+fn refused_memory_for_a_table(rt: HostRuntime) {
     let rows: [(&[u8], usize); 5] = [
         (b"", 0),
         (b"\x80\0\xaa", 0),
@@ -332,6 +395,7 @@ fn refused_memory(rt: HostRuntime) {
             }
         }
     }
+    end_requests(&rt, rt.alloc());
 }
 
 // A copy of the table and of each of its abbreviations is whole, or memory for it was refused.

@@ -10,6 +10,7 @@ ghost use Rattle.dwarf_read_core.specs.Answer.{Answer, Answers, followed_by};
 ghost use Rattle.dwarf_read_core.specs.Cache.{answer_of, KeepsAnswers, least_count, NamesOffsets, GivesBeforeError, GivesSome, IsFaithful, HandsOut, is_final, still_kept};
 ghost use Rattle.dwarf_read_core.specs.Sections.{debug_abbrev_reader};
 
+use super::super::key::Key;
 use super::{Abbreviations, AbbreviationsCacheStrategy, DebugAbbrev};
 use dwarf_base_core::{DebugAbbrevOffset, Error, ReaderOffset, Result};
 use dwarf_reader_core::Reader;
@@ -18,7 +19,7 @@ use std::collections::BTreeMap;
 use std::marker::Model;
 use std::rc::Rc;
 
-type Entries = BTreeMap<u64, Result<Rc<Abbreviations>>>;
+type Entries = BTreeMap<Key, Result<Rc<Abbreviations>>>;
 
 /// Tables of abbreviations by their offsets, kept so that units which share one read it once.
 ///
@@ -27,12 +28,16 @@ type Entries = BTreeMap<u64, Result<Rc<Abbreviations>>>;
 ///
 /// ```
 /// let mut cache = AbbreviationsCache::new(mem);
-/// cache.populate(AbbreviationsCacheStrategy::Duplicates, &debug_abbrev, offsets)?;
+/// cache.populate(
+///     AbbreviationsCacheStrategy::Duplicates,
+///     &debug_abbrev,
+///     offsets,
+/// )?;
 /// let table = cache.get(&debug_abbrev, DebugAbbrevOffset(0))?;
 /// ```
 #[derive(Debug, Drop)]
 pub struct AbbreviationsCache {
-    abbreviations: BTreeMap<u64, Result<Rc<Abbreviations>>>,
+    abbreviations: BTreeMap<Key, Result<Rc<Abbreviations>>>,
     mem: Global,
 }
 
@@ -83,8 +88,12 @@ impl AbbreviationsCache {
     ) -> Result<()>
         requires can { I.can_next units }
         requires ends { IsFinite (I.remaining units) }
-        ensures ok { OnOk result ((offsets : List ℕ) × NamesOffsets I.next_gives (λ o. R.Offset.value o.0) units offsets × KeepsAnswers (least_count strategy) (R.view (debug_abbrev_reader debug_abbrev.now)) offsets (finite.get self.new)) }
-        ensures faithful { OnOk result (IsFaithful self.new (R.view (debug_abbrev_reader debug_abbrev.now))) }
+        ensures ok { let section = R.view (debug_abbrev_reader debug_abbrev.now) in
+            OnOk result ((offsets : List ℕ)
+            × NamesOffsets I.next_gives (λ o. R.Offset.value o.0) units offsets
+            × KeepsAnswers (least_count strategy) section offsets (finite.get self.new)) }
+        ensures faithful { let section = R.view (debug_abbrev_reader debug_abbrev.now) in
+            OnOk result (IsFaithful self.new section) }
         ensures err { IfErr result (λ fault. fault ≡ Error.OutOfMemory) }
         ensures unchanged { OnErr result (self.new ≡ self.old) }
 
@@ -107,12 +116,13 @@ impl AbbreviationsCache {
         offset: DebugAbbrevOffset<R::Offset>,
         abbreviations: Rc<Abbreviations>,
     ) -> Result<()>
-        ensures ok { OnOk result (self.new ≡ finite.insert self.old (R.Offset.value offset.0) (Ok abbreviations.value)) }
+        ensures ok { OnOk result
+            (self.new ≡ finite.insert self.old (R.Offset.value offset.0) (Ok abbreviations.value)) }
         ensures err { IfErr result (λ fault. fault ≡ Error.OutOfMemory) }
         ensures unchanged { OnErr result (self.new ≡ self.old) }
     {
         self.abbreviations
-            .insert(offset.0.into_u64(), Ok(abbreviations))?;
+            .insert(Key(offset.0.into_u64()), Ok(abbreviations))?;
         Ok(())
     }
 
@@ -144,11 +154,17 @@ impl AbbreviationsCache {
         debug_abbrev: &DebugAbbrev<R>,
         offset: DebugAbbrevOffset<R::Offset>,
     ) -> Result<Rc<Abbreviations>>
-        ensures never_want { finite.get self.now (R.Offset.value offset.0) ≢ Some (Err Error.OutOfMemory) }
-        ensures answer { MatchOption (finite.get self.now (R.Offset.value offset.0)) (Answers (answer_of result) (R.view (debug_abbrev_reader debug_abbrev.now)) (R.Offset.value offset.0)) (λ kept. HandsOut kept result) }
-        ensures faithful { IsFaithful self.now (R.view (debug_abbrev_reader debug_abbrev.now)) → Answers (answer_of result) (R.view (debug_abbrev_reader debug_abbrev.now)) (R.Offset.value offset.0) }
+        ensures never_want { finite.get self.now (R.Offset.value offset.0)
+            ≢ Some (Err Error.OutOfMemory) }
+        ensures answer { let section = R.view (debug_abbrev_reader debug_abbrev.now) in
+            MatchOption (finite.get self.now (R.Offset.value offset.0))
+            (Answers (answer_of result) section (R.Offset.value offset.0))
+            (λ kept. HandsOut kept result) }
+        ensures faithful { let section = R.view (debug_abbrev_reader debug_abbrev.now) in
+            IsFaithful self.now section
+            → Answers (answer_of result) section (R.Offset.value offset.0) }
     {
-        match self.abbreviations.get(&offset.0.into_u64()) {
+        match self.abbreviations.get(&Key(offset.0.into_u64())) {
             Some(Ok(table)) => Ok(table.clone()?),
             Some(Err(fault)) => Err(*fault),
             None => Ok(Rc::new(self.mem, debug_abbrev.abbreviations(self.mem, offset)?)?),
@@ -192,7 +208,8 @@ fn shared_answer<R: Reader>(
     debug_abbrev: &DebugAbbrev<R>,
     offset: DebugAbbrevOffset<R::Offset>,
 ) -> Result<Result<Rc<Abbreviations>>>
-    ensures ok { IfOk result (λ answer. Answer (R.view (debug_abbrev_reader debug_abbrev.now)) (R.Offset.value offset.0) (answer_of answer)) }
+    ensures ok { let section = R.view (debug_abbrev_reader debug_abbrev.now) in
+        IfOk result (λ answer. Answer section (R.Offset.value offset.0) (answer_of answer)) }
     ensures err { IfErr result (λ fault. fault ≡ Error.OutOfMemory) }
 {
     match debug_abbrev.abbreviations(mem, offset) {
@@ -209,14 +226,17 @@ fn entries_kept<R: Reader>(
     debug_abbrev: &DebugAbbrev<R>,
     offsets: &[DebugAbbrevOffset<R::Offset>],
 ) -> Result<Entries>
-    ensures ok { IfOk result (λ entries. KeepsAnswers (least_count strategy) (R.view (debug_abbrev_reader debug_abbrev.now)) (map (λ o. R.Offset.value o.0) offsets.now) (λ key. option_map answer_of (get nat_cmp entries key))) }
+    ensures ok { let section = R.view (debug_abbrev_reader debug_abbrev.now) in
+        IfOk result (λ entries. KeepsAnswers (least_count strategy) section
+        (map (λ o. R.Offset.value o.0) offsets.now)
+        (λ key. option_map answer_of (get nat_cmp entries key))) }
     ensures err { IfErr result (λ fault. fault ≡ Error.OutOfMemory) }
     ensures some { OnErr result (offsets.now ≢ []) }
 {
     let mut counts = BTreeMap::new(mem);
     let mut entries = BTreeMap::new(mem);
     for offset in offsets {
-        let key = offset.0.into_u64();
+        let key = Key(offset.0.into_u64());
         let count = count_once_more(&mut counts, key)?;
         if count == strategy.least_count() {
             keep(
@@ -230,10 +250,12 @@ fn entries_kept<R: Reader>(
 }
 
 // Counts a key once more, and answers how often it has been counted.
-fn count_once_more(counts: &mut BTreeMap<u64, usize>, key: u64) -> Result<usize>
+fn count_once_more(counts: &mut BTreeMap<Key, usize>, key: Key) -> Result<usize>
     requires { unwrap_or (get nat_cmp counts.old key) 0 + 1 < 2 ^ 64 }
     ensures count { IfOk result (λ count. count ≡ unwrap_or (get nat_cmp counts.old key) 0 + 1) }
-    ensures counted { OnOk result ((q : ℕ) → unwrap_or (get nat_cmp counts.new q) 0 ≡ unwrap_or (get nat_cmp counts.old q) 0 + (if key == q then 1 else 0)) }
+    ensures counted { OnOk result
+        ((q : ℕ) → unwrap_or (get nat_cmp counts.new q) 0
+        ≡ unwrap_or (get nat_cmp counts.old q) 0 + (if key == q then 1 else 0)) }
     ensures err { IfErr result (λ fault. fault ≡ Error.OutOfMemory) }
 {
     let count = counts.entry(key)?.or_insert(0);
@@ -242,9 +264,11 @@ fn count_once_more(counts: &mut BTreeMap<u64, usize>, key: u64) -> Result<usize>
 }
 
 // Keeps an answer under a key.
-fn keep(entries: &mut Entries, key: u64, answer: Result<Rc<Abbreviations>>) -> Result<()>
-    ensures kept { OnOk result ((q : ℕ) → option_map answer_of (get nat_cmp entries.new q)
-        ≡ (if q == key then Some (answer_of answer) else option_map answer_of (get nat_cmp entries.old q))) }
+fn keep(entries: &mut Entries, key: Key, answer: Result<Rc<Abbreviations>>) -> Result<()>
+    ensures kept { OnOk result
+        ((q : ℕ) → option_map answer_of (get nat_cmp entries.new q)
+        ≡ (if q == key then Some (answer_of answer)
+        else option_map answer_of (get nat_cmp entries.old q))) }
     ensures err { IfErr result (λ fault. fault ≡ Error.OutOfMemory) }
 {
     entries.insert(key, answer)?;

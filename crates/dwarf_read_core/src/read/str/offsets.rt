@@ -18,11 +18,9 @@ const VERSION: u16 = 5;
 /// The sets of string offsets that are left of a section, each by its header.
 ///
 /// ```
-/// let mut headers = section.headers()?;
-/// while let Some(header) = headers.next()? {
-///     let mut entries = header.entries()?;
-///     while let Some(offset) = entries.next()? {
-///         println!(rt; "{}", offset.0)?;
+/// for header in section.headers()? {
+///     for offset in header?.entries()? {
+///         println!(rt; "{}", offset?.0)?;
 ///     }
 /// }
 /// ```

@@ -14,7 +14,8 @@ returns c =
     rw to_z-of_z (c.cast_signed.ensures ∙ elim c.if-is_negative.branch [
       | then-is_negative w ↦
           rw (w.sign-is, w.if-is_negative.true)
-          (ap (to_z w64) (or_ones c.args.value c.args.bits 64 c.requires.below (omega arith)) ∙ to_z_low c.args.value (2 ^ c.args.bits) c.requires.below low)
+          (ap (to_z w64) (or_ones c.args.value c.args.bits 64 c.requires.below (omega arith))
+              ∙ to_z_low c.args.value (2 ^ c.args.bits) c.requires.below low)
       | else-is_negative w ↦
           let small : c.args.value < 2 ^ 63 = omega (arith, c.requires.below) in
           let whole : pos c.args.value ≡ pos c.args.value -ℤ pos 0 = omega (arith, ints) in

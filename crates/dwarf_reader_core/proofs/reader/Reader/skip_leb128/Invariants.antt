@@ -4,7 +4,8 @@ use Rattle.dwarf_reader_core.proofs.reader.Reader.skip_leb128.Given as goal
 
 -- some bytes were taken, and the number goes on
 abbrev pub invariant-loop-byte : goal.invariant-loop-byte
-invariant-loop-byte g l = let view = g.Self.Reader.view in (k : ℕ) × (worth : ℕ) × Begun (view l.fn.self) k (view l.self) worth
+invariant-loop-byte g l =
+    let view = g.Self.Reader.view in (k : ℕ) × (worth : ℕ) × Begun (view l.fn.self) k (view l.self) worth
 
 abbrev pub decreases-loop-byte : goal.decreases-loop-byte
 decreases-loop-byte g l = length (g.Self.Reader.view l.self).bytes

@@ -8,7 +8,8 @@ use Rattle.dwarf_reader_core.proofs.leb128.write.Leb128.signed.Given as goal
 -- whatever is shortest for the rest completes the number
 abbrev pub invariant-digits : goal.invariant-digits
 invariant-digits l = record {
-  completes : (tail : List ℕ) → IsLeast signed_value l.rest tail → IsLeast signed_value l.value (take l.len l.bytes ++ tail);
+  completes : (tail : List ℕ) → IsLeast signed_value l.rest tail
+      → IsLeast signed_value l.value (take l.len l.bytes ++ tail);
   fits : FitsBytes (9 - l.len) l.rest;
   has_room : HasRoom l.bytes l.len;
 }

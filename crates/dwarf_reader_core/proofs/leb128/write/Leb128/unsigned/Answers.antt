@@ -4,33 +4,38 @@ use Rattle.std.proofs.lemmas.List.{length-take}
 use Rattle.dwarf_reader_core.specs.Leb128.{unsigned64}
 use Rattle.dwarf_reader_core.proofs.Buffers.{HasRoom-more, IsPadded-last, take-placed, take-placed-append}
 use Rattle.dwarf_reader_core.proofs.Shortest.{IsShortest-from, HasNumber-append}
-use Rattle.dwarf_reader_core.proofs.ShortestUnsigned.{IsLeast-last_of, IsLeast-more_of, room_for_more}
+use Rattle.dwarf_reader_core.proofs.ShortestUnsigned.{unsigned_last_of-is_least, unsigned_more_of-is_least, unsigned_more-has_room}
 use Rattle.dwarf_reader_core.proofs.leb128.write.Leb128.unsigned.Goals as goal
 
 pub invariant_of-result : goal.invariant_of-result
 invariant_of-result c =
     let digit = c.low_bits_of_u64-digit.result in
     IsPadded-last _ _ digit c.digits.invariant.has_room
-    (c.digits.invariant.completes (digit ∷ []) (IsLeast-last_of c.digits.rest digit c.if-rest-eq0.true c.low_bits_of_u64-digit.ensures)).is_spelled
+    (c.digits.invariant.completes (digit ∷ []) (unsigned_last_of-is_least c.digits.rest digit c.if-rest-eq0.true c.low_bits_of_u64-digit.ensures)).is_spelled
 
 pub returns-then-rest-eq0-clause-shortest : goal.returns-then-rest-eq0-clause-shortest
 returns-then-rest-eq0-clause-shortest c =
     let digit = c.low_bits_of_u64-digit.result in
     IsShortest-from unsigned64 _ _
     (rw (take-placed _ _ digit c.digits.invariant.has_room)
-    (c.digits.invariant.completes (digit ∷ []) (IsLeast-last_of c.digits.rest digit c.if-rest-eq0.true c.low_bits_of_u64-digit.ensures)))
+    (c.digits.invariant.completes (digit ∷ [])
+        (unsigned_last_of-is_least c.digits.rest digit c.if-rest-eq0.true c.low_bits_of_u64-digit.ensures)))
 
 pub returns-then-rest-eq0-clause-read : goal.returns-then-rest-eq0-clause-read
 returns-then-rest-eq0-clause-read c rest =
-    HasNumber-append unsigned64 c.args.value _ rest (returns-then-rest-eq0-clause-shortest c).encodes (simp length-take (omega arith)) (lt-ltb _ _ (omega arith))
+    HasNumber-append unsigned64 c.args.value _ rest (returns-then-rest-eq0-clause-shortest c).encodes
+        (simp length-take (omega arith)) (lt-ltb _ _ (omega arith))
 
 pub digits-preserved : goal.digits-preserved
 digits-preserved c =
     let digit = c.low_bits_of_u64-digit.result in
     let byte = bit_or digit 128 in
-    let room = room_for_more c.digits.len c.digits.rest c.digits.invariant.has_room.room c.digits.invariant.fits (omega arith) in
+    let room = unsigned_more-has_room c.digits.len c.digits.rest c.digits.invariant.has_room.room c.digits.invariant.fits (omega arith) in
     record {
-      completes = λ tail least. rw (take-placed-append c.digits.bytes c.digits.len byte tail c.digits.invariant.has_room) (c.digits.invariant.completes (byte ∷ tail) (IsLeast-more_of c.digits.rest digit tail (omega arith) c.low_bits_of_u64-digit.ensures least));
+      completes = λ tail least. rw
+          (take-placed-append c.digits.bytes c.digits.len byte tail c.digits.invariant.has_room)
+          (c.digits.invariant.completes (byte ∷ tail)
+          (unsigned_more_of-is_least c.digits.rest digit tail (omega arith) c.low_bits_of_u64-digit.ensures least));
       fits = room.0;
       has_room = HasRoom-more _ _ byte c.digits.invariant.has_room room.1;
     }

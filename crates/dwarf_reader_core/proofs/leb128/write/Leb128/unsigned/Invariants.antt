@@ -7,7 +7,8 @@ use Rattle.dwarf_reader_core.proofs.leb128.write.Leb128.unsigned.Given as goal
 -- whatever is shortest for the rest completes the number
 abbrev pub invariant-digits : goal.invariant-digits
 invariant-digits l = record {
-  completes : (tail : List ℕ) → IsLeast unsigned_value l.rest tail → IsLeast unsigned_value l.value (take l.len l.bytes ++ tail);
+  completes : (tail : List ℕ) → IsLeast unsigned_value l.rest tail
+      → IsLeast unsigned_value l.value (take l.len l.bytes ++ tail);
   fits : l.rest < 128 ^ (10 - l.len);
   has_room : HasRoom l.bytes l.len;
 }

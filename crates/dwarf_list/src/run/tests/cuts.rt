@@ -1,0 +1,79 @@
+//! Sections that are cut at each byte.
+
+use super::{CUT, UNIT, UNIT_TEXT, check};
+use std::test::Fail;
+
+// Words, an input, and the lengths of its beginnings that have a text, each with its text.
+static CUTS: &[(&[&str], &[u8], &[(usize, &[u8])])] = &[
+    (
+        &["abbrev", "0"],
+        UNIT,
+        &[(0, b""), (7, UNIT_TEXT), (8, UNIT_TEXT), (9, UNIT_TEXT)],
+    ),
+    (
+        &["abbrev", "0"],
+        b"\x01\x2e\0\x03\x21\x56\0\0\0",
+        &[
+            (0, b""),
+            (
+                8,
+                b"1 DW_TAG_subprogram no\n  DW_AT_name DW_FORM_implicit_const -42\n",
+            ),
+            (
+                9,
+                b"1 DW_TAG_subprogram no\n  DW_AT_name DW_FORM_implicit_const -42\n",
+            ),
+        ],
+    ),
+    (
+        &["abbrev", "0"],
+        b"\x01\x11\0\0\0\x03\x11\0\0\0\x02\x11\0\0\0\0",
+        &[
+            (0, b""),
+            (5, b"1 DW_TAG_compile_unit no\n"),
+            (10, b"1 DW_TAG_compile_unit no\n3 DW_TAG_compile_unit no\n"),
+            (
+                15,
+                b"1 DW_TAG_compile_unit no\n2 DW_TAG_compile_unit no\n3 DW_TAG_compile_unit no\n",
+            ),
+            (
+                16,
+                b"1 DW_TAG_compile_unit no\n2 DW_TAG_compile_unit no\n3 DW_TAG_compile_unit no\n",
+            ),
+        ],
+    ),
+    (
+        &["addr", "le"],
+        b"\x0c\0\0\0\x05\0\x04\0\x78\x56\x34\x12\xef\xbe\xad\xde\
+          \xff\xff\xff\xff\x14\0\0\0\0\0\0\0\x05\0\x08\0\
+          \xf0\xde\xbc\x9a\x78\x56\x34\x12\xef\xbe\xad\xde\xef\xbe\xad\xde",
+        &[
+            (0, b""),
+            (
+                16,
+                b"set 0: length 12, 32-bit, address size 4\n  0x12345678\n  0xdeadbeef\n",
+            ),
+            (
+                48,
+                b"set 0: length 12, 32-bit, address size 4\n  0x12345678\n  0xdeadbeef\n\
+                  set 16: length 20, 64-bit, address size 8\n  0x123456789abcdef0\n  0xdeadbeefdeadbeef\n",
+            ),
+        ],
+    ),
+];
+
+#[test]
+fn cut_inputs_end_early(rt: HostRuntime) -> Result<(), Fail> {
+    for (texts, bytes, whole) in CUTS {
+        for len in 0..bytes.len() + 1 {
+            let mut wanted = Err((CUT, 1));
+            for (whole_len, text) in *whole {
+                if *whole_len == len {
+                    wanted = Ok(*text);
+                }
+            }
+            check(&rt, rt.alloc(), texts, &mut &bytes[..len], wanted)?;
+        }
+    }
+    Ok(())
+}

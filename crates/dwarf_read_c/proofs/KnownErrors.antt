@@ -1,0 +1,170 @@
+-- The errors of the definitions have numbers of their own.
+use Rattle.std.proofs.Common.{◌≡◌, ◌≢◌, ℕ, ◌<◌, ◌≤◌, List, Bool, true, false, Result, Ok, Err, ap, sym, subst, arith, inl, inr}
+use Rattle.std.proofs.lemmas.Bool.{cases_lt}
+use Rattle.std.specs.Prelude.{IfErr}
+use Rattle.dwarf_read_core.specs.declared.Error.{Error}
+use Rattle.dwarf_read_core.specs.declared.Error.TheVariants.{OutOfMemory}
+use Rattle.dwarf_read_core.specs.Answer.{Answer, Answers, IsFault, IsFaulty, number_cut, number_bad, children_cut, tag_zero, children_bad, name_zero, form_zero, in_declaration, repeated, outside as table_outside, table, fault}
+use Rattle.dwarf_read_core.specs.Grammar.{Table}
+use Rattle.dwarf_read_core.specs.Entries.{string_offset}
+use Rattle.dwarf_read_core.specs.Faults.{EndsBefore, end_fault}
+use Rattle.dwarf_read_core.specs.Input.{Input}
+use Rattle.dwarf_read_core.specs.Layout.{Layout, value, refused, fixed, byte, part, pure, refuse, when◌then◌else◌, check, ◌>>=◌, inside}
+use Rattle.dwarf_read_core.specs.Leb128.{Kind, unsigned64, unsigned16, signed64, refusal}
+use Rattle.dwarf_read_core.specs.Sets.{address_header, initial_length, set}
+use Rattle.dwarf_read_core.specs.Strings.{StringAt, outside as string_outside, string, unended}
+use Rattle.dwarf_read_core.specs.Words.{Slot, WordAt, AddressAt, to_slot, word, address}
+use Rattle.dwarf_read_c.specs.Fault.{IsKnown, kind_of}
+use Rattle.dwarf_read_c.specs.Numbers.{LacksNumber, cut, bad}
+use Rattle.dwarf_read_c.specs.Sets.{LacksSet, address_set, outside as set_outside, faulty as set_faulty}
+
+known_refusal : (k : Kind) → IsKnown (refusal k)
+known_refusal unsigned64 = omega arith
+known_refusal unsigned16 = omega arith
+known_refusal signed64 = omega arith
+
+-- of a number
+pub known_number : {k : Kind} {bytes : List ℕ} {e : Error} → LacksNumber k bytes e → IsKnown e
+known_number (cut is) = omega arith
+known_number {k} (bad is) = known_refusal k
+
+-- of a string
+pub known_string :
+    {section : Input} {offset : ℕ} {answer : Result Input Error} → StringAt section offset answer →
+    IfErr answer IsKnown
+known_string (string_outside past) = omega arith
+known_string (string bytes rest within parts unbroken) = tt
+known_string (unended within none) = omega arith
+
+-- ---- layouts whose faults are known
+
+-- each fault of a layout has a number of its own
+record FailsKnown {A : Type 0} (f : Layout A) : Type 0 where
+  known : (old : Input) (e : Error) → f.Fails old e → IsKnown e
+
+-- bytes that are missing
+known_end : (n : ℕ) (old : Input) (e : Error) → (new : Input) × EndsBefore n old e new → IsKnown e
+known_end n old e h = subst IsKnown (sym h.1.fault) (let k : kind_of (end_fault old) ≤ 19 = omega arith in k)
+
+fixed_known : (n : ℕ) → FailsKnown (fixed n)
+fixed_known n = record { known = λ old e h. known_end n old e h }
+
+byte_known : FailsKnown byte
+byte_known = record { known = λ old e h. known_end 1 old e h }
+
+part_known : (n : ℕ) → FailsKnown (part n)
+part_known n = record { known = λ old e h. known_end n old e h }
+
+pure_known : {A : Type 0} (a : A) → FailsKnown (pure a)
+pure_known a = record { known = λ old e h. absurd h }
+
+refuse_known : {A : Type 0} (d : Error) → IsKnown d → FailsKnown {A = A} (refuse d)
+refuse_known d is = record { known = λ old e h. subst IsKnown (sym h) is }
+
+when_known : {A : Type 0} {f g : Layout A} (b : Bool) → FailsKnown f → FailsKnown g → FailsKnown (when b then f else g)
+when_known true first second = first
+when_known false first second = second
+
+check_known : (b : Bool) (d : Error) → IsKnown d → FailsKnown (check b d)
+check_known b d is = when_known b (pure_known tt) (refuse_known d is)
+
+inside_known : {A : Type 0} {f : Layout A} (unit : Input) → FailsKnown f → FailsKnown (inside unit f)
+inside_known unit law = record { known = λ old e h. law.known unit e h }
+
+then_known : {A B : Type 0} {p : Layout A} {f : A → Layout B} → FailsKnown p → ((x : A) → FailsKnown (f x))
+    → FailsKnown (p >>= f)
+then_known {A} {B} {p} {f} first second = record { known = go }
+  where
+    go : (old : Input) (e : Error) → (p >>= f).Fails old e → IsKnown e
+    go old e (inl h) = first.known old e h
+    go old e (inr h) = (second h.0).known h.1 e h.3
+
+-- of the offset of a string
+string_offset_known : (greatest width : ℕ) → FailsKnown (string_offset greatest width)
+unfolding string_offset
+string_offset_known greatest width =
+    then_known (fixed_known width) (λ n. then_known (check_known _ _ (omega arith)) (λ _. pure_known n))
+
+-- of the bytes in front of a slot
+to_slot_known : (greatest : ℕ) (s : Slot) → FailsKnown (to_slot greatest s)
+unfolding to_slot
+to_slot_known greatest s =
+    then_known (part_known _) (λ _. then_known (check_known _ _ (omega arith)) (λ _. part_known _))
+
+-- of a word
+word_known : (greatest : ℕ) (s : Slot) → FailsKnown (word greatest s)
+unfolding word
+word_known greatest s = then_known (to_slot_known greatest s) (λ _. string_offset_known greatest s.width)
+
+pub known_word :
+    (greatest : ℕ) (s : Slot) {section : Input} {answer : Result ℕ Error} → WordAt greatest section s answer →
+    IfErr answer IsKnown
+known_word greatest s (value behind reads) = tt
+known_word greatest s {section} (refused fails) = (word_known greatest s).known section _ fails
+
+-- of an address
+address_known : (greatest : ℕ) (s : Slot) → FailsKnown (address greatest s)
+unfolding address
+address_known greatest s =
+    then_known (to_slot_known greatest s) (λ _. then_known (check_known _ _ (omega arith)) (λ _. fixed_known s.width))
+
+pub known_address :
+    (greatest : ℕ) (s : Slot) {section : Input} {answer : Result ℕ Error} → AddressAt greatest section s answer →
+    IfErr answer IsKnown
+known_address greatest s (value behind reads) = tt
+known_address greatest s {section} (refused fails) = (address_known greatest s).known section _ fails
+
+-- of an initial length
+initial_length_known : FailsKnown initial_length
+unfolding initial_length
+initial_length_known =
+    then_known (fixed_known 4) (λ short. when_known _ (pure_known _)
+    (when_known _ (refuse_known _ (omega arith)) (then_known (fixed_known 8) (λ long. pure_known _))))
+
+-- of the header of a set of addresses
+address_header_known : FailsKnown address_header
+unfolding address_header
+address_header_known =
+    then_known (fixed_known 2) (λ version. then_known (check_known _ _ (omega arith)) (λ _.
+    then_known byte_known (λ size. then_known (check_known _ _ (omega arith)) (λ _.
+    then_known byte_known (λ segment. then_known (check_known _ _ (omega arith)) (λ _. pure_known size))))))
+
+-- of a set of addresses
+address_set_known : (offset : ℕ) → FailsKnown (address_set offset)
+unfolding set
+address_set_known offset =
+    then_known initial_length_known (λ initial. then_known (check_known _ _ (omega arith)) (λ _.
+    then_known (part_known _) (λ unit. then_known (inside_known unit address_header_known) (λ said. pure_known _))))
+
+pub known_set : {section : Input} {offset : ℕ} {e : Error} → LacksSet section offset e → IsKnown e
+known_set (set_outside past) = omega arith
+known_set {offset = offset} (set_faulty e some fails) = (address_set_known offset).known _ e fails
+
+-- ---- tables
+
+known_faulty : {end : ℕ} {bytes : List ℕ} {e : Error} → IsFaulty end bytes e → IsKnown e
+known_faulty (number_cut front bytes k begins is) = omega arith
+known_faulty (number_bad front bytes k begins is) = known_refusal k
+known_faulty (children_cut front code tag head) = omega arith
+known_faulty (tag_zero front tag rest code is_code is_tag) = omega arith
+known_faulty (children_bad front rest code tag byte head above) = omega arith
+known_faulty (name_zero front name form rest d f is_front is_name is_form some) = omega arith
+known_faulty (form_zero front name form rest d n is_front is_name some is_form) = omega arith
+
+known_fault : {end : ℕ} {bytes : List ℕ} {e : Error} → IsFault end bytes e → IsKnown e
+known_fault (in_declaration bytes rest ds e are some is) = known_faulty is
+known_fault (repeated bytes declaration rest ds d are is there) = omega arith
+
+known_answer :
+    {section : Input} {offset : ℕ} {answer : Result Table Error} → Answer section offset answer →
+    IfErr answer IsKnown
+known_answer (table_outside past) = omega arith
+known_answer (table t within is) = tt
+known_answer (fault e within is) = known_fault is
+
+no_want : (e : Error) → 19 < kind_of e → e ≢ OutOfMemory
+no_want e above same = let number : kind_of e ≡ 18 = ap kind_of same in omega arith
+
+-- of a table; want of memory has a number too
+pub known_table : (section : Input) (offset : ℕ) (e : Error) → Answers (Err e) section offset → IsKnown e
+known_table section offset e answers = elim (cases_lt 19 (kind_of e)) [ inl above ↦ known_answer (answers (no_want e above)) | inr known ↦ known ]

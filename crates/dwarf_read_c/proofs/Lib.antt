@@ -1,0 +1,5 @@
+pub mod NumberLemmas
+pub mod StringLemmas
+pub mod TableLemmas
+pub mod SetLemmas
+pub mod KnownErrors

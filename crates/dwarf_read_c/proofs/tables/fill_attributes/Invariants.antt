@@ -1,0 +1,13 @@
+use Rattle.std.proofs.Common.{◌≡◌, ◌++◌, drop, length, map}
+use Rattle.std.specs.FinMap.{values}
+use Rattle.std.specs.List.{sum_by}
+use Rattle.dwarf_read_c.specs.Tables.{attributes_in}
+use Rattle.dwarf_read_c.proofs.tables.fill_attributes.Given as goal
+
+-- the attributes of the abbreviations so far stand in front
+abbrev pub invariant-loop-abbreviation : goal.invariant-loop-abbreviation
+invariant-loop-abbreviation l = record {
+  split : map (λ a. a.now) l.yielded ++ l.abbreviation-iterator ≡ values l.table.by_code;
+  counted : l.first ≡ sum_by (λ d. length d.attributes) (map (λ a. a.now) l.yielded);
+  placed : l.places ≡ attributes_in (map (λ a. a.now) l.yielded) ++ drop l.first l.initial.places;
+}

@@ -1,0 +1,7 @@
+use Rattle.std.proofs.Common.{◌≡◌, ◌++◌, drop, map, take}
+use Rattle.dwarf_read_c.specs.Tables.{attribute_of}
+use Rattle.dwarf_read_c.proofs.tables.fill_each.Given as goal
+
+-- the attributes so far stand in front
+abbrev pub invariant-loop-i : goal.invariant-loop-i
+invariant-loop-i l = l.places ≡ map attribute_of (take l.i l.attributes) ++ drop l.i l.initial.places

@@ -1,0 +1,11 @@
+use Rattle.std.proofs.Common.{◌≡◌, ◌++◌, length, map}
+use Rattle.std.specs.FinMap.{values}
+use Rattle.std.specs.List.{sum_by}
+use Rattle.dwarf_read_c.proofs.tables.measure_of.Given as goal
+
+-- the attributes of the abbreviations so far are counted
+abbrev pub invariant-loop-abbreviation : goal.invariant-loop-abbreviation
+invariant-loop-abbreviation l = record {
+  split : map (λ a. a.now) l.yielded ++ l.abbreviation-iterator ≡ values l.table.by_code;
+  counted : l.attributes ≡ sum_by (λ d. length d.attributes) (map (λ a. a.now) l.yielded);
+}

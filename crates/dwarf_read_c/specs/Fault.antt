@@ -1,0 +1,90 @@
+-- How C is told of an error: by its number, and the position or the value that it carries.
+use Rattle.std.specs.Prelude.{◌≡◌, ◌==◌, ◌^◌, ◌≤◌, ℕ, List, [], ◌∷◌, Option, Some, None, nat_lt, option_and_then, if◌then◌else◌}
+use Rattle.std.specs.Map.{lookup}
+use Rattle.dwarf_read_core.specs.declared.Error.{Error}
+use Rattle.dwarf_read_core.specs.declared.Error.TheVariants.{UnexpectedEof, BadUnsignedLeb128, BadSignedLeb128, AbbreviationTagZero, InvalidAbbreviationChildren, AttributeNameZero, AttributeFormZero, DuplicateAbbreviationCode, UnknownReservedLength, UnsupportedOffset, UnknownVersion, UnsupportedAddressSize, UnsupportedSegmentSize, UnsupportedOffsetSize, BadUtf8, AddressOverflow, UnsupportedRegister, OutOfMemory, UnterminatedAbbreviations}
+use Rattle.dwarf_read_c.specs.declared.fault.DwarfFault.{DwarfFault}
+
+-- the number of an error; the errors of the layers above have one number
+abbrev pub kind_of : Error → ℕ
+kind_of (UnexpectedEof _) = 1
+kind_of BadUnsignedLeb128 = 2
+kind_of BadSignedLeb128 = 3
+kind_of AbbreviationTagZero = 4
+kind_of (InvalidAbbreviationChildren _) = 5
+kind_of AttributeNameZero = 6
+kind_of AttributeFormZero = 7
+kind_of (DuplicateAbbreviationCode _) = 8
+kind_of (UnknownReservedLength _) = 9
+kind_of UnsupportedOffset = 10
+kind_of (UnknownVersion _) = 11
+kind_of (UnsupportedAddressSize _) = 12
+kind_of (UnsupportedSegmentSize _) = 13
+kind_of (UnsupportedOffsetSize _) = 14
+kind_of BadUtf8 = 15
+kind_of AddressOverflow = 16
+kind_of (UnsupportedRegister _) = 17
+kind_of OutOfMemory = 18
+kind_of (UnterminatedAbbreviations _) = 19
+kind_of _ = 255
+
+-- the position or the value that an error carries, or 0
+abbrev pub value_of : Error → ℕ
+value_of (UnexpectedEof id) = id.0
+value_of (InvalidAbbreviationChildren value) = value.0
+value_of (DuplicateAbbreviationCode code) = code
+value_of (UnknownReservedLength value) = value
+value_of (UnknownVersion version) = version
+value_of (UnsupportedAddressSize size) = size
+value_of (UnsupportedSegmentSize size) = size
+value_of (UnsupportedOffsetSize size) = size
+value_of (UnsupportedRegister register) = register
+value_of (UnterminatedAbbreviations id) = id.0
+value_of _ = 0
+
+abbrev pub fault_of : Error → DwarfFault
+fault_of error = record { kind = kind_of error; value = value_of error }
+
+-- the error has a number of its own
+abbrev pub IsKnown : Error → Type 0
+IsKnown error = kind_of error ≤ 19
+
+-- a call is refused with an error of which this holds: the status is its number, and the fault tells of it
+pub record Refuses (Is : Error → Type 0) (status : ℕ) (fault : DwarfFault) : Type 0 where
+  pub error : Error
+  pub is : Is error
+  pub known : IsKnown error
+  pub numbered : status ≡ kind_of error
+  pub told : fault ≡ fault_of error
+
+-- an error with a value, which has to be below the bound
+abbrev pub with_value_below : ℕ → (ℕ → Error) → ℕ → Option Error
+with_value_below bound error value = if nat_lt value bound then Some (error value) else None
+
+-- each number, and the error that it stands for with a value
+unfoldable pub numbered_errors : List (ℕ × (ℕ → Option Error))
+numbered_errors =
+    (1, λ value. Some (UnexpectedEof (record { 0 = value }))) ∷
+    (2, λ value. Some BadUnsignedLeb128) ∷
+    (3, λ value. Some BadSignedLeb128) ∷
+    (4, λ value. Some AbbreviationTagZero) ∷
+    (5, with_value_below (2 ^ 8) (λ byte. InvalidAbbreviationChildren (record { 0 = byte }))) ∷
+    (6, λ value. Some AttributeNameZero) ∷
+    (7, λ value. Some AttributeFormZero) ∷
+    (8, λ value. Some (DuplicateAbbreviationCode value)) ∷
+    (9, with_value_below (2 ^ 32) (λ length. UnknownReservedLength length)) ∷
+    (10, λ value. Some UnsupportedOffset) ∷
+    (11, λ value. Some (UnknownVersion value)) ∷
+    (12, with_value_below (2 ^ 8) (λ size. UnsupportedAddressSize size)) ∷
+    (13, with_value_below (2 ^ 8) (λ size. UnsupportedSegmentSize size)) ∷
+    (14, with_value_below (2 ^ 8) (λ size. UnsupportedOffsetSize size)) ∷
+    (15, λ value. Some BadUtf8) ∷
+    (16, λ value. Some AddressOverflow) ∷
+    (17, λ value. Some (UnsupportedRegister value)) ∷
+    (18, λ value. Some OutOfMemory) ∷
+    (19, λ value. Some (UnterminatedAbbreviations (record { 0 = value }))) ∷
+    []
+
+-- the error that a number and a value tell of, if there is one
+abbrev pub error_from : ℕ → ℕ → Option Error
+error_from kind value = option_and_then (λ error. error value) (lookup (λ number. number == kind) numbered_errors)

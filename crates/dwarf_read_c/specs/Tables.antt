@@ -1,0 +1,55 @@
+-- A table of abbreviations, as C sees it.
+use Rattle.std.specs.Prelude.{ℕ, ◌+◌, ◌<◌, ◌⊎◌, List, [], ◌∷◌, map, length, Bool, true, false, unwrap_or, pos}
+use Rattle.std.specs.FinMap.{len, values}
+use Rattle.std.specs.List.{flat_map}
+use Rattle.dwarf_read_core.specs.Grammar.{Declaration, Specification, Table, attribute_count, is_by_null}
+use Rattle.dwarf_read_c.specs.declared.tables.DwarfAbbreviation.{DwarfAbbreviation}
+use Rattle.dwarf_read_c.specs.declared.tables.DwarfAttribute.{DwarfAttribute}
+use Rattle.dwarf_read_c.specs.declared.tables.DwarfMeasure.{DwarfMeasure}
+
+-- 1 for true
+abbrev pub bit_of : Bool → ℕ
+bit_of true = 1
+bit_of false = 0
+
+-- how many declarations and attributes a table has, and how it is closed
+abbrev pub measure_of : Table → DwarfMeasure
+measure_of t = record {
+  abbreviations = len t.by_code;
+  attributes = attribute_count t.by_code;
+  closed_by_null = bit_of (is_by_null t.close);
+}
+
+-- a specification; one without a value has the value 0
+abbrev pub attribute_of : Specification → DwarfAttribute
+attribute_of s = record { name = s.name; form = s.form; implicit_const = unwrap_or s.value (pos 0) }
+
+-- a declaration whose attributes begin at this index
+abbrev pub abbreviation_of : ℕ → Declaration → DwarfAbbreviation
+abbreviation_of first d = record {
+  code = d.code;
+  tag = d.tag;
+  has_children = bit_of d.children;
+  first_attribute = first;
+  attribute_count = length d.attributes;
+}
+
+-- declarations, the attributes of which stand one after the other from this index on
+abbrev pub laid_from : ℕ → List Declaration → List DwarfAbbreviation
+laid_from first [] = []
+laid_from first (d ∷ ds) = abbreviation_of first d ∷ laid_from (first + length d.attributes) ds
+
+-- the declarations of a table by rising code
+abbrev pub abbreviations_of : Table → List DwarfAbbreviation
+abbreviations_of t = laid_from 0 (values t.by_code)
+
+-- their attributes, one after the other
+abbrev pub attributes_in : List Declaration → List DwarfAttribute
+attributes_in ds = flat_map (λ d. map attribute_of d.attributes) ds
+
+abbrev pub attributes_of : Table → List DwarfAttribute
+attributes_of t = attributes_in (values t.by_code)
+
+-- there are fewer places for abbreviations or for attributes than the table has of them
+abbrev pub LacksRoom : DwarfMeasure → ℕ → ℕ → Type 0
+LacksRoom measure abbreviations attributes = (abbreviations < measure.abbreviations) ⊎ (attributes < measure.attributes)

@@ -1,0 +1,57 @@
+//! Errors, as numbers.
+
+ghost use Rattle.std.specs.Prelude.{◌≡◌, ◌<◌};
+ghost use Rattle.dwarf_read_c.specs.Fault.{fault_of, kind_of};
+
+use dwarf_read_core::{DwChildren, Error, ReaderOffsetId};
+
+/// The error that a call was refused with.
+///
+/// `kind` is the number of the error, which the call returns too, and `value` is the position or the
+/// value that the error carries, or 0.
+#[repr(C)]
+#[derive(Clone, Copy)]
+pub struct DwarfFault {
+    pub kind: u32,
+    pub value: u64,
+}
+
+// The error by its number and its value. The header has the list of the numbers.
+fn fault_of(error: Error) -> DwarfFault
+    ensures told { result ≡ fault_of error }
+    ensures refused { 0 < result.kind }
+{
+    let (kind, value) = match error {
+        Error::UnexpectedEof(ReaderOffsetId(position)) => (1, position),
+        Error::BadUnsignedLeb128 => (2, 0),
+        Error::BadSignedLeb128 => (3, 0),
+        Error::AbbreviationTagZero => (4, 0),
+        Error::InvalidAbbreviationChildren(DwChildren(value)) => (5, u64::from(value)),
+        Error::AttributeNameZero => (6, 0),
+        Error::AttributeFormZero => (7, 0),
+        Error::DuplicateAbbreviationCode(code) => (8, code),
+        Error::UnknownReservedLength(length) => (9, u64::from(length)),
+        Error::UnsupportedOffset => (10, 0),
+        Error::UnknownVersion(version) => (11, version),
+        Error::UnsupportedAddressSize(size) => (12, u64::from(size)),
+        Error::UnsupportedSegmentSize(size) => (13, u64::from(size)),
+        Error::UnsupportedOffsetSize(size) => (14, u64::from(size)),
+        Error::BadUtf8 => (15, 0),
+        Error::AddressOverflow => (16, 0),
+        Error::UnsupportedRegister(register) => (17, register),
+        Error::OutOfMemory => (18, 0),
+        Error::UnterminatedAbbreviations(ReaderOffsetId(position)) => (19, position),
+        _ => (255, 0),
+    };
+    DwarfFault { kind, value }
+}
+
+// Tells of the error that a call is refused with, and returns its number.
+pub(crate) fn refuse(error: Error, fault: &mut DwarfFault) -> u32
+    ensures told { fault.new ≡ fault_of error }
+    ensures status { result ≡ kind_of error }
+    ensures refused { 0 < result }
+{
+    *fault = fault_of(error);
+    fault.kind
+}

@@ -1,0 +1,99 @@
+//! LEB128 numbers (DWARF 5, 7.6).
+
+ghost use Rattle.std.specs.Prelude.{◌≡◌, ◌≢◌};
+ghost use Rattle.dwarf_read_core.specs.Leb128.{unsigned64, signed64, HasNumber};
+ghost use Rattle.dwarf_read_c.specs.Fault.{Refuses};
+ghost use Rattle.dwarf_read_c.specs.Numbers.{LacksNumber, PutsShortest};
+
+use crate::fault::{DwarfFault, refuse};
+use crate::room::put;
+use crate::status::DWARF_OK;
+use dwarf_read_core::leb128::write::Leb128;
+use dwarf_read_core::{EndianSlice, LittleEndian, Reader};
+
+/// Reads the unsigned number of at most 64 bits, in at most ten bytes, that `bytes` begin with.
+/// Bytes may follow it; `taken` is how many the number has.
+///
+/// # Errors
+///
+/// - 1 (`UnexpectedEof`) at the end of `bytes` if they end before the number and before a tenth byte;
+/// - 2 (`BadUnsignedLeb128`) if ten bytes don't end the number, or if it is 2^64 or more.
+#[unsafe(no_mangle)]
+pub extern "C" fn dwarf_uleb128(
+    bytes: &[u8],
+    value: &mut u64,
+    taken: &mut usize,
+    fault: &mut DwarfFault,
+) -> u32
+    ensures read { result ≡ DWARF_OK → HasNumber unsigned64 bytes.now value.new taken.new }
+    ensures refused { result ≢ DWARF_OK
+        → Refuses (LacksNumber unsigned64 bytes.now) result fault.new }
+    ensures no_value { result ≢ DWARF_OK → (value.new ≡ value.old) × (taken.new ≡ taken.old) }
+    ensures no_fault { result ≡ DWARF_OK → fault.new ≡ fault.old }
+{
+    let mut input = EndianSlice::new(bytes, LittleEndian);
+    match input.read_uleb128() {
+        Ok(number) => {
+            *value = number;
+            *taken = bytes.len() - input.len();
+            DWARF_OK
+        }
+        Err(error) => refuse(error, fault),
+    }
+}
+
+/// Reads the signed number of at most 64 bits, in at most ten bytes, that `bytes` begin with. Bytes
+/// may follow it; `taken` is how many the number has.
+///
+/// # Errors
+///
+/// - 1 (`UnexpectedEof`) at the end of `bytes` if they end before the number and before a tenth byte;
+/// - 3 (`BadSignedLeb128`) if ten bytes don't end the number, or if it is below -2^63 or is 2^63 or
+///   more.
+#[unsafe(no_mangle)]
+pub extern "C" fn dwarf_sleb128(
+    bytes: &[u8],
+    value: &mut i64,
+    taken: &mut usize,
+    fault: &mut DwarfFault,
+) -> u32
+    ensures read { result ≡ DWARF_OK → HasNumber signed64 bytes.now value.new taken.new }
+    ensures refused { result ≢ DWARF_OK
+        → Refuses (LacksNumber signed64 bytes.now) result fault.new }
+    ensures no_value { result ≢ DWARF_OK → (value.new ≡ value.old) × (taken.new ≡ taken.old) }
+    ensures no_fault { result ≡ DWARF_OK → fault.new ≡ fault.old }
+{
+    let mut input = EndianSlice::new(bytes, LittleEndian);
+    match input.read_sleb128() {
+        Ok(number) => {
+            *value = number;
+            *taken = bytes.len() - input.len();
+            DWARF_OK
+        }
+        Err(error) => refuse(error, fault),
+    }
+}
+
+/// Writes the shortest bytes of an unsigned number to the front of `bytes`. `len` is how many they
+/// are, from 1 to 10, also where `bytes` has no room for them; then nothing else is written, and the
+/// call returns `DWARF_NO_ROOM`.
+#[unsafe(no_mangle)]
+pub extern "C" fn dwarf_uleb128_write(value: u64, bytes: &mut [u8], len: &mut usize) -> u32
+    ensures written { PutsShortest unsigned64 value bytes.old bytes.new len.new result }
+{
+    let number = Leb128::unsigned(value);
+    *len = number.len();
+    put(number.bytes(), bytes)
+}
+
+/// Writes the shortest bytes of a signed number to the front of `bytes`. `len` is how many they are,
+/// from 1 to 10, also where `bytes` has no room for them; then nothing else is written, and the call
+/// returns `DWARF_NO_ROOM`.
+#[unsafe(no_mangle)]
+pub extern "C" fn dwarf_sleb128_write(value: i64, bytes: &mut [u8], len: &mut usize) -> u32
+    ensures written { PutsShortest signed64 value bytes.old bytes.new len.new result }
+{
+    let number = Leb128::signed(value);
+    *len = number.len();
+    put(number.bytes(), bytes)
+}

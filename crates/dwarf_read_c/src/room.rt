@@ -1,0 +1,17 @@
+//! The places that a caller gives for items.
+
+ghost use Rattle.dwarf_read_c.specs.Room.{Puts};
+
+use crate::status::{DWARF_NO_ROOM, DWARF_OK};
+
+// Copies the items to the front of the places, or none of them where there is no room for all.
+pub(crate) fn put<T: Copy>(items: &[T], places: &mut [T]) -> u32
+    ensures { Puts items.now places.old places.new result }
+{
+    let count = items.len();
+    if places.len() < count {
+        return DWARF_NO_ROOM;
+    }
+    places[..count].copy_from_slice(items);
+    DWARF_OK
+}

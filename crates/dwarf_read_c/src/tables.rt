@@ -1,0 +1,230 @@
+//! Abbreviation tables (DWARF 5, 7.5.3).
+
+ghost use Rattle.std.specs.Prelude.{◌≡◌, ◌≢◌, ◌≤◌, ◌<◌, ◌^◌, false, Ok, Err, length, map, IfOk};
+ghost use Rattle.std.specs.FinMap as finite;
+ghost use Rattle.dwarf_read_core.specs.Answer.{Answer, Answers};
+ghost use Rattle.dwarf_read_core.specs.Grammar.{Table, attribute_count};
+ghost use Rattle.dwarf_read_c.specs.Fault.{Refuses};
+ghost use Rattle.dwarf_read_c.specs.Room.{Fills};
+ghost use Rattle.dwarf_read_c.specs.Sections.{section_of};
+ghost use Rattle.dwarf_read_c.specs.Tables.{LacksRoom, abbreviations_of, attribute_of, attributes_of, bit_of, measure_of};
+
+use crate::fault::{DwarfFault, refuse};
+use crate::status::{DWARF_NO_ROOM, DWARF_OK};
+use dwarf_read_core::{
+    Abbreviations, AttributeSpecification, DebugAbbrev, DebugAbbrevOffset, Error, LittleEndian,
+};
+use std::alloc::Global;
+
+/// How large an abbreviation table is, and how it is closed.
+#[repr(C)]
+#[derive(Clone, Copy)]
+pub struct DwarfMeasure {
+    /// How many abbreviations the table declares.
+    pub abbreviations: usize,
+    /// How many attributes they have together.
+    pub attributes: usize,
+    /// 1 if a code of value 0 closes the table, and 0 if the section's end does.
+    pub closed_by_null: u8,
+}
+
+/// An abbreviation.
+#[repr(C)]
+#[derive(Clone, Copy)]
+pub struct DwarfAbbreviation {
+    /// The code by which entries name it. It is not 0.
+    pub code: u64,
+    /// The tag of the entries.
+    pub tag: u16,
+    /// 1 if an entry is followed by its children, and else 0.
+    pub has_children: u8,
+    /// Where its attributes begin among those of the table.
+    pub first_attribute: usize,
+    /// How many attributes it has.
+    pub attribute_count: usize,
+}
+
+/// An attribute of an abbreviation.
+#[repr(C)]
+#[derive(Clone, Copy)]
+pub struct DwarfAttribute {
+    pub name: u16,
+    pub form: u16,
+    /// The value that the table itself has for the form `DW_FORM_implicit_const`, and else 0.
+    pub implicit_const: i64,
+}
+
+/// Measures the table at `offset` of `.debug_abbrev`: how many abbreviations and attributes it has,
+/// and how it is closed.
+///
+/// # Errors
+///
+/// Bytes that begin no table answer their first fault:
+///
+/// - 1 (`UnexpectedEof`) at 0 if `offset` is past the end, and at the section's end if a declaration
+///   is cut short;
+/// - 2 or 3 (`BadUnsignedLeb128`, `BadSignedLeb128`) for a number that is too long or too large;
+/// - 4 to 7 for a field that no declaration has: a tag of 0, a byte for children other than 0 and 1,
+///   a name of 0 or a form of 0 alone;
+/// - 8 (`DuplicateAbbreviationCode`) for a whole declaration whose code was there before.
+///
+/// 18 (`OutOfMemory`) if memory for the table runs out.
+#[unsafe(no_mangle)]
+#[tactic(auto, using(crate::proofs::KnownErrors::known_table))]
+pub extern "C" fn dwarf_table_measure(
+    mem: Global,
+    section: &[u8],
+    offset: usize,
+    measure: &mut DwarfMeasure,
+    fault: &mut DwarfFault,
+) -> u32
+    ensures measured { let s = section_of section.now false in result ≡ DWARF_OK
+        → (t : Table) × Answer s offset (Ok t) × (measure.new ≡ measure_of t) }
+    ensures refused { let s = section_of section.now false in result ≢ DWARF_OK
+        → Refuses (λ e. Answers (Err e) s offset) result fault.new }
+    ensures no_measure { result ≢ DWARF_OK → measure.new ≡ measure.old }
+    ensures no_fault { result ≡ DWARF_OK → fault.new ≡ fault.old }
+{
+    match table_at(mem, section, offset) {
+        Ok(table) => {
+            *measure = measure_of(&table);
+            DWARF_OK
+        }
+        Err(error) => refuse(error, fault),
+    }
+}
+
+/// Reads the table at `offset` of `.debug_abbrev`: its abbreviations by rising code, and their
+/// attributes, one abbreviation's behind the other's. `measure` tells how many of each there are;
+/// the places behind them are left as they are.
+///
+/// If there are fewer places than abbreviations or attributes, only the measure is told, and the call
+/// returns `DWARF_NO_ROOM`.
+///
+/// # Errors
+///
+/// Those of [`dwarf_table_measure`].
+#[unsafe(no_mangle)]
+#[tactic(auto, using(crate::proofs::KnownErrors::known_table))]
+pub extern "C" fn dwarf_table_read(
+    mem: Global,
+    section: &[u8],
+    offset: usize,
+    abbreviations: &mut [DwarfAbbreviation],
+    attributes: &mut [DwarfAttribute],
+    measure: &mut DwarfMeasure,
+    fault: &mut DwarfFault,
+) -> u32
+    ensures read { let s = section_of section.now false in result ≡ DWARF_OK
+        → (t : Table) × Answer s offset (Ok t) × (measure.new ≡ measure_of t)
+        × Fills (abbreviations_of t) abbreviations.old abbreviations.new
+        × Fills (attributes_of t) attributes.old attributes.new }
+    ensures full { let s = section_of section.now false in result ≡ DWARF_NO_ROOM
+        → (t : Table) × Answer s offset (Ok t) × (measure.new ≡ measure_of t)
+        × LacksRoom measure.new (length abbreviations.old) (length attributes.old)
+        × (fault.new ≡ fault.old) }
+    ensures refused { let s = section_of section.now false in
+        result ≢ DWARF_OK → result ≢ DWARF_NO_ROOM
+        → Refuses (λ e. Answers (Err e) s offset) result fault.new × (measure.new ≡ measure.old) }
+    ensures no_items { result ≢ DWARF_OK
+        → (abbreviations.new ≡ abbreviations.old) × (attributes.new ≡ attributes.old) }
+    ensures no_fault { result ≡ DWARF_OK → fault.new ≡ fault.old }
+{
+    let table = match table_at(mem, section, offset) {
+        Ok(table) => table,
+        Err(error) => return refuse(error, fault),
+    };
+    *measure = measure_of(&table);
+    if abbreviations.len() < measure.abbreviations || attributes.len() < measure.attributes {
+        return DWARF_NO_ROOM;
+    }
+    fill_abbreviations(&table, abbreviations);
+    fill_attributes(&table, attributes);
+    DWARF_OK
+}
+
+// The table at an offset, with as many attributes as can be counted.
+fn table_at(mem: Global, section: &[u8], offset: usize) -> Result<Abbreviations, Error>
+    ensures answer { Answers result (section_of section.now false) offset }
+    ensures counted { IfOk result (λ t. attribute_count t.by_code < 2 ^ 64) }
+{
+    DebugAbbrev::new(section, LittleEndian).abbreviations(mem, DebugAbbrevOffset(offset))
+}
+
+// How large the table is.
+fn measure_of(table: &Abbreviations) -> DwarfMeasure
+    requires { attribute_count table.now.by_code < 2 ^ 64 }
+    ensures { result ≡ measure_of table.now }
+{
+    let mut attributes = 0;
+    for abbreviation in table.iter() {
+        attributes += abbreviation.attributes().len();
+    }
+    DwarfMeasure {
+        abbreviations: table.len(),
+        attributes,
+        closed_by_null: bit_of(table.closed_by_null()),
+    }
+}
+
+// Writes the abbreviations, by rising code, to the front of the places.
+fn fill_abbreviations(table: &Abbreviations, places: &mut [DwarfAbbreviation])
+    requires room { finite.len table.now.by_code ≤ length places.old }
+    requires counted { attribute_count table.now.by_code < 2 ^ 64 }
+    ensures { Fills (abbreviations_of table.now) places.old places.new }
+{
+    let (mut index, mut first_attribute) = (0, 0);
+    for abbreviation in table.iter() {
+        let attribute_count = abbreviation.attributes().len();
+        places[index] = DwarfAbbreviation {
+            code: abbreviation.code(),
+            tag: abbreviation.tag().0,
+            has_children: bit_of(abbreviation.has_children()),
+            first_attribute,
+            attribute_count,
+        };
+        index += 1;
+        first_attribute += attribute_count;
+    }
+}
+
+// Writes the attributes of all abbreviations, by rising code, to the front of the places.
+fn fill_attributes(table: &Abbreviations, places: &mut [DwarfAttribute])
+    requires { attribute_count table.now.by_code ≤ length places.old }
+    ensures { Fills (attributes_of table.now) places.old places.new }
+{
+    let mut first = 0;
+    for abbreviation in table.iter() {
+        let attributes = abbreviation.attributes();
+        let end = first + attributes.len();
+        fill_each(attributes, &mut places[first..end]);
+        first = end;
+    }
+}
+
+// Writes the attributes of one abbreviation, each to the place of its index.
+fn fill_each(attributes: &[AttributeSpecification], places: &mut [DwarfAttribute])
+    requires { length attributes.now ≡ length places.old }
+    ensures { places.new ≡ map attribute_of attributes.now }
+{
+    for (i, attribute) in attributes.iter().enumerate() {
+        places[i] = attribute_of(attribute);
+    }
+}
+
+fn attribute_of(attribute: &AttributeSpecification) -> DwarfAttribute
+    ensures { result ≡ attribute_of attribute.now }
+{
+    DwarfAttribute {
+        name: attribute.name().0,
+        form: attribute.form().0,
+        implicit_const: attribute.implicit_const_value().unwrap_or(0),
+    }
+}
+
+// 1 for true.
+fn bit_of(is_set: bool) -> u8
+    ensures { result ≡ bit_of is_set }
+{
+    is_set.into()
+}

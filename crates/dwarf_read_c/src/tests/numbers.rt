@@ -1,0 +1,83 @@
+//! LEB128 numbers.
+
+use super::{SEVEN, same};
+use crate::numbers::{dwarf_sleb128, dwarf_sleb128_write, dwarf_uleb128, dwarf_uleb128_write};
+use crate::status::DWARF_NO_ROOM;
+
+#[test]
+fn numbers_are_read(rt: HostRuntime) {
+    // The status, the value, the bytes taken, and the fault.
+    let unsigned: [(&[u8], (u32, u64, usize, (u32, u64))); 5] = [
+        (b"\xb9\x64\x01", (0, 12857, 2, (7, 7))),
+        (
+            b"\x80\x80\x80\x80\x80\x80\x80\x80\x80\x01",
+            (0, 1 << 63, 10, (7, 7)),
+        ),
+        (
+            b"\x80\x80\x80\x80\x80\x80\x80\x80\x80\x02",
+            (2, 7, 7, (2, 0)),
+        ),
+        (b"\x80\x80\x80\x80\x80\x80\x80\x80\x80", (1, 7, 7, (1, 9))),
+        (b"", (1, 7, 7, (1, 0))),
+    ];
+    for (bytes, wanted) in unsigned {
+        let (mut value, mut taken, mut fault) = (7, 7, SEVEN);
+        let status = dwarf_uleb128(bytes, &mut value, &mut taken, &mut fault);
+        same(
+            &rt,
+            (status, value, taken, (fault.kind, fault.value)),
+            wanted,
+            bytes,
+        );
+    }
+    let signed: [(&[u8], (u32, i64, usize, (u32, u64))); 3] = [
+        (b"\xff\x7e", (0, -129, 2, (7, 7))),
+        (
+            b"\x80\x80\x80\x80\x80\x80\x80\x80\x80\x01",
+            (3, 7, 7, (3, 0)),
+        ),
+        (b"\x80", (1, 7, 7, (1, 1))),
+    ];
+    for (bytes, wanted) in signed {
+        let (mut value, mut taken, mut fault) = (7, 7, SEVEN);
+        let status = dwarf_sleb128(bytes, &mut value, &mut taken, &mut fault);
+        same(
+            &rt,
+            (status, value, taken, (fault.kind, fault.value)),
+            wanted,
+            bytes,
+        );
+    }
+}
+
+#[test]
+fn numbers_are_written(rt: HostRuntime) {
+    let (mut bytes, mut len) = ([7; 12], 7);
+    same(
+        &rt,
+        dwarf_uleb128_write(u64::MAX, &mut bytes, &mut len),
+        0,
+        u64::MAX,
+    );
+    same(
+        &rt,
+        (&bytes, len),
+        (b"\xff\xff\xff\xff\xff\xff\xff\xff\xff\x01\x07\x07", 10),
+        u64::MAX,
+    );
+    same(&rt, dwarf_sleb128_write(-65, &mut bytes, &mut len), 0, -65);
+    same(
+        &rt,
+        (&bytes, len),
+        (b"\xbf\x7f\xff\xff\xff\xff\xff\xff\xff\x01\x07\x07", 2),
+        -65,
+    );
+    let mut none: [u8; 0] = [];
+    same(
+        &rt,
+        dwarf_uleb128_write(128, &mut none, &mut len),
+        DWARF_NO_ROOM,
+        128,
+    );
+    same(&rt, len, 2, 128);
+}

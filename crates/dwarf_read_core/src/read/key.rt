@@ -1,0 +1,82 @@
+//! Numbers as keys of ordered maps.
+
+ghost use Rattle.std.specs.Prelude.{nat_eq, Some};
+ghost use Rattle.std.proofs.Common.{rules};
+ghost use Rattle.std.specs.Cmp.Rules.{comparing};
+ghost use Rattle.std.specs.Ordering.{nat_cmp};
+
+use std::cmp::Ordering;
+use std::fmt;
+use std::marker::Model;
+
+/// A number as the key of an ordered map, in the order of numbers.
+///
+/// A search in a map goes on from a key to the next as long as the sought one is greater. So that is
+/// what a comparison looks at first, while one of plain numbers begins with their equality.
+#[derive(Clone, Copy)]
+pub(crate) struct Key(pub u64);
+
+impl Model for Key {
+    ghost use Rattle.std.specs.Prelude.{ℕ};
+    ghost use Rattle.std.specs.Coded.{coded_ℕ};
+
+    ghost Value = { ℕ };
+
+    ghost coded = { coded_ℕ };
+
+    ghost view = { λ key. key.0 };
+
+    ghost inverse = { λ n. record { 0 = n } };
+}
+
+// It prints as the number, as in a map of plain numbers.
+impl fmt::Debug for Key {
+    fn fmt<W: fmt::Write>(&self, f: &mut fmt::Formatter<W>) -> fmt::Result {
+        fmt::Debug::fmt(&self.0, f)
+    }
+}
+
+impl PartialEq for Key {
+    ghost eq = { nat_eq };
+
+    ghost laws = { Prim.search (comparing, rules) };
+
+    fn eq(&self, other: &Key) -> bool {
+        self.0 == other.0
+    }
+}
+
+impl Eq for Key {
+    ghost laws = { Prim.search rules };
+}
+
+impl PartialOrd for Key {
+    ghost partial_cmp = { λ a b. Some (nat_cmp a b) };
+
+    ghost laws = { Prim.search (comparing, rules) };
+
+    fn partial_cmp(&self, other: &Key) -> Option<Ordering> {
+        Some(self.cmp(other))
+    }
+}
+
+impl Ord for Key {
+    ghost cmp = { nat_cmp };
+
+    ghost total = { Prim.search rules };
+
+    ghost matches_partial_cmp = { Prim.search rules };
+
+    ghost matches_eq = { Prim.search rules };
+
+    fn cmp(&self, other: &Key) -> Ordering {
+        let (key, other) = (self.0, other.0);
+        if key > other {
+            Ordering::Greater
+        } else if key < other {
+            Ordering::Less
+        } else {
+            Ordering::Equal
+        }
+    }
+}

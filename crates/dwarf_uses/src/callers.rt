@@ -1,0 +1,120 @@
+//! Small callers of the library, to start from. The README and the documentation quote them.
+
+ghost use Rattle.std.specs.Prelude.{◌≡◌, ◌≢◌, ℕ, Ok, Err, IfOk, IfErr, length, map, option_map};
+ghost use Rattle.std.specs.FinMap as finite;
+ghost use Rattle.dwarf_read_core.specs.Entries.{StandsForAddresses};
+ghost use Rattle.dwarf_read_core.specs.Format.{word_size};
+ghost use Rattle.dwarf_read_core.specs.Headers.{set_of};
+ghost use Rattle.dwarf_read_core.specs.Answer.{Answer};
+ghost use Rattle.dwarf_read_core.specs.Sections.{debug_abbrev_reader, debug_str_offsets_reader, debug_str_reader};
+ghost use Rattle.dwarf_read_core.specs.Sets.{addresses_of};
+ghost use Rattle.dwarf_read_core.specs.Strings.{StringAt};
+ghost use Rattle.dwarf_read_core.specs.Words.{WordAt, slot};
+
+use dwarf_read_core::{
+    Abbreviations, AbbreviationsCache, AbbreviationsCacheStrategy, AddrHeader, DebugAbbrev,
+    DebugAbbrevOffset, DebugStr, DebugStrOffsets, DebugStrOffsetsBase, DebugStrOffsetsIndex, DwTag,
+    Error, Format, Reader, Result,
+};
+use std::alloc::Global;
+
+/// The tag of the abbreviation with this code.
+pub fn tag_of(table: &Abbreviations, code: u64) -> Option<DwTag>
+    ensures { option_map (λ tag. tag.0) result
+        ≡ option_map (λ declaration. declaration.tag) (finite.get table.now.by_code code) }
+{
+    match table.get(code) {
+        Some(abbreviation) => Some(abbreviation.tag()),
+        None => None,
+    }
+}
+
+/// The table at `offset`, a line for each declaration and for each of its attributes.
+///
+/// # Errors
+///
+/// Those of [`DebugAbbrev::abbreviations`].
+pub fn table_text<R: Reader>(
+    mem: Global,
+    section: &DebugAbbrev<R>,
+    offset: DebugAbbrevOffset<R::Offset>,
+) -> Result<String>
+    ensures err { let bytes = R.view (debug_abbrev_reader section.now) in
+        IfErr result (λ e. e ≢ Error.OutOfMemory → Answer bytes (R.Offset.value offset.0) (Err e)) }
+{
+    let table = section.abbreviations(mem, offset)?;
+    let mut text = String::new(mem);
+    for abbreviation in table.iter() {
+        let (code, tag) = (abbreviation.code(), abbreviation.tag());
+        writeln!(text, "{code} {tag}")?;
+        for attribute in abbreviation.attributes() {
+            let (name, form) = (attribute.name(), attribute.form());
+            writeln!(text, "  {name} {form}")?;
+        }
+    }
+    Ok(text)
+}
+
+/// How many abbreviations the table of each unit has. A table that two units share is read once.
+///
+/// `Duplicates` keeps the tables that more than one unit uses, which is what a reader of all units
+/// wants. `All` keeps the others too, which pays where units are read again.
+///
+/// # Errors
+///
+/// The first unit's error.
+pub fn table_lengths<R: Reader>(
+    mem: Global,
+    section: &DebugAbbrev<R>,
+    units: &[DebugAbbrevOffset<R::Offset>],
+) -> Result<Vec<usize>>
+    ensures { IfOk result (λ lengths. length lengths.items ≡ length units.now) }
+{
+    let mut cache = AbbreviationsCache::new(mem);
+    let offsets = units.iter().map(|offset| Ok(*offset));
+    cache.populate(AbbreviationsCacheStrategy::Duplicates, section, offsets)?;
+    let mut lengths = Vec::new(mem);
+    for offset in units {
+        lengths.push(cache.get(section, *offset)?.len())?;
+    }
+    Ok(lengths)
+}
+
+/// The string that an attribute of form `DW_FORM_strx` names by its index.
+///
+/// # Errors
+///
+/// Those of [`DebugStrOffsets::get_str_offset`] and of [`DebugStr::get_str`].
+pub fn string_by_index<R: Reader>(
+    offsets: &DebugStrOffsets<R>,
+    strings: &DebugStr<R>,
+    format: Format,
+    base: DebugStrOffsetsBase<R::Offset>,
+    index: DebugStrOffsetsIndex<R::Offset>,
+) -> Result<R>
+    ensures ok { let place = slot (R.Offset.value base.0) (R.Offset.value index.0) (word_size format) in
+        IfOk result (λ string. (offset : ℕ)
+        × WordAt R.Offset.GREATEST (R.view (debug_str_offsets_reader offsets.now)) place (Ok offset)
+        × StringAt (R.view (debug_str_reader strings.now)) offset (Ok (R.view string))) }
+{
+    let offset = offsets.get_str_offset(format, base, index)?;
+    strings.get_str(offset)
+}
+
+/// The addresses of a set, which a walk over [`DebugAddr::headers`](dwarf_read_core::DebugAddr::headers)
+/// gives.
+///
+/// # Errors
+///
+/// The set's first error.
+pub fn addresses_in<R: Reader>(mem: Global, header: &AddrHeader<R>) -> Result<Vec<u64>>
+    ensures ok { let entries = addresses_of (set_of R.view R.Offset.value header.now) in
+        IfOk result (λ addresses. StandsForAddresses entries (map (λ n. Ok n) addresses.items)) }
+{
+    let mut addresses = Vec::new(mem);
+    let mut entries = header.entries()?;
+    while let Some(address) = entries.next()? {
+        addresses.push(address)?;
+    }
+    Ok(addresses)
+}

@@ -1,0 +1,100 @@
+//! The examples of the documentation, each as it stands there. `tools/doc-examples` compares them.
+
+use super::same;
+use super::worked::{STRINGS, TWO_SETS, UNIT};
+use dwarf_read_core::constants::DW_TAG_compile_unit;
+use dwarf_read_core::leb128::write::Leb128;
+use dwarf_read_core::{
+    AbbreviationsCache, AbbreviationsCacheStrategy, BigEndian, DebugAbbrev, DebugAbbrevOffset,
+    DebugAddr, DebugStr, DebugStrOffset, DebugStrOffsets, EndianSlice, Endianity, Error,
+    LittleEndian, Reader, ReaderAddress, ReaderOffset, ReaderOffsetId, Result, Section,
+};
+use std::test::Fail;
+
+// The end of a part, at any type of offsets.
+fn end_of<O: ReaderOffset>(start: O, len: O) -> Result<O> {
+    let end = start
+        .into_u64()
+        .checked_add(len.into_u64())
+        .ok_or(Error::UnsupportedOffset)?;
+    O::from_u64(end)
+}
+
+#[test]
+fn examples_of_numbers(rt: HostRuntime) {
+    let bytes = [0x78, 0x56, 0x34, 0x12];
+    let little = LittleEndian.read_u32(&bytes); // 0x12345678
+    let big = BigEndian.read_u32(&bytes); // 0x78563412
+    same(&rt, (little, big), (0x12345678, 0x78563412), "orders");
+
+    let end = 0xfe_u64.add_sized(1, 1); // Ok(0xff), the last address of size 1
+    let past = 0xff_u64.add_sized(1, 1); // Err(Error::AddressOverflow)
+    let wrapped = 0xff_u64.wrapping_add_sized(1, 1); // 0
+    same(&rt, end, Ok(0xff), "end");
+    same(&rt, past, Err(Error::AddressOverflow), "past");
+    same(&rt, wrapped, 0, "wrapped");
+    same(&rt, end_of(2u32, 3), Ok(5), "end of a part");
+
+    let number = Leb128::unsigned(12857);
+    assert_eq!(rt; number.bytes(), [0xb9, 0x64].as_slice());
+
+    let mut input = EndianSlice::new(&[0x81, 0x01, 0x00], LittleEndian);
+    assert_eq!(rt; input.read_uleb128(), Ok(129));
+    assert_eq!(rt; input.offset_id(), ReaderOffsetId(2));
+}
+
+#[test]
+fn examples_of_tables(rt: HostRuntime) -> std::result::Result<(), Fail> {
+    let (mem, bytes) = (rt.alloc(), UNIT);
+    let section = DebugAbbrev::new(bytes, LittleEndian);
+    let table = section.abbreviations(mem, DebugAbbrevOffset(0))?;
+    let tag = table.get(1).map(|abbreviation| abbreviation.tag());
+    same(&rt, tag, Some(DW_TAG_compile_unit), "tag");
+
+    let debug_abbrev = section;
+    let offsets = [DebugAbbrevOffset(0), DebugAbbrevOffset(0)]
+        .into_iter()
+        .map(Ok);
+    let mut cache = AbbreviationsCache::new(mem);
+    cache.populate(
+        AbbreviationsCacheStrategy::Duplicates,
+        &debug_abbrev,
+        offsets,
+    )?;
+    let table = cache.get(&debug_abbrev, DebugAbbrevOffset(0))?;
+    same(&rt, table.len(), 1, "cached");
+    Ok(())
+}
+
+// The bytes of a section of a file, by its name.
+fn find_section(name: &str) -> Result<EndianSlice<'static, LittleEndian>> {
+    let bytes = if name == ".debug_str" { STRINGS } else { b"" };
+    Ok(EndianSlice::new(bytes, LittleEndian))
+}
+
+#[test]
+fn examples_of_sections(rt: HostRuntime) -> std::result::Result<(), Fail> {
+    let debug_str = DebugStr::load(|id| find_section(id.name()))?;
+    same(
+        &rt,
+        debug_str.get_str(DebugStrOffset(4))?.slice(),
+        b"two",
+        "string",
+    );
+
+    let section = DebugAddr::from(EndianSlice::new(TWO_SETS, LittleEndian));
+    for header in section.headers()? {
+        for address in header?.entries()? {
+            println!(rt; "{:#x}", address?)?;
+        }
+    }
+
+    let offsets = b"\x08\0\0\0\x05\0\0\0\x04\0\0\0";
+    let section = DebugStrOffsets::from(EndianSlice::new(offsets, LittleEndian));
+    for header in section.headers()? {
+        for offset in header?.entries()? {
+            println!(rt; "{}", offset?.0)?;
+        }
+    }
+    Ok(())
+}

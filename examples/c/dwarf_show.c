@@ -1,0 +1,206 @@
+/*
+ * Reads a section from standard input and writes a part of it, as the program dwarf_list does.
+ *
+ *     dwarf_show abbrev OFFSET    the abbreviation table at an offset of .debug_abbrev
+ *     dwarf_show str OFFSET       the string at an offset of .debug_str
+ *     dwarf_show addr le          the sets of addresses of a whole .debug_addr, in little byte order
+ *     dwarf_show addr be          the same in big byte order
+ *     dwarf_show uleb N           the LEB128 encoding of a number, read again
+ *
+ * It compiles as C and as C++.
+ */
+#include "dwarf_read.h"
+
+#include <inttypes.h>
+#include <stdio.h>
+#include <stdlib.h>
+#include <string.h>
+
+enum { IMPLICIT_CONST = 0x21 };
+
+typedef uint32_t name_call(uint16_t value, char *name, size_t room, size_t *len);
+
+struct bytes {
+    uint8_t *items;
+    size_t len;
+};
+
+static void *or_die(void *block) {
+    if (block == NULL) {
+        fputs("error: out of memory\n", stderr);
+        exit(1);
+    }
+    return block;
+}
+
+static struct bytes read_input(void) {
+    struct bytes input = {NULL, 0};
+    size_t room = 0;
+    for (;;) {
+        if (input.len == room) {
+            room = room * 2 + 4096;
+            input.items = (uint8_t *)or_die(realloc(input.items, room));
+        }
+        size_t count = fread(input.items + input.len, 1, room - input.len, stdin);
+        if (count == 0) {
+            return input;
+        }
+        input.len += count;
+    }
+}
+
+static int failed(const struct dwarf_fault *fault) {
+    char text[64];
+    size_t len;
+    if (dwarf_fault_text(fault, text, sizeof text, &len) == DWARF_OK) {
+        fprintf(stderr, "error: %.*s\n", (int)len, text);
+    }
+    return 1;
+}
+
+/* Prints the name of a constant, or what stands for one that has none. */
+static void print_name(name_call *call, const char *type, uint16_t value) {
+    char name[64];
+    size_t len;
+    if (call(value, name, sizeof name, &len) == DWARF_OK) {
+        printf("%.*s", (int)len, name);
+    } else {
+        printf("Unknown %s: %u", type, (unsigned)value);
+    }
+}
+
+static void print_attribute(const struct dwarf_attribute *attribute) {
+    fputs("  ", stdout);
+    print_name(dwarf_attribute_name, "DwAt", attribute->name);
+    putchar(' ');
+    print_name(dwarf_form_name, "DwForm", attribute->form);
+    if (attribute->form == IMPLICIT_CONST) {
+        printf(" %" PRId64, attribute->implicit_const);
+    }
+    putchar('\n');
+}
+
+static int show_table(struct bytes section, size_t offset) {
+    struct dwarf_measure measure;
+    struct dwarf_fault fault;
+    if (dwarf_table_measure(section.items, section.len, offset, &measure, &fault) != DWARF_OK) {
+        return failed(&fault);
+    }
+    size_t count = measure.abbreviations;
+    size_t attribute_count = measure.attributes;
+    struct dwarf_abbreviation *abbreviations =
+        (struct dwarf_abbreviation *)or_die(malloc((count + 1) * sizeof *abbreviations));
+    struct dwarf_attribute *attributes =
+        (struct dwarf_attribute *)or_die(malloc((attribute_count + 1) * sizeof *attributes));
+    uint32_t status = dwarf_table_read(section.items, section.len, offset, abbreviations, count,
+                                       attributes, attribute_count, &measure, &fault);
+    if (status != DWARF_OK) {
+        return failed(&fault);
+    }
+    for (size_t i = 0; i < count; i++) {
+        const struct dwarf_abbreviation *it = &abbreviations[i];
+        printf("%" PRIu64 " ", it->code);
+        print_name(dwarf_tag_name, "DwTag", it->tag);
+        puts(it->has_children ? " yes" : " no");
+        for (size_t k = 0; k < it->attribute_count; k++) {
+            print_attribute(&attributes[it->first_attribute + k]);
+        }
+    }
+    free(abbreviations);
+    free(attributes);
+    return 0;
+}
+
+static int show_string(struct bytes section, size_t offset) {
+    size_t len;
+    struct dwarf_fault fault;
+    if (dwarf_string(section.items, section.len, offset, &len, &fault) != DWARF_OK) {
+        return failed(&fault);
+    }
+    fwrite(section.items + offset, 1, len, stdout);
+    putchar('\n');
+    return 0;
+}
+
+/* Prints the addresses of a set, or only looks for a fault. Behind the set's end nothing is read. */
+static int go_over_set(struct bytes section, bool is_big, struct dwarf_set set, bool is_printed) {
+    size_t count = (set.next - set.first_address + set.address_size - 1) / set.address_size;
+    for (size_t i = 0; i < count; i++) {
+        uint64_t address;
+        struct dwarf_fault fault;
+        if (dwarf_address(section.items, set.next, is_big, set.address_size, set.first_address, i,
+                          &address, &fault) != DWARF_OK) {
+            return failed(&fault);
+        }
+        if (is_printed) {
+            printf("  0x%" PRIx64 "\n", address);
+        }
+    }
+    return 0;
+}
+
+/* Prints all sets, or only looks for a fault. */
+static int go_over_sets(struct bytes section, bool is_big, bool is_printed) {
+    size_t offset = 0;
+    for (;;) {
+        struct dwarf_set set;
+        struct dwarf_fault fault;
+        uint32_t status =
+            dwarf_address_set(section.items, section.len, is_big, offset, &set, &fault);
+        if (status != DWARF_OK) {
+            return status == DWARF_END ? 0 : failed(&fault);
+        }
+        if (is_printed) {
+            printf("set %zu: length %zu, %u-bit, address size %u\n", offset, set.unit_length,
+                   set.word_size * 8u, (unsigned)set.address_size);
+        }
+        int failure = go_over_set(section, is_big, set, is_printed);
+        if (failure != 0) {
+            return failure;
+        }
+        offset = set.next;
+    }
+}
+
+/* Nothing is printed before it is known that there is no fault. */
+static int show_sets(struct bytes section, bool is_big) {
+    int failure = go_over_sets(section, is_big, false);
+    return failure != 0 ? failure : go_over_sets(section, is_big, true);
+}
+
+static int show_number(uint64_t number) {
+    uint8_t bytes[10];
+    size_t len, taken;
+    struct dwarf_fault fault;
+    uint64_t again = 0;
+    dwarf_uleb128_write(number, bytes, sizeof bytes, &len);
+    if (dwarf_uleb128(bytes, len, &again, &taken, &fault) != DWARF_OK) {
+        return failed(&fault);
+    }
+    for (size_t i = 0; i < len; i++) {
+        printf(i + 1 < len ? "%02x " : "%02x\n", (unsigned)bytes[i]);
+    }
+    return again == number && taken == len ? 0 : 1;
+}
+
+int main(int argc, char **argv) {
+    if (argc != 3) {
+        fputs("usage: dwarf_show abbrev OFFSET | str OFFSET | addr le|be | uleb N\n", stderr);
+        return 2;
+    }
+    uint64_t number = strtoull(argv[2], NULL, 10);
+    if (strcmp(argv[1], "uleb") == 0) {
+        return show_number(number);
+    }
+    struct bytes section = read_input();
+    int status;
+    if (strcmp(argv[1], "abbrev") == 0) {
+        status = show_table(section, (size_t)number);
+    } else if (strcmp(argv[1], "addr") == 0) {
+        status = show_sets(section, strcmp(argv[2], "be") == 0);
+    } else {
+        status = show_string(section, (size_t)number);
+    }
+    free(section.items);
+    return status;
+}

@@ -1,0 +1,191 @@
+/*
+ * The lowest layer of DWARF reading, proved, for C, C++ and Rust: LEB128 numbers, strings, lookups by
+ * an index, abbreviation tables, sets of addresses, names of constants, and texts of errors. The
+ * section numbers are those of DWARF 5.
+ *
+ * Link libdwarf_read_c.a, and dwarf_read_heap.c or three functions of your own (see there).
+ *
+ * WHAT A CALL DOES. It returns DWARF_OK, and then its outputs are written, or another status. A status
+ * from 1 to 19 is the number of an error: the call has written it to the fault, with the position or
+ * the value that the error carries, and to nothing else. A status from 100 on is told of beside each
+ * call. All offsets and positions are in bytes from the first byte that is given.
+ *
+ * A call keeps no pointer and has no state of its own, so any number of threads may call at once.
+ *
+ * WHAT THE CALLER PROMISES, which nothing checks:
+ *
+ *  - A pointer before a length points to as many items as the length says, which take less than 2^63
+ *    bytes. They may be uninitialized where the call writes only. At a length of 0 the pointer may be
+ *    null. A number of places is called `room`.
+ *  - Every other pointer points to one place of its type.
+ *  - No place that a call may write overlaps another place or bytes that are passed to the same call.
+ *  - Nobody else writes to what a call reads, and nobody else reads or writes what it writes, before
+ *    it returns.
+ *
+ * Nothing is asked of the bytes of a section, of offsets, of indexes, or of how large a room is.
+ */
+#ifndef DWARF_READ_H
+#define DWARF_READ_H
+
+#include <stdbool.h>
+#include <stddef.h>
+#include <stdint.h>
+
+#ifdef __cplusplus
+extern "C" {
+#endif
+
+/* What a call returns: this, the number of an error, or a status of its own. */
+enum {
+    DWARF_OK = 0,
+
+    DWARF_UNEXPECTED_EOF = 1, /* bytes are missing; the value is the position */
+    DWARF_BAD_UNSIGNED_LEB128 = 2,
+    DWARF_BAD_SIGNED_LEB128 = 3,
+    DWARF_ABBREVIATION_TAG_ZERO = 4,
+    DWARF_INVALID_ABBREVIATION_CHILDREN = 5, /* the value is the byte */
+    DWARF_ATTRIBUTE_NAME_ZERO = 6,
+    DWARF_ATTRIBUTE_FORM_ZERO = 7,
+    DWARF_DUPLICATE_ABBREVIATION_CODE = 8, /* the value is the code */
+    DWARF_UNKNOWN_RESERVED_LENGTH = 9,     /* the value is the length */
+    DWARF_UNSUPPORTED_OFFSET = 10,
+    DWARF_UNKNOWN_VERSION = 11,            /* the value is the version */
+    DWARF_UNSUPPORTED_ADDRESS_SIZE = 12,   /* the value is the size */
+    DWARF_UNSUPPORTED_SEGMENT_SIZE = 13,   /* the value is the size */
+    DWARF_UNSUPPORTED_OFFSET_SIZE = 14,    /* the value is the size */
+    DWARF_BAD_UTF8 = 15,
+    DWARF_ADDRESS_OVERFLOW = 16,
+    DWARF_UNSUPPORTED_REGISTER = 17, /* the value is the register */
+    DWARF_OUT_OF_MEMORY = 18,
+    DWARF_UNTERMINATED_ABBREVIATIONS = 19, /* the value is the position */
+
+    DWARF_NO_ROOM = 100, /* fewer places than items */
+    DWARF_NO_NAME = 101, /* no constant has the value, or no error the number */
+    DWARF_END = 102      /* nothing stands there, since it is the section's end */
+};
+
+/* The error that a call was refused with. */
+struct dwarf_fault {
+    uint32_t kind;  /* its number, from 1 to 19 */
+    uint64_t value; /* the position or the value that it carries, or 0 */
+};
+
+/*
+ * LEB128 NUMBERS (7.6).
+ */
+
+/* Reads the number of at most 64 bits, in at most ten bytes, that the bytes begin with. Other bytes
+   may follow. `taken` is how many bytes the number has. */
+uint32_t dwarf_uleb128(const uint8_t *bytes, size_t len, uint64_t *value, size_t *taken,
+                       struct dwarf_fault *fault);
+uint32_t dwarf_sleb128(const uint8_t *bytes, size_t len, int64_t *value, size_t *taken,
+                       struct dwarf_fault *fault);
+
+/* Writes the shortest bytes of a number. `len` is how many they are, at most ten. Returns DWARF_OK, or
+   DWARF_NO_ROOM, and then only `len` is written. */
+uint32_t dwarf_uleb128_write(uint64_t value, uint8_t *bytes, size_t room, size_t *len);
+uint32_t dwarf_sleb128_write(int64_t value, uint8_t *bytes, size_t room, size_t *len);
+
+/*
+ * STRINGS AND LOOKUPS (7.5.5, 7.26, 7.27).
+ */
+
+/* Finds the string at an offset of .debug_str or .debug_line_str: `string_len` bytes from the offset
+   on, which a zero byte follows. */
+uint32_t dwarf_string(const uint8_t *section, size_t len, size_t offset, size_t *string_len,
+                      struct dwarf_fault *fault);
+
+/* Reads the offset at an index, from 0, among those that stand in a row from `base` on in
+   .debug_str_offsets. They have eight bytes each if `is_64` is set, and else four. */
+uint32_t dwarf_str_offset(const uint8_t *section, size_t len, bool is_big, bool is_64, size_t base,
+                          size_t index, size_t *offset, struct dwarf_fault *fault);
+
+/* Reads the address at an index, from 0, among those that stand in a row from `base` on in
+   .debug_addr. They have `size` bytes each: 1, 2, 4 or 8. */
+uint32_t dwarf_address(const uint8_t *section, size_t len, bool is_big, uint8_t size, size_t base,
+                       size_t index, uint64_t *address, struct dwarf_fault *fault);
+
+/*
+ * SETS OF ADDRESSES (7.27).
+ */
+
+/* A set of addresses in .debug_addr. */
+struct dwarf_set {
+    size_t next;          /* the end of the set, where the next one may begin */
+    size_t unit_length;   /* how many bytes of the set follow its initial length */
+    size_t first_address; /* where its first address stands; they go up to `next` */
+    uint8_t word_size;    /* 4 in the 32-bit format, 8 in the 64-bit format */
+    uint8_t address_size; /* 1, 2, 4 or 8 */
+};
+
+/* Reads the header of the set at an offset of .debug_addr. Returns DWARF_END, and writes nothing, if the
+   offset is the section's end. The set's addresses are those that dwarf_address reads with
+   `address_size` and `first_address`, in the section's first `next` bytes alone: then an address that
+   the set's end cuts is DWARF_UNEXPECTED_EOF there. */
+uint32_t dwarf_address_set(const uint8_t *section, size_t len, bool is_big, size_t offset,
+                           struct dwarf_set *set, struct dwarf_fault *fault);
+
+/*
+ * ABBREVIATION TABLES (7.5.3).
+ *
+ * These two calls take memory for the table while they run, and are DWARF_OUT_OF_MEMORY where there is
+ * none. They may not be called in a signal handler.
+ */
+
+/* How large a table is. */
+struct dwarf_measure {
+    size_t abbreviations;
+    size_t attributes;      /* of all abbreviations together */
+    uint8_t closed_by_null; /* 1 if a code of value 0 closes the table, 0 if the section's end does */
+};
+
+/* An abbreviation. */
+struct dwarf_abbreviation {
+    uint64_t code; /* not 0 */
+    uint16_t tag;
+    uint8_t has_children;   /* 0 or 1 */
+    size_t first_attribute; /* the index of its first attribute among those of the table */
+    size_t attribute_count;
+};
+
+/* An attribute of an abbreviation. */
+struct dwarf_attribute {
+    uint16_t name;
+    uint16_t form;
+    int64_t implicit_const; /* the value that stands in the table at DW_FORM_implicit_const, else 0 */
+};
+
+/* Measures the table at an offset of .debug_abbrev. */
+uint32_t dwarf_table_measure(const uint8_t *section, size_t len, size_t offset,
+                             struct dwarf_measure *measure, struct dwarf_fault *fault);
+
+/* Reads the table at an offset of .debug_abbrev: its abbreviations by rising code, and the attributes
+   of all of them, in the same order. The places behind them are left as they are. Returns
+   DWARF_NO_ROOM if there are fewer places for either; then only `measure` is written. */
+uint32_t dwarf_table_read(const uint8_t *section, size_t len, size_t offset,
+                          struct dwarf_abbreviation *abbreviations, size_t abbreviation_room,
+                          struct dwarf_attribute *attributes, size_t attribute_room,
+                          struct dwarf_measure *measure, struct dwarf_fault *fault);
+
+/*
+ * NAMES AND TEXTS.
+ *
+ * Each call writes a name, as DW_TAG_label, or a text, with no zero byte behind it. `len` is how many
+ * bytes it has. They return DWARF_OK; DWARF_NO_ROOM, and then only `len` is written; or DWARF_NO_NAME,
+ * and then nothing is.
+ */
+
+uint32_t dwarf_tag_name(uint16_t tag, char *name, size_t room, size_t *len);
+uint32_t dwarf_attribute_name(uint16_t attribute, char *name, size_t room, size_t *len);
+uint32_t dwarf_form_name(uint16_t form, char *name, size_t room, size_t *len);
+
+/* The text of the error that a call was refused with. 64 places are enough for every name and text.
+   The call takes memory while it runs, and is DWARF_OUT_OF_MEMORY where there is none; then nothing is
+   written. It may not be called in a signal handler. */
+uint32_t dwarf_fault_text(const struct dwarf_fault *fault, char *text, size_t room, size_t *len);
+
+#ifdef __cplusplus
+}
+#endif
+
+#endif

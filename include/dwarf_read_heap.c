@@ -1,0 +1,42 @@
+/*
+ * The three functions through which the library asks for memory, over malloc, realloc and free. A
+ * program may define them over another allocator in their place. Then they have to be one allocator's,
+ * and a block has to be aligned to each power of two up to 16 that divides its size.
+ */
+#include <stdbool.h>
+#include <stddef.h>
+#include <stdlib.h>
+
+/* Whether there was memory, and the block. The pointer is never null. */
+struct tried {
+    bool is_block;
+    void *block;
+};
+
+struct tried rattle_alloc(size_t size, size_t align);
+struct tried rattle_realloc(void *block, size_t kept, size_t size, size_t align);
+void rattle_dealloc(void *block);
+
+static struct tried tried(void *block) {
+    static char none;
+    struct tried answer = {block != NULL, block != NULL ? block : &none};
+    return answer;
+}
+
+/* A block of no bytes has as many as its alignment, so that malloc's answer tells of refused memory. */
+static size_t size_of(size_t size, size_t align) {
+    return size != 0 ? size : align;
+}
+
+struct tried rattle_alloc(size_t size, size_t align) {
+    return tried(malloc(size_of(size, align)));
+}
+
+struct tried rattle_realloc(void *block, size_t kept, size_t size, size_t align) {
+    (void)kept;
+    return tried(realloc(block, size_of(size, align)));
+}
+
+void rattle_dealloc(void *block) {
+    free(block);
+}
