@@ -167,4 +167,5 @@ no_want e above same = let number : kind_of e ≡ 18 = ap kind_of same in omega 
 
 -- of a table; want of memory has a number too
 pub known_table : (section : Input) (offset : ℕ) (e : Error) → Answers (Err e) section offset → IsKnown e
-known_table section offset e answers = elim (cases_lt 19 (kind_of e)) [ inl above ↦ known_answer (answers (no_want e above)) | inr known ↦ known ]
+known_table section offset e answers =
+    elim (cases_lt 19 (kind_of e)) [ inl above ↦ known_answer (answers (no_want e above)) | inr known ↦ known ]

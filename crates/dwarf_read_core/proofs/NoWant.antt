@@ -17,12 +17,15 @@ want = Some (Err OutOfMemory)
 pub no_want_empty : KeepsNoWant finite.empty
 no_want_empty key is = let none = finite.get-empty {X = Result Table Error} nat_cmp key in cc
 
-chosen : (b : Bool) (t : Table) (before : Option (Result Table Error)) → before ≢ want → cond b (Some (Ok t)) before ≢ want
+chosen : (b : Bool) (t : Table) (before : Option (Result Table Error)) → before ≢ want
+    → cond b (Some (Ok t)) before ≢ want
 chosen true t before other is = cc
 chosen false t before other is = other is
 
-pub no_want_insert : (cache : Cache) (key : ℕ) (t : Table) → KeepsNoWant cache → KeepsNoWant (finite.insert cache key (Ok t))
-no_want_insert cache key t none q is = chosen _ t _ (none q) (sym (finite.get-insert nat_cmp_total cache key (Ok t) q) ∙ is)
+pub no_want_insert : (cache : Cache) (key : ℕ) (t : Table) → KeepsNoWant cache
+    → KeepsNoWant (finite.insert cache key (Ok t))
+no_want_insert cache key t none q is =
+    chosen _ t _ (none q) (sym (finite.get-insert nat_cmp_total cache key (Ok t) q) ∙ is)
 
 never_faulty : {end : ℕ} {bytes : List ℕ} {e : Error} → IsFaulty end bytes e → e ≢ OutOfMemory
 never_faulty (number_cut front bytes k b c) is = cc
@@ -39,16 +42,19 @@ never_fault : {end : ℕ} {bytes : List ℕ} {e : Error} → IsFault end bytes e
 never_fault (in_declaration bytes rest ds e are some f) is = never_faulty f is
 never_fault (repeated bytes declaration rest ds d are h twice) is = cc
 
-never_answered : {section : Input} {key : ℕ} {answer : Result Table Error} → Answer section key answer → answer ≢ Err OutOfMemory
+never_answered : {section : Input} {key : ℕ} {answer : Result Table Error} → Answer section key answer
+    → answer ≢ Err OutOfMemory
 never_answered (outside short) is = cc
 never_answered (table t within h) is = cc
 never_answered (fault e within f) is = never_fault f cc
 
-kept_is_answer : (input : Input) (key : ℕ) (P Q : Type 0) (kept : Option (Result Table Error)) → MatchOption kept P (λ answer. Q × Answer input key answer) → kept ≢ want
+kept_is_answer : (input : Input) (key : ℕ) (P Q : Type 0) (kept : Option (Result Table Error))
+    → MatchOption kept P (λ answer. Q × Answer input key answer) → kept ≢ want
 kept_is_answer input key P Q None h is = cc
 kept_is_answer input key P Q (Some answer) h is = never_answered h.1 cc
 
-pub no_want_answers : (least : ℕ) (input : Input) (offsets : List ℕ) (cache : Cache) → KeepsAnswers least input offsets (finite.get cache) → KeepsNoWant cache
+pub no_want_answers : (least : ℕ) (input : Input) (offsets : List ℕ) (cache : Cache)
+    → KeepsAnswers least input offsets (finite.get cache) → KeepsNoWant cache
 no_want_answers least input offsets cache h key = kept_is_answer input key _ _ (finite.get cache key) (h key)
 
 remains : (kept : Option (Result Table Error)) → kept ≢ want → still_kept kept ≢ want
@@ -60,5 +66,6 @@ remains (Some answer) other is = go (is_final answer) other is
     go false other is = cc
 
 -- a cache that only forgets entries
-pub no_want_final : (old new : Cache) → ((key : ℕ) → finite.get new key ≡ still_kept (finite.get old key)) → KeepsNoWant old → KeepsNoWant new
+pub no_want_final : (old new : Cache) → ((key : ℕ) → finite.get new key ≡ still_kept (finite.get old key))
+    → KeepsNoWant old → KeepsNoWant new
 no_want_final old new h none key is = remains (finite.get old key) (none key) (sym (h key) ∙ is)
