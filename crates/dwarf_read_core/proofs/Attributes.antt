@@ -30,6 +30,7 @@ enough (suc n) (suc m) end bytes short other =
     go others (Err e) q = refl
     go others (Ok x) q = ap (and_others x.0 x.1) (others x.1 (specification_shorter end bytes x.0 x.1 q))
 
+-- reading a list of specifications reads the first, and then the list behind it unless that is the null one
 next : (end : ℕ) (bytes : List ℕ) (x : Option Specification × List ℕ) → specification_at end bytes ≡ Ok x
     → attributes_in end bytes ≡ and_others x.0 x.1 (attributes_in end x.1)
 unfolding attributes_in attributes_at
@@ -39,6 +40,7 @@ next end bytes x q =
     ∙ rw q (ap (and_others x.0 x.1) (enough (length bytes) (length x.1 + 1) end x.1 (omega arith)
     (omega arith)))
 
+-- reading a list of specifications fails with the error with which reading the first one fails
 pub attributes_fail : (end : ℕ) (bytes : List ℕ) (e : Error) → specification_at end bytes ≡ Err e
     → attributes_in end bytes ≡ Err e
 unfolding attributes_in attributes_at
@@ -47,11 +49,13 @@ attributes_fail end bytes e q =
 
 -- ---- as a loop does
 
+-- a specification put before what is read, and a front before both, is the front with that one at its end
 regroup : (front : List Specification) (s : Specification) (read : Read)
     → with_front front (read >>= λ x. Ok (s ∷ x.0, x.1)) ≡ with_front (front ++ s ∷ []) read
 regroup front s (Ok x) = ap (λ (all : List Specification). Ok (all, x.1)) (simp append_assoc)
 regroup front s (Err e) = refl
 
+-- a whole made of a front and the list read behind it stays the same where the next one joins the front
 pub goes_on : (front : List Specification) (end : ℕ) (bytes : List ℕ) (s : Specification) (after : List ℕ)
     (total : Read) → specification_at end bytes ≡ Ok (Some s, after)
     → with_front front (attributes_in end bytes) ≡ total
@@ -60,6 +64,7 @@ goes_on front end bytes s after total q so_far =
     sym (regroup front s (attributes_in end after))
     ∙ ap (with_front front) (sym (next end bytes (Some s, after) q)) ∙ so_far
 
+-- a whole reading is the front and the bytes behind the null specification, where that one is read next
 pub ends : (front : List Specification) (end : ℕ) (bytes : List ℕ) (o : Option Specification) (after : List ℕ)
     (total : Read) → specification_at end bytes ≡ Ok (o, after) → o ≡ None
     → with_front front (attributes_in end bytes) ≡ total → total ≡ Ok (front, after)
@@ -68,10 +73,12 @@ ends front end bytes o after total q none so_far =
     sym so_far ∙ ap (with_front front) (next end bytes (None, after) r)
     ∙ ap (λ (all : List Specification). Ok (all, after)) (append-nil front)
 
+-- a whole reading fails with the error with which reading the next specification fails
 pub fails : (front : List Specification) (end : ℕ) (bytes : List ℕ) (e : Error) (total : Read)
     → specification_at end bytes ≡ Err e → with_front front (attributes_in end bytes) ≡ total → total ≡ Err e
 fails front end bytes e total q so_far = sym so_far ∙ ap (with_front front) (attributes_fail end bytes e q)
 
+-- an empty front changes nothing of what is read
 pub begins : (read : Read) → with_front [] read ≡ read
 begins (Ok x) = refl
 begins (Err e) = refl
@@ -85,6 +92,7 @@ pub record AttributesFound (bytes : List ℕ) (ss : List Specification) (rest : 
   pub are : Sequence IsSpecification specifications ss
   pub is_null : IsNull null
 
+-- a specification found before a list that is found makes a list that is found, with it as the first
 more_found : (bytes : List ℕ) (s : Specification) (ss : List Specification) (behind rest : List ℕ)
     → SpecificationFound bytes s behind → AttributesFound behind ss rest → AttributesFound bytes (s ∷ ss) rest
 more_found bytes s ss behind rest f g = record {
@@ -95,6 +103,7 @@ more_found bytes s ss behind rest f g = record {
   is_null = g.is_null;
 }
 
+-- specifications read up to the null one, with any fuel, stand at the front of the bytes as the grammar has them
 found_by : (n end : ℕ) (bytes : List ℕ) (x : List Specification × List ℕ) → attributes_at n end bytes ≡ Ok x
     → AttributesFound bytes x.0 x.1
 unfolding attributes_at
@@ -120,6 +129,7 @@ found_by (suc n) end bytes x e =
         subst (λ (y : List Specification × List ℕ). AttributesFound bytes y.0 y.1) p
         (more_found bytes s b.0.0 behind b.0.1 f (others behind b.0 b.1))
 
+-- specifications read up to the null one stand at the front of the bytes as the grammar has them
 pub attributes_found : (end : ℕ) (bytes : List ℕ) (x : List Specification × List ℕ)
     → attributes_in end bytes ≡ Ok x → AttributesFound bytes x.0 x.1
 unfolding attributes_in
@@ -129,6 +139,7 @@ attributes_found end bytes x e = found_by (length bytes + 1) end bytes x e
 abbrev pub with_attributes : Declaration → List Specification → Declaration
 with_attributes d more = declaration_of d.code d.tag d.children (d.attributes ++ more)
 
+-- the front of a declaration, with a specification's bytes behind it, is the front with one more attribute
 front_push : (front first : List ℕ) (d : Declaration) (s : Specification) → IsFront front d
     → IsSpecification first s → IsFront (front ++ first) (with_attributes d (s ∷ []))
 front_push front first d s is one = record {
@@ -139,6 +150,7 @@ front_push front first d s is one = record {
   are_attributes = Sequence-push IsSpecification is.specifications d.attributes first s is.are_attributes one;
 }
 
+-- an error of reading specifications behind a front, with more fuel than bytes, is a fault of both together
 fault_by : (n end : ℕ) (front bytes : List ℕ) (d : Declaration) (e : Error) → length bytes < n → IsFront front d
     → attributes_at n end bytes ≡ Err e → IsFaulty end (front ++ bytes) e
 unfolding attributes_at
@@ -167,6 +179,7 @@ fault_by (suc n) end front bytes d e short is q =
           | inr w ↦ absurd (let v = w.2 in cc)
         ]
 
+-- an error of reading the specifications behind the front of a declaration is a fault of both together
 pub attributes_fault : (end : ℕ) (front bytes : List ℕ) (d : Declaration) (e : Error) → IsFront front d
     → attributes_in end bytes ≡ Err e → IsFaulty end (front ++ bytes) e
 unfolding attributes_in
@@ -174,11 +187,13 @@ attributes_fault end front bytes d e is q = fault_by (length bytes + 1) end fron
 
 -- ---- what is in the grammar is read
 
+-- one specification put before a reading that has others before it is all of them put before that reading
 twice : (s : Specification) (ss : List Specification) (read : Read)
     → (with_front ss read >>= λ x. Ok (s ∷ x.0, x.1)) ≡ with_front (s ∷ ss) read
 twice s ss (Ok x) = refl
 twice s ss (Err e) = refl
 
+-- bytes of a list of specifications are read as that list, put before what is read behind them
 pub attributes_again : (end : ℕ) (bytes rest : List ℕ) (ss : List Specification)
     → Sequence IsSpecification bytes ss → attributes_in end (bytes ++ rest) ≡ with_front ss (attributes_in end rest)
 attributes_again end bytes rest [] e = rw e (sym (begins (attributes_in end rest)))
@@ -189,5 +204,6 @@ attributes_again end bytes rest (s ∷ ss) q =
     ∙ ap (λ (read : Read). read >>= λ x. Ok (s ∷ x.0, x.1)) (attributes_again end q.1 rest ss q.4)
     ∙ twice s ss (attributes_in end rest)
 
+-- bytes of the null specification are read as an empty list, whatever bytes follow
 pub attributes_end : (end : ℕ) (bytes rest : List ℕ) → IsNull bytes → attributes_in end (bytes ++ rest) ≡ Ok ([], rest)
 attributes_end end bytes rest is = next end (bytes ++ rest) (None, rest) (null_again end bytes rest is)

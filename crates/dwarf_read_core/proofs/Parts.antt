@@ -21,6 +21,7 @@ code_fails end bytes e some q = rw (ne_eqb (length bytes) 0 (λ h. some (nil_fro
 pub record IsCoded (end : ℕ) (bytes : List ℕ) (code : ℕ) (after : List ℕ) : Type 0 where
   pub read : declaration_at end bytes ≡ (declared_at end code after >>= λ d. Ok (Some d.0, d.1))
 
+-- bytes whose code is read and isn't 0 are read as what stands behind that code
 pub coded : (end : ℕ) (bytes : List ℕ) (code : ℕ) (after : List ℕ) → bytes ≢ []
     → number_at unsigned64 end bytes ≡ Ok (code, after) → code ≢ 0 → IsCoded end bytes code after
 unfolding declaration_at

@@ -15,12 +15,14 @@ both : (s t : Bool) → (s && t) ≡ true → (s ≡ true) × (t ≡ true)
 both true t h = (refl, h)
 both false t h = absurd cc
 
+-- two booleans that the test finds equal are the same
 same_bool : (s t : Bool) → beq s t ≡ true → s ≡ t
 same_bool true true h = refl
 same_bool true false h = absurd cc
 same_bool false true h = absurd cc
 same_bool false false h = refl
 
+-- two integers that the test finds equal are the same
 same_int : (x y : ℤ) → int_eq x y ≡ true → x ≡ y
 same_int x y h = (Decides-int_eq x y).0 h
 
@@ -102,6 +104,7 @@ same_by_parts a b of_a of_b same =
     } in
     ap coded code ∙ ap tagged tag ∙ ap flagged children ∙ ap listed attributes
 
+-- the test finds two declarations equal exactly where they are the same, if their values are as their forms say
 pub same_declaration_is_equality : (a b : Declaration) → All HasValueByForm a.attributes
     → All HasValueByForm b.attributes → IsTrue (same_declaration a b) ↔ (a ≡ b)
 same_declaration_is_equality a b of_a of_b =

@@ -11,10 +11,12 @@ use Rattle.dwarf_read_core.specs.Reading.{◌>>=◌, number_at, value_at, specif
 use Rattle.dwarf_read_core.proofs.Steps.{bind_ok, bind_err, chosen}
 use Rattle.dwarf_read_core.proofs.Numbers.{number_at-string, number_at-ok, number_at-err, Found}
 
+-- an encoding of a number takes at least one byte
 pub nonempty : (bytes : List ℕ) → IsEncoding bytes → 0 < length bytes
 nonempty [] h = absurd h
 nonempty (b ∷ bytes) h = omega arith
 
+-- a number that the test tells from 0 is greater than 0
 pub positive : (n : ℕ) → eqb n 0 ≡ false → 0 < n
 positive n e = let h = eqb-false n 0 e in omega arith
 
@@ -35,6 +37,7 @@ pub record ValueFound (form : ℕ) (bytes : List ℕ) (value : Option ℤ) (rest
   pub parts : bytes ≡ front ++ rest
   pub is_value : IsImplicit form front value
 
+-- what is read as the value behind a form stands at the front of the bytes as the grammar has it
 value_found : (end form : ℕ) (bytes : List ℕ) (x : Option ℤ × List ℕ) → value_at end form bytes ≡ Ok x
     → ValueFound form bytes x.0 x.1
 unfolding value_at
@@ -71,9 +74,11 @@ SomeFound bytes (Some s) rest = SpecificationFound bytes s rest
 regroup3 : (a b c d x y z : List ℕ) → x ≡ a ++ y → y ≡ b ++ z → z ≡ c ++ d → x ≡ (a ++ b ++ c) ++ d
 regroup3 a b c d x y z e f g = rw (e, f, g) (simp append_assoc)
 
+-- bytes that begin with one part and go on with another begin with the two parts joined
 regroup2 : (a b c x y : List ℕ) → x ≡ a ++ y → y ≡ b ++ c → x ≡ (a ++ b) ++ c
 regroup2 a b c x y e f = rw (e, f) (simp append_assoc)
 
+-- a specification that is read, or the null one, stands at the front of the bytes as the grammar has it
 pub specification_found : (end : ℕ) (bytes : List ℕ) (x : Option Specification × List ℕ)
     → specification_at end bytes ≡ Ok x → SomeFound bytes x.0 x.1
 unfolding specification_at
@@ -128,6 +133,7 @@ specification_found end bytes x e =
 
 -- ---- what is in the grammar is read
 
+-- bytes that the grammar has for the value behind a form are read as that value, whatever bytes follow
 value_again : (end form : ℕ) (bytes rest : List ℕ) (value : Option ℤ) → IsImplicit form bytes value
     → value_at end form (bytes ++ rest) ≡ Ok (value, rest)
 unfolding value_at
@@ -135,6 +141,7 @@ value_again end form bytes rest None h = rw (ne_eqb form implicit_const h.0, h.1
 value_again end form bytes rest (Some v) h =
     rw (eq-eqb form implicit_const h.0, number_at-string signed64 end bytes rest v h.1) refl
 
+-- bytes of a specification are read as that specification, whatever bytes follow
 pub specification_again : (end : ℕ) (bytes rest : List ℕ) (s : Specification) → IsSpecification bytes s
     → specification_at end (bytes ++ rest) ≡ Ok (Some s, rest)
 unfolding specification_at
@@ -144,6 +151,7 @@ specification_again end bytes rest s is =
     let formed : eqb s.form 0 ≡ false = ne_eqb s.form 0 (let h = is.formed in λ e. omega arith) in
     ap (specification_at end) regrouped ∙ rw (number_at-string unsigned16 end is.name (is.form ++ (is.value ++ rest)) s.name is.is_name, number_at-string unsigned16 end is.form (is.value ++ rest) s.form is.is_form, named, formed, value_again end s.form is.value rest s.value is.is_value) refl
 
+-- bytes of the null specification are read as the null one, whatever bytes follow
 pub null_again : (end : ℕ) (bytes rest : List ℕ) → IsNull bytes → specification_at end (bytes ++ rest) ≡ Ok (None, rest)
 unfolding specification_at
 null_again end bytes rest is =
@@ -237,6 +245,7 @@ specification_fault end front bytes d e is h =
 
 -- ---- a specification takes at least two bytes
 
+-- a specification takes at least two bytes
 pub specification_long : (s : Specification) (bytes : List ℕ) → IsSpecification bytes s → 2 ≤ length bytes
 specification_long s bytes is =
     let n = nonempty is.name is.is_name.encoding in
@@ -244,6 +253,7 @@ specification_long s bytes is =
     let e : length bytes ≡ length (is.name ++ is.form ++ is.value) = ap length is.parts in
     omega (arith, length-append (is.name ++ is.form) is.value, length-append is.name is.form)
 
+-- the null specification takes at least two bytes
 pub null_long : (bytes : List ℕ) → IsNull bytes → 2 ≤ length bytes
 null_long bytes is =
     let n = nonempty is.name is.is_name.encoding in
@@ -251,6 +261,7 @@ null_long bytes is =
     let e : length bytes ≡ length (is.name ++ is.form) = ap length is.parts in
     omega (arith, length-append is.name is.form)
 
+-- the bytes behind a specification that is read, or the null one, are fewer than those it is read from
 pub specification_shorter : (end : ℕ) (bytes : List ℕ) (o : Option Specification) (rest : List ℕ)
     → specification_at end bytes ≡ Ok (o, rest) → length rest < length bytes
 specification_shorter end bytes o rest e = go o (specification_found end bytes (o, rest) e)

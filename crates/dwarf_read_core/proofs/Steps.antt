@@ -5,11 +5,13 @@ use Rattle.dwarf_base_core.specs.declared.error.Error.TheVariants.{OutOfMemory}
 use Rattle.dwarf_base_core.specs.declared.error.Error.{Error}
 use Rattle.dwarf_read_core.specs.Reading.{◌>>=◌, Gives}
 
+-- two steps that succeed together have a first that succeeds, and a second that succeeds on what it gave
 pub bind_ok : {A B : Type 0} (r : Result A Error) (f : A → Result B Error) (y : B) → (r >>= f) ≡ Ok y
     → (x : A) × (r ≡ Ok x) × (f x ≡ Ok y)
 bind_ok (Ok x) f y e = (x, refl, e)
 bind_ok (Err d) f y e = absurd cc
 
+-- two steps that fail together have a first that fails so, or one that succeeds and a second that fails so
 pub bind_err : {A B : Type 0} (r : Result A Error) (f : A → Result B Error) (d : Error) → (r >>= f) ≡ Err d
     → (r ≡ Err d) ⊎ ((x : A) × (r ≡ Ok x) × (f x ≡ Err d))
 bind_err (Ok x) f d e = inr (x, refl, e)

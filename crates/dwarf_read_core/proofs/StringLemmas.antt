@@ -18,6 +18,7 @@ cut_at [] index item within is = absurd (omega arith)
 cut_at (b ∷ bytes) zero item within is = ap (λ (x : ℕ). x ∷ bytes) is
 cut_at (b ∷ bytes) (suc index) item within is = ap (λ (x : List ℕ). b ∷ x) (cut_at bytes index item (omega arith) is)
 
+-- a string that is taken from what is left behind the offset is the section's string at the offset
 pub string_taken : (section : Input) (offset : ℕ) (rest found new : Input) → Takes offset section rest
     → TakesString rest found new → StringAt section offset (Ok found)
 string_taken section offset rest found new takes t =
@@ -29,6 +30,7 @@ string_taken section offset rest found new takes t =
     (string (take t.len (drop offset section.bytes))
     (drop (suc t.len) (drop offset section.bytes)) takes.enough parts unbroken)
 
+-- an error that no zero byte is left behind the offset is the section's answer for a string there
 string_lacks : (section : Input) (offset : ℕ) (rest : Input) (e : Error) → Takes offset section rest
     → Lacks 0 rest e → StringAt section offset (Err e)
 string_lacks section offset rest e takes lacks =
@@ -45,6 +47,7 @@ string_refused section offset rest clone_is_free (Err e) takes (inl lacks) =
     inl (string_lacks section offset rest e takes lacks)
 string_refused section offset rest clone_is_free (Err e) takes (inr want) = inr want
 
+-- an error that the section ends before the offset is the section's answer for a string there
 pub string_outside : (section : Input) (offset : ℕ) (e : Error) (new : Input) → EndsBefore offset section e new
     → StringAt section offset (Err e)
 string_outside section offset e new short =
@@ -59,6 +62,7 @@ record IsBegun (bytes : List ℕ) : Type 0 where
   parts : bytes ≡ front ++ 0 ∷ rest
   unbroken : HasNoZero front
 
+-- bytes have no zero byte, or begin with a string that a zero byte ends
 zero_or_none : (bytes : List ℕ) → HasNoZero bytes ⊎ IsBegun bytes
 zero_or_none [] = inl (All-nil (λ b. b ≢ 0))
 zero_or_none (zero ∷ bytes) = inr (record { front = []; rest = bytes; parts = refl; unbroken = All-nil (λ b. b ≢ 0) })
@@ -75,6 +79,7 @@ zero_or_none (suc b ∷ bytes) =
           })
     ]
 
+-- two runs without a zero byte are the same where the same bytes begin with each and then a zero byte
 same_front : (s r t q : List ℕ) → s ++ 0 ∷ r ≡ t ++ 0 ∷ q → HasNoZero s → HasNoZero t → s ≡ t
 same_front [] r [] q e a b = refl
 same_front [] r (y ∷ t) q e a b = absurd (All-head (λ b. b ≢ 0) y t b (let h : 0 ≡ y = cc in sym h))
@@ -85,10 +90,12 @@ same_front (x ∷ s) r (y ∷ t) q e a b =
     let same = same_front s r t q tail (All-tail (λ b. b ≢ 0) x s a) (All-tail (λ b. b ≢ 0) y t b) in
     cc
 
+-- bytes with a zero byte among them can't be without one
 no_zero_within : (s r : List ℕ) → HasNoZero (s ++ 0 ∷ r) → ⊥
 no_zero_within [] r none = All-head (λ b. b ≢ 0) 0 r none refl
 no_zero_within (x ∷ s) r none = no_zero_within s r (All-tail (λ b. b ≢ 0) x (s ++ 0 ∷ r) none)
 
+-- two answers for a string at the same offset of a section are the same
 only_string : {section : Input} {offset : ℕ} {one other : Result Input Error} → StringAt section offset one
     → StringAt section offset other → other ≡ one
 only_string (outside past) (outside past') = refl
@@ -106,6 +113,7 @@ only_string (unended le none) (string bytes rest le' parts unbroken) =
     absurd (no_zero_within bytes rest (subst HasNoZero parts none))
 only_string (unended le none) (unended le' none') = refl
 
+-- an offset that isn't past the section's end has an answer for a string there
 found_string : (section : Input) (offset : ℕ) → offset ≤ length section.bytes
     → (answer : Result Input Error) × StringAt section offset answer
 found_string section offset le =
@@ -120,6 +128,7 @@ found_string section offset le =
       )
     ]
 
+-- every offset of a section has an answer for a string there
 some_string : (section : Input) (offset : ℕ) → (answer : Result Input Error) × StringAt section offset answer
 some_string section offset =
     elim (cases_lt (length section.bytes) offset) [
@@ -127,6 +136,7 @@ some_string section offset =
       | inr le ↦ found_string section offset le
     ]
 
+-- every offset of a section has exactly one answer for a string there
 pub one_string : (section : Input) (offset : ℕ) → HasOne (StringAt section offset)
 one_string section offset =
     let some = some_string section offset in
@@ -134,6 +144,7 @@ one_string section offset =
 
 -- ---- more bytes
 
+-- an answer for a string, other than that the bytes end too early, stays the answer where more bytes follow
 more_string : {section : Input} {offset : ℕ} {r : Result Input Error} (more : List ℕ) → StringAt section offset r
     → ((position : ℕ) → r ≢ Err (eof position)) → StringAt (followed_by section more) offset r
 more_string {section} more (outside past) final = absurd (final section.position refl)
@@ -143,6 +154,7 @@ more_string {section} {offset} more (string bytes rest le parts unbroken) final 
     ∙ append_assoc bytes (0 ∷ rest) more) unbroken
 more_string {section} {offset} more (unended le none) final = absurd (final (section.position + offset) refl)
 
+-- a string that is found at an offset of a section is still found there where more bytes follow
 pub string_stays : (section : Input) (offset : ℕ) (found : Input) → StringAt section offset (Ok found)
     → (more : List ℕ) → StringAt (followed_by section more) offset (Ok found)
 string_stays section offset found is more = more_string more is (λ position e. ok_err found (eof position) e)
