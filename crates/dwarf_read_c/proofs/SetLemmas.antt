@@ -71,6 +71,7 @@ length_takes false false old mid short i new four (long, last, eight, (is, left)
       moved = omega (arith, a.moved, b.moved, c.moved);
     })
 
+-- an initial length that is read takes as many bytes as its format says
 initial_takes : (old : Input) (i : Format × ℕ) (new : Input) → initial_length.Reads old i new
     → Moves (initial_length_size i.0) old new
 unfolding initial_length
@@ -162,6 +163,7 @@ FirstOf old [] = old.bytes ≡ []
 FirstOf old (Ok s ∷ items) = (old.bytes ≢ []) × (new : Input) × (address_set 0).Reads old s new
 FirstOf old (Err e ∷ items) = (old.bytes ≢ []) × (address_set 0).Fails old e
 
+-- the items of an input say what its bytes begin with: nothing, a set or a fault
 first_of : {old : Input} {items : List (Result (Set ℕ) Error)} → AreItems address_set 0 old items → FirstOf old items
 first_of (none is) = is
 first_of (more {new = new} some reads others) = (some, new, reads)

@@ -44,6 +44,7 @@ laid_next first (x ∷ ds) d =
     (laid_next (first + length x.attributes) ds d
     ∙ ap (λ (n : ℕ). laid_from (first + length x.attributes) ds ++ abbreviation_of n d ∷ []) counted)
 
+-- the abbreviations that are laid out from an index on are as many as the declarations
 pub length-laid_from : (first : ℕ) (ds : List Declaration) → length (laid_from first ds) ≡ length ds
 length-laid_from first [] = refl
 length-laid_from first (d ∷ ds) = ap suc (length-laid_from (first + length d.attributes) ds)

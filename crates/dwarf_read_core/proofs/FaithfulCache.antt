@@ -21,6 +21,7 @@ faithful_answer section key (Some (Ok t)) (Ok shared) h faithful = rw h faithful
 faithful_answer section key (Some (Ok t)) (Err fault) h faithful = λ memory. absurd (memory h)
 faithful_answer section key (Some (Err fault)) result h faithful = rw h (λ memory. faithful)
 
+-- what is kept at a key, if anything, is the section's answer, where it is so along with a further condition
 kept_answer : (input : Input) (key : ℕ) (P Q : Type 0) (kept : Option (Result Table Error))
     → MatchOption kept P (λ answer. Q × Answer input key answer) → IfSome kept (Answer input key)
 kept_answer input key P Q None h = tt
@@ -31,6 +32,7 @@ pub faithful_of_kept : (least : ℕ) (input : Input) (offsets : List ℕ) (cache
     → KeepsAnswers least input offsets (get cache) → IsFaithful cache input
 faithful_of_kept least input offsets cache h = λ key. kept_answer input key _ _ (get cache key) (h key)
 
+-- a table's close of which the test for a null code is true is the close by a null code
 closed_by_null : (close : Close) → is_by_null close ≡ true → close ≡ by_null
 closed_by_null by_null e = refl
 closed_by_null by_end e = absurd cc

@@ -36,11 +36,13 @@ kept_at least section offsets key =
       | inr enough ↦ let one = one_answer section key in (Some one.0, (enough, one.1))
     ]
 
+-- a map exists that keeps exactly the offsets that occur often enough, each with the section's answer
 pub some_cache : (least : ℕ) (section : Input) (offsets : List ℕ)
     → (kept : ℕ → Kept) × KeepsAnswers least section offsets kept
 some_cache least section offsets =
     ((λ key. (kept_at least section offsets key).0), λ key. (kept_at least section offsets key).1)
 
+-- two maps that keep the answers of the same section and offsets agree at each key
 pub same_cache : (least : ℕ) (section : Input) (offsets : List ℕ) (kept others : ℕ → Kept)
     → KeepsAnswers least section offsets kept → KeepsAnswers least section offsets others → (key : ℕ)
     → others key ≡ kept key

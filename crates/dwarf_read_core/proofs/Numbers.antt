@@ -13,6 +13,7 @@ use Rattle.dwarf_read_core.proofs.Steps.{chosen}
 
 -- ---- the string at the front
 
+-- an encoding of at most so many bytes is split from the front of the bytes, whatever follows it
 pub encoding_at-string : (s rest : List ℕ) (n : ℕ) → IsEncoding s → length s ≤ n
     → encoding_at n (s ++ rest) ≡ Some (s, rest)
 unfolding encoding_at
@@ -38,6 +39,7 @@ longer n b bytes (c ∷ front) rest high s =
       short = let h = s.short in omega arith;
     }
 
+-- the front that is split from the bytes is an encoding of at most so many, and the bytes are it and the rest
 pub split_from_some : (n : ℕ) (bytes front rest : List ℕ) → encoding_at n bytes ≡ Some (front, rest)
     → IsSplit n bytes front rest
 unfolding encoding_at
@@ -59,6 +61,7 @@ split_from_some (suc n) (b ∷ bytes) front rest e = go (ltb b 128) refl (encodi
         subst (λ (y : List ℕ × List ℕ). IsSplit (suc n) (b ∷ bytes) y.0 y.1) p
         (longer n b bytes x.0 x.1 (ltb-false b 128 high) (shorter x.0 x.1 refl))
 
+-- bytes that are too few and from which no encoding is split have none that is the last of an encoding
 pub unended_from_none : (n : ℕ) (bytes : List ℕ) → encoding_at n bytes ≡ None → length bytes < n → NoneIsLast bytes
 unfolding encoding_at
 unended_from_none zero bytes e short = absurd (omega arith)
@@ -72,6 +75,7 @@ unended_from_none (suc n) (b ∷ bytes) e short =
     go false high None others e = (ltb-false b 128 high, others refl)
     go false high (Some x) others e = absurd cc
 
+-- no encoding is split from bytes of which none is the last of an encoding
 pub encoding_at-unended : (n : ℕ) (bytes : List ℕ) → NoneIsLast bytes → encoding_at n bytes ≡ None
 unfolding encoding_at
 encoding_at-unended zero bytes high = refl
@@ -80,12 +84,14 @@ encoding_at-unended (suc n) (b ∷ bytes) high = rw (le-ltb b 128 high.0, encodi
 
 -- ---- the number at the front
 
+-- the number that bytes encode is read from their front, and what follows them is left
 pub number_at-string : (k : Kind) (end : ℕ) (front rest : List ℕ) (number : Number k) → IsNumber k front number
     → number_at k end (front ++ rest) ≡ Ok (number, rest)
 unfolding number_at
 number_at-string k end front rest number s =
     rw (encoding_at-string front rest (limit k) s.encoding s.within, s.means, s.in_range) refl
 
+-- bytes that end before their number does are answered with the fault at the end
 pub number_at-cut : (k : Kind) (end : ℕ) (bytes : List ℕ) → IsCut k bytes → number_at k end bytes ≡ Err (eof end)
 unfolding number_at
 number_at-cut k end bytes c =
@@ -96,6 +102,7 @@ pub record Found (k : Kind) (bytes : List ℕ) (number : Number k) (rest : List 
   pub parts : bytes ≡ front ++ rest
   pub string : IsNumber k front number
 
+-- a number that is read is one that a front of the bytes encodes, with the rest behind it
 pub number_at-ok : (k : Kind) (end : ℕ) (bytes : List ℕ) (number : Number k) (rest : List ℕ)
     → number_at k end bytes ≡ Ok (number, rest) → Found k bytes number rest
 unfolding number_at
@@ -120,12 +127,14 @@ number_at-ok k end bytes number rest e = go (encoding_at (limit k) bytes) refl e
           | inr c ↦ absurd (let h = c.1 in cc)
         ]
 
+-- the number that the first bytes encode is read, and the bytes behind them are left
 pub number_at-has : (k : Kind) (end : ℕ) (bytes : List ℕ) (number : Number k) (n : ℕ) → HasNumber k bytes number n
     → number_at k end bytes ≡ Ok (number, drop n bytes)
 number_at-has k end bytes number n h =
     ap (number_at k end) (sym (take-append-drop n bytes))
     ∙ number_at-string k end (take n bytes) (drop n bytes) number h.is_number
 
+-- the fault at the end is never the error that refuses a number
 eof≢refusal : (k : Kind) (end : ℕ) → eof end ≡ refusal k → ⊥
 eof≢refusal unsigned64 end e = cc
 eof≢refusal unsigned16 end e = cc
@@ -138,6 +147,7 @@ is_bad k end bytes e = record {
   not_cut = λ c. eof≢refusal k end (let a = number_at-cut k end bytes c in cc);
 }
 
+-- an error that is answered is the fault at the end, for cut bytes, or the refusal of a number, for bad bytes
 pub number_at-err : (k : Kind) (end : ℕ) (bytes : List ℕ) (d : Error) → number_at k end bytes ≡ Err d
     → (IsCut k bytes × (d ≡ eof end)) ⊎ (IsBad k bytes × (d ≡ refusal k))
 unfolding number_at
@@ -172,6 +182,7 @@ found_has {k = k} {bytes = bytes} {number = number} {rest = rest} f = record {
       (sym (ap (take (length f.front)) f.parts ∙ take-append_seam f.front rest)) f.string;
 }
 
+-- bytes that are bad are answered with the refusal of a number
 pub number_at-bad : (k : Kind) (end : ℕ) (bytes : List ℕ) → IsBad k bytes → number_at k end bytes ≡ Err (refusal k)
 number_at-bad k end bytes b = go (number_at k end bytes) refl
   where
@@ -186,6 +197,7 @@ number_at-bad k end bytes b = go (number_at k end bytes) refl
 
 -- ---- what a reader's contract says of a number that it reads
 
+-- the function answers with the error with which a reader refuses a number
 pub refused : {k : Kind} {old : Input} {e : Error} {new : Input} → RefusesNumber k old e new
     → number_at k (end_of old) old.bytes ≡ Err e
 refused {k = k} {old = old} (inl r) =
@@ -194,6 +206,7 @@ refused {k = k} {old = old} (inl r) =
 refused {k = k} {old = old} (inr r) =
     number_at-bad k (end_of old) old.bytes r.bad ∙ ap (λ (x : Error). Err x) (sym r.fault)
 
+-- the function answers with the number that a reader takes, and with the bytes that it leaves
 pub number_read : {k : Kind} {old : Input} {number : Number k} {new : Input} (end : ℕ)
     → ReadsNumber k old number new → number_at k end old.bytes ≡ Ok (number, new.bytes)
 number_read {k = k} {old = old} {number = number} end r =
@@ -203,6 +216,7 @@ number_read {k = k} {old = old} {number = number} end r =
 pub end_after : (n : ℕ) (old : Input) → n ≤ length old.bytes → end_of (after n old) ≡ end_of old
 end_after n old le = omega (arith, length-drop n old.bytes)
 
+-- a number that is read leaves the end of the input where it is
 pub end_stays : {k : Kind} {old : Input} {number : Number k} {new : Input} → ReadsNumber k old number new
     → end_of new ≡ end_of old
 end_stays {old = old} r = ap end_of r.left ∙ end_after r.len old r.is.enough

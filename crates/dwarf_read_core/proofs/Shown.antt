@@ -14,6 +14,7 @@ use Rattle.dwarf_base_core.specs.declared.error.Error.{Error}
 use Rattle.dwarf_read_core.specs.Grammar.{Table}
 use Rattle.dwarf_read_core.specs.Cache.{Cache, answer_of, shown_entries, is_final, still_kept}
 
+-- a choice between a value and an option may be made before or after a function is applied to both
 mapped_choice : {X Y : Type 0} (f : X → Y) (b : Bool) (x : X) (o : Option X)
     → cond b (Some (f x)) (option_map f o) ≡ option_map f (cond b (Some x) o)
 mapped_choice f true x o = refl
