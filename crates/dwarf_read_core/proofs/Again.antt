@@ -28,11 +28,13 @@ abbrev after_attributes : ℕ → ℕ → Bool → Read → Entry
 after_attributes code tag children read =
     found (read >>= λ attributes. Ok (declaration_of code tag children attributes.0, attributes.1))
 
+-- a number above 0 isn't equal to 0 when it is tested
 nonzero : (n : ℕ) → 0 < n → eqb n 0 ≡ false
 nonzero n lt = ne_eqb n 0 (λ e. omega arith)
 
 -- ---- field by field
 
+-- a declaration that begins with a code above 0 is read as that code and what is declared behind it
 code_again : (end : ℕ) (front rest : List ℕ) (code : ℕ) → IsCode front code
     → declaration_at end (front ++ rest) ≡ found (declared_at end code rest)
 unfolding declaration_at
@@ -42,11 +44,13 @@ code_again end front rest code is =
     (omega (arith, length-append front rest, nonempty front is.is_code.encoding)) in
     rw (some, number_at-string unsigned64 end front rest code is.is_code, nonzero code is.nonzero) refl
 
+-- a tag above 0 at the front is read as that tag, with the rest left
 tag_again : (end : ℕ) (front rest : List ℕ) (tag : ℕ) → IsNumber unsigned16 front tag → 0 < tag
     → tag_at end (front ++ rest) ≡ Ok (tag, rest)
 unfolding tag_at
 tag_again end front rest tag is lt = rw (number_at-string unsigned16 end front rest tag is, nonzero tag lt) refl
 
+-- a declaration that begins with a code and a tag is read as these two and what is behind the tag
 head_again : (end : ℕ) (front rest : List ℕ) (code tag : ℕ) → IsHead front code tag
     → declaration_at end (front ++ rest) ≡ after_tag end code tag rest
 unfolding declared_at
@@ -56,12 +60,14 @@ head_again end front rest code tag is =
     ap (declaration_at end) same ∙ code_again end is.first (is.second ++ rest) code is.is_code
     ∙ rw (tag_again end is.second rest tag is.is_tag is.tagged) refl
 
+-- the byte that says whether there are children is read as what it says, with the rest left
 children_again : (end : ℕ) (children : Bool) (rest : List ℕ)
     → children_at end (children_byte children ∷ rest) ≡ Ok (children, rest)
 unfolding children_at
 children_again end true rest = refl
 children_again end false rest = refl
 
+-- a declaration that begins with a front is read as that front and the attributes that are behind it
 front_again : (end : ℕ) (front rest : List ℕ) (d : Declaration) → IsFront front d
     → declaration_at end (front ++ rest)
     ≡ after_attributes d.code d.tag d.children (with_front d.attributes (attributes_in end rest))
@@ -87,6 +93,7 @@ declaration_again end bytes rest d is =
     ∙ front_again end is.front (is.null ++ rest) d is.is_front
     ∙ rw (attributes_end end is.null rest is.is_null, append-nil d.attributes) refl
 
+-- a code of value 0 at the front is read as no declaration, with the rest left
 pub zero_again : (end : ℕ) (bytes rest : List ℕ) → IsNumber unsigned64 bytes 0
     → declaration_at end (bytes ++ rest) ≡ Ok (None, rest)
 unfolding declaration_at
@@ -96,6 +103,7 @@ zero_again end bytes rest is =
     (omega (arith, length-append bytes rest, nonempty bytes is.encoding)) in
     rw (some, number_at-string unsigned64 end bytes rest 0 is) refl
 
+-- the end of the bytes is read as no declaration, with nothing left
 pub end_again : (end : ℕ) → declaration_at end [] ≡ Ok (None, [])
 unfolding declaration_at
 end_again end = refl
@@ -107,11 +115,13 @@ front_fails : (end : ℕ) (front bytes : List ℕ) (d : Declaration) (e : Error)
     → specification_at end bytes ≡ Err e → declaration_at end (front ++ bytes) ≡ Err e
 front_fails end front bytes d e is q = front_again end front bytes d is ∙ rw (attributes_fail end bytes e q) refl
 
+-- a specification whose form is refused behind a name is refused with the same error
 form_fails : (end : ℕ) (name bytes : List ℕ) (n : ℕ) (e : Error) → IsNumber unsigned16 name n
     → number_at unsigned16 end bytes ≡ Err e → specification_at end (name ++ bytes) ≡ Err e
 unfolding specification_at
 form_fails end name bytes n e is q = rw (number_at-string unsigned16 end name bytes n is, q) refl
 
+-- a specification whose value is refused, behind a name and the form that has one, is refused with that error
 value_fails : (end : ℕ) (name form bytes : List ℕ) (n : ℕ) (e : Error) → IsNumber unsigned16 name n → 0 < n
     → IsNumber unsigned16 form implicit_const → number_at signed64 end bytes ≡ Err e
     → specification_at end (name ++ (form ++ bytes)) ≡ Err e
@@ -136,6 +146,7 @@ stops end bytes e (before_value front name form d n is is_name named is_form) so
     ap (declaration_at end) same ∙ front_fails end front (name ++ (form ++ bytes)) d e is
     (value_fails end name form bytes n e is_name named is_form q)
 
+-- bytes that begin as a declaration and do not go on as one are read as their fault, unless there are none
 pub fault_again : {bytes : List ℕ} {e : Error} (end : ℕ) → IsFaulty end bytes e → bytes ≢ []
     → declaration_at end bytes ≡ Err e
 unfolding tag_at children_at declared_at specification_at

@@ -17,6 +17,7 @@ use Rattle.std.proofs.lemmas.List.Elements.{same_from_all_zip}
 use Rattle.dwarf_read_core.specs.Grammar.{Declaration}
 use Rattle.dwarf_read_core.specs.Views.{numbered, entries_of, AreKept}
 
+-- what is found among entries at a code, by the order of codes, is what a lookup of that code has
 find_is_lookup : (es : List (ℕ × Declaration)) (q : ℕ) → find nat_cmp q es ≡ lookup (is_at (nat_cmp q)) es
 find_is_lookup [] q = refl
 find_is_lookup (e ∷ es) q = ap (cond (is_at (nat_cmp q) e.0) (Some e.1)) (find_is_lookup es q)
@@ -37,6 +38,7 @@ inserted es fs k d h = same_map nat_cmp_total nat_cmp-IsAntisymmetric _ _ (λ q.
     ∙ sym (get-insert nat_cmp_total (from_entries es) k d q
     ∙ ap (cond (is_at (nat_cmp q) k) (Some d)) (get_is_lookup es q)))
 
+-- an entry whose code is below those of all the others is put in front of them
 put_first : (k : ℕ) (d : Declaration) (es : List (ℕ × Declaration))
     → AllByRecursion (λ y. nat_cmp k y ≡ Less) (map (λ e. e.0) es) → put nat_cmp k d es ≡ (k, d) ∷ es
 put_first k d [] h = refl
@@ -53,6 +55,7 @@ entries_kept (e ∷ es) h =
     entries-insert nat_cmp_total (from_entries es) e.0 e.1 ∙ ap (put nat_cmp e.0 e.1) (entries_kept es h.1)
     ∙ put_first e.0 e.1 es h.0
 
+-- the map that entries in order make has as many entries as there are of them
 pub len_kept : (es : List (ℕ × Declaration)) → IsStrictlySortedBy nat_cmp (map (λ e. e.0) es)
     → len (from_entries {R = nat_cmp} es) ≡ length es
 len_kept es h = len-entries (from_entries {R = nat_cmp} es) ∙ ap length (entries_kept es h)
@@ -69,9 +72,11 @@ copied es fs h =
 abbrev at : ℕ → List (ℕ × Declaration) → Option Declaration
 at q es = lookup (is_at (nat_cmp q)) es
 
+-- a code is at another, by the order of codes, exactly where the two are equal
 same_code : (a b : ℕ) → is_at (nat_cmp a) b ≡ eqb a b
 same_code a b = grind (arith, nat_tests)
 
+-- a list of entries has the first one's declaration at its code, and at other codes what the others have
 at_first : (q k : ℕ) (d : Declaration) (es : List (ℕ × Declaration)) (t : Bool) → eqb q k ≡ t
     → at q ((k, d) ∷ es) ≡ cond t (Some d) (at q es)
 at_first q k d es t e = ap (λ b. cond b (Some d) (at q es)) (same_code q k ∙ e)
@@ -84,6 +89,7 @@ at_below k q (d ∷ ds) more lt =
     at_first q k d (numbered (suc k) ds ++ more) false (ne_eqb q k (λ e. omega arith))
     ∙ at_below (suc k) q ds more (omega arith)
 
+-- a code above those of the vector has what the entries behind the vector have there
 at_above : (k q : ℕ) (ds : List Declaration) (more : List (ℕ × Declaration)) → k + length ds ≤ q
     → at q (numbered k ds ++ more) ≡ at q more
 at_above k q [] more le = refl
@@ -102,6 +108,7 @@ at_within k (suc i) (x ∷ ds) more d lt =
     at_first (k + suc i) k x (numbered (suc k) ds ++ more) false (ne_eqb (k + suc i) k (λ e. omega arith))
     ∙ ap (λ q. at q (numbered (suc k) ds ++ more)) next ∙ at_within (suc k) i ds more d (omega arith)
 
+-- a code is at another exactly where the other is equal to it
 same_back : (c q : ℕ) → is_at (nat_cmp c) q ≡ eqb q c
 same_back c q = grind (arith, nat_tests)
 
@@ -156,6 +163,7 @@ none_of_no : (o : Option Declaration) → is_some o ≡ false → o ≡ None
 none_of_no None e = refl
 none_of_no (Some d) e = absurd (cc)
 
+-- a map that is empty, or that doesn't have a code, has no declaration at that code
 pub none_at : (code : ℕ) (es : List (ℕ × Declaration)) → (length es ≡ 0) ⊎ (is_some (at code es) ≡ false)
     → at code es ≡ None
 none_at code es (inl empty) = ap (at code) (nil_from_length es empty)
@@ -169,11 +177,13 @@ pushed ds es code d e =
     inserted (entries_of ds es) (numbered 1 (ds ++ d ∷ []) ++ es) code d
     (λ q. at_push 1 q ds d es ∙ ap (λ n. cond (is_at (nat_cmp n) q) (Some d) (at q (entries_of ds es))) (sym e))
 
+-- the map that the two make lacks the code right above those of the vector if the map behind it does
 pub lacks_next : (ds : List Declaration) (es : List (ℕ × Declaration)) (code : ℕ) → code ≡ 1 + length ds
     → at code es ≡ None → contains_key (from_entries {R = nat_cmp} (entries_of ds es)) code ≡ false
 lacks_next ds es code e none =
     ap is_some (get_is_lookup (entries_of ds es) code ∙ at_above 1 code ds es (omega arith) ∙ none)
 
+-- an insert into the map, above the codes of the vector, is an insert into the map that the two make
 pub put_beside : (ds : List Declaration) (es fs : List (ℕ × Declaration)) (code : ℕ) (d : Declaration)
     → length ds < code → ((q : ℕ) → at q fs ≡ cond (is_at (nat_cmp code) q) (Some d) (at q es))
     → from_entries {R = nat_cmp} (entries_of ds fs) ≡ insert (from_entries (entries_of ds es)) code d
@@ -188,10 +198,12 @@ found_in_vec ds es code index d e lt =
     let place : code ≡ 1 + index = omega arith in
     get_is_lookup (entries_of ds es) code ∙ ap (λ q. at q (entries_of ds es)) place ∙ at_within 1 index ds es d lt
 
+-- what is found at a code above those of the vector is what the map has there
 pub found_in_map : (ds : List Declaration) (es : List (ℕ × Declaration)) (code : ℕ) → length ds < code
     → get (from_entries {R = nat_cmp} (entries_of ds es)) code ≡ at code es
 found_in_map ds es code lt = get_is_lookup (entries_of ds es) code ∙ at_above 1 code ds es (omega arith)
 
+-- a code of value 0 is found in neither of the two
 pub not_found : (ds : List Declaration) (es : List (ℕ × Declaration)) (code : ℕ) → code ≡ 0 → AreKept ds es
     → get (from_entries {R = nat_cmp} (entries_of ds es)) code ≡ None
 not_found ds es code zero_code kept =
@@ -199,6 +211,7 @@ not_found ds es code zero_code kept =
 
 -- ---- how many there are
 
+-- a number that is below another compares as less
 less : (a b : ℕ) → a < b → nat_cmp a b ≡ Less
 less a b lt = grind (arith, nat_tests)
 
@@ -218,16 +231,19 @@ keys_above n (e ∷ es) h = (
       | inr le ↦ absurd (let w = sym (at_first e.0 e.0 e.1 es true (eq-eqb e.0 e.0 refl)) ∙ h e.0 le in cc)
     ]
 
+-- keys that are all above a bound compare as greater than each number up to that bound
 weaker : (k n : ℕ) (ks : List ℕ) → k ≤ n → AllByRecursion (λ y. n < y) ks → AllByRecursion (λ y. nat_cmp k y ≡ Less) ks
 weaker k n [] le h = tt
 weaker k n (y ∷ ks) le h = (less k y (let w = h.0 in omega arith), weaker k n ks le h.1)
 
+-- a code below those of a vector and below the keys of a map is below all keys of the two
 numbered_above : (k j : ℕ) (ds : List Declaration) (es : List (ℕ × Declaration)) → k < j
     → AllByRecursion (λ y. nat_cmp k y ≡ Less) (map (λ e. e.0) es)
     → AllByRecursion (λ y. nat_cmp k y ≡ Less) (map (λ e. e.0) (numbered j ds ++ es))
 numbered_above k j [] es lt h = h
 numbered_above k j (d ∷ ds) es lt h = (less k j lt, numbered_above k (suc j) ds es (omega arith) h)
 
+-- a vector by its codes, and a map in order with keys above them, are in order one behind the other
 numbered_sorted : (k : ℕ) (ds : List Declaration) (es : List (ℕ × Declaration)) (n : ℕ) → k + length ds ≤ n + 1
     → AllByRecursion (λ y. n < y) (map (λ e. e.0) es) → IsStrictlySortedBy nat_cmp (map (λ e. e.0) es)
     → IsStrictlySortedBy nat_cmp (map (λ e. e.0) (numbered k ds ++ es))
@@ -239,22 +255,26 @@ numbered_sorted k (d ∷ ds) es n le above h = (
   numbered_sorted (suc k) ds es n (omega arith) above h,
 )
 
+-- the entries of the vector and then of the map are in order as a whole if those of the map are
 sorted_of_both : (ds : List Declaration) (es : List (ℕ × Declaration)) → AreKept ds es
     → IsStrictlySortedBy nat_cmp (map (λ e. e.0) es)
     → IsStrictlySortedBy nat_cmp (map (λ e. e.0) (entries_of ds es))
 sorted_of_both ds es kept sorted =
     numbered_sorted 1 ds es (length ds) (omega arith) (keys_above (length ds) es kept.apart) sorted
 
+-- a vector by its codes and a map behind it have as many entries as both have together
 length_numbered : (k : ℕ) (ds : List Declaration) (es : List (ℕ × Declaration))
     → length (numbered k ds ++ es) ≡ length ds + length es
 length_numbered k [] es = omega arith
 length_numbered k (d ∷ ds) es = omega (arith, length_numbered (suc k) ds es)
 
+-- the map that the two make has as many entries as the vector and the map have together
 pub len_of_both : (ds : List Declaration) (es : List (ℕ × Declaration)) → AreKept ds es
     → IsStrictlySortedBy nat_cmp (map (λ e. e.0) es)
     → len (from_entries {R = nat_cmp} (entries_of ds es)) ≡ length ds + length es
 len_of_both ds es kept sorted = len_kept (entries_of ds es) (sorted_of_both ds es kept sorted) ∙ length_numbered 1 ds es
 
+-- the declarations of a vector by its codes, and of a map behind it, are the vector's and then the map's
 values_numbered : (k : ℕ) (ds : List Declaration) (es : List (ℕ × Declaration))
     → map (λ e. e.1) (numbered k ds ++ es) ≡ ds ++ map (λ e. e.1) es
 values_numbered k [] es = refl
@@ -293,12 +313,14 @@ keyed_in_map ds es code d kept h = elim (cases_lt (length ds) code) [
   | inr le ↦ absurd (let none = kept.apart code le in cc)
 ]
 
+-- a declaration in the vector has the code that is one more than its index
 pub keyed_in_vec : (ds : List Declaration) (es : List (ℕ × Declaration)) (code index : ℕ) (d : Declaration)
     → AreKept ds es → code ≡ index + 1 → index < length ds → (get_or ds index d).code ≡ code
 keyed_in_vec ds es code index d kept e lt =
     let place : code ≡ 1 + index = omega arith in
     (kept.keyed code (get_or ds index d) (ap (λ q. at q (entries_of ds es)) place ∙ at_within 1 index ds es d lt)).0
 
+-- a push of a declaration whose code is the vector's next, and not in the map, leaves the two well kept
 pub kept_pushed : (ds : List Declaration) (es : List (ℕ × Declaration)) (code : ℕ) (d : Declaration)
     → code ≡ 1 + length ds → d.code ≡ code → at code es ≡ None → AreKept ds es → AreKept (ds ++ d ∷ []) es
 kept_pushed ds es code d e same none kept = record {
@@ -314,6 +336,7 @@ kept_pushed ds es code d e same none kept = record {
       | inr low ↦ kept.apart q low
     ]
 
+-- an insert into the map of a declaration at its code, above those of the vector, leaves the two well kept
 pub kept_beside : (ds : List Declaration) (es fs : List (ℕ × Declaration)) (code : ℕ) (d : Declaration)
     → length ds < code → ((q : ℕ) → at q fs ≡ cond (is_at (nat_cmp code) q) (Some d) (at q es)) → d.code ≡ code
     → AreKept ds es → AreKept ds fs
@@ -324,6 +347,7 @@ kept_beside ds es fs code d lt h same kept = record {
       (λ q. at_insert 1 q code ds d es fs (omega arith) (h q)) same (omega arith) kept.keyed;
 }
 
+-- the map that the two make has each code that is one more than an index of the vector
 pub stands_in_vec : (ds : List Declaration) (es : List (ℕ × Declaration)) (code index : ℕ) → code ≡ index + 1
     → index < length ds → contains_key (from_entries {R = nat_cmp} (entries_of ds es)) code ≡ true
 stands_in_vec ds es code index e lt =

@@ -26,6 +26,7 @@ Read = Result Table Error
 
 -- ---- one declaration after the other
 
+-- a table is read the same under any two bounds that are above the number of its bytes
 enough : (n m end : ℕ) (t : ByCode) (bytes : List ℕ) → length bytes < n → length bytes < m
     → table_at n end t bytes ≡ table_at m end t bytes
 unfolding table_at
@@ -45,12 +46,14 @@ enough (suc n) (suc m) end t bytes short other =
         ap (cond (contains_key t d.code) (Err (DuplicateAbbreviationCode d.code)))
         (others (insert t d.code d) rest (declaration_shorter end bytes d rest q))
 
+-- an error in reading the next declaration is the error in reading the table
 pub table_fails : (end : ℕ) (t : ByCode) (bytes : List ℕ) (e : Error) → declaration_at end bytes ≡ Err e
     → table_in end t bytes ≡ Err e
 unfolding table_in table_at
 table_fails end t bytes e q =
     enough (length bytes + 1) (suc (length bytes)) end t bytes (omega arith) (omega arith) ∙ rw q refl
 
+-- a table ends where no declaration is read, closed by the end if no bytes are left, or else by a code of 0
 pub table_ends : (end : ℕ) (t : ByCode) (bytes rest : List ℕ) → declaration_at end bytes ≡ Ok (None, rest)
     → table_in end t bytes ≡ Ok (closed t (close_of bytes))
 unfolding table_in table_at
@@ -64,6 +67,7 @@ table_nulled end t bytes rest some q =
     let n : eqb (length bytes) 0 ≡ false = ne_eqb (length bytes) 0 (λ h. some (nil_from_length bytes h)) in
     table_ends end t bytes rest q ∙ rw n refl
 
+-- a declaration whose code the table already has is refused as a duplicate
 pub table_repeats : (end : ℕ) (t : ByCode) (bytes : List ℕ) (d : Declaration) (rest : List ℕ)
     → declaration_at end bytes ≡ Ok (Some d, rest) → contains_key t d.code ≡ true
     → table_in end t bytes ≡ Err (DuplicateAbbreviationCode d.code)
@@ -71,6 +75,7 @@ unfolding table_in table_at
 table_repeats end t bytes d rest q twice =
     enough (length bytes + 1) (suc (length bytes)) end t bytes (omega arith) (omega arith) ∙ rw (q, twice) refl
 
+-- a declaration whose code is new is inserted into the table, which is then read on behind it
 pub table_goes_on : (end : ℕ) (t : ByCode) (bytes : List ℕ) (d : Declaration) (rest : List ℕ)
     → declaration_at end bytes ≡ Ok (Some d, rest) → contains_key t d.code ≡ false
     → table_in end t bytes ≡ table_in end (insert t d.code d) rest
@@ -85,18 +90,22 @@ table_goes_on end t bytes d rest q fresh =
 abbrev pub entries_of : List Declaration → List (ℕ × Declaration)
 entries_of ds = map (λ d. (d.code, d)) ds
 
+-- two codes are equal by their order exactly where they are equal as numbers
 same_code : (a b : ℕ) → eq_by_cmp nat_cmp a b ≡ eqb a b
 same_code a b = grind (arith, nat_tests)
 
+-- a code finds the first declaration if that one has it, and otherwise what it finds among the others
 looked_up : (code : ℕ) (x : Declaration) (ds : List Declaration) (t : Bool) → eqb code x.code ≡ t
     → find nat_cmp code (entries_of (x ∷ ds)) ≡ cond t (Some x) (find nat_cmp code (entries_of ds))
 looked_up code x ds t e = ap (λ b. cond b (Some x) (find nat_cmp code (entries_of ds))) (same_code code x.code ∙ e)
 
+-- a code that none of the declarations has finds nothing among them
 find_none : (ds : List Declaration) (code : ℕ) → (Declares ds code → ⊥) → find nat_cmp code (entries_of ds) ≡ None
 find_none [] code h = refl
 find_none (x ∷ ds) code h =
     looked_up code x ds false (ne_eqb code x.code (λ e. h (inl (sym e)))) ∙ find_none ds code (λ w. h (inr w))
 
+-- a code that one of the declarations has finds something among them
 find_some : (ds : List Declaration) (code : ℕ) → Declares ds code → is_some (find nat_cmp code (entries_of ds)) ≡ true
 find_some [] code h = absurd h
 find_some (x ∷ ds) code h = go (eqb code x.code) refl (λ w. find_some ds code w) h
@@ -107,6 +116,7 @@ find_some (x ∷ ds) code h = go (eqb code x.code) refl (λ w. find_some ds code
     go false e later (inl same) = absurd (eqb-false code x.code e (sym same))
     go false e later (inr w) = ap is_some (looked_up code x ds false e) ∙ later w
 
+-- a code that finds something among declarations is the code of one of them
 declared_from_find : (ds : List Declaration) (code : ℕ) → is_some (find nat_cmp code (entries_of ds)) ≡ true
     → Declares ds code
 declared_from_find [] code h = absurd cc
@@ -117,23 +127,29 @@ declared_from_find (x ∷ ds) code h = go (eqb code x.code) refl (λ w. declared
     go true e later = inl (sym (eqb-true code x.code e))
     go false e later = inr (later (sym (ap is_some (looked_up code x ds false e)) ∙ h))
 
+-- the map of declarations has a code exactly where the code finds something among them
 contains_is : (ds : List Declaration) (code : ℕ)
     → contains_key (by_code_of ds) code ≡ is_some (find nat_cmp code (entries_of ds))
 contains_is ds code = ap is_some (get-from_entries nat_cmp_total (entries_of ds) code)
 
+-- the map of declarations lacks a code that none of them has
 pub fresh_code : (ds : List Declaration) (code : ℕ) → (Declares ds code → ⊥) → contains_key (by_code_of ds) code ≡ false
 fresh_code ds code h = contains_is ds code ∙ ap is_some (find_none ds code h)
 
+-- the map of declarations has a code that one of them has
 pub repeated_code : (ds : List Declaration) (code : ℕ) → Declares ds code → contains_key (by_code_of ds) code ≡ true
 repeated_code ds code h = contains_is ds code ∙ find_some ds code h
 
+-- a code that the map of declarations has is the code of one of them
 pub declared_from_key : (ds : List Declaration) (code : ℕ) → contains_key (by_code_of ds) code ≡ true → Declares ds code
 declared_from_key ds code e = declared_from_find ds code (sym (contains_is ds code) ∙ e)
 
+-- a code that the map of declarations lacks is the code of none of them
 pub fresh_from_key : (ds : List Declaration) (code : ℕ) → contains_key (by_code_of ds) code ≡ false
     → Declares ds code → ⊥
 fresh_from_key ds code e h = true≢false (sym (repeated_code ds code h) ∙ e)
 
+-- the map of declarations and one more, whose code is new, is their map with an insert of that one
 pub table_push : (ds : List Declaration) (d : Declaration) → (Declares ds d.code → ⊥)
     → by_code_of (ds ++ d ∷ []) ≡ insert (by_code_of ds) d.code d
 table_push ds d h =
@@ -141,6 +157,7 @@ table_push ds d h =
     (map_push (λ (x : Declaration). (x.code, x)) ds d)
     ∙ from_entries_push nat_cmp_total nat_cmp-IsAntisymmetric (entries_of ds) d.code d (find_none ds d.code h)
 
+-- a code of declarations and one more is a code of those declarations, or that of the one more
 declared_later : (ds : List Declaration) (d : Declaration) (code : ℕ) → Declares (ds ++ d ∷ []) code
     → Declares ds code ⊎ (d.code ≡ code)
 declared_later [] d code (inl e) = inr e
@@ -148,6 +165,7 @@ declared_later [] d code (inr h) = absurd h
 declared_later (x ∷ ds) d code (inl e) = inl (inl e)
 declared_later (x ∷ ds) d code (inr h) = elim (declared_later ds d code h) [ inl w ↦ inl (inr w) | inr w ↦ inr w ]
 
+-- declarations with distinct codes still have distinct codes with one more behind them whose code is new
 distinct_push : (ds : List Declaration) (d : Declaration) → AreDistinct ds → (Declares ds d.code → ⊥)
     → AreDistinct (ds ++ d ∷ [])
 distinct_push [] d h new = (λ w. w, tt)
@@ -157,6 +175,7 @@ distinct_push (x ∷ ds) d h new = (
       (λ w. new (inr w)),
 )
 
+-- a declaration among those with distinct codes has a code that none before it has
 distinct_front : (ds more : List Declaration) (d : Declaration) → AreDistinct (ds ++ d ∷ more) → Declares ds d.code → ⊥
 distinct_front [] more d h w = w
 distinct_front (x ∷ ds) more d h (inl e) = h.0 (stands ds)
@@ -173,6 +192,7 @@ abbrev Reads : ℕ → List ℕ → Read → Type 0
 Reads end bytes (Ok t) = IsTable bytes t
 Reads end bytes (Err e) = IsFault end bytes e
 
+-- the bytes of declarations and of one more, whose code is new, are the bytes of all of them
 declarations_push : (bytes : List ℕ) (ds : List Declaration) (last : List ℕ) (d : Declaration)
     → AreDeclarations bytes ds → IsDeclaration last d → (Declares ds d.code → ⊥)
     → AreDeclarations (bytes ++ last) (ds ++ d ∷ [])
@@ -197,6 +217,7 @@ ended front ds are (at_zero bytes rest z) =
     rw some (subst (λ (b : List ℕ). IsTable b (closed (by_code_of ds) by_null)) same
     (closed_by_null front z.front rest ds are z.is_zero))
 
+-- what is read behind the declarations so far is the table that all the bytes begin with, or their first fault
 reads_by : (n end : ℕ) (front bytes : List ℕ) (ds : List Declaration) → length bytes < n → AreDeclarations front ds
     → Reads end (front ++ bytes) (table_at n end (by_code_of ds) bytes)
 unfolding table_at
@@ -237,6 +258,7 @@ reads_by (suc n) end front bytes ds short are =
 
 -- ---- what is in the grammar is read
 
+-- declarations whose codes are new and distinct are read into the table, which is then read on behind them
 feed : (end : ℕ) (seen : List Declaration) (bytes rest : List ℕ) (ds : List Declaration)
     → Sequence IsDeclaration bytes ds → AreDistinct (seen ++ ds)
     → table_in end (by_code_of seen) (bytes ++ rest) ≡ table_in end (by_code_of (seen ++ ds)) rest
@@ -252,6 +274,7 @@ feed end seen bytes rest (d ∷ ds) q h =
     ∙ feed end (seen ++ d ∷ []) q.1 rest ds q.4 (subst AreDistinct (sym regrouped) h)
     ∙ ap (λ (xs : List Declaration). table_in end (by_code_of xs) rest) regrouped
 
+-- bytes that begin with a table are read as that table
 pub table_again : {bytes : List ℕ} {t : Table} (end : ℕ) → IsTable bytes t → table_in end (by_code_of []) bytes ≡ Ok t
 table_again end (closed_by_null bytes zero_code rest ds are is) =
     let some : eqb (length (zero_code ++ rest)) 0
@@ -265,6 +288,7 @@ table_again end (closed_by_end bytes ds are) =
     ap (table_in end (by_code_of [])) (sym (append-nil bytes)) ∙ feed end [] bytes [] ds are.each are.distinct
     ∙ table_ends end (by_code_of ds) [] [] (end_again end)
 
+-- bytes that have a first fault, in place of a table, are read as that fault
 pub faults_again : {bytes : List ℕ} {e : Error} {end : ℕ} → IsFault end bytes e
     → table_in end (by_code_of []) bytes ≡ Err e
 faults_again {end = end} (in_declaration bytes rest ds e are some f) =
@@ -282,6 +306,7 @@ abbrev AnswerBy : Bool → Input → ℕ → Read
 AnswerBy t section offset =
     cond t (Err (end_fault section)) (table_in (end_of section) empty (drop offset section.bytes))
 
+-- what is read at an offset of a section is an answer for them
 pub is_answer : (section : Input) (offset : ℕ) → Answer section offset (answer_at section offset)
 unfolding answer_at table_in
 is_answer section offset = go (ltb (length section.bytes) offset) refl
@@ -299,6 +324,7 @@ is_answer section offset = go (ltb (length section.bytes) offset) refl
         (reads_by (length (drop offset section.bytes) + 1) (end_of section) [] (drop offset section.bytes) []
         (omega arith) (record { each = refl; distinct = tt }))
 
+-- every answer for a section and an offset is what is read there
 pub only_answer : {section : Input} {offset : ℕ} {r : Read} → Answer section offset r → answer_at section offset ≡ r
 unfolding answer_at
 only_answer {section} {offset} (outside lt) = rw (lt-ltb (length section.bytes) offset lt) refl
@@ -322,6 +348,7 @@ answered r section offset rest takes given = go r (subst (λ (read : Read). Give
     go (Ok t) h = subst (Answer section offset) h (is_answer section offset)
     go (Err e) h = λ memory. subst (Answer section offset) (h memory) (is_answer section offset)
 
+-- a section and an offset have exactly one answer
 pub one_answer : (section : Input) (offset : ℕ) → HasOne (Answer section offset)
 one_answer section offset = (answer_at section offset, is_answer section offset, λ s a. sym (only_answer a))
 
@@ -341,6 +368,7 @@ nothing_declared end section offset rest (inl past) is =
 nothing_declared end section offset rest (inr z) is =
     (z.1, ap (declaration_at end) (is ∙ z.2) ∙ zero_again end z.0 z.1 z.3)
 
+-- a result can't be both a value and an error
 pub ok_is_no_error : {A : Type 0} (r : Result A Error) (e : Error) → IsOk r → IsErrOf r e → ⊥
 ok_is_no_error (Ok x) e ok err = cc
 ok_is_no_error (Err d) e ok err = cc
