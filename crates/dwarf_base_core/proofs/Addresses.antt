@@ -25,7 +25,7 @@ all_ones size high =
     let split : 18446744073709551615 ≡ (address_count size - 1) * 2 ^ (64 - size * 8) + (2 ^ (64 - size * 8) - 1) =
     ap (λ (n : ℕ). n - 1) (sym whole) ∙ last_block (address_count size) (2 ^ (64 - size * 8)) 1 some step in
     ap (λ (n : ℕ). n / 2 ^ (64 - size * 8)) split
-        ∙ div-mul-add (address_count size - 1) (2 ^ (64 - size * 8)) (2 ^ (64 - size * 8) - 1) (omega arith)
+    ∙ div-mul-add (address_count size - 1) (2 ^ (64 - size * 8)) (2 ^ (64 - size * 8) - 1) (omega arith)
 
 -- a sum of 64 bits, with all but the bits of a size masked out
 pub masked : (n size : ℕ) → size ≤ 8 → bit_and (n % 18446744073709551616) (address_count size - 1)
@@ -33,8 +33,8 @@ pub masked : (n size : ℕ) → size ≤ 8 → bit_and (n % 18446744073709551616
 masked n size high =
     and_mask (n % 18446744073709551616) (8 * size)
     ∙ mod-mod_of_dvd (address_count size) n
-        (subst (λ (m : ℕ). address_count size ∣ m) (blocks size high)
-        (dvd-mul_left (address_count size) (2 ^ (64 - size * 8))))
+    (subst (λ (m : ℕ). address_count size ∣ m) (blocks size high)
+    (dvd-mul_left (address_count size) (2 ^ (64 - size * 8))))
 
 -- the last address of 64 bits but one, wrapped to a size
 pub tombstone : (size : ℕ) → 1 ≤ size → size ≤ 8 → 18446744073709551614 % address_count size ≡ address_count size - 2
@@ -43,6 +43,6 @@ tombstone size low high =
     let pair : 2 ≤ address_count size = pow-le-pow_right {n = 2} (omega arith) {i = 1} {j = 8 * size} (omega arith) in
     let split : 18446744073709551614 ≡ (2 ^ (64 - size * 8) - 1) * address_count size + (address_count size - 2) =
     ap (λ (n : ℕ). n - 2) (sym (blocks size high))
-        ∙ last_block (2 ^ (64 - size * 8)) (address_count size) 2 some pair in
+    ∙ last_block (2 ^ (64 - size * 8)) (address_count size) 2 some pair in
     ap (λ (n : ℕ). n % address_count size) split
-        ∙ mod-mul-add (2 ^ (64 - size * 8) - 1) (address_count size) (address_count size - 2) (omega arith)
+    ∙ mod-mul-add (2 ^ (64 - size * 8) - 1) (address_count size) (address_count size - 2) (omega arith)

@@ -36,10 +36,10 @@ mod-split n m c hm hc =
     sym (div-add-mod' n c)
     ∙ ap (λ (x : ℕ). x * c + n % c) (sym (div-add-mod' (n / c) m))
     ∙ ap (λ (x : ℕ). x + n % c) (add-mul (n / c / m * m) (n / c % m) c
-        ∙ ap (λ (x : ℕ). x + n / c % m * c) (mul_assoc (n / c / m) m c))
+    ∙ ap (λ (x : ℕ). x + n / c % m * c) (mul_assoc (n / c / m) m c))
     ∙ add_assoc (n / c / m * (m * c)) (n / c % m * c) (n % c) in
     ap (λ (x : ℕ). x % (m * c)) split ∙ mul-add-mod_self_right (n / c / m) (m * c) (n / c % m * c + n % c)
-        ∙ mod-eq_of_lt (omega arith)
+    ∙ mod-eq_of_lt (omega arith)
 
 -- a byte of a number, by its place
 byte_at-pow : (k x : ℕ) → byte_at k x ≡ x / 256 ^ k % 256
@@ -73,7 +73,7 @@ little_number-bytes_low_first i zero x = omega arith
 little_number-bytes_low_first i (suc k) x =
     let split = mod-split (x / 256 ^ i) (256 ^ k) 256 (pow_pos256 k) (omega arith) in
     let shift : x / 256 ^ suc i ≡ x / 256 ^ i / 256 = ap (λ (d : ℕ). x / d) (pow-suc 256 i)
-        ∙ sym (div-div-eq-div-mul x (256 ^ i) 256) in
+    ∙ sym (div-div-eq-div-mul x (256 ^ i) 256) in
     rw (little_number-bytes_low_first (suc i) k x, byte_at-pow i x, shift, pow-suc 256 k, split) (grind arith)
 
 -- the number that was written to the front of a buffer, the highest byte first
@@ -82,7 +82,7 @@ pub big_number-written : (k n : ℕ) (written rest : List ℕ) → n < 256 ^ k �
 big_number-written k n written rest fits is =
     let long : length written ≡ k = ap length is ∙ length-bytes_high_first k n in
     let whole : take k (written ++ rest) ≡ written = take-append-le k written rest (omega arith)
-        ∙ take_all k written (omega arith) in
+    ∙ take_all k written (omega arith) in
     ap big_number (whole ∙ is) ∙ big_number-bytes_high_first k n ∙ mod-eq_of_lt fits
 
 -- the same, the lowest byte first
@@ -91,9 +91,9 @@ pub little_number-written : (k n : ℕ) (written rest : List ℕ) → n < 256 ^ 
 little_number-written k n written rest fits is =
     let long : length written ≡ k = ap length is ∙ length-bytes_low_first 0 k n in
     let whole : take k (written ++ rest) ≡ written = take-append-le k written rest (omega arith)
-        ∙ take_all k written (omega arith) in
+    ∙ take_all k written (omega arith) in
     ap little_number (whole ∙ is) ∙ little_number-bytes_low_first 0 k n ∙ ap (λ (m : ℕ). m % 256 ^ k) (div-one n)
-        ∙ mod-eq_of_lt fits
+    ∙ mod-eq_of_lt fits
 
 -- zeros in front of the highest byte change nothing
 pub big_number-zeros : (n : ℕ) (xs : List ℕ) → big_number (replicate n 0 ++ xs) ≡ big_number xs
@@ -110,13 +110,18 @@ pub big_number-padded : (bytes copied xs : List ℕ) → length xs ≤ 8 → cop
     → big_number (take 8 bytes) ≡ big_number xs
 big_number-padded bytes copied xs short same is =
     let shape : put_mid (8 - length xs) (8 - (8 - length xs)) (replicate 8 0) xs ≡ replicate (8 - length xs) 0 ++ xs =
-    rw (take-replicate {X = ℕ} (8 - length xs) 8 0 (omega arith), drop-replicate {X = ℕ}
-        (8 - length xs) 8 0, drop_all {X = ℕ} (8 - (8 - length xs)) (replicate (8 - (8 - length xs)) 0)
-        (omega (arith, length-replicate {A = ℕ} (8 - (8 - length xs)) 0)), append-nil) refl in
+    rw (
+      take-replicate {X = ℕ} (8 - length xs) 8 0 (omega arith),
+      drop-replicate {X = ℕ}
+          (8 - length xs) 8 0,
+      drop_all {X = ℕ} (8 - (8 - length xs)) (replicate (8 - (8 - length xs)) 0)
+          (omega (arith, length-replicate {A = ℕ} (8 - (8 - length xs)) 0)),
+      append-nil,
+    ) refl in
     let long = length-append (replicate (8 - length xs) 0) xs in
     let zeros = length-replicate {A = ℕ} (8 - length xs) 0 in
     ap (λ (b : List ℕ). big_number (take 8 b))
-        (is ∙ ap (put_mid (8 - length xs) (8 - (8 - length xs)) (replicate 8 0)) same ∙ shape)
+    (is ∙ ap (put_mid (8 - length xs) (8 - (8 - length xs)) (replicate 8 0)) same ∙ shape)
     ∙ ap big_number (take_all 8 (replicate (8 - length xs) 0 ++ xs) (omega arith))
     ∙ big_number-zeros (8 - length xs) xs
 
@@ -126,10 +131,10 @@ pub little_number-padded : (bytes copied xs : List ℕ) → length xs ≤ 8 → 
     → little_number (take 8 bytes) ≡ little_number xs
 little_number-padded bytes copied xs short same is =
     let shape : xs ++ drop (length xs) (replicate 8 0) ≡ xs
-        ++ replicate (8 - length xs) 0 = rw (drop-replicate {X = ℕ} (length xs) 8 0) refl in
+    ++ replicate (8 - length xs) 0 = rw (drop-replicate {X = ℕ} (length xs) 8 0) refl in
     let long = length-append xs (replicate (8 - length xs) 0) in
     let zeros = length-replicate {A = ℕ} (8 - length xs) 0 in
     ap (λ (b : List ℕ). little_number (take 8 b))
-        (is ∙ ap (λ (b : List ℕ). b ++ drop (length xs) (replicate 8 0)) same ∙ shape)
+    (is ∙ ap (λ (b : List ℕ). b ++ drop (length xs) (replicate 8 0)) same ∙ shape)
     ∙ ap little_number (take_all 8 (xs ++ replicate (8 - length xs) 0) (omega arith))
     ∙ little_number-zeros (8 - length xs) xs

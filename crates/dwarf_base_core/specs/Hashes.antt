@@ -22,7 +22,7 @@ same_writes_32 x y high_x high_y =
     let fits_x : x < 2 ^ 32 = omega arith in
     let fits_y : y < 2 ^ 32 = omega arith in
     same_if_read (le_bytes 4) (from_le_bytes w32) x y (from_le_bytes-to_le_bytes_4 x fits_x)
-        (from_le_bytes-to_le_bytes_4 y fits_y)
+    (from_le_bytes-to_le_bytes_4 y fits_y)
 
 -- and so do numbers of 64 bits
 pub same_writes_64 : (x y : ℕ) → x ≤ 2 ^ 64 - 1 → y ≤ 2 ^ 64 - 1 → (le_bytes 8 x ∷ [] ≡ le_bytes 8 y ∷ []) ↔ (x ≡ y)
@@ -31,4 +31,4 @@ same_writes_64 x y high_x high_y =
     let fits_x : x < 2 ^ 64 = omega arith in
     let fits_y : y < 2 ^ 64 = omega arith in
     same_if_read (le_bytes 8) (from_le_bytes w64) x y (from_le_bytes-to_le_bytes_8 x fits_x)
-        (from_le_bytes-to_le_bytes_8 y fits_y)
+    (from_le_bytes-to_le_bytes_8 y fits_y)

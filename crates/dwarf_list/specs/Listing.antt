@@ -75,7 +75,8 @@ address_line address = line (codes "  0x" ++ hexadecimal address)
 abbrev pub offset_line : ℕ → List ℕ
 offset_line offset = line (codes "  " ++ decimal offset)
 
--- what is listed of a section of sets: by the layout of a header and of an entry, the entries of a set and the lines of a header and of an entry
+-- what is listed of a section of sets: by the layout of a header and of an entry, the entries of a set and the
+-- lines of a header and of an entry
 pub record SetListing (H : Type 0) : Type 1 where
   pub header : Layout H
   pub entry : ℕ → Layout ℕ
@@ -85,11 +86,27 @@ pub record SetListing (H : Type 0) : Type 1 where
 
 -- sets of addresses
 abbrev pub address_listing : SetListing ℕ
-address_listing = record { header = address_header; entry = fixed; entries = addresses_of; header_line = λ s. address_header_line s.offset s.unit_length (word_size s.format * 8) s.header; entry_line = address_line }
+address_listing =
+    record {
+      header = address_header;
+      entry = fixed;
+      entries = addresses_of;
+      header_line = λ s. address_header_line s.offset s.unit_length (word_size s.format * 8) s.header;
+      entry_line =
+          address_line;
+    }
 
 -- sets of string offsets
 abbrev pub offset_listing : SetListing (Unit {0})
-offset_listing = record { header = string_offsets_header; entry = string_offset (2 ^ 64 - 1); entries = string_offsets_of; header_line = λ s. offset_header_line s.offset s.unit_length (word_size s.format * 8); entry_line = offset_line }
+offset_listing =
+    record {
+      header = string_offsets_header;
+      entry = string_offset (2 ^ 64 - 1);
+      entries = string_offsets_of;
+      header_line = λ s. offset_header_line s.offset s.unit_length (word_size s.format * 8);
+      entry_line =
+          offset_line;
+    }
 
 -- a set and its entries
 abbrev pub set_lines : {H : Type 0} → SetListing H → Set H → List ℕ → List ℕ
@@ -104,16 +121,23 @@ abbrev pub HasEntries : {H : Type 0} → SetListing H → Set H → List (Result
 HasEntries listing s items = StandsForEntries listing.entry (listing.entries s) items
 
 -- the lines of sets, or the first fault: of a header, or of a set's entries before the next header
-pub data ListsSets {H : Type 0} (listing : SetListing H) : List (Result (Set H) Error) → Result (List ℕ) Error → Type 0 where
+pub data ListsSets {H : Type 0} (listing : SetListing H) : List (Result (Set H) Error) → Result (List ℕ) Error
+    → Type 0 where
   nothing : ListsSets listing [] (Ok [])
   bad_header : (e : Error) (items : List (Result (Set H) Error)) → ListsSets listing (Err e ∷ items) (Err e)
-  bad_entry : (s : Set H) (items : List (Result (Set H) Error)) (numbers : List ℕ) (e : Error) → HasEntries listing s (without_error numbers ++ Err e ∷ []) → ListsSets listing (Ok s ∷ items) (Err e)
-  set : (s : Set H) (items : List (Result (Set H) Error)) (numbers text : List ℕ) → HasEntries listing s (without_error numbers) → ListsSets listing items (Ok text) → ListsSets listing (Ok s ∷ items) (Ok (set_lines listing s numbers ++ text))
-  later : (s : Set H) (items : List (Result (Set H) Error)) (numbers : List ℕ) (e : Error) → HasEntries listing s (without_error numbers) → ListsSets listing items (Err e) → ListsSets listing (Ok s ∷ items) (Err e)
+  bad_entry : (s : Set H) (items : List (Result (Set H) Error)) (numbers : List ℕ) (e : Error)
+      → HasEntries listing s (without_error numbers ++ Err e ∷ []) → ListsSets listing (Ok s ∷ items) (Err e)
+  set : (s : Set H) (items : List (Result (Set H) Error)) (numbers text : List ℕ)
+      → HasEntries listing s (without_error numbers) → ListsSets listing items (Ok text)
+      → ListsSets listing (Ok s ∷ items) (Ok (set_lines listing s numbers ++ text))
+  later : (s : Set H) (items : List (Result (Set H) Error)) (numbers : List ℕ) (e : Error)
+      → HasEntries listing s (without_error numbers) → ListsSets listing items (Err e)
+      → ListsSets listing (Ok s ∷ items) (Err e)
 
 -- the input as a section of sets: the first stands at its start
 abbrev pub sets_section : RunTimeEndian → List ℕ → Headers
-sets_section endian input = record { offset = 0; rest = record { bytes = input; position = 0; is_big = is_big_at_run_time endian } }
+sets_section endian input =
+    record { offset = 0; rest = record { bytes = input; position = 0; is_big = is_big_at_run_time endian } }
 
 -- the sets that are left, whose offsets have 64 bits
 abbrev pub HasSets : {H : Type 0} → SetListing H → Headers → List (Result (Set H) Error) → Type 0
@@ -121,7 +145,8 @@ HasSets listing headers items = StandsForSets listing.header (2 ^ 64 - 1) header
 
 -- the lines of all sets of a section, or its first fault
 abbrev pub ListsSection : {H : Type 0} → SetListing H → Headers → Result (List ℕ) Error → Type 0
-ListsSection {H} listing headers answer = (items : List (Result (Set H) Error)) × HasSets listing headers items × ListsSets listing items answer
+ListsSection {H} listing headers answer =
+    (items : List (Result (Set H) Error)) × HasSets listing headers items × ListsSets listing items answer
 
 -- the input as a section: its first byte has position 0
 abbrev pub section_of : List ℕ → Input
@@ -129,16 +154,20 @@ section_of input = record { bytes = input; position = 0; is_big = false }
 
 -- the text that a command prints of an input, or the error of the section
 abbrev pub Lists : Command → List ℕ → Result (List ℕ) Error → Type 0
-Lists (Abbrev offset) input (Ok text) = (table : Table) × Answer (section_of input) offset (Ok table) × (text ≡ table_text table)
+Lists (Abbrev offset) input (Ok text) =
+    (table : Table) × Answer (section_of input) offset (Ok table) × (text ≡ table_text table)
 Lists (Abbrev offset) input (Err error) = Answer (section_of input) offset (Err error)
-Lists (Str offset) input (Ok text) = (string : Input) × StringAt (section_of input) offset (Ok string) × (text ≡ line string.bytes)
+Lists (Str offset) input (Ok text) =
+    (string : Input) × StringAt (section_of input) offset (Ok string) × (text ≡ line string.bytes)
 Lists (Str offset) input (Err error) = StringAt (section_of input) offset (Err error)
 Lists (Addr endian) input answer = ListsSection address_listing (sets_section endian input) answer
-Lists (Uleb value) input (Ok text) = (bytes : List ℕ) × IsShortest unsigned64 value bytes × (text ≡ line (hex_text bytes))
+Lists (Uleb value) input (Ok text) =
+    (bytes : List ℕ) × IsShortest unsigned64 value bytes × (text ≡ line (hex_text bytes))
 Lists (Uleb value) input (Err error) = ⊥
 Lists (Sleb value) input (Ok text) = (bytes : List ℕ) × IsShortest signed64 value bytes × (text ≡ line (hex_text bytes))
 Lists (Sleb value) input (Err error) = ⊥
-Lists (AbbrevStrict offset) input (Ok text) = (table : Table) × StrictAnswer (section_of input) offset (Ok table) × (text ≡ table_text table)
+Lists (AbbrevStrict offset) input (Ok text) =
+    (table : Table) × StrictAnswer (section_of input) offset (Ok table) × (text ≡ table_text table)
 Lists (AbbrevStrict offset) input (Err error) = StrictAnswer (section_of input) offset (Err error)
 Lists (StrOffsets endian) input answer = ListsSection offset_listing (sets_section endian input) answer
 

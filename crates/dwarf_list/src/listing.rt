@@ -42,8 +42,10 @@ fn abbreviations(mem: Global, offset: u64, input: &[u8]) -> Result<Vec<u8>, Erro
 }
 
 fn abbreviations_strict(mem: Global, offset: u64, input: &[u8]) -> Result<Vec<u8>, Error>
-    ensures { MatchResult result (λ text. Lists (Command.AbbrevStrict offset) input.now (Ok text.items))
-        (λ error. error ≢ Error.OutOfMemory → Lists (Command.AbbrevStrict offset) input.now (Err error)) }
+    ensures { MatchResult result
+        (λ text. Lists (Command.AbbrevStrict offset) input.now (Ok text.items))
+        (λ error. error ≢ Error.OutOfMemory
+        → Lists (Command.AbbrevStrict offset) input.now (Err error)) }
 {
     let section = DebugAbbrev::new(input, LittleEndian);
     let table = section.abbreviations_strict(mem, DebugAbbrevOffset(offset as usize))?;
@@ -75,10 +77,16 @@ fn addresses(mem: Global, endian: RunTimeEndian, input: &[u8]) -> Result<Vec<u8>
 }
 
 fn push_address_set<R: Reader>(text: &mut String, header: &AddrHeader<R>) -> Result<(), Error>
-    ensures ok { OnOk result ((numbers : List ℕ) × StandsForAddresses (addresses_of (set_of R.view R.Offset.value header.now)) (without_error numbers)
-        × (string_bytes text.new ≡ string_bytes text.old ++ set_lines address_listing (set_of R.view R.Offset.value header.now) numbers)) }
-    ensures err { IfErr result (λ error. error ≢ Error.OutOfMemory → (numbers : List ℕ)
-        × StandsForAddresses (addresses_of (set_of R.view R.Offset.value header.now)) (without_error numbers ++ Err error ∷ [])) }
+    ensures ok { OnOk result ((numbers : List ℕ)
+        × StandsForAddresses (addresses_of (set_of R.view R.Offset.value header.now))
+        (without_error numbers)
+        × (string_bytes text.new
+        ≡ string_bytes text.old ++ set_lines address_listing
+        (set_of R.view R.Offset.value header.now) numbers)) }
+    ensures err { IfErr result
+        (λ error. error ≢ Error.OutOfMemory → (numbers : List ℕ)
+        × StandsForAddresses (addresses_of (set_of R.view R.Offset.value header.now))
+        (without_error numbers ++ Err error ∷ [])) }
 {
     let (offset, length) = (header.offset().0.into_u64(), header.length().into_u64());
     let encoding = header.encoding();
@@ -94,7 +102,9 @@ fn push_address_header(
     bits: u8,
     size: u8,
 ) -> Result<(), AllocError>
-    ensures { OnOk result (string_bytes text.new ≡ string_bytes text.old ++ address_header_line offset length bits size) }
+    ensures { OnOk result
+        (string_bytes text.new
+        ≡ string_bytes text.old ++ address_header_line offset length bits size) }
 {
     writeln!(
         text,
@@ -121,8 +131,10 @@ fn push_address(text: &mut String, address: u64) -> Result<(), AllocError>
 }
 
 fn string_offsets(mem: Global, endian: RunTimeEndian, input: &[u8]) -> Result<Vec<u8>, Error>
-    ensures { MatchResult result (λ text. Lists (Command.StrOffsets endian) input.now (Ok text.items))
-        (λ error. error ≢ Error.OutOfMemory → Lists (Command.StrOffsets endian) input.now (Err error)) }
+    ensures { MatchResult result
+        (λ text. Lists (Command.StrOffsets endian) input.now (Ok text.items))
+        (λ error. error ≢ Error.OutOfMemory
+        → Lists (Command.StrOffsets endian) input.now (Err error)) }
 {
     let section = DebugStrOffsets::from(EndianSlice::new(input, endian));
     let mut text = String::new(mem);
@@ -134,10 +146,18 @@ fn string_offsets(mem: Global, endian: RunTimeEndian, input: &[u8]) -> Result<Ve
 }
 
 fn push_offset_set<R: Reader>(text: &mut String, header: &StrOffsetsHeader<R>) -> Result<(), Error>
-    ensures ok { OnOk result ((numbers : List ℕ) × StandsForStringOffsets R.Offset.GREATEST (string_offsets_of (string_offset_set_of R.view R.Offset.value header.now)) (without_error numbers)
-        × (string_bytes text.new ≡ string_bytes text.old ++ set_lines offset_listing (string_offset_set_of R.view R.Offset.value header.now) numbers)) }
-    ensures err { IfErr result (λ error. error ≢ Error.OutOfMemory → (numbers : List ℕ)
-        × StandsForStringOffsets R.Offset.GREATEST (string_offsets_of (string_offset_set_of R.view R.Offset.value header.now)) (without_error numbers ++ Err error ∷ [])) }
+    ensures ok { OnOk result ((numbers : List ℕ)
+        × StandsForStringOffsets R.Offset.GREATEST
+        (string_offsets_of (string_offset_set_of R.view R.Offset.value header.now))
+        (without_error numbers)
+        × (string_bytes text.new
+        ≡ string_bytes text.old ++ set_lines offset_listing
+        (string_offset_set_of R.view R.Offset.value header.now) numbers)) }
+    ensures err { IfErr result
+        (λ error. error ≢ Error.OutOfMemory → (numbers : List ℕ)
+        × StandsForStringOffsets R.Offset.GREATEST
+        (string_offsets_of (string_offset_set_of R.view R.Offset.value header.now))
+        (without_error numbers ++ Err error ∷ [])) }
 {
     let (offset, length) = (header.offset().into_u64(), header.length().into_u64());
     let bits = header.format().word_size() * 8;
@@ -151,7 +171,8 @@ fn push_offset_header(
     length: u64,
     bits: u8,
 ) -> Result<(), AllocError>
-    ensures { OnOk result (string_bytes text.new ≡ string_bytes text.old ++ offset_header_line offset length bits) }
+    ensures { OnOk result
+        (string_bytes text.new ≡ string_bytes text.old ++ offset_header_line offset length bits) }
 {
     writeln!(text, "set {offset}: length {length}, {bits}-bit")
 }
@@ -160,10 +181,13 @@ fn push_offsets<R: Reader>(
     text: &mut String,
     mut entries: StrOffsetsEntryIter<R>,
 ) -> Result<(), Error>
-    ensures ok { OnOk result ((numbers : List ℕ) × StandsForStringOffsets R.Offset.GREATEST entries (without_error numbers)
+    ensures ok { OnOk result ((numbers : List ℕ)
+        × StandsForStringOffsets R.Offset.GREATEST entries (without_error numbers)
         × (string_bytes text.new ≡ string_bytes text.old ++ flat_map offset_line numbers)) }
-    ensures err { IfErr result (λ error. error ≢ Error.OutOfMemory → (numbers : List ℕ)
-        × StandsForStringOffsets R.Offset.GREATEST entries (without_error numbers ++ Err error ∷ [])) }
+    ensures err { IfErr result
+        (λ error. error ≢ Error.OutOfMemory → (numbers : List ℕ)
+        × StandsForStringOffsets R.Offset.GREATEST entries
+        (without_error numbers ++ Err error ∷ [])) }
 {
     while let Some(offset) = entries.next()? {
         push_offset(text, offset.0.into_u64())?;
@@ -208,7 +232,8 @@ fn table_text(mem: Global, table: &Abbreviations) -> Result<String, AllocError>
 }
 
 fn push_declaration(text: &mut String, abbreviation: &Abbreviation) -> Result<(), AllocError>
-    ensures { OnOk result (string_bytes text.new ≡ string_bytes text.old ++ declaration_lines abbreviation.now) }
+    ensures { OnOk result
+        (string_bytes text.new ≡ string_bytes text.old ++ declaration_lines abbreviation.now) }
 {
     let (code, tag) = (abbreviation.code(), abbreviation.tag());
     let children = if abbreviation.has_children() {
@@ -224,7 +249,8 @@ fn push_declaration(text: &mut String, abbreviation: &Abbreviation) -> Result<()
 }
 
 fn push_attribute(text: &mut String, attribute: &AttributeSpecification) -> Result<(), AllocError>
-    ensures { OnOk result (string_bytes text.new ≡ string_bytes text.old ++ attribute_line attribute.now) }
+    ensures { OnOk result
+        (string_bytes text.new ≡ string_bytes text.old ++ attribute_line attribute.now) }
 {
     let (name, form) = (attribute.name(), attribute.form());
     match attribute.implicit_const_value() {

@@ -33,7 +33,8 @@ pub fn run<I: Read, O: Write>(
         × Appends (O.contents output.old) (O.contents output.new) text)) }
     ensures unwritten { IfErr result (λ fault. fault ≢ Fault.Write → output.new ≡ output.old) }
     ensures unread { ¬ ReadsInput (map string_bytes words.now) → input.new ≡ input.old }
-    ensures end { OnOk result (ReadsInput (map string_bytes words.now) → IsAtEnd (I.remaining input.new)) }
+    ensures end { OnOk result
+        (ReadsInput (map string_bytes words.now) → IsAtEnd (I.remaining input.new)) }
 
     // When each fault comes.
     ensures usage { (result ≡ Err Fault.Usage) ↔ IsUsage (map string_bytes words.now) }
@@ -56,7 +57,8 @@ pub fn run<I: Read, O: Write>(
 
 // All of the input. A call that was interrupted is made again.
 fn read_input<I: Read>(mem: Global, input: &mut I) -> Result<Vec<u8>, Fault>
-    ensures whole { IfOk result (λ bytes. IfSome (I.remaining input.old) (λ left. bytes.items ≡ left)) }
+    ensures whole { IfOk result
+        (λ bytes. IfSome (I.remaining input.old) (λ left. bytes.items ≡ left)) }
     ensures end { OnOk result (IsAtEnd (I.remaining input.new)) }
     ensures faults { IfErr result IsReadFault }
 {
@@ -78,7 +80,8 @@ fn read_input<I: Read>(mem: Global, input: &mut I) -> Result<Vec<u8>, Fault>
 }
 
 fn write_output<O: Write>(output: &mut O, text: &[u8]) -> Result<(), Fault>
-    ensures written { OnOk result (Appends (O.contents output.old) (O.contents output.new) text.now) }
+    ensures written { OnOk result
+        (Appends (O.contents output.old) (O.contents output.new) text.now) }
     ensures fault { IfErr result (λ fault. fault ≡ Fault.Write) }
 {
     if output.write_all(text).is_err() || output.flush().is_err() {

@@ -36,7 +36,8 @@ impl<E: Env> Env for BehindName<'_, E> {
 ///
 /// `Usage` if a word isn't UTF-8, and `OutOfMemory` if memory for the words runs out.
 pub fn command_line<E: Env>(mem: Global, env: &E) -> Result<Vec<String>, Fault>
-    ensures err { IfErr result (λ fault. (fault ≡ Fault.Usage) ⊎ (fault ≡ Fault.Section Error.OutOfMemory)) }
+    ensures err { IfErr result
+        (λ fault. (fault ≡ Fault.Usage) ⊎ (fault ≡ Fault.Section Error.OutOfMemory)) }
 {
     match env::args(&(BehindName(env), mem)) {
         Ok(words) => Ok(words.collect(mem)?),

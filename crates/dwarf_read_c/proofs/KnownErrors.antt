@@ -18,6 +18,7 @@ use Rattle.dwarf_read_c.specs.Fault.{IsKnown, kind_of}
 use Rattle.dwarf_read_c.specs.Numbers.{LacksNumber, cut, bad}
 use Rattle.dwarf_read_c.specs.Sets.{LacksSet, address_set, outside as set_outside, faulty as set_faulty}
 
+-- the error that refuses a number of a kind has a number of its own
 known_refusal : (k : Kind) → IsKnown (refusal k)
 known_refusal unsigned64 = omega arith
 known_refusal unsigned16 = omega arith
@@ -46,31 +47,40 @@ record FailsKnown {A : Type 0} (f : Layout A) : Type 0 where
 known_end : (n : ℕ) (old : Input) (e : Error) → (new : Input) × EndsBefore n old e new → IsKnown e
 known_end n old e h = subst IsKnown (sym h.1.fault) (let k : kind_of (end_fault old) ≤ 19 = omega arith in k)
 
+-- each fault of a number of so many bytes has a number of its own
 fixed_known : (n : ℕ) → FailsKnown (fixed n)
 fixed_known n = record { known = λ old e h. known_end n old e h }
 
+-- each fault of a byte has a number of its own
 byte_known : FailsKnown byte
 byte_known = record { known = λ old e h. known_end 1 old e h }
 
+-- each fault of a part of so many bytes has a number of its own
 part_known : (n : ℕ) → FailsKnown (part n)
 part_known n = record { known = λ old e h. known_end n old e h }
 
+-- a layout of no bytes has no fault, so each of its faults has a number of its own
 pure_known : {A : Type 0} (a : A) → FailsKnown (pure a)
 pure_known a = record { known = λ old e h. absurd h }
 
+-- a layout that only refuses has faults with numbers of their own, where the error that it gives has one
 refuse_known : {A : Type 0} (d : Error) → IsKnown d → FailsKnown {A = A} (refuse d)
 refuse_known d is = record { known = λ old e h. subst IsKnown (sym h) is }
 
+-- a choice between two layouts has faults with numbers of their own, where both layouts have
 when_known : {A : Type 0} {f g : Layout A} (b : Bool) → FailsKnown f → FailsKnown g → FailsKnown (when b then f else g)
 when_known true first second = first
 when_known false first second = second
 
+-- a check has faults with numbers of their own, where the error that it gives has one
 check_known : (b : Bool) (d : Error) → IsKnown d → FailsKnown (check b d)
 check_known b d is = when_known b (pure_known tt) (refuse_known d is)
 
+-- a layout inside a part has faults with numbers of their own, where the layout itself has
 inside_known : {A : Type 0} {f : Layout A} (unit : Input) → FailsKnown f → FailsKnown (inside unit f)
 inside_known unit law = record { known = λ old e h. law.known unit e h }
 
+-- a layout and another behind it have faults with numbers of their own, where each of the two has
 then_known : {A B : Type 0} {p : Layout A} {f : A → Layout B} → FailsKnown p → ((x : A) → FailsKnown (f x))
     → FailsKnown (p >>= f)
 then_known {A} {B} {p} {f} first second = record { known = go }
@@ -96,6 +106,7 @@ word_known : (greatest : ℕ) (s : Slot) → FailsKnown (word greatest s)
 unfolding word
 word_known greatest s = then_known (to_slot_known greatest s) (λ _. string_offset_known greatest s.width)
 
+-- the answer for a word is a value or an error with a number of its own
 pub known_word :
     (greatest : ℕ) (s : Slot) {section : Input} {answer : Result ℕ Error} → WordAt greatest section s answer →
     IfErr answer IsKnown
@@ -108,6 +119,7 @@ unfolding address
 address_known greatest s =
     then_known (to_slot_known greatest s) (λ _. then_known (check_known _ _ (omega arith)) (λ _. fixed_known s.width))
 
+-- the answer for an address is a value or an error with a number of its own
 pub known_address :
     (greatest : ℕ) (s : Slot) {section : Input} {answer : Result ℕ Error} → AddressAt greatest section s answer →
     IfErr answer IsKnown
@@ -136,12 +148,14 @@ address_set_known offset =
     then_known initial_length_known (λ initial. then_known (check_known _ _ (omega arith)) (λ _.
     then_known (part_known _) (λ unit. then_known (inside_known unit address_header_known) (λ said. pure_known _))))
 
+-- the error where no set of addresses is there has a number of its own
 pub known_set : {section : Input} {offset : ℕ} {e : Error} → LacksSet section offset e → IsKnown e
 known_set (set_outside past) = omega arith
 known_set {offset = offset} (set_faulty e some fails) = (address_set_known offset).known _ e fails
 
 -- ---- tables
 
+-- the fault of a declaration that breaks off or goes wrong has a number of its own
 known_faulty : {end : ℕ} {bytes : List ℕ} {e : Error} → IsFaulty end bytes e → IsKnown e
 known_faulty (number_cut front bytes k begins is) = omega arith
 known_faulty (number_bad front bytes k begins is) = known_refusal k
@@ -151,10 +165,12 @@ known_faulty (children_bad front rest code tag byte head above) = omega arith
 known_faulty (name_zero front name form rest d f is_front is_name is_form some) = omega arith
 known_faulty (form_zero front name form rest d n is_front is_name some is_form) = omega arith
 
+-- the first fault of bytes that begin with no table has a number of its own
 known_fault : {end : ℕ} {bytes : List ℕ} {e : Error} → IsFault end bytes e → IsKnown e
 known_fault (in_declaration bytes rest ds e are some is) = known_faulty is
 known_fault (repeated bytes declaration rest ds d are is there) = omega arith
 
+-- the answer for a section and an offset is a table or an error with a number of its own
 known_answer :
     {section : Input} {offset : ℕ} {answer : Result Table Error} → Answer section offset answer →
     IfErr answer IsKnown
@@ -162,9 +178,11 @@ known_answer (table_outside past) = omega arith
 known_answer (table t within is) = tt
 known_answer (fault e within is) = known_fault is
 
+-- an error without a number of its own is not want of memory
 no_want : (e : Error) → 19 < kind_of e → e ≢ OutOfMemory
 no_want e above same = let number : kind_of e ≡ 18 = ap kind_of same in omega arith
 
 -- of a table; want of memory has a number too
 pub known_table : (section : Input) (offset : ℕ) (e : Error) → Answers (Err e) section offset → IsKnown e
-known_table section offset e answers = elim (cases_lt 19 (kind_of e)) [ inl above ↦ known_answer (answers (no_want e above)) | inr known ↦ known ]
+known_table section offset e answers =
+    elim (cases_lt 19 (kind_of e)) [ inl above ↦ known_answer (answers (no_want e above)) | inr known ↦ known ]

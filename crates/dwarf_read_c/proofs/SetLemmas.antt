@@ -66,8 +66,12 @@ length_takes false false old mid short i new four (long, last, eight, (is, left)
     let b = moves_after 8 mid last eight.enough eight.left in
     let c = moves_none last new left in
     subst (λ (z : Format × ℕ). Moves (initial_length_size z.0) old new) (sym is)
-    (record { counted = omega (arith, a.counted, b.counted, c.counted); moved = omega (arith, a.moved, b.moved, c.moved) })
+    (record {
+      counted = omega (arith, a.counted, b.counted, c.counted);
+      moved = omega (arith, a.moved, b.moved, c.moved);
+    })
 
+-- an initial length that is read takes as many bytes as its format says
 initial_takes : (old : Input) (i : Format × ℕ) (new : Input) → initial_length.Reads old i new
     → Moves (initial_length_size i.0) old new
 unfolding initial_length
@@ -77,7 +81,12 @@ initial_takes old i new (short, mid, four, h) =
 -- a header of addresses takes four bytes
 header_takes : (unit : Input) (size : ℕ) (rest : Input) → address_header.Reads unit size rest → Moves 4 unit rest
 unfolding address_header
-header_takes unit size rest (version, m1, two, (t1, m2, known, (n, m3, one, (t2, m4, sized, (segment, m5, last, (t3, m6, flat, (is, left))))))) =
+header_takes unit size rest (
+  version,
+  m1,
+  two,
+  (t1, m2, known, (n, m3, one, (t2, m4, sized, (segment, m5, last, (t3, m6, flat, (is, left)))))),
+) =
     let a = moves_after 2 unit m1 two.enough two.left in
     let b = check_takes _ _ m1 t1 m2 known in
     let c = moves_after 1 m2 m3 one.enough one.left in
@@ -104,10 +113,12 @@ abbrev pub sets_from : ℕ → Input → Headers
 sets_from offset section = record { offset = 0; rest = after offset section }
 
 -- a set that begins the bytes from an offset on is one of the section
-set_there : (section : Input) (offset : ℕ) (s : Set ℕ) (behind : Input) → section.position ≡ 0 → offset ≤ length section.bytes
+set_there : (section : Input) (offset : ℕ) (s : Set ℕ) (behind : Input) → section.position ≡ 0
+    → offset ≤ length section.bytes
     → (address_set 0).Reads (after offset section) s behind → FoundSet section offset s
 unfolding set
-set_there section offset s behind starts within (initial, m1, first, (t, m2, fits, (unit, m3, parted, (said, m4, inner, (is, left))))) =
+set_there section offset s behind starts within
+    (initial, m1, first, (t, m2, fits, (unit, m3, parted, (said, m4, inner, (is, left))))) =
     let whole = length-drop offset section.bytes in
     let a = initial_takes _ initial m1 first in
     let b = check_takes _ _ m1 t m2 fits in
@@ -115,9 +126,16 @@ set_there section offset s behind starts within (initial, m1, first, (t, m2, fit
     let d = moves_none m3 m4 inner.1 in
     let e = moves_none m4 behind left in
     let h = header_takes unit said.0 said.1 inner.0 in
-    let size : length unit.bytes ≡ initial.1 = ap (λ (i : Input). length i.bytes) parted.0 ∙ length-take-le initial.1 m2.bytes (parted.1).enough in
+    let size : length unit.bytes ≡ initial.1 = ap (λ (i : Input). length i.bytes) parted.0
+    ∙ length-take-le initial.1 m2.bytes (parted.1).enough in
     let place : unit.position ≡ m2.position = ap (λ (i : Input). i.position) parted.0 in
-    let found : FoundSet section offset (record { offset = 0; format = initial.0; unit_length = initial.1; header = said.0; entries = said.1 }) = record {
+    let found : FoundSet section offset (record {
+      offset = 0;
+      format = initial.0;
+      unit_length = initial.1;
+      header = said.0;
+      entries = said.1;
+    }) = record {
       has = record {
         within = within;
         behind = behind;
@@ -133,7 +151,11 @@ set_there section offset s behind starts within (initial, m1, first, (t, m2, fit
 -- bytes are left behind an offset below the length
 some_left : (bytes : List ℕ) (offset : ℕ) → drop offset bytes ≢ [] → offset < length bytes
 some_left bytes offset some =
-    elim (cases_lt offset (length bytes)) [ inl below ↦ below | inr past ↦ absurd (some (drop_of_length-le bytes past)) ]
+    elim (cases_lt offset (length bytes)) [
+      | inl below ↦ below
+      | inr past ↦ absurd
+          (some (drop_of_length-le bytes past))
+    ]
 
 -- what the bytes from an offset on begin with, by the first of their items
 abbrev pub FirstOf : Input → List (Result (Set ℕ) Error) → Type 0
@@ -141,6 +163,7 @@ FirstOf old [] = old.bytes ≡ []
 FirstOf old (Ok s ∷ items) = (old.bytes ≢ []) × (new : Input) × (address_set 0).Reads old s new
 FirstOf old (Err e ∷ items) = (old.bytes ≢ []) × (address_set 0).Fails old e
 
+-- the items of an input say what its bytes begin with: nothing, a set or a fault
 first_of : {old : Input} {items : List (Result (Set ℕ) Error)} → AreItems address_set 0 old items → FirstOf old items
 first_of (none is) = is
 first_of (more {new = new} some reads others) = (some, new, reads)
@@ -175,11 +198,18 @@ set_refused bytes is_big offset old new e start (inl given) =
 set_refused bytes is_big offset old new e start (inr want) = let costs = want.0.costs in absurd (cc)
 
 -- an offset past the end
-pub set_outside : (section : Input) (offset : ℕ) (e : Error) (new : Input) → EndsBefore offset section e new → LacksSet section offset e
+pub set_outside : (section : Input) (offset : ℕ) (e : Error) (new : Input) → EndsBefore offset section e new
+    → LacksSet section offset e
 set_outside section offset e new short = subst (LacksSet section offset) (sym short.fault) (outside short.short)
 
 -- a set that is found, as C sees it
-pub set_shown : (section : Input) (offset : ℕ) (s : Set ℕ) (to_c : DwarfSet) → FoundSet section offset s → to_c ≡ shown s (offset + initial_length_size s.format + s.unit_length) → (x : Set ℕ) × HasSet section offset to_c.next x × (to_c ≡ shown x to_c.next)
+pub set_shown : (section : Input) (offset : ℕ) (s : Set ℕ) (to_c : DwarfSet) → FoundSet section offset s
+    → to_c ≡ shown s (offset + initial_length_size s.format + s.unit_length)
+    → (x : Set ℕ) × HasSet section offset to_c.next x × (to_c ≡ shown x to_c.next)
 set_shown section offset s to_c found is =
-    let next : to_c.next ≡ offset + initial_length_size s.format + s.unit_length = ap (λ (d : DwarfSet). d.next) is in
-    (record s { offset = offset }, subst (λ (n : ℕ). HasSet section offset n (record s { offset = offset })) (sym next) found.has, is ∙ ap (λ (n : ℕ). shown s n) (sym next))
+    let next : to_c.next ≡ offset + initial_length_size s.format + s.unit_length = ap (λ (d : DwarfSet). d.next) is in (
+      record s { offset = offset },
+      subst (λ (n : ℕ). HasSet section offset n (record s { offset = offset }))
+          (sym next) found.has,
+      is ∙ ap (λ (n : ℕ). shown s n) (sym next),
+    )

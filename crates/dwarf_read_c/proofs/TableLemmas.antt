@@ -24,7 +24,8 @@ pub set_next :
     {A : Type 0} (items old now : List A) (n : ℕ) (x : A) → n ≡ length items → n < length old →
     now ≡ items ++ drop n old → set now n x ≡ (items ++ x ∷ []) ++ drop (n + 1) old
 set_next items old now n x counted within is =
-    let split : now ≡ items ++ get_or old n x ∷ drop (suc n) old = is ∙ ap (λ rest. items ++ rest) (drop-cons old n x within) in
+    let split : now ≡ items ++ get_or old n x ∷ drop (suc n) old = is
+    ∙ ap (λ rest. items ++ rest) (drop-cons old n x within) in
     let moved : set now n x ≡ set (items ++ get_or old n x ∷ drop (suc n) old) (length items) x = cc in
     let apart : (items ++ x ∷ []) ++ drop (n + 1) old ≡ items ++ x ∷ drop (suc n) old = rw (append_assoc, add-one) in
     moved ∙ set-append_seam items (get_or old n x) (drop (suc n) old) x ∙ sym apart
@@ -37,9 +38,13 @@ laid_next first [] d =
     let none : first ≡ first + 0 = omega arith in
     ap (λ (n : ℕ). abbreviation_of n d ∷ []) none
 laid_next first (x ∷ ds) d =
-    let counted : first + length x.attributes + attributes_count ds ≡ first + attributes_count (x ∷ ds) = rw sum_by-cons (omega arith) in
-    ap (λ rest. abbreviation_of first x ∷ rest) (laid_next (first + length x.attributes) ds d ∙ ap (λ (n : ℕ). laid_from (first + length x.attributes) ds ++ abbreviation_of n d ∷ []) counted)
+    let counted : first + length x.attributes + attributes_count ds
+    ≡ first + attributes_count (x ∷ ds) = rw sum_by-cons (omega arith) in
+    ap (λ rest. abbreviation_of first x ∷ rest)
+    (laid_next (first + length x.attributes) ds d
+    ∙ ap (λ (n : ℕ). laid_from (first + length x.attributes) ds ++ abbreviation_of n d ∷ []) counted)
 
+-- the abbreviations that are laid out from an index on are as many as the declarations
 pub length-laid_from : (first : ℕ) (ds : List Declaration) → length (laid_from first ds) ≡ length ds
 length-laid_from first [] = refl
 length-laid_from first (d ∷ ds) = ap suc (length-laid_from (first + length d.attributes) ds)
@@ -49,7 +54,8 @@ pub less_done :
     (by_code : ByCode) (done left rest : List Declaration) (d : Declaration) → done ++ left ≡ values by_code →
     left ≡ d ∷ rest → length done < len by_code
 less_done by_code done left rest d split next =
-    let all : length (done ++ d ∷ rest) ≡ len by_code = ap (λ l. length (done ++ l)) (sym next) ∙ ap length split ∙ values_len by_code in
+    let all : length (done ++ d ∷ rest) ≡ len by_code = ap (λ l. length (done ++ l)) (sym next) ∙ ap length split
+    ∙ values_len by_code in
     omega (arith, all, length-append done (d ∷ rest))
 
 -- so there is a place for it
@@ -57,14 +63,16 @@ pub index_fits :
     (by_code : ByCode) (done left rest : List Declaration) (d : Declaration) (index now old : ℕ) →
     done ++ left ≡ values by_code → left ≡ d ∷ rest → index ≡ length done → len by_code ≤ old → now ≡ old →
     index < now
-index_fits by_code done left rest d index now old split next indexed room same = omega (arith, less_done by_code done left rest d split next)
+index_fits by_code done left rest d index now old split next indexed room same =
+    omega (arith, less_done by_code done left rest d split next)
 
 -- its attributes are counted
 pub count_next :
     (done : List Declaration) (d : Declaration) (first n : ℕ) → first ≡ attributes_count done →
     n ≡ length d.attributes → first + n ≡ attributes_count (done ++ d ∷ [])
 count_next done d first n counted is =
-    let parts : attributes_count (done ++ d ∷ []) ≡ attributes_count done + (length d.attributes + attributes_count []) = rw (sum_by-append, sum_by-cons) in
+    let parts : attributes_count (done ++ d ∷ [])
+    ≡ attributes_count done + (length d.attributes + attributes_count []) = rw (sum_by-append, sum_by-cons) in
     omega (arith, parts)
 
 -- a declaration is done
@@ -80,9 +88,11 @@ pub abbreviation_next :
     now ≡ laid_from 0 done ++ drop index old →
     set now index (abbreviation_of first d) ≡ laid_from 0 (done ++ d ∷ []) ++ drop (index + 1) old
 abbreviation_next done d old now index first indexed counted within is =
-    let placed = set_next (laid_from 0 done) old now index (abbreviation_of first d) (indexed ∙ sym (length-laid_from 0 done)) within is in
+    let placed = set_next (laid_from 0 done) old now index (abbreviation_of first d)
+    (indexed ∙ sym (length-laid_from 0 done)) within is in
     let begins : first ≡ 0 + attributes_count done = omega (arith, counted) in
-    let laid : laid_from 0 (done ++ d ∷ []) ≡ laid_from 0 done ++ abbreviation_of first d ∷ [] = laid_next 0 done d ∙ ap (λ (n : ℕ). laid_from 0 done ++ abbreviation_of n d ∷ []) (sym begins) in
+    let laid : laid_from 0 (done ++ d ∷ []) ≡ laid_from 0 done ++ abbreviation_of first d ∷ [] = laid_next 0 done d
+    ∙ ap (λ (n : ℕ). laid_from 0 done ++ abbreviation_of n d ∷ []) (sym begins) in
     placed ∙ ap (λ l. l ++ drop (index + 1) old) (sym laid)
 
 -- an attribute is written behind those so far
@@ -93,10 +103,13 @@ pub attribute_next :
     set now i x ≡ map attribute_of (take (i + 1) attributes) ++ drop (i + 1) old
 attribute_next attributes old now i s x within same here written is =
     let le : i ≤ length attributes = omega arith in
-    let counted : i ≡ length (map attribute_of (take i attributes)) = sym (length-map (take i attributes) attribute_of ∙ length-take-le i attributes le) in
+    let counted : i ≡ length (map attribute_of (take i attributes)) = sym
+    (length-map (take i attributes) attribute_of ∙ length-take-le i attributes le) in
     let fits : i < length old = omega arith in
     let placed = set_next (map attribute_of (take i attributes)) old now i x counted fits is in
-    let more = ap (map attribute_of) (take_more attributes i s within) ∙ map-append attribute_of (take i attributes) (get_or attributes i s ∷ []) in
+    let more = ap (map attribute_of) (take_more attributes i s within)
+    ∙ map-append attribute_of (take i attributes) (get_or attributes i s ∷ []) in
     let item : attribute_of (get_or attributes i s) ≡ x = ap attribute_of (sym here) ∙ sym written in
-    let laid : map attribute_of (take (i + 1) attributes) ≡ map attribute_of (take i attributes) ++ x ∷ [] = more ∙ ap (λ y. map attribute_of (take i attributes) ++ y ∷ []) item in
+    let laid : map attribute_of (take (i + 1) attributes) ≡ map attribute_of (take i attributes) ++ x ∷ [] = more
+    ∙ ap (λ y. map attribute_of (take i attributes) ++ y ∷ []) item in
     placed ∙ ap (λ l. l ++ drop (i + 1) old) (sym laid)

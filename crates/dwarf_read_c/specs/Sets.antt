@@ -23,7 +23,7 @@ pub record HasSet (section : Input) (offset next : ℕ) (s : Set ℕ) : Type 0 w
 pub data LacksSet (section : Input) (offset : ℕ) : Error → Type 0 where
   outside : length section.bytes < offset → LacksSet section offset (end_fault section)
   faulty : (e : Error) → offset < length section.bytes → (address_set offset).Fails (after offset section) e
-    → LacksSet section offset e
+      → LacksSet section offset e
 
 -- a set, and where the next one may begin
 abbrev pub shown : Set ℕ → ℕ → DwarfSet

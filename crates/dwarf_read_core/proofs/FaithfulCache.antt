@@ -11,7 +11,8 @@ use Rattle.dwarf_reader_core.specs.Input.{Input}
 use Rattle.dwarf_read_core.proofs.Stable.{answer_more}
 
 -- an answer handed out or read afresh, where what is kept is the section's
-pub faithful_answer : {Z : Type 0} (section : Input) (key : ℕ) (kept : Option (Result Table Error)) (result : Result (Rc Table Z) Error)
+pub faithful_answer : {Z : Type 0} (section : Input) (key : ℕ) (kept : Option (Result Table Error))
+    (result : Result (Rc Table Z) Error)
     → MatchOption kept (Answers (answer_of result) section key) (λ answer. HandsOut answer result)
     → IfSome kept (Answer section key)
     → Answers (answer_of result) section key
@@ -20,14 +21,18 @@ faithful_answer section key (Some (Ok t)) (Ok shared) h faithful = rw h faithful
 faithful_answer section key (Some (Ok t)) (Err fault) h faithful = λ memory. absurd (memory h)
 faithful_answer section key (Some (Err fault)) result h faithful = rw h (λ memory. faithful)
 
-kept_answer : (input : Input) (key : ℕ) (P Q : Type 0) (kept : Option (Result Table Error)) → MatchOption kept P (λ answer. Q × Answer input key answer) → IfSome kept (Answer input key)
+-- what is kept at a key, if anything, is the section's answer, where it is so along with a further condition
+kept_answer : (input : Input) (key : ℕ) (P Q : Type 0) (kept : Option (Result Table Error))
+    → MatchOption kept P (λ answer. Q × Answer input key answer) → IfSome kept (Answer input key)
 kept_answer input key P Q None h = tt
 kept_answer input key P Q (Some answer) h = h.1
 
 -- a cache that keeps answers of the section alone
-pub faithful_of_kept : (least : ℕ) (input : Input) (offsets : List ℕ) (cache : Cache) → KeepsAnswers least input offsets (get cache) → IsFaithful cache input
+pub faithful_of_kept : (least : ℕ) (input : Input) (offsets : List ℕ) (cache : Cache)
+    → KeepsAnswers least input offsets (get cache) → IsFaithful cache input
 faithful_of_kept least input offsets cache h = λ key. kept_answer input key _ _ (get cache key) (h key)
 
+-- a table's close of which the test for a null code is true is the close by a null code
 closed_by_null : (close : Close) → is_by_null close ≡ true → close ≡ by_null
 closed_by_null by_null e = refl
 closed_by_null by_end e = absurd cc
@@ -38,7 +43,8 @@ final (Ok t) e = closed_by_null t.close e
 final (Err e) is = λ position same. absurd (let h = subst (λ (d : Error). is_final (Err d) ≡ true) same is in cc)
 
 -- what remains of an entry of a section is an entry of the longer section
-outlasts : (section : Input) (more : List ℕ) (key : ℕ) (kept : Option (Result Table Error)) → IfSome kept (Answer section key) → IfSome (still_kept kept) (Answer (followed_by section more) key)
+outlasts : (section : Input) (more : List ℕ) (key : ℕ) (kept : Option (Result Table Error))
+    → IfSome kept (Answer section key) → IfSome (still_kept kept) (Answer (followed_by section more) key)
 outlasts section more key None h = tt
 outlasts section more key (Some answer) h = go (is_final answer) refl
   where
@@ -47,5 +53,8 @@ outlasts section more key (Some answer) h = go (is_final answer) refl
     go false e = tt
 
 -- a cache that forgets what appended bytes may change
-pub faithful_of_final : (old new : Cache) → ((key : ℕ) → get new key ≡ still_kept (get old key)) → (section : Input) (more : List ℕ) → IsFaithful old section → IsFaithful new (followed_by section more)
-faithful_of_final old new h section more faithful key = subst (λ (kept : Option (Result Table Error)). IfSome kept (Answer (followed_by section more) key)) (sym (h key)) (outlasts section more key (get old key) (faithful key))
+pub faithful_of_final : (old new : Cache) → ((key : ℕ) → get new key ≡ still_kept (get old key))
+    → (section : Input) (more : List ℕ) → IsFaithful old section → IsFaithful new (followed_by section more)
+faithful_of_final old new h section more faithful key =
+    subst (λ (kept : Option (Result Table Error)). IfSome kept (Answer (followed_by section more) key))
+    (sym (h key)) (outlasts section more key (get old key) (faithful key))

@@ -7,15 +7,19 @@ use Rattle.dwarf_base_core.specs.declared.error.Error.TheVariants.{OutOfMemory}
 use Rattle.dwarf_read_core.specs.Cache.{GivesSome}
 
 -- the first of the items, where there is one
-pub first_item-of_items : {S T A : Type 0} (steps : S → Option (Result T Error) → S → Type 0) (from : S) (items : List T) (last : Option (Result T Error)) (left : S) (r : Result A Error)
-    → items ≢ [] → YieldsThen steps from (map (λ (item : T). let r : Result T Error = Ok item in r) items) last left → OnErr r (GivesSome steps from)
+pub first_item-of_items : {S T A : Type 0} (steps : S → Option (Result T Error) → S → Type 0) (from : S)
+    (items : List T) (last : Option (Result T Error)) (left : S) (r : Result A Error)
+    → items ≢ [] → YieldsThen steps from
+    (map (λ (item : T). let r : Result T Error = Ok item in r) items) last left → OnErr r (GivesSome steps from)
 first_item-of_items steps from items last left (Ok a) some given = tt
 first_item-of_items steps from [] last left (Err e) some given = absurd (some refl)
 first_item-of_items steps from (x ∷ xs) last left (Err e) some (t, (j, first, others), after) = (Ok x, j, first, tt)
 
 -- the first of what was given before memory ran out
-pub first_item-of_want : {S T : Type 0} (steps : S → Option (Result T Error) → S → Type 0) (from now left : S) (given : List (Result T Error)) (items : List T) (item : Result T Error)
-    → item ≡ Err OutOfMemory → given ≡ map (λ (item : T). let r : Result T Error = Ok item in r) items → Yields steps from given now → steps now (Some item) left → GivesSome steps from
+pub first_item-of_want : {S T : Type 0} (steps : S → Option (Result T Error) → S → Type 0) (from now left : S)
+    (given : List (Result T Error)) (items : List T) (item : Result T Error)
+    → item ≡ Err OutOfMemory → given ≡ map (λ (item : T). let r : Result T Error = Ok item in r) items
+    → Yields steps from given now → steps now (Some item) left → GivesSome steps from
 first_item-of_want {T = T} steps from now left [] items item want same given after =
     rw given (Err OutOfMemory, left, subst (λ (y : Result T Error). steps now (Some y) left) want after, refl)
 first_item-of_want steps from now left (x ∷ xs) [] item want same given after = absurd cc

@@ -13,10 +13,12 @@ Kept = Option (Result Table Error)
 
 abbrev IsKept : ℕ → Input → List ℕ → ℕ → Kept → Type 0
 IsKept least section offsets key kept =
-    MatchOption kept (occurrences key offsets < least) (λ answer. (least ≤ occurrences key offsets) × Answer section key answer)
+    MatchOption kept (occurrences key offsets < least)
+    (λ answer. (least ≤ occurrences key offsets) × Answer section key answer)
 
 -- one answer, or none, is kept at an offset
-one_kept : (least : ℕ) (section : Input) (offsets : List ℕ) (key : ℕ) (a b : Kept) → IsKept least section offsets key a → IsKept least section offsets key b → b ≡ a
+one_kept : (least : ℕ) (section : Input) (offsets : List ℕ) (key : ℕ) (a b : Kept)
+    → IsKept least section offsets key a → IsKept least section offsets key b → b ≡ a
 one_kept least section offsets key None None is_a is_b = refl
 one_kept least section offsets key None (Some y) is_a is_b = absurd (omega (arith, is_a, is_b.0))
 one_kept least section offsets key (Some x) None is_a is_b = absurd (omega (arith, is_b, is_a.0))
@@ -26,15 +28,23 @@ one_kept least section offsets key (Some x) (Some y) is_a is_b =
     ap (λ (z : Result Table Error). Some z) same
 
 -- the map that keeps them
-kept_at : (least : ℕ) (section : Input) (offsets : List ℕ) (key : ℕ) → (kept : Kept) × IsKept least section offsets key kept
+kept_at : (least : ℕ) (section : Input) (offsets : List ℕ) (key : ℕ)
+    → (kept : Kept) × IsKept least section offsets key kept
 kept_at least section offsets key =
     elim (cases_lt (occurrences key offsets) least) [
       | inl few ↦ (None, few)
       | inr enough ↦ let one = one_answer section key in (Some one.0, (enough, one.1))
     ]
 
-pub some_cache : (least : ℕ) (section : Input) (offsets : List ℕ) → (kept : ℕ → Kept) × KeepsAnswers least section offsets kept
-some_cache least section offsets = ((λ key. (kept_at least section offsets key).0), λ key. (kept_at least section offsets key).1)
+-- a map exists that keeps exactly the offsets that occur often enough, each with the section's answer
+pub some_cache : (least : ℕ) (section : Input) (offsets : List ℕ)
+    → (kept : ℕ → Kept) × KeepsAnswers least section offsets kept
+some_cache least section offsets =
+    ((λ key. (kept_at least section offsets key).0), λ key. (kept_at least section offsets key).1)
 
-pub same_cache : (least : ℕ) (section : Input) (offsets : List ℕ) (kept others : ℕ → Kept) → KeepsAnswers least section offsets kept → KeepsAnswers least section offsets others → (key : ℕ) → others key ≡ kept key
-same_cache least section offsets kept others of_kept of_others key = one_kept least section offsets key (kept key) (others key) (of_kept key) (of_others key)
+-- two maps that keep the answers of the same section and offsets agree at each key
+pub same_cache : (least : ℕ) (section : Input) (offsets : List ℕ) (kept others : ℕ → Kept)
+    → KeepsAnswers least section offsets kept → KeepsAnswers least section offsets others → (key : ℕ)
+    → others key ≡ kept key
+same_cache least section offsets kept others of_kept of_others key =
+    one_kept least section offsets key (kept key) (others key) (of_kept key) (of_others key)

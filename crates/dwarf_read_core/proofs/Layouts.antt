@@ -25,7 +25,8 @@ pub record IsFront {A : Type 0} (f : Layout A) : Type 0 where
 
 -- what is taken, with a credit, covers the size of the value
 pub record Covers {A : Type 0} (credit : ℕ) (size : A → ℕ) (f : Layout A) : Type 0 where
-  pub all : (old : Input) (x : A) (new : Input) → f.Reads old x new → length new.bytes + size x ≤ length old.bytes + credit
+  pub all : (old : Input) (x : A) (new : Input) → f.Reads old x new
+      → length new.bytes + size x ≤ length old.bytes + credit
 
 -- at least so many bytes are taken
 abbrev pub TakesLeast : {A : Type 0} → ℕ → Layout A → Type 0
@@ -33,11 +34,14 @@ TakesLeast n f = Covers 0 (λ _. n) f
 
 -- more bytes behind change neither a value nor a fault, but that bytes are missing
 pub record IsStable {A : Type 0} (f : Layout A) : Type 0 where
-  pub stays : (more : List ℕ) (old : Input) (x : A) (new : Input) → f.Reads old x new → f.Reads (followed_by old more) x (followed_by new more)
-  pub fault_stays : (more : List ℕ) (old : Input) (e : Error) → ((position : ℕ) → e ≢ eof position) → f.Fails old e → f.Fails (followed_by old more) e
+  pub stays : (more : List ℕ) (old : Input) (x : A) (new : Input) → f.Reads old x new
+      → f.Reads (followed_by old more) x (followed_by new more)
+  pub fault_stays : (more : List ℕ) (old : Input) (e : Error) → ((position : ℕ) → e ≢ eof position) → f.Fails old e
+      → f.Fails (followed_by old more) e
 
 -- outcomes are the same where value and rest are
-same_read : {A : Type 0} {x y : A} {i j : Input} → x ≡ y → i ≡ j → ◌≡◌ {A = Result (A × Input) Error} (Ok (x, i)) (Ok (y, j))
+same_read : {A : Type 0} {x y : A} {i j : Input} → x ≡ y → i ≡ j
+    → ◌≡◌ {A = Result (A × Input) Error} (Ok (x, i)) (Ok (y, j))
 same_read p q = λ k. Ok (p k, q k)
 
 -- outcomes are the same where the faults are
@@ -54,7 +58,8 @@ same_length e = ap (λ (i : Input). length i.bytes) e
 pub record HasSize {A : Type 0} (n : ℕ) (f : Layout A) : Type 0 where
   pub value : Input → A
   pub reads : (old : Input) → n ≤ length old.bytes → f.Reads old (value old) (after n old)
-  pub only : (old new : Input) (x : A) → f.Reads old x new → (n ≤ length old.bytes) × (x ≡ value old) × (new ≡ after n old)
+  pub only : (old new : Input) (x : A) → f.Reads old x new
+      → (n ≤ length old.bytes) × (x ≡ value old) × (new ≡ after n old)
   pub fails : (old : Input) → length old.bytes < n → f.Fails old (end_fault old)
   pub fault : (old : Input) (e : Error) → f.Fails old e → (length old.bytes < n) × (e ≡ end_fault old)
   pub same : (old : Input) (more : List ℕ) → n ≤ length old.bytes → value old ≡ value (followed_by old more)
@@ -94,24 +99,31 @@ part_size n = record {
   only = λ old new x r. (r.1.enough, r.0, r.1.left);
   fails = λ old short. (old, record { short = short; fault = refl; left = refl });
   fault = λ old e h. (h.1.short, h.1.fault);
-  same = λ old more enough. ap (λ (b : List ℕ). record { bytes = b; position = old.position; is_big = old.is_big }) (sym (take-append-le n old.bytes more enough));
+  same = λ old more enough. ap (λ (b : List ℕ). record { bytes = b; position = old.position; is_big = old.is_big })
+      (sym (take-append-le n old.bytes more enough));
 }
 
 -- more bytes stay behind what is left
-after-followed : (n : ℕ) (old : Input) (more : List ℕ) → n ≤ length old.bytes → followed_by (after n old) more ≡ after n (followed_by old more)
-after-followed n old more le = ap (λ (b : List ℕ). record { bytes = b; position = old.position + n; is_big = old.is_big }) (sym (drop-append-le n old.bytes more le))
+after-followed : (n : ℕ) (old : Input) (more : List ℕ) → n ≤ length old.bytes
+    → followed_by (after n old) more ≡ after n (followed_by old more)
+after-followed n old more le =
+    ap (λ (b : List ℕ). record { bytes = b; position = old.position + n; is_big = old.is_big })
+    (sym (drop-append-le n old.bytes more le))
 
 module _ {A : Type 0} {n : ℕ} {f : Layout A} (size : HasSize n f) where
   -- fewer bytes come to the end fault alone
-  sized_short : (old : Input) → length old.bytes < n → (r : Result (A × Input) Error) → Comes f old r → r ≡ Err (end_fault old)
+  sized_short : (old : Input) → length old.bytes < n → (r : Result (A × Input) Error) → Comes f old r
+      → r ≡ Err (end_fault old)
   sized_short old short (Ok x) h = absurd (let k = size.only old x.1 x.0 h in omega (arith, k.0, short))
   sized_short old short (Err e) h = same_fault ((size.fault old e h).1)
 
   -- enough bytes come to their value alone
-  sized_read : (old : Input) → n ≤ length old.bytes → (r : Result (A × Input) Error) → Comes f old r → r ≡ Ok (size.value old, after n old)
+  sized_read : (old : Input) → n ≤ length old.bytes → (r : Result (A × Input) Error) → Comes f old r
+      → r ≡ Ok (size.value old, after n old)
   sized_read old enough (Ok x) h = let k = size.only old x.1 x.0 h in same_read k.1 k.2
   sized_read old enough (Err e) h = absurd (let k = size.fault old e h in omega (arith, k.0, enough))
 
+  -- so it has exactly one outcome
   pub sized_definite : IsDefinite f
   sized_definite = record {
     one = λ old. elim (cases_lt (length old.bytes) n) [
@@ -120,20 +132,32 @@ module _ {A : Type 0} {n : ℕ} {f : Layout A} (size : HasSize n f) where
     ];
   }
 
+  -- what it reads is the front
   pub sized_front : IsFront f
-  sized_front = record { takes = λ old x new r. let k = size.only old new x r in (n, record { enough = k.0; left = k.2 }) }
+  sized_front =
+      record { takes = λ old x new r. let k = size.only old new x r in (n, record { enough = k.0; left = k.2 }) }
 
+  -- it takes its size
   pub sized_least : TakesLeast n f
-  sized_least = record { all = λ old x new r. let k = size.only old new x r in omega (arith, same_length k.2, length-drop n old.bytes, k.0) }
+  sized_least =
+      record {
+        all = λ old x new r. let k = size.only old new x r in omega
+            (arith, same_length k.2, length-drop n old.bytes, k.0);
+      }
 
+  -- more bytes change no value
   pub sized_stable : IsStable f
   sized_stable = record {
     stays = λ more old x new r.
         let k = size.only old new x r in
         let value : size.value (followed_by old more) ≡ x = sym (k.1 ∙ size.same old more k.0) in
-        let rest : after n (followed_by old more) ≡ followed_by new more = sym (ap (λ (i : Input). followed_by i more) k.2 ∙ after-followed n old more k.0) in
-        let both : ◌≡◌ {A = A × Input} (size.value (followed_by old more), after n (followed_by old more)) (x, followed_by new more) = λ i. (value i, rest i) in
-        subst (λ (z : A × Input). f.Reads (followed_by old more) z.0 z.1) both (size.reads (followed_by old more) (omega (arith, k.0, length-append old.bytes more)));
+        let rest : after n (followed_by old more)
+        ≡ followed_by new more =
+        sym (ap (λ (i : Input). followed_by i more) k.2 ∙ after-followed n old more k.0) in
+        let both : ◌≡◌ {A = A × Input} (size.value (followed_by old more), after n (followed_by old more))
+        (x, followed_by new more) = λ i. (value i, rest i) in
+        subst (λ (z : A × Input). f.Reads (followed_by old more) z.0 z.1) both
+        (size.reads (followed_by old more) (omega (arith, k.0, length-append old.bytes more)));
     fault_stays = λ more old e settled h. absurd (settled old.position ((size.fault old e h).1));
   }
 
@@ -159,10 +183,13 @@ refuse_definite {A} e = record { one = λ old. (Err e, refl, only old) }
     only old (Ok x) h = absurd h
     only old (Err d) h = same_fault h
 
-pub when_definite : {A : Type 0} {f g : Layout A} (b : Bool) → IsDefinite f → IsDefinite g → IsDefinite (when b then f else g)
+-- whichever of two layouts a test chooses has one outcome where both have
+pub when_definite : {A : Type 0} {f g : Layout A} (b : Bool) → IsDefinite f → IsDefinite g
+    → IsDefinite (when b then f else g)
 when_definite true f g = f
 when_definite false f g = g
 
+-- a check has one outcome
 pub check_definite : (b : Bool) (e : Error) → IsDefinite (check b e)
 check_definite b e = when_definite b (pure_definite tt) (refuse_definite e)
 
@@ -175,7 +202,9 @@ inside_definite {A} {f} unit law = record { one = λ old. go old (law.one unit) 
       where
         other : (r : Result ((A × Input) × Input) Error) → Comes (inside unit f) old r → r ≡ Err e
         other (Ok x) h = absurd (let c = only (Ok ((x.0).0, (x.0).1)) h.0 in cc)
-        other (Err d) h = let c : ◌≡◌ {A = Result (A × Input) Error} (Err d) (Err e) = only (Err d) h in let s : d ≡ e = cc in same_fault s
+        other (Err d) h =
+            let c : ◌≡◌ {A = Result (A × Input) Error} (Err d) (Err e) = only (Err d) h in let s : d ≡ e = cc in
+            same_fault s
     go old (Ok y, is, only) = (Ok (y, old), (is, refl), other)
       where
         other : (r : Result ((A × Input) × Input) Error) → Comes (inside unit f) old r → r ≡ Ok (y, old)
@@ -185,18 +214,22 @@ inside_definite {A} {f} unit law = record { one = λ old. go old (law.one unit) 
             same_read s h.1
         other (Err d) h = absurd (let c = only (Err d) h in cc)
 
-module _ {A B : Type 0} {p : Layout A} {f : A → Layout B} (first : IsDefinite p) (second : (x : A) → IsDefinite (f x)) where
+module _ {A B : Type 0} {p : Layout A} {f : A → Layout B} (first : IsDefinite p)
+    (second : (x : A) → IsDefinite (f x)) where
   abbrev both : Layout B
   both = p >>= f
 
   -- a fault of the first is a fault of both
-  then-faulty : (old : Input) (e : Error) → ((r : Result (A × Input) Error) → Comes p old r → r ≡ Err e) → (r : Result (B × Input) Error) → Comes both old r → r ≡ Err e
+  then-faulty : (old : Input) (e : Error) → ((r : Result (A × Input) Error) → Comes p old r → r ≡ Err e)
+      → (r : Result (B × Input) Error) → Comes both old r → r ≡ Err e
   then-faulty old e only (Ok y) h = absurd (let c = only (Ok (h.0, h.1)) h.2 in cc)
   then-faulty old e only (Err d) (inl h) = let c = only (Err d) h in let s : d ≡ e = cc in same_fault s
   then-faulty old e only (Err d) (inr h) = absurd (let c = only (Ok (h.0, h.1)) h.2 in cc)
 
   -- what both come to is what the second comes to, behind the value of the first
-  then-behind : (old : Input) (x : A) (mid : Input) → ((r : Result (A × Input) Error) → Comes p old r → r ≡ Ok (x, mid)) → (r : Result (B × Input) Error) → Comes both old r → Comes (f x) mid r
+  then-behind : (old : Input) (x : A) (mid : Input)
+      → ((r : Result (A × Input) Error) → Comes p old r → r ≡ Ok (x, mid)) → (r : Result (B × Input) Error)
+      → Comes both old r → Comes (f x) mid r
   then-behind old x mid only (Ok y) h =
       let c : ◌≡◌ {A = Result (A × Input) Error} (Ok (h.0, h.1)) (Ok (x, mid)) = only (Ok (h.0, h.1)) h.2 in
       let s : ◌≡◌ {A = A × Input} (h.0, h.1) (x, mid) = cc in
@@ -207,10 +240,13 @@ module _ {A B : Type 0} {p : Layout A} {f : A → Layout B} (first : IsDefinite 
       let s : ◌≡◌ {A = A × Input} (h.0, h.1) (x, mid) = cc in
       subst (λ (z : A × Input). (f z.0).Fails z.1 d) s h.3
 
-  then-whole : (old : Input) (x : A) (mid : Input) → p.Reads old x mid → (r : Result (B × Input) Error) → Comes (f x) mid r → Comes both old r
+  -- what the second comes to, behind the value of the first, is what both come to
+  then-whole : (old : Input) (x : A) (mid : Input) → p.Reads old x mid → (r : Result (B × Input) Error)
+      → Comes (f x) mid r → Comes both old r
   then-whole old x mid is (Ok y) h = (x, mid, is, h)
   then-whole old x mid is (Err d) h = inr (x, mid, is, h)
 
+  -- two layouts one behind the other have one outcome where each has
   pub then_definite : IsDefinite both
   then_definite = record { one = λ old. go old (first.one old) }
     where
@@ -234,38 +270,62 @@ after-after m n old = λ i. record { bytes = bytes i; position = place i; is_big
 
 -- where nothing is taken, no bytes are
 nothing-taken : (old new : Input) → new ≡ old → (n : ℕ) × Takes n old new
-nothing-taken old new e = (0, record { enough = omega arith; left = e ∙ λ i. record { bytes = old.bytes; position = (let p : old.position ≡ old.position + 0 = omega arith in p) i; is_big = old.is_big } })
+nothing-taken old new e = (
+  0,
+  record {
+    enough = omega arith;
+    left = e
+        ∙ λ i. record {
+          bytes = old.bytes;
+          position = (let p : old.position ≡ old.position + 0 = omega arith in p) i;
+          is_big = old.is_big;
+        };
+  },
+)
 
+-- what is read of a part takes no more bytes
 pub inside_front : {A : Type 0} (f : Layout A) (unit : Input) → IsFront (inside unit f)
 inside_front f unit = record { takes = λ old x new r. nothing-taken old new r.1 }
 
+-- a value takes none
 pub pure_front : {A : Type 0} (a : A) → IsFront (pure a)
 pure_front a = record { takes = λ old x new r. nothing-taken old new r.1 }
 
+-- a fault reads nothing
 pub refuse_front : {A : Type 0} (e : Error) → IsFront {A = A} (refuse e)
 refuse_front e = record { takes = λ old x new r. absurd r }
 
+-- either of two layouts reads the front
 pub when_front : {A : Type 0} {f g : Layout A} (b : Bool) → IsFront f → IsFront g → IsFront (when b then f else g)
 when_front true f g = f
 when_front false f g = g
 
+-- a check takes none
 pub check_front : (b : Bool) (e : Error) → IsFront (check b e)
 check_front b e = when_front b (pure_front tt) (refuse_front e)
 
-pub then_front : {A B : Type 0} {p : Layout A} {f : A → Layout B} → IsFront p → ((x : A) → IsFront (f x)) → IsFront (p >>= f)
+-- two layouts one behind the other take the bytes of both
+pub then_front : {A B : Type 0} {p : Layout A} {f : A → Layout B} → IsFront p → ((x : A) → IsFront (f x))
+    → IsFront (p >>= f)
 then_front first second = record {
   takes = λ old y new h.
       let a = first.takes old h.0 h.1 h.2 in
       let b = (second h.0).takes h.1 y new h.3 in (
         a.0 + b.0,
-        record { enough = omega (arith, a.1.enough, b.1.enough, same_length a.1.left, length-drop a.0 old.bytes); left = b.1.left ∙ ap (after b.0) a.1.left ∙ after-after b.0 a.0 old },
+        record {
+          enough = omega (arith, a.1.enough, b.1.enough, same_length a.1.left, length-drop a.0 old.bytes);
+          left = b.1.left ∙ ap (after b.0) a.1.left ∙ after-after b.0 a.0 old;
+        },
       );
 }
 
 -- ---- how many bytes are taken
 
 -- a part has at least the bytes of what is read of it
-pub inside_covers : {A B : Type 0} {credit : ℕ} {size : B → ℕ} {f : Layout A} {unit : Input} {g : A × Input → Layout B} (n : ℕ) → TakesLeast n f → ((x : A × Input) → n ≤ length unit.bytes → Covers credit size (g x)) → Covers credit size (inside unit f >>= g)
+pub inside_covers : {A B : Type 0} {credit : ℕ} {size : B → ℕ} {f : Layout A} {unit : Input}
+    {g : A × Input → Layout B} (n : ℕ) → TakesLeast n f
+    → ((x : A × Input) → n ≤ length unit.bytes → Covers credit size (g x))
+    → Covers credit size (inside unit f >>= g)
 inside_covers {unit = unit} n least rest = record {
   all = λ old y new h.
       let l = least.all unit (h.0).0 (h.0).1 (h.2).0 in
@@ -274,19 +334,26 @@ inside_covers {unit = unit} n least rest = record {
 }
 
 module _ {A : Type 0} {credit : ℕ} {size : A → ℕ} where
+  -- no bytes cover what the credit does
   pub pure_covers : {a : A} → size a ≤ credit → Covers credit size (pure a)
   pure_covers le = record { all = λ old x new h. let p = ap size h.0 in omega (arith, p, same_length h.1, le) }
 
+  -- a fault reads nothing that has to be covered
   pub refuse_covers : {e : Error} → Covers credit size (refuse e)
   refuse_covers = record { all = λ old x new h. absurd h }
 
-  pub when_covers : {f g : Layout A} (b : Bool) → Covers credit size f → Covers credit size g → Covers credit size (when b then f else g)
+  -- either of two layouts covers what it reads
+  pub when_covers : {f g : Layout A} (b : Bool) → Covers credit size f → Covers credit size g
+      → Covers credit size (when b then f else g)
   when_covers true f g = f
   when_covers false f g = g
 
-  pub then_covers : {B : Type 0} {p : Layout B} {f : B → Layout A} {front : B → ℕ} → Covers 0 front p → ((x : B) → Covers (credit + front x) size (f x)) → Covers credit size (p >>= f)
+  -- what the first covers is a credit of the second
+  pub then_covers : {B : Type 0} {p : Layout B} {f : B → Layout A} {front : B → ℕ} → Covers 0 front p
+      → ((x : B) → Covers (credit + front x) size (f x)) → Covers credit size (p >>= f)
   then_covers a b = record { all = λ old y new h. omega (arith, a.all old h.0 h.1 h.2, (b h.0).all h.1 y new h.3) }
 
+-- a check takes no bytes
 pub check_least : (b : Bool) (e : Error) → TakesLeast 0 (check b e)
 check_least b e = when_covers b (pure_covers (omega arith)) refuse_covers
 
@@ -294,30 +361,56 @@ check_least b e = when_covers b (pure_covers (omega arith)) refuse_covers
 
 -- a part has an end of its own
 pub inside_stable : {A : Type 0} (f : Layout A) (unit : Input) → IsStable (inside unit f)
-inside_stable f unit = record { stays = λ more old x new h. (h.0, ap (λ (i : Input). followed_by i more) h.1); fault_stays = λ more old e settled h. h }
+inside_stable f unit =
+    record {
+      stays = λ more old x new h. (h.0, ap (λ (i : Input). followed_by i more) h.1);
+      fault_stays = λ more old e settled h. h;
+    }
 
+-- a value without bytes stays
 pub pure_stable : {A : Type 0} (a : A) → IsStable (pure a)
-pure_stable a = record { stays = λ more old x new h. (h.0, ap (λ (i : Input). followed_by i more) h.1); fault_stays = λ more old e settled h. h }
+pure_stable a =
+    record {
+      stays = λ more old x new h. (h.0, ap (λ (i : Input). followed_by i more) h.1);
+      fault_stays = λ more old e settled h. h;
+    }
 
+-- a fault without bytes stays
 pub refuse_stable : {A : Type 0} (e : Error) → IsStable {A = A} (refuse e)
 refuse_stable e = record { stays = λ more old x new h. h; fault_stays = λ more old e settled h. h }
 
+-- either of two layouts stays
 pub when_stable : {A : Type 0} {f g : Layout A} (b : Bool) → IsStable f → IsStable g → IsStable (when b then f else g)
 when_stable true f g = f
 when_stable false f g = g
 
+-- a check stays
 pub check_stable : (b : Bool) (e : Error) → IsStable (check b e)
 check_stable b e = when_stable b (pure_stable tt) (refuse_stable e)
 
-pub then_stable : {A B : Type 0} {p : Layout A} {f : A → Layout B} → IsStable p → ((x : A) → IsStable (f x)) → IsStable (p >>= f)
+-- two layouts one behind the other stay where each does
+pub then_stable : {A B : Type 0} {p : Layout A} {f : A → Layout B} → IsStable p → ((x : A) → IsStable (f x))
+    → IsStable (p >>= f)
 then_stable {A} {B} {p} {f} first second = record {
-  stays = λ more old y new h. (h.0, followed_by h.1 more, first.stays more old h.0 h.1 h.2, (second h.0).stays more h.1 y new h.3);
+  stays = λ more old y new h. (
+    h.0,
+    followed_by h.1 more,
+    first.stays more old h.0 h.1 h.2,
+    (second h.0).stays more h.1 y new h.3,
+  );
   fault_stays = faulty;
 }
   where
-    faulty : (more : List ℕ) (old : Input) (e : Error) → ((position : ℕ) → e ≢ eof position) → (p >>= f).Fails old e → (p >>= f).Fails (followed_by old more) e
+    faulty : (more : List ℕ) (old : Input) (e : Error) → ((position : ℕ) → e ≢ eof position)
+        → (p >>= f).Fails old e → (p >>= f).Fails (followed_by old more) e
     faulty more old e settled (inl h) = inl (first.fault_stays more old e settled h)
-    faulty more old e settled (inr h) = inr (h.0, followed_by h.1 more, first.stays more old h.0 h.1 h.2, (second h.0).fault_stays more h.1 e settled h.3)
+    faulty more old e settled (inr h) =
+        inr (
+          h.0,
+          followed_by h.1 more,
+          first.stays more old h.0 h.1 h.2,
+          (second h.0).fault_stays more h.1 e settled h.3,
+        )
 
 -- ---- what stands at the front of a section
 
@@ -344,6 +437,10 @@ at_one {A} {f} section law = go (law.one section)
             λ i. Err (p i)
 
 -- more bytes change no answer, but that bytes are missing
-pub at_more : {A : Type 0} {f : Layout A} {section : Input} {answer : Result A Error} → IsStable f → (more : List ℕ) → At f section answer → ((position : ℕ) → answer ≢ Err (eof position)) → At f (followed_by section more) answer
-at_more {section = section} law more (value {x = x} behind h) settled = value (followed_by behind more) (law.stays more section x behind h)
-at_more {section = section} law more (refused {e = e} h) settled = refused (law.fault_stays more section e (λ p q. settled p (λ i. Err (q i))) h)
+pub at_more : {A : Type 0} {f : Layout A} {section : Input} {answer : Result A Error} → IsStable f
+    → (more : List ℕ) → At f section answer → ((position : ℕ) → answer ≢ Err (eof position))
+    → At f (followed_by section more) answer
+at_more {section = section} law more (value {x = x} behind h) settled =
+    value (followed_by behind more) (law.stays more section x behind h)
+at_more {section = section} law more (refused {e = e} h) settled =
+    refused (law.fault_stays more section e (λ p q. settled p (λ i. Err (q i))) h)

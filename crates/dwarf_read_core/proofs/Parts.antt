@@ -12,7 +12,8 @@ abbrev Entry : Type 0
 Entry = Result (Option Declaration × List ℕ) Error
 
 -- the code can't be read
-pub code_fails : (end : ℕ) (bytes : List ℕ) (e : Error) → bytes ≢ [] → number_at unsigned64 end bytes ≡ Err e → declaration_at end bytes ≡ Err e
+pub code_fails : (end : ℕ) (bytes : List ℕ) (e : Error) → bytes ≢ [] → number_at unsigned64 end bytes ≡ Err e
+    → declaration_at end bytes ≡ Err e
 unfolding declaration_at
 code_fails end bytes e some q = rw (ne_eqb (length bytes) 0 (λ h. some (nil_from_length bytes h)), q) refl
 
@@ -20,22 +21,35 @@ code_fails end bytes e some q = rw (ne_eqb (length bytes) 0 (λ h. some (nil_fro
 pub record IsCoded (end : ℕ) (bytes : List ℕ) (code : ℕ) (after : List ℕ) : Type 0 where
   pub read : declaration_at end bytes ≡ (declared_at end code after >>= λ d. Ok (Some d.0, d.1))
 
-pub coded : (end : ℕ) (bytes : List ℕ) (code : ℕ) (after : List ℕ) → bytes ≢ [] → number_at unsigned64 end bytes ≡ Ok (code, after) → code ≢ 0 → IsCoded end bytes code after
+-- bytes whose code is read and isn't 0 are read as what stands behind that code
+pub coded : (end : ℕ) (bytes : List ℕ) (code : ℕ) (after : List ℕ) → bytes ≢ []
+    → number_at unsigned64 end bytes ≡ Ok (code, after) → code ≢ 0 → IsCoded end bytes code after
 unfolding declaration_at
-coded end bytes code after some q nonzero = record { read = rw (ne_eqb (length bytes) 0 (λ h. some (nil_from_length bytes h)), q, ne_eqb code 0 nonzero) refl }
+coded end bytes code after some q nonzero =
+    record {
+      read = rw (
+        ne_eqb (length bytes) 0
+            (λ h. some (nil_from_length bytes h)),
+        q,
+        ne_eqb code 0 nonzero,
+      ) refl;
+    }
 
 -- so a declaration is read, or a fault
-pub is_some : {end : ℕ} {bytes : List ℕ} {code : ℕ} {after : List ℕ} → IsCoded end bytes code after → (rest : List ℕ) → declaration_at end bytes ≢ Ok (None, rest)
+pub is_some : {end : ℕ} {bytes : List ℕ} {code : ℕ} {after : List ℕ} → IsCoded end bytes code after
+    → (rest : List ℕ) → declaration_at end bytes ≢ Ok (None, rest)
 is_some {end} {bytes} {code} {after} h rest e =
     let b = bind_ok (declared_at end code after) (λ d. Ok (Some d.0, d.1)) (None, rest) (sym h.read ∙ e) in
     ok_some b.0.0 b.0.1 rest b.2
   where
-    ok_some : (d : Declaration) (x y : List ℕ) → let one : Entry = Ok (Some d, x) in let two : Entry = Ok (None, y) in one ≢ two
+    ok_some : (d : Declaration) (x y : List ℕ) → let one : Entry = Ok (Some d, x) in
+        let two : Entry = Ok (None, y) in one ≢ two
     ok_some d x y q =
         let p : ◌≡◌ {A = Option Declaration × List ℕ} (Some d, x) (None, y) = cc in
         let none : ◌≡◌ {A = Option Declaration} (Some d) None = ap (λ (z : Option Declaration × List ℕ). z.0) p in
         cc
 
 -- what is behind the code can't be read
-pub declared_fails : {end : ℕ} {bytes : List ℕ} {code : ℕ} {after : List ℕ} {e : Error} → IsCoded end bytes code after → declared_at end code after ≡ Err e → declaration_at end bytes ≡ Err e
+pub declared_fails : {end : ℕ} {bytes : List ℕ} {code : ℕ} {after : List ℕ} {e : Error}
+    → IsCoded end bytes code after → declared_at end code after ≡ Err e → declaration_at end bytes ≡ Err e
 declared_fails h q = h.read ∙ rw q refl

@@ -22,77 +22,152 @@ use Rattle.dwarf_read_core.proofs.ItemLists.{items-one, items-bounded, item-firs
 
 -- ---- the laws of an initial length
 
+-- an initial length has exactly one outcome
 initial_length-definite : IsDefinite initial_length
 unfolding initial_length
-initial_length-definite = then_definite (sized_definite (fixed_size 4)) (λ short. when_definite (nat_lt short 0xffff_fff0) (pure_definite _) (when_definite (nat_lt short 0xffff_ffff) (refuse_definite _) (then_definite (sized_definite (fixed_size 8)) (λ long. pure_definite _))))
+initial_length-definite =
+    then_definite (sized_definite (fixed_size 4))
+    (λ short. when_definite (nat_lt short 0xffff_fff0) (pure_definite _)
+    (when_definite (nat_lt short 0xffff_ffff) (refuse_definite _)
+    (then_definite (sized_definite (fixed_size 8)) (λ long. pure_definite _))))
 
+-- it is the front of the bytes
 initial_length-front : IsFront initial_length
 unfolding initial_length
-initial_length-front = then_front (sized_front (fixed_size 4)) (λ short. when_front (nat_lt short 0xffff_fff0) (pure_front _) (when_front (nat_lt short 0xffff_ffff) (refuse_front _) (then_front (sized_front (fixed_size 8)) (λ long. pure_front _))))
+initial_length-front =
+    then_front (sized_front (fixed_size 4))
+    (λ short. when_front (nat_lt short 0xffff_fff0) (pure_front _)
+    (when_front (nat_lt short 0xffff_ffff) (refuse_front _)
+    (then_front (sized_front (fixed_size 8)) (λ long. pure_front _))))
 
 -- it takes four bytes at least
 initial_length-least : TakesLeast 4 initial_length
 unfolding initial_length
-initial_length-least = then_covers (sized_least (fixed_size 4)) (λ short. when_covers (nat_lt short 0xffff_fff0) (pure_covers (omega arith)) (when_covers (nat_lt short 0xffff_ffff) refuse_covers (then_covers (sized_least (fixed_size 8)) (λ long. pure_covers (omega arith)))))
+initial_length-least =
+    then_covers (sized_least (fixed_size 4))
+    (λ short. when_covers (nat_lt short 0xffff_fff0) (pure_covers (omega arith))
+    (when_covers (nat_lt short 0xffff_ffff) refuse_covers
+    (then_covers (sized_least (fixed_size 8)) (λ long. pure_covers (omega arith)))))
 
+-- more bytes don't change it
 initial_length-stable : IsStable initial_length
 unfolding initial_length
-initial_length-stable = then_stable (sized_stable (fixed_size 4)) (λ short. when_stable (nat_lt short 0xffff_fff0) (pure_stable _) (when_stable (nat_lt short 0xffff_ffff) (refuse_stable _) (then_stable (sized_stable (fixed_size 8)) (λ long. pure_stable _))))
+initial_length-stable =
+    then_stable (sized_stable (fixed_size 4))
+    (λ short. when_stable (nat_lt short 0xffff_fff0) (pure_stable _)
+    (when_stable (nat_lt short 0xffff_ffff) (refuse_stable _)
+    (then_stable (sized_stable (fixed_size 8)) (λ long. pure_stable _))))
 
 -- ---- the laws of a set
 
-pub set_definite : {H : Type 0} {header : Layout H} (greatest : ℕ) → IsDefinite header → (offset : ℕ) → IsDefinite (set header greatest offset)
+-- a set has exactly one outcome where its header has
+pub set_definite : {H : Type 0} {header : Layout H} (greatest : ℕ) → IsDefinite header → (offset : ℕ)
+    → IsDefinite (set header greatest offset)
 unfolding set
-set_definite greatest law offset = then_definite initial_length-definite (λ initial. then_definite (check_definite _ _) (λ fits. then_definite (sized_definite (part_size initial.1)) (λ unit. then_definite (inside_definite unit law) (λ said. pure_definite _))))
+set_definite greatest law offset =
+    then_definite initial_length-definite
+    (λ initial. then_definite (check_definite _ _)
+    (λ fits. then_definite (sized_definite (part_size initial.1))
+    (λ unit. then_definite (inside_definite unit law) (λ said. pure_definite _))))
 
 -- whatever its header, which stands in a part
 pub set_front : {H : Type 0} (header : Layout H) (greatest offset : ℕ) → IsFront (set header greatest offset)
 unfolding set
-set_front header greatest offset = then_front initial_length-front (λ initial. then_front (check_front _ _) (λ fits. then_front (sized_front (part_size initial.1)) (λ unit. then_front (inside_front header unit) (λ said. pure_front _))))
+set_front header greatest offset =
+    then_front initial_length-front (λ initial. then_front (check_front _ _)
+    (λ fits. then_front (sized_front (part_size initial.1))
+    (λ unit. then_front (inside_front header unit) (λ said. pure_front _))))
 
 -- it takes four bytes, and those of the header
-pub set_of-least : {H : Type 0} {header : Layout H} (n greatest : ℕ) → TakesLeast n header → (offset : ℕ) → TakesLeast (4 + n) (set header greatest offset)
+pub set-at_least : {H : Type 0} {header : Layout H} (n greatest : ℕ) → TakesLeast n header → (offset : ℕ)
+    → TakesLeast (4 + n) (set header greatest offset)
 unfolding set
-set_of-least n greatest law offset = then_covers initial_length-least (λ initial. then_covers (check_least _ _) (λ fits. then_covers (part_covers initial.1) (λ unit. inside_covers n law (λ said enough. pure_covers (omega (arith, enough))))))
+set-at_least n greatest law offset =
+    then_covers initial_length-least (λ initial. then_covers (check_least _ _)
+    (λ fits. then_covers (part_covers initial.1)
+    (λ unit. inside_covers n law (λ said enough. pure_covers (omega (arith, enough))))))
 
+-- more bytes don't change a set, whatever its header
 pub set_stable : {H : Type 0} (header : Layout H) (greatest offset : ℕ) → IsStable (set header greatest offset)
 unfolding set
-set_stable header greatest offset = then_stable initial_length-stable (λ initial. then_stable (check_stable _ _) (λ fits. then_stable (sized_stable (part_size initial.1)) (λ unit. then_stable (inside_stable header unit) (λ said. pure_stable _))))
+set_stable header greatest offset =
+    then_stable initial_length-stable (λ initial. then_stable (check_stable _ _)
+    (λ fits. then_stable (sized_stable (part_size initial.1))
+    (λ unit. then_stable (inside_stable header unit) (λ said. pure_stable _))))
 
 -- ---- a set by what a reader takes
 
 -- the contract of an initial length is its layout
-initial_length-reads : (greatest : ℕ) (old : Input) (n : ℕ) (format : Format) (new : Input) → TakesLength greatest old n format new → initial_length.Reads old (format, n) new
+initial_length-reads : (greatest : ℕ) (old : Input) (n : ℕ) (format : Format) (new : Input)
+    → TakesLength greatest old n format new → initial_length.Reads old (format, n) new
 unfolding initial_length
-initial_length-reads greatest old n Dwarf32 new takes = (n, new, takes.0, rw (lt-ltb n 0xffff_fff0 takes.1) (refl, refl))
-initial_length-reads greatest old n Dwarf64 new takes = (0xffff_ffff, after 4 old, takes.0, (n, new, takes.1, (refl, refl)))
+initial_length-reads greatest old n Dwarf32 new takes =
+    (n, new, takes.0, rw (lt-ltb n 0xffff_fff0 takes.1) (refl, refl))
+initial_length-reads greatest old n Dwarf64 new takes =
+    (0xffff_ffff, after 4 old, takes.0, (n, new, takes.1, (refl, refl)))
 
 module _ {H : Type 0} (header : Layout H) (greatest offset : ℕ) (old : Input) where
   -- a length that is refused is the set's fault
-  pub set_length_fails : {e : Error} (new : Input) → RefusesLength greatest old e new → (set header greatest offset).Fails old e
+  pub set_length_fails : {e : Error} (new : Input) → RefusesLength greatest old e new
+      → (set header greatest offset).Fails old e
   unfolding set initial_length
   set_length_fails new (inl short) = inl (inl (new, short))
   set_length_fails new (inr (inl reserved)) = inl (inr (reserved.number, new, reserved.taken, rw (le-ltb reserved.number 0xffff_fff0 reserved.low, lt-ltb reserved.number 0xffff_ffff reserved.high) reserved.fault))
-  set_length_fails new (inr (inr (inl short))) = inl (inr (0xffff_ffff, after 4 old, short.begins, inl (new, short.rest)))
+  set_length_fails new (inr (inr (inl short))) =
+      inl (inr (0xffff_ffff, after 4 old, short.begins, inl (new, short.rest)))
   set_length_fails new (inr (inr (inr unfit))) =
-      inr ((Dwarf64, unfit.rest.number), new, (0xffff_ffff, after 4 old, unfit.begins, (unfit.rest.number, new, unfit.rest.taken, (refl, refl))), inl (rw (lt-leb unfit.rest.number greatest unfit.rest.over) unfit.rest.fault))
+      inr (
+        (Dwarf64, unfit.rest.number),
+        new,
+        (0xffff_ffff, after 4 old, unfit.begins, (unfit.rest.number, new, unfit.rest.taken, (refl, refl))),
+        inl
+            (rw (lt-leb unfit.rest.number greatest unfit.rest.over) unfit.rest.fault),
+      )
 
-  module _ (n : ℕ) (format : Format) {behind : Input} (takes : TakesLength greatest old n format behind) (fits : n ≤ greatest) where
+  module _ (n : ℕ) (format : Format) {behind : Input} (takes : TakesLength greatest old n format behind)
+      (fits : n ≤ greatest) where
     -- so are fewer bytes than the length says
-    pub set_part_fails : {e : Error} (new : Input) → EndsBefore n behind e new → (set header greatest offset).Fails old e
+    pub set_part_fails : {e : Error} (new : Input) → EndsBefore n behind e new
+        → (set header greatest offset).Fails old e
     unfolding set
-    set_part_fails new short = inr ((format, n), behind, initial_length-reads greatest old n format behind takes, inr (tt, behind, rw (le-leb n greatest fits) (refl, refl), inl (new, short)))
+    set_part_fails new short =
+        inr (
+          (format, n),
+          behind,
+          initial_length-reads greatest old n format behind takes,
+          inr
+              (tt, behind, rw (le-leb n greatest fits) (refl, refl), inl (new, short)),
+        )
 
     module _ {unit new : Input} (is : unit ≡ first n behind) (taken : Takes n behind new) where
       -- so is the fault of the header
       pub set_header_fails : {e : Error} → header.Fails unit e → (set header greatest offset).Fails old e
       unfolding set
-      set_header_fails h = inr ((format, n), behind, initial_length-reads greatest old n format behind takes, inr (tt, behind, rw (le-leb n greatest fits) (refl, refl), inr (unit, new, (is, taken), inl h)))
+      set_header_fails h =
+          inr (
+            (format, n),
+            behind,
+            initial_length-reads greatest old n format behind takes,
+            inr
+                (tt, behind, rw (le-leb n greatest fits) (refl, refl), inr (unit, new, (is, taken), inl h)),
+          )
 
       -- a header that is read is the set's
-      pub set_reads : {h : H} {entries : Input} → header.Reads unit h entries → (set header greatest offset).Reads old (record { offset = offset; format = format; unit_length = n; header = h; entries = entries }) new
+      pub set_reads : {h : H} {entries : Input} → header.Reads unit h entries
+          → (set header greatest offset).Reads old
+          (record { offset = offset; format = format; unit_length = n; header = h; entries = entries }) new
       unfolding set
-      set_reads {h} {entries} r = ((format, n), behind, initial_length-reads greatest old n format behind takes, (tt, behind, rw (le-leb n greatest fits) (refl, refl), (unit, new, (is, taken), ((h, entries), new, (r, refl), (refl, refl)))))
+      set_reads {h} {entries} r = (
+        (format, n),
+        behind,
+        initial_length-reads greatest old n format behind takes,
+        (
+          tt,
+          behind,
+          rw (le-leb n greatest fits) (refl, refl),
+          (unit, new, (is, taken), ((h, entries), new, (r, refl), (refl, refl))),
+        ),
+      )
 
 -- ---- what sets stand for, and what a call gives
 
@@ -102,61 +177,103 @@ pub record IsHeader {H : Type 0} (header : Layout H) : Type 0 where
   pub least : TakesLeast 4 header
 
 -- no bytes stand for no sets
-pub sets_none : {H : Type 0} (header : Layout H) (greatest : ℕ) (headers : Headers) → headers.rest.bytes ≡ [] → StandsForSets header greatest headers []
+pub sets_none : {H : Type 0} (header : Layout H) (greatest : ℕ) (headers : Headers) → headers.rest.bytes ≡ []
+    → StandsForSets header greatest headers []
 sets_none header greatest headers empty = none empty
 
 module _ {H : Type 0} {header : Layout H} (is : IsHeader header) (greatest : ℕ) where
   -- a set takes eight bytes
   pub set_least : (offset : ℕ) → TakesLeast 8 (set header greatest offset)
-  set_least = set_of-least 4 greatest is.least
+  set_least = set-at_least 4 greatest is.least
 
   -- bytes stand for exactly one list of sets
   pub sets_one : (headers : Headers) → HasOne (StandsForSets header greatest headers)
   sets_one headers = items-one (set_definite greatest is.definite) set_least (omega arith) headers.offset headers.rest
 
   -- sets take no more bytes than there are
-  pub sets_bounded : (headers : Headers) (items : List (Result (Set H) Error)) → StandsForSets header greatest headers items → sum_by (least_taken 8) items ≤ length headers.rest.bytes
+  pub sets_bounded : (headers : Headers) (items : List (Result (Set H) Error))
+      → StandsForSets header greatest headers items → sum_by (least_taken 8) items ≤ length headers.rest.bytes
   sets_bounded headers items stands = items-bounded set_least stands
 
   -- the first set stays first where more bytes follow
-  pub set_more : (headers : Headers) (s : Set H) (items others : List (Result (Set H) Error)) (more : List ℕ) → StandsForSets header greatest headers (Ok s ∷ items) → StandsForSets header greatest (followed_headers more headers) others → (rest : List (Result (Set H) Error)) × (others ≡ Ok s ∷ rest)
-  set_more headers s items others more stands h = item-stays (set_definite greatest is.definite) (set_stable header greatest) stands more others h
+  pub set_more : (headers : Headers) (s : Set H) (items others : List (Result (Set H) Error)) (more : List ℕ)
+      → StandsForSets header greatest headers (Ok s ∷ items)
+      → StandsForSets header greatest (followed_headers more headers) others
+      → (rest : List (Result (Set H) Error)) × (others ≡ Ok s ∷ rest)
+  set_more headers s items others more stands h =
+      item-stays (set_definite greatest is.definite) (set_stable header greatest) stands more others h
 
   -- so does a fault, but that bytes are missing
-  pub fault_more : (headers : Headers) (e : Error) (more : List ℕ) → StandsForSets header greatest headers (Err e ∷ []) → ((place : ℕ) → e ≢ eof place) → StandsForSets header greatest (followed_headers more headers) (Err e ∷ [])
-  fault_more headers e more stands settled = fault-stays (set_definite greatest is.definite) (set_stable header greatest) stands settled more
+  pub fault_more : (headers : Headers) (e : Error) (more : List ℕ)
+      → StandsForSets header greatest headers (Err e ∷ []) → ((place : ℕ) → e ≢ eof place)
+      → StandsForSets header greatest (followed_headers more headers) (Err e ∷ [])
+  fault_more headers e more stands settled =
+      fault-stays (set_definite greatest is.definite) (set_stable header greatest) stands settled more
 
   -- a set that is read comes first
-  pub set_first : (old new : Headers) {s : Set H} → old.rest.bytes ≢ [] → (set header greatest old.offset).Reads old.rest s new.rest → new.offset ≡ old.offset + (length old.rest.bytes - length new.rest.bytes) → ComesFirst (StandsForSets header greatest) old (Ok s) new
-  set_first old new {s} some h place = item-first (set_definite greatest is.definite) set_least (omega arith) old.offset new.offset old.rest new.rest s some h place
+  pub set_first : (old new : Headers) {s : Set H} → old.rest.bytes ≢ []
+      → (set header greatest old.offset).Reads old.rest s new.rest
+      → new.offset ≡ old.offset + (length old.rest.bytes - length new.rest.bytes)
+      → ComesFirst (StandsForSets header greatest) old (Ok s) new
+  set_first old new {s} some h place =
+      item-first (set_definite greatest is.definite) set_least
+      (omega arith) old.offset new.offset old.rest new.rest s some h place
 
   -- a fault comes first, and nothing is left
-  pub set_fault : (old new : Headers) {e : Error} → old.rest.bytes ≢ [] → (set header greatest old.offset).Fails old.rest e → new.rest.bytes ≡ [] → ComesFirst (StandsForSets header greatest) old (Err e) new
-  set_fault old new {e} some h empty = fault-first (set_definite greatest is.definite) set_least (omega arith) old.offset new.offset old.rest new.rest e some h empty
+  pub set_fault : (old new : Headers) {e : Error} → old.rest.bytes ≢ []
+      → (set header greatest old.offset).Fails old.rest e → new.rest.bytes ≡ []
+      → ComesFirst (StandsForSets header greatest) old (Err e) new
+  set_fault old new {e} some h empty =
+      fault-first (set_definite greatest is.definite) set_least
+      (omega arith) old.offset new.offset old.rest new.rest e some h empty
 
   -- a set that is read comes first also where more bytes follow
-  pub set_stays : (old new : Headers) {s : Set H} → old.rest.bytes ≢ [] → (set header greatest old.offset).Reads old.rest s new.rest → new.offset ≡ old.offset + (length old.rest.bytes - length new.rest.bytes) → (more : List ℕ) → ComesFirst (StandsForSets header greatest) (followed_headers more old) (Ok s) (followed_headers more new)
+  pub set_stays : (old new : Headers) {s : Set H} → old.rest.bytes ≢ []
+      → (set header greatest old.offset).Reads old.rest s new.rest
+      → new.offset ≡ old.offset + (length old.rest.bytes - length new.rest.bytes) → (more : List ℕ)
+      → ComesFirst (StandsForSets header greatest) (followed_headers more old) (Ok s) (followed_headers more new)
   set_stays old new {s} some h place more =
       let l = (set_least old.offset).all old.rest s new.rest h in
-      set_first (followed_headers more old) (followed_headers more new) (bytes-still_some old.rest.bytes more some) ((set_stable header greatest old.offset).stays more old.rest s new.rest h)
+      set_first (followed_headers more old) (followed_headers more new) (bytes-still_some old.rest.bytes more some)
+      ((set_stable header greatest old.offset).stays more old.rest s new.rest h)
       (omega (arith, place, l, length-append old.rest.bytes more, length-append new.rest.bytes more))
 
 -- so does a fault, but that bytes are missing
-pub set_fault_stays : {H : Type 0} (header : Layout H) (greatest : ℕ) (old : Headers) {e : Error} → old.rest.bytes ≢ [] → (set header greatest old.offset).Fails old.rest e → ((place : ℕ) → e ≢ eof place) → (more : List ℕ) → StandsForSets header greatest (followed_headers more old) (Err e ∷ [])
-set_fault_stays header greatest old {e} some h settled more = fault (bytes-still_some old.rest.bytes more some) ((set_stable header greatest old.offset).fault_stays more old.rest e settled h)
+pub set_fault_stays : {H : Type 0} (header : Layout H) (greatest : ℕ) (old : Headers) {e : Error}
+    → old.rest.bytes ≢ [] → (set header greatest old.offset).Fails old.rest e → ((place : ℕ) → e ≢ eof place)
+    → (more : List ℕ) → StandsForSets header greatest (followed_headers more old) (Err e ∷ [])
+set_fault_stays header greatest old {e} some h settled more =
+    fault (bytes-still_some old.rest.bytes more some)
+    ((set_stable header greatest old.offset).fault_stays more old.rest e settled h)
 
 -- ---- headers
 
+-- the header of a set of addresses
 pub address_header-is : IsHeader address_header
 unfolding address_header
 address_header-is = record {
-  definite = then_definite (sized_definite (fixed_size 2)) (λ version. then_definite (check_definite _ _) (λ known. then_definite (sized_definite byte_size) (λ size. then_definite (check_definite _ _) (λ sized. then_definite (sized_definite byte_size) (λ segment. then_definite (check_definite _ _) (λ flat. pure_definite size))))));
-  least = then_covers (sized_least (fixed_size 2)) (λ version. then_covers (check_least _ _) (λ known. then_covers (sized_least byte_size) (λ size. then_covers (check_least _ _) (λ sized. then_covers (sized_least byte_size) (λ segment. then_covers (check_least _ _) (λ flat. pure_covers (omega arith)))))));
+  definite = then_definite (sized_definite (fixed_size 2))
+      (λ version. then_definite (check_definite _ _)
+      (λ known. then_definite (sized_definite byte_size)
+      (λ size. then_definite (check_definite _ _)
+      (λ sized. then_definite (sized_definite byte_size)
+      (λ segment. then_definite (check_definite _ _) (λ flat. pure_definite size))))));
+  least = then_covers (sized_least (fixed_size 2))
+      (λ version. then_covers (check_least _ _)
+      (λ known. then_covers (sized_least byte_size)
+      (λ size. then_covers (check_least _ _)
+      (λ sized. then_covers (sized_least byte_size)
+      (λ segment. then_covers (check_least _ _) (λ flat. pure_covers (omega arith)))))));
 }
 
+-- the header of a set of string offsets
 pub string_offsets_header-is : IsHeader string_offsets_header
 unfolding string_offsets_header
 string_offsets_header-is = record {
-  definite = then_definite (sized_definite (fixed_size 2)) (λ version. then_definite (check_definite _ _) (λ known. then_definite (sized_definite (fixed_size 2)) (λ padding. pure_definite tt)));
-  least = then_covers (sized_least (fixed_size 2)) (λ version. then_covers (check_least _ _) (λ known. then_covers (sized_least (fixed_size 2)) (λ padding. pure_covers (omega arith))));
+  definite = then_definite (sized_definite (fixed_size 2))
+      (λ version. then_definite (check_definite _ _)
+      (λ known. then_definite (sized_definite (fixed_size 2)) (λ padding. pure_definite tt)));
+  least = then_covers (sized_least (fixed_size 2))
+      (λ version. then_covers (check_least _ _)
+      (λ known. then_covers (sized_least (fixed_size 2)) (λ padding. pure_covers (omega arith))));
 }

@@ -5,11 +5,15 @@ use Rattle.dwarf_base_core.specs.declared.error.Error.TheVariants.{OutOfMemory}
 use Rattle.dwarf_base_core.specs.declared.error.Error.{Error}
 use Rattle.dwarf_read_core.specs.Reading.{◌>>=◌, Gives}
 
-pub bind_ok : {A B : Type 0} (r : Result A Error) (f : A → Result B Error) (y : B) → (r >>= f) ≡ Ok y → (x : A) × (r ≡ Ok x) × (f x ≡ Ok y)
+-- two steps that succeed together have a first that succeeds, and a second that succeeds on what it gave
+pub bind_ok : {A B : Type 0} (r : Result A Error) (f : A → Result B Error) (y : B) → (r >>= f) ≡ Ok y
+    → (x : A) × (r ≡ Ok x) × (f x ≡ Ok y)
 bind_ok (Ok x) f y e = (x, refl, e)
 bind_ok (Err d) f y e = absurd cc
 
-pub bind_err : {A B : Type 0} (r : Result A Error) (f : A → Result B Error) (d : Error) → (r >>= f) ≡ Err d → (r ≡ Err d) ⊎ ((x : A) × (r ≡ Ok x) × (f x ≡ Err d))
+-- two steps that fail together have a first that fails so, or one that succeeds and a second that fails so
+pub bind_err : {A B : Type 0} (r : Result A Error) (f : A → Result B Error) (d : Error) → (r >>= f) ≡ Err d
+    → (r ≡ Err d) ⊎ ((x : A) × (r ≡ Ok x) × (f x ≡ Err d))
 bind_err (Ok x) f d e = inr (x, refl, e)
 bind_err (Err c) f d e = inl cc
 
@@ -19,6 +23,7 @@ chosen true x y z e = inl (refl, e)
 chosen false x y z e = inr (refl, e)
 
 -- what `?` hands on
-pub gives_err : {X Y : Type 0} (view : X → Y) {read : Result Y Error} {e : Error} (result : Result X Error) → IsErrAnd result (λ x. x ≡ e) → (e ≢ OutOfMemory → read ≡ Err e) → Gives view result read
+pub gives_err : {X Y : Type 0} (view : X → Y) {read : Result Y Error} {e : Error} (result : Result X Error)
+    → IsErrAnd result (λ x. x ≡ e) → (e ≢ OutOfMemory → read ≡ Err e) → Gives view result read
 gives_err view (Ok x) h step = absurd h
 gives_err view {read = read} (Err x) h step = λ memory. rw h (step (λ q. memory (h ∙ q)))

@@ -12,31 +12,46 @@ use Rattle.dwarf_read_core.specs.Strings.{HasNoZero, StringAt, outside, string, 
 use Rattle.dwarf_read_core.specs.Answer.{followed_by}
 
 -- a list round an item
-cut_at : (bytes : List ℕ) (index item : ℕ) → index < length bytes → slice_index bytes index ≡ item → bytes ≡ take index bytes ++ item ∷ drop (suc index) bytes
+cut_at : (bytes : List ℕ) (index item : ℕ) → index < length bytes → slice_index bytes index ≡ item
+    → bytes ≡ take index bytes ++ item ∷ drop (suc index) bytes
 cut_at [] index item within is = absurd (omega arith)
 cut_at (b ∷ bytes) zero item within is = ap (λ (x : ℕ). x ∷ bytes) is
 cut_at (b ∷ bytes) (suc index) item within is = ap (λ (x : List ℕ). b ∷ x) (cut_at bytes index item (omega arith) is)
 
-pub string_taken : (section : Input) (offset : ℕ) (rest found new : Input) → Takes offset section rest → TakesString rest found new → StringAt section offset (Ok found)
+-- a string that is taken from what is left behind the offset is the section's string at the offset
+pub string_taken : (section : Input) (offset : ℕ) (rest found new : Input) → Takes offset section rest
+    → TakesString rest found new → StringAt section offset (Ok found)
 string_taken section offset rest found new takes t =
     let behind : rest.bytes ≡ drop offset section.bytes = ap (λ (i : Input). i.bytes) takes.left in
-    let parts = subst (λ (b : List ℕ). b ≡ take t.len b ++ 0 ∷ drop (suc t.len) b) behind (cut_at rest.bytes t.len 0 t.ends.within t.ends.here) in
+    let parts = subst (λ (b : List ℕ). b ≡ take t.len b ++ 0 ∷ drop (suc t.len) b) behind
+    (cut_at rest.bytes t.len 0 t.ends.within t.ends.here) in
     let unbroken = subst (λ (b : List ℕ). HasNoZero (take t.len b)) behind t.ends.before in
-    subst (λ (i : Input). StringAt section offset (Ok i)) (sym (t.is ∙ ap (first t.len) takes.left)) (string (take t.len (drop offset section.bytes)) (drop (suc t.len) (drop offset section.bytes)) takes.enough parts unbroken)
+    subst (λ (i : Input). StringAt section offset (Ok i)) (sym (t.is ∙ ap (first t.len) takes.left))
+    (string (take t.len (drop offset section.bytes))
+    (drop (suc t.len) (drop offset section.bytes)) takes.enough parts unbroken)
 
-string_lacks : (section : Input) (offset : ℕ) (rest : Input) (e : Error) → Takes offset section rest → Lacks 0 rest e → StringAt section offset (Err e)
+-- an error that no zero byte is left behind the offset is the section's answer for a string there
+string_lacks : (section : Input) (offset : ℕ) (rest : Input) (e : Error) → Takes offset section rest
+    → Lacks 0 rest e → StringAt section offset (Err e)
 string_lacks section offset rest e takes lacks =
     let none = subst HasNoZero (ap (λ (i : Input). i.bytes) takes.left) lacks.none in
-    subst (λ (x : Error). StringAt section offset (Err x)) (sym (lacks.fault ∙ ap (λ (i : Input). eof i.position) takes.left)) (unended takes.enough none)
+    subst (λ (x : Error). StringAt section offset (Err x))
+    (sym (lacks.fault ∙ ap (λ (i : Input). eof i.position) takes.left)) (unended takes.enough none)
 
 -- no string is taken
-pub string_refused : {A : Type 0} (section : Input) (offset : ℕ) (rest : Input) (clone_is_free : Bool) (r : Result A Error) → Takes offset section rest → IfErr r (λ e. Lacks 0 rest e ⊎ WantsMemory clone_is_free e) → IfErr r (λ e. StringAt section offset (Err e) ⊎ WantsMemory clone_is_free e)
+pub string_refused : {A : Type 0} (section : Input) (offset : ℕ) (rest : Input) (clone_is_free : Bool)
+    (r : Result A Error) → Takes offset section rest → IfErr r (λ e. Lacks 0 rest e ⊎ WantsMemory clone_is_free e)
+    → IfErr r (λ e. StringAt section offset (Err e) ⊎ WantsMemory clone_is_free e)
 string_refused section offset rest clone_is_free (Ok x) takes h = tt
-string_refused section offset rest clone_is_free (Err e) takes (inl lacks) = inl (string_lacks section offset rest e takes lacks)
+string_refused section offset rest clone_is_free (Err e) takes (inl lacks) =
+    inl (string_lacks section offset rest e takes lacks)
 string_refused section offset rest clone_is_free (Err e) takes (inr want) = inr want
 
-pub string_outside : (section : Input) (offset : ℕ) (e : Error) (new : Input) → EndsBefore offset section e new → StringAt section offset (Err e)
-string_outside section offset e new short = subst (λ (x : Error). StringAt section offset (Err x)) (sym short.fault) (outside short.short)
+-- an error that the section ends before the offset is the section's answer for a string there
+pub string_outside : (section : Input) (offset : ℕ) (e : Error) (new : Input) → EndsBefore offset section e new
+    → StringAt section offset (Err e)
+string_outside section offset e new short =
+    subst (λ (x : Error). StringAt section offset (Err x)) (sym short.fault) (outside short.short)
 
 -- ---- one answer
 
@@ -47,15 +62,24 @@ record IsBegun (bytes : List ℕ) : Type 0 where
   parts : bytes ≡ front ++ 0 ∷ rest
   unbroken : HasNoZero front
 
+-- bytes have no zero byte, or begin with a string that a zero byte ends
 zero_or_none : (bytes : List ℕ) → HasNoZero bytes ⊎ IsBegun bytes
 zero_or_none [] = inl (All-nil (λ b. b ≢ 0))
 zero_or_none (zero ∷ bytes) = inr (record { front = []; rest = bytes; parts = refl; unbroken = All-nil (λ b. b ≢ 0) })
 zero_or_none (suc b ∷ bytes) =
     elim (zero_or_none bytes) [
       | inl none ↦ inl (All-cons (λ b. b ≢ 0) (suc b) bytes (λ e. omega arith) none)
-      | inr found ↦ inr (record { front = suc b ∷ found.front; rest = found.rest; parts = ap (λ (x : List ℕ). suc b ∷ x) found.parts; unbroken = All-cons (λ b. b ≢ 0) (suc b) found.front (λ e. omega arith) found.unbroken })
+      | inr found ↦
+          inr (record {
+            front = suc b ∷ found.front;
+            rest = found.rest;
+            parts = ap (λ (x : List ℕ). suc b ∷ x) found.parts;
+            unbroken =
+                All-cons (λ b. b ≢ 0) (suc b) found.front (λ e. omega arith) found.unbroken;
+          })
     ]
 
+-- two runs without a zero byte are the same where the same bytes begin with each and then a zero byte
 same_front : (s r t q : List ℕ) → s ++ 0 ∷ r ≡ t ++ 0 ∷ q → HasNoZero s → HasNoZero t → s ≡ t
 same_front [] r [] q e a b = refl
 same_front [] r (y ∷ t) q e a b = absurd (All-head (λ b. b ≢ 0) y t b (let h : 0 ≡ y = cc in sym h))
@@ -66,29 +90,45 @@ same_front (x ∷ s) r (y ∷ t) q e a b =
     let same = same_front s r t q tail (All-tail (λ b. b ≢ 0) x s a) (All-tail (λ b. b ≢ 0) y t b) in
     cc
 
+-- bytes with a zero byte among them can't be without one
 no_zero_within : (s r : List ℕ) → HasNoZero (s ++ 0 ∷ r) → ⊥
 no_zero_within [] r none = All-head (λ b. b ≢ 0) 0 r none refl
 no_zero_within (x ∷ s) r none = no_zero_within s r (All-tail (λ b. b ≢ 0) x (s ++ 0 ∷ r) none)
 
-only_string : {section : Input} {offset : ℕ} {one other : Result Input Error} → StringAt section offset one → StringAt section offset other → other ≡ one
+-- two answers for a string at the same offset of a section are the same
+only_string : {section : Input} {offset : ℕ} {one other : Result Input Error} → StringAt section offset one
+    → StringAt section offset other → other ≡ one
 only_string (outside past) (outside past') = refl
 only_string (outside past) (string bytes rest le parts unbroken) = absurd (omega arith)
 only_string (outside past) (unended le none) = absurd (omega arith)
 only_string (string bytes rest le parts unbroken) (outside past) = absurd (omega arith)
 only_string {section} {offset} (string bytes rest le parts unbroken) (string bytes' rest' le' parts' unbroken') =
-    ap (λ (b : List ℕ). let r : Result Input Error = Ok (record section { bytes = b; position = section.position + offset }) in r) (same_front bytes' rest' bytes rest (sym parts' ∙ parts) unbroken' unbroken)
-only_string (string bytes rest le parts unbroken) (unended le' none) = absurd (no_zero_within bytes rest (subst HasNoZero parts none))
+    ap (λ (b : List ℕ). let r : Result Input Error = Ok
+    (record section { bytes = b; position = section.position + offset }) in
+    r) (same_front bytes' rest' bytes rest (sym parts' ∙ parts) unbroken' unbroken)
+only_string (string bytes rest le parts unbroken) (unended le' none) =
+    absurd (no_zero_within bytes rest (subst HasNoZero parts none))
 only_string (unended le none) (outside past) = absurd (omega arith)
-only_string (unended le none) (string bytes rest le' parts unbroken) = absurd (no_zero_within bytes rest (subst HasNoZero parts none))
+only_string (unended le none) (string bytes rest le' parts unbroken) =
+    absurd (no_zero_within bytes rest (subst HasNoZero parts none))
 only_string (unended le none) (unended le' none') = refl
 
-found_string : (section : Input) (offset : ℕ) → offset ≤ length section.bytes → (answer : Result Input Error) × StringAt section offset answer
+-- an offset that isn't past the section's end has an answer for a string there
+found_string : (section : Input) (offset : ℕ) → offset ≤ length section.bytes
+    → (answer : Result Input Error) × StringAt section offset answer
 found_string section offset le =
     elim (zero_or_none (drop offset section.bytes)) [
       | inl none ↦ (Err (eof (section.position + offset)), unended le none)
-      | inr f ↦ (Ok (record section { bytes = f.front; position = section.position + offset }), string f.front f.rest le f.parts f.unbroken)
+      | inr f ↦ (
+        Ok (record section {
+          bytes = f.front;
+          position = section.position + offset;
+        }),
+        string f.front f.rest le f.parts f.unbroken,
+      )
     ]
 
+-- every offset of a section has an answer for a string there
 some_string : (section : Input) (offset : ℕ) → (answer : Result Input Error) × StringAt section offset answer
 some_string section offset =
     elim (cases_lt (length section.bytes) offset) [
@@ -96,6 +136,7 @@ some_string section offset =
       | inr le ↦ found_string section offset le
     ]
 
+-- every offset of a section has exactly one answer for a string there
 pub one_string : (section : Input) (offset : ℕ) → HasOne (StringAt section offset)
 one_string section offset =
     let some = some_string section offset in
@@ -103,14 +144,21 @@ one_string section offset =
 
 -- ---- more bytes
 
-more_string : {section : Input} {offset : ℕ} {r : Result Input Error} (more : List ℕ) → StringAt section offset r → ((position : ℕ) → r ≢ Err (eof position)) → StringAt (followed_by section more) offset r
+-- an answer for a string, other than that the bytes end too early, stays the answer where more bytes follow
+more_string : {section : Input} {offset : ℕ} {r : Result Input Error} (more : List ℕ) → StringAt section offset r
+    → ((position : ℕ) → r ≢ Err (eof position)) → StringAt (followed_by section more) offset r
 more_string {section} more (outside past) final = absurd (final section.position refl)
 more_string {section} {offset} more (string bytes rest le parts unbroken) final =
-    string bytes (rest ++ more) (omega (arith, length-append section.bytes more)) (drop-append-le offset section.bytes more le ∙ ap (λ (b : List ℕ). b ++ more) parts ∙ append_assoc bytes (0 ∷ rest) more) unbroken
+    string bytes (rest ++ more) (omega (arith, length-append section.bytes more))
+    (drop-append-le offset section.bytes more le ∙ ap (λ (b : List ℕ). b ++ more) parts
+    ∙ append_assoc bytes (0 ∷ rest) more) unbroken
 more_string {section} {offset} more (unended le none) final = absurd (final (section.position + offset) refl)
 
-pub string_stays : (section : Input) (offset : ℕ) (found : Input) → StringAt section offset (Ok found) → (more : List ℕ) → StringAt (followed_by section more) offset (Ok found)
+-- a string that is found at an offset of a section is still found there where more bytes follow
+pub string_stays : (section : Input) (offset : ℕ) (found : Input) → StringAt section offset (Ok found)
+    → (more : List ℕ) → StringAt (followed_by section more) offset (Ok found)
 string_stays section offset found is more = more_string more is (λ position e. ok_err found (eof position) e)
   where
-    ok_err : (x : Input) (e : Error) → let one : Result Input Error = Ok x in let two : Result Input Error = Err e in one ≢ two
+    ok_err : (x : Input) (e : Error) → let one : Result Input Error = Ok x in
+        let two : Result Input Error = Err e in one ≢ two
     ok_err x e q = cc

@@ -26,37 +26,59 @@ Read = Result Table Error
 
 -- ---- one declaration after the other
 
-enough : (n m end : ℕ) (t : ByCode) (bytes : List ℕ) → length bytes < n → length bytes < m → table_at n end t bytes ≡ table_at m end t bytes
+-- a table is read the same under any two bounds that are above the number of its bytes
+enough : (n m end : ℕ) (t : ByCode) (bytes : List ℕ) → length bytes < n → length bytes < m
+    → table_at n end t bytes ≡ table_at m end t bytes
 unfolding table_at
 enough zero m end t bytes short other = absurd (omega arith)
 enough (suc n) zero end t bytes short other = absurd (omega arith)
-enough (suc n) (suc m) end t bytes short other = go (λ more rest h. enough n m end more rest (omega arith) (omega arith)) (declaration_at end bytes) refl
+enough (suc n) (suc m) end t bytes short other =
+    go (λ more rest h. enough n m end more rest (omega arith) (omega arith)) (declaration_at end bytes) refl
   where
-    go : ((more : ByCode) (rest : List ℕ) → length rest < length bytes → table_at n end more rest ≡ table_at m end more rest) → (r : Result (Option Declaration × List ℕ) Error) → declaration_at end bytes ≡ r
-        → (r >>= λ first. and_declared (close_of bytes) t first.0 (λ more. table_at n end more first.1)) ≡ (r >>= λ first. and_declared (close_of bytes) t first.0 (λ more. table_at m end more first.1))
+    go : ((more : ByCode) (rest : List ℕ) → length rest < length bytes
+        → table_at n end more rest ≡ table_at m end more rest) → (r : Result (Option Declaration × List ℕ) Error)
+        → declaration_at end bytes ≡ r
+        → (r >>= λ first. and_declared (close_of bytes) t first.0 (λ more. table_at n end more first.1))
+        ≡ (r >>= λ first. and_declared (close_of bytes) t first.0 (λ more. table_at m end more first.1))
     go others (Err e) q = refl
     go others (Ok (None, rest)) q = refl
-    go others (Ok (Some d, rest)) q = ap (cond (contains_key t d.code) (Err (DuplicateAbbreviationCode d.code))) (others (insert t d.code d) rest (declaration_shorter end bytes d rest q))
+    go others (Ok (Some d, rest)) q =
+        ap (cond (contains_key t d.code) (Err (DuplicateAbbreviationCode d.code)))
+        (others (insert t d.code d) rest (declaration_shorter end bytes d rest q))
 
-pub table_fails : (end : ℕ) (t : ByCode) (bytes : List ℕ) (e : Error) → declaration_at end bytes ≡ Err e → table_in end t bytes ≡ Err e
+-- an error in reading the next declaration is the error in reading the table
+pub table_fails : (end : ℕ) (t : ByCode) (bytes : List ℕ) (e : Error) → declaration_at end bytes ≡ Err e
+    → table_in end t bytes ≡ Err e
 unfolding table_in table_at
-table_fails end t bytes e q = enough (length bytes + 1) (suc (length bytes)) end t bytes (omega arith) (omega arith) ∙ rw q refl
+table_fails end t bytes e q =
+    enough (length bytes + 1) (suc (length bytes)) end t bytes (omega arith) (omega arith) ∙ rw q refl
 
-pub table_ends : (end : ℕ) (t : ByCode) (bytes rest : List ℕ) → declaration_at end bytes ≡ Ok (None, rest) → table_in end t bytes ≡ Ok (closed t (close_of bytes))
+-- a table ends where no declaration is read, closed by the end if no bytes are left, or else by a code of 0
+pub table_ends : (end : ℕ) (t : ByCode) (bytes rest : List ℕ) → declaration_at end bytes ≡ Ok (None, rest)
+    → table_in end t bytes ≡ Ok (closed t (close_of bytes))
 unfolding table_in table_at
-table_ends end t bytes rest q = enough (length bytes + 1) (suc (length bytes)) end t bytes (omega arith) (omega arith) ∙ rw q refl
+table_ends end t bytes rest q =
+    enough (length bytes + 1) (suc (length bytes)) end t bytes (omega arith) (omega arith) ∙ rw q refl
 
 -- a code of value 0 closes the table
-pub table_nulled : (end : ℕ) (t : ByCode) (bytes rest : List ℕ) → bytes ≢ [] → declaration_at end bytes ≡ Ok (None, rest) → table_in end t bytes ≡ Ok (closed t by_null)
+pub table_nulled : (end : ℕ) (t : ByCode) (bytes rest : List ℕ) → bytes ≢ []
+    → declaration_at end bytes ≡ Ok (None, rest) → table_in end t bytes ≡ Ok (closed t by_null)
 table_nulled end t bytes rest some q =
     let n : eqb (length bytes) 0 ≡ false = ne_eqb (length bytes) 0 (λ h. some (nil_from_length bytes h)) in
     table_ends end t bytes rest q ∙ rw n refl
 
-pub table_repeats : (end : ℕ) (t : ByCode) (bytes : List ℕ) (d : Declaration) (rest : List ℕ) → declaration_at end bytes ≡ Ok (Some d, rest) → contains_key t d.code ≡ true → table_in end t bytes ≡ Err (DuplicateAbbreviationCode d.code)
+-- a declaration whose code the table already has is refused as a duplicate
+pub table_repeats : (end : ℕ) (t : ByCode) (bytes : List ℕ) (d : Declaration) (rest : List ℕ)
+    → declaration_at end bytes ≡ Ok (Some d, rest) → contains_key t d.code ≡ true
+    → table_in end t bytes ≡ Err (DuplicateAbbreviationCode d.code)
 unfolding table_in table_at
-table_repeats end t bytes d rest q twice = enough (length bytes + 1) (suc (length bytes)) end t bytes (omega arith) (omega arith) ∙ rw (q, twice) refl
+table_repeats end t bytes d rest q twice =
+    enough (length bytes + 1) (suc (length bytes)) end t bytes (omega arith) (omega arith) ∙ rw (q, twice) refl
 
-pub table_goes_on : (end : ℕ) (t : ByCode) (bytes : List ℕ) (d : Declaration) (rest : List ℕ) → declaration_at end bytes ≡ Ok (Some d, rest) → contains_key t d.code ≡ false → table_in end t bytes ≡ table_in end (insert t d.code d) rest
+-- a declaration whose code is new is inserted into the table, which is then read on behind it
+pub table_goes_on : (end : ℕ) (t : ByCode) (bytes : List ℕ) (d : Declaration) (rest : List ℕ)
+    → declaration_at end bytes ≡ Ok (Some d, rest) → contains_key t d.code ≡ false
+    → table_in end t bytes ≡ table_in end (insert t d.code d) rest
 unfolding table_in table_at
 table_goes_on end t bytes d rest q fresh =
     let h = declaration_shorter end bytes d rest q in
@@ -68,64 +90,92 @@ table_goes_on end t bytes d rest q fresh =
 abbrev pub entries_of : List Declaration → List (ℕ × Declaration)
 entries_of ds = map (λ d. (d.code, d)) ds
 
+-- two codes are equal by their order exactly where they are equal as numbers
 same_code : (a b : ℕ) → eq_by_cmp nat_cmp a b ≡ eqb a b
 same_code a b = grind (arith, nat_tests)
 
-looked_up : (code : ℕ) (x : Declaration) (ds : List Declaration) (t : Bool) → eqb code x.code ≡ t → find nat_cmp code (entries_of (x ∷ ds)) ≡ cond t (Some x) (find nat_cmp code (entries_of ds))
+-- a code finds the first declaration if that one has it, and otherwise what it finds among the others
+looked_up : (code : ℕ) (x : Declaration) (ds : List Declaration) (t : Bool) → eqb code x.code ≡ t
+    → find nat_cmp code (entries_of (x ∷ ds)) ≡ cond t (Some x) (find nat_cmp code (entries_of ds))
 looked_up code x ds t e = ap (λ b. cond b (Some x) (find nat_cmp code (entries_of ds))) (same_code code x.code ∙ e)
 
+-- a code that none of the declarations has finds nothing among them
 find_none : (ds : List Declaration) (code : ℕ) → (Declares ds code → ⊥) → find nat_cmp code (entries_of ds) ≡ None
 find_none [] code h = refl
-find_none (x ∷ ds) code h = looked_up code x ds false (ne_eqb code x.code (λ e. h (inl (sym e)))) ∙ find_none ds code (λ w. h (inr w))
+find_none (x ∷ ds) code h =
+    looked_up code x ds false (ne_eqb code x.code (λ e. h (inl (sym e)))) ∙ find_none ds code (λ w. h (inr w))
 
+-- a code that one of the declarations has finds something among them
 find_some : (ds : List Declaration) (code : ℕ) → Declares ds code → is_some (find nat_cmp code (entries_of ds)) ≡ true
 find_some [] code h = absurd h
 find_some (x ∷ ds) code h = go (eqb code x.code) refl (λ w. find_some ds code w) h
   where
-    go : (t : Bool) → eqb code x.code ≡ t → (Declares ds code → is_some (find nat_cmp code (entries_of ds)) ≡ true) → (x.code ≡ code) ⊎ Declares ds code → is_some (find nat_cmp code (entries_of (x ∷ ds))) ≡ true
+    go : (t : Bool) → eqb code x.code ≡ t → (Declares ds code → is_some (find nat_cmp code (entries_of ds)) ≡ true)
+        → (x.code ≡ code) ⊎ Declares ds code → is_some (find nat_cmp code (entries_of (x ∷ ds))) ≡ true
     go true e later h = ap is_some (looked_up code x ds true e)
     go false e later (inl same) = absurd (eqb-false code x.code e (sym same))
     go false e later (inr w) = ap is_some (looked_up code x ds false e) ∙ later w
 
-declared_from_find : (ds : List Declaration) (code : ℕ) → is_some (find nat_cmp code (entries_of ds)) ≡ true → Declares ds code
+-- a code that finds something among declarations is the code of one of them
+declared_from_find : (ds : List Declaration) (code : ℕ) → is_some (find nat_cmp code (entries_of ds)) ≡ true
+    → Declares ds code
 declared_from_find [] code h = absurd cc
 declared_from_find (x ∷ ds) code h = go (eqb code x.code) refl (λ w. declared_from_find ds code w)
   where
-    go : (t : Bool) → eqb code x.code ≡ t → (is_some (find nat_cmp code (entries_of ds)) ≡ true → Declares ds code) → (x.code ≡ code) ⊎ Declares ds code
+    go : (t : Bool) → eqb code x.code ≡ t → (is_some (find nat_cmp code (entries_of ds)) ≡ true → Declares ds code)
+        → (x.code ≡ code) ⊎ Declares ds code
     go true e later = inl (sym (eqb-true code x.code e))
     go false e later = inr (later (sym (ap is_some (looked_up code x ds false e)) ∙ h))
 
-contains_is : (ds : List Declaration) (code : ℕ) → contains_key (by_code_of ds) code ≡ is_some (find nat_cmp code (entries_of ds))
+-- the map of declarations has a code exactly where the code finds something among them
+contains_is : (ds : List Declaration) (code : ℕ)
+    → contains_key (by_code_of ds) code ≡ is_some (find nat_cmp code (entries_of ds))
 contains_is ds code = ap is_some (get-from_entries nat_cmp_total (entries_of ds) code)
 
+-- the map of declarations lacks a code that none of them has
 pub fresh_code : (ds : List Declaration) (code : ℕ) → (Declares ds code → ⊥) → contains_key (by_code_of ds) code ≡ false
 fresh_code ds code h = contains_is ds code ∙ ap is_some (find_none ds code h)
 
+-- the map of declarations has a code that one of them has
 pub repeated_code : (ds : List Declaration) (code : ℕ) → Declares ds code → contains_key (by_code_of ds) code ≡ true
 repeated_code ds code h = contains_is ds code ∙ find_some ds code h
 
+-- a code that the map of declarations has is the code of one of them
 pub declared_from_key : (ds : List Declaration) (code : ℕ) → contains_key (by_code_of ds) code ≡ true → Declares ds code
 declared_from_key ds code e = declared_from_find ds code (sym (contains_is ds code) ∙ e)
 
-pub fresh_from_key : (ds : List Declaration) (code : ℕ) → contains_key (by_code_of ds) code ≡ false → Declares ds code → ⊥
+-- a code that the map of declarations lacks is the code of none of them
+pub fresh_from_key : (ds : List Declaration) (code : ℕ) → contains_key (by_code_of ds) code ≡ false
+    → Declares ds code → ⊥
 fresh_from_key ds code e h = true≢false (sym (repeated_code ds code h) ∙ e)
 
-pub table_push : (ds : List Declaration) (d : Declaration) → (Declares ds d.code → ⊥) → by_code_of (ds ++ d ∷ []) ≡ insert (by_code_of ds) d.code d
+-- the map of declarations and one more, whose code is new, is their map with an insert of that one
+pub table_push : (ds : List Declaration) (d : Declaration) → (Declares ds d.code → ⊥)
+    → by_code_of (ds ++ d ∷ []) ≡ insert (by_code_of ds) d.code d
 table_push ds d h =
-    ap (λ (es : List (ℕ × Declaration)). from_entries {R = nat_cmp} es) (map_push (λ (x : Declaration). (x.code, x)) ds d)
+    ap (λ (es : List (ℕ × Declaration)). from_entries {R = nat_cmp} es)
+    (map_push (λ (x : Declaration). (x.code, x)) ds d)
     ∙ from_entries_push nat_cmp_total nat_cmp-IsAntisymmetric (entries_of ds) d.code d (find_none ds d.code h)
 
-declared_later : (ds : List Declaration) (d : Declaration) (code : ℕ) → Declares (ds ++ d ∷ []) code → Declares ds code ⊎ (d.code ≡ code)
+-- a code of declarations and one more is a code of those declarations, or that of the one more
+declared_later : (ds : List Declaration) (d : Declaration) (code : ℕ) → Declares (ds ++ d ∷ []) code
+    → Declares ds code ⊎ (d.code ≡ code)
 declared_later [] d code (inl e) = inr e
 declared_later [] d code (inr h) = absurd h
 declared_later (x ∷ ds) d code (inl e) = inl (inl e)
 declared_later (x ∷ ds) d code (inr h) = elim (declared_later ds d code h) [ inl w ↦ inl (inr w) | inr w ↦ inr w ]
 
-distinct_push : (ds : List Declaration) (d : Declaration) → AreDistinct ds → (Declares ds d.code → ⊥) → AreDistinct (ds ++ d ∷ [])
+-- declarations with distinct codes still have distinct codes with one more behind them whose code is new
+distinct_push : (ds : List Declaration) (d : Declaration) → AreDistinct ds → (Declares ds d.code → ⊥)
+    → AreDistinct (ds ++ d ∷ [])
 distinct_push [] d h new = (λ w. w, tt)
-distinct_push (x ∷ ds) d h new =
-    (λ w. elim (declared_later ds d x.code w) [ inl v ↦ h.0 v | inr v ↦ new (inl (sym v)) ], distinct_push ds d h.1 (λ w. new (inr w)))
+distinct_push (x ∷ ds) d h new = (
+  λ w. elim (declared_later ds d x.code w) [ inl v ↦ h.0 v | inr v ↦ new (inl (sym v)) ],
+  distinct_push ds d h.1
+      (λ w. new (inr w)),
+)
 
+-- a declaration among those with distinct codes has a code that none before it has
 distinct_front : (ds more : List Declaration) (d : Declaration) → AreDistinct (ds ++ d ∷ more) → Declares ds d.code → ⊥
 distinct_front [] more d h w = w
 distinct_front (x ∷ ds) more d h (inl e) = h.0 (stands ds)
@@ -142,98 +192,149 @@ abbrev Reads : ℕ → List ℕ → Read → Type 0
 Reads end bytes (Ok t) = IsTable bytes t
 Reads end bytes (Err e) = IsFault end bytes e
 
-declarations_push : (bytes : List ℕ) (ds : List Declaration) (last : List ℕ) (d : Declaration) → AreDeclarations bytes ds → IsDeclaration last d → (Declares ds d.code → ⊥) → AreDeclarations (bytes ++ last) (ds ++ d ∷ [])
-declarations_push bytes ds last d are is new = record { each = Sequence-push IsDeclaration bytes ds last d are.each is; distinct = distinct_push ds d are.distinct new }
+-- the bytes of declarations and of one more, whose code is new, are the bytes of all of them
+declarations_push : (bytes : List ℕ) (ds : List Declaration) (last : List ℕ) (d : Declaration)
+    → AreDeclarations bytes ds → IsDeclaration last d → (Declares ds d.code → ⊥)
+    → AreDeclarations (bytes ++ last) (ds ++ d ∷ [])
+declarations_push bytes ds last d are is new =
+    record {
+      each = Sequence-push IsDeclaration bytes ds last d are.each is;
+      distinct = distinct_push ds d are.distinct new;
+    }
 
 -- the table ends
-ended : {bytes rest : List ℕ} (front : List ℕ) (ds : List Declaration) → AreDeclarations front ds → EndFound bytes rest → IsTable (front ++ bytes) (closed (by_code_of ds) (close_of bytes))
-ended front ds are at_end = subst (λ (b : List ℕ). IsTable b (closed (by_code_of ds) by_end)) (sym (append-nil front)) (closed_by_end front ds are)
+ended : {bytes rest : List ℕ} (front : List ℕ) (ds : List Declaration) → AreDeclarations front ds
+    → EndFound bytes rest → IsTable (front ++ bytes) (closed (by_code_of ds) (close_of bytes))
+ended front ds are at_end =
+    subst (λ (b : List ℕ). IsTable b (closed (by_code_of ds) by_end)) (sym (append-nil front))
+    (closed_by_end front ds are)
 ended front ds are (at_zero bytes rest z) =
-    let same : front ++ z.front ++ rest ≡ front ++ bytes = append_assoc front z.front rest ∙ ap (λ (b : List ℕ). front ++ b) (sym z.parts) in
+    let same : front ++ z.front ++ rest ≡ front ++ bytes = append_assoc front z.front rest
+    ∙ ap (λ (b : List ℕ). front ++ b) (sym z.parts) in
     let w : length bytes ≡ length (z.front ++ rest) = ap length z.parts in
-    let some : eqb (length bytes) 0 ≡ false = ne_eqb (length bytes) 0 (λ e. omega (arith, length-append z.front rest, nonempty z.front z.is_zero.encoding)) in
-    rw some (subst (λ (b : List ℕ). IsTable b (closed (by_code_of ds) by_null)) same (closed_by_null front z.front rest ds are z.is_zero))
+    let some : eqb (length bytes) 0 ≡ false = ne_eqb (length bytes) 0
+    (λ e. omega (arith, length-append z.front rest, nonempty z.front z.is_zero.encoding)) in
+    rw some (subst (λ (b : List ℕ). IsTable b (closed (by_code_of ds) by_null)) same
+    (closed_by_null front z.front rest ds are z.is_zero))
 
-reads_by : (n end : ℕ) (front bytes : List ℕ) (ds : List Declaration) → length bytes < n → AreDeclarations front ds → Reads end (front ++ bytes) (table_at n end (by_code_of ds) bytes)
+-- what is read behind the declarations so far is the table that all the bytes begin with, or their first fault
+reads_by : (n end : ℕ) (front bytes : List ℕ) (ds : List Declaration) → length bytes < n → AreDeclarations front ds
+    → Reads end (front ++ bytes) (table_at n end (by_code_of ds) bytes)
 unfolding table_at
 reads_by zero end front bytes ds short are = absurd (omega arith)
-reads_by (suc n) end front bytes ds short are = go (λ f rest more h a. reads_by n end f rest more (omega arith) a) (declaration_at end bytes) refl
+reads_by (suc n) end front bytes ds short are =
+    go (λ f rest more h a. reads_by n end f rest more (omega arith) a) (declaration_at end bytes) refl
   where
-    declared : ((f rest : List ℕ) (more : List Declaration) → length rest < length bytes → AreDeclarations f more → Reads end (f ++ rest) (table_at n end (by_code_of more) rest)) → (d : Declaration) (rest : List ℕ) → declaration_at end bytes ≡ Ok (Some d, rest) → (t : Bool) → contains_key (by_code_of ds) d.code ≡ t
-        → Reads end (front ++ bytes) (cond t (Err (DuplicateAbbreviationCode d.code)) (table_at n end (insert (by_code_of ds) d.code d) rest))
+    declared : ((f rest : List ℕ) (more : List Declaration) → length rest < length bytes → AreDeclarations f more
+        → Reads end (f ++ rest) (table_at n end (by_code_of more) rest)) → (d : Declaration) (rest : List ℕ)
+        → declaration_at end bytes ≡ Ok (Some d, rest) → (t : Bool) → contains_key (by_code_of ds) d.code ≡ t
+        → Reads end (front ++ bytes) (cond t (Err (DuplicateAbbreviationCode d.code))
+        (table_at n end (insert (by_code_of ds) d.code d) rest))
     declared others d rest q true e =
         let f : DeclarationFound bytes d rest = declaration_found end bytes (Some d, rest) q in
-        let same : front ++ f.front ++ rest ≡ front ++ bytes = append_assoc front f.front rest ∙ ap (λ (b : List ℕ). front ++ b) (sym f.parts) in
-        subst (λ (b : List ℕ). IsFault end b (DuplicateAbbreviationCode d.code)) same (repeated front f.front rest ds d are f.is_declaration (declared_from_key ds d.code e))
+        let same : front ++ f.front ++ rest ≡ front ++ bytes = append_assoc front f.front rest
+        ∙ ap (λ (b : List ℕ). front ++ b) (sym f.parts) in
+        subst (λ (b : List ℕ). IsFault end b (DuplicateAbbreviationCode d.code)) same
+        (repeated front f.front rest ds d are f.is_declaration (declared_from_key ds d.code e))
     declared others d rest q false e =
         let f : DeclarationFound bytes d rest = declaration_found end bytes (Some d, rest) q in
         let new = fresh_from_key ds d.code e in
-        let same : front ++ f.front ++ rest ≡ front ++ bytes = append_assoc front f.front rest ∙ ap (λ (b : List ℕ). front ++ b) (sym f.parts) in
-        let r = others (front ++ f.front) rest (ds ++ d ∷ []) (declaration_shorter end bytes d rest q) (declarations_push front ds f.front d are f.is_declaration new) in
-        subst (λ (b : List ℕ). Reads end b (table_at n end (insert (by_code_of ds) d.code d) rest)) same (subst (λ (t : ByCode). Reads end (front ++ f.front ++ rest) (table_at n end t rest)) (table_push ds d new) r)
+        let same : front ++ f.front ++ rest ≡ front ++ bytes = append_assoc front f.front rest
+        ∙ ap (λ (b : List ℕ). front ++ b) (sym f.parts) in
+        let r = others (front ++ f.front) rest (ds ++ d ∷ []) (declaration_shorter end bytes d rest q)
+        (declarations_push front ds f.front d are f.is_declaration new) in
+        subst (λ (b : List ℕ). Reads end b (table_at n end (insert (by_code_of ds) d.code d) rest)) same
+        (subst (λ (t : ByCode). Reads end (front ++ f.front ++ rest) (table_at n end t rest))
+        (table_push ds d new) r)
 
-    go : ((f rest : List ℕ) (more : List Declaration) → length rest < length bytes → AreDeclarations f more → Reads end (f ++ rest) (table_at n end (by_code_of more) rest)) → (r : Result (Option Declaration × List ℕ) Error) → declaration_at end bytes ≡ r
-        → Reads end (front ++ bytes) (r >>= λ first. and_declared (close_of bytes) (by_code_of ds) first.0 (λ more. table_at n end more first.1))
+    go : ((f rest : List ℕ) (more : List Declaration) → length rest < length bytes → AreDeclarations f more
+        → Reads end (f ++ rest) (table_at n end (by_code_of more) rest))
+        → (r : Result (Option Declaration × List ℕ) Error) → declaration_at end bytes ≡ r
+        → Reads end (front ++ bytes) (r >>= λ first. and_declared (close_of bytes) (by_code_of ds) first.0
+        (λ more. table_at n end more first.1))
     go others (Err e) q = let f = declaration_fault end bytes e q in in_declaration front bytes ds e are f.0 f.1
     go others (Ok (None, rest)) q = ended front ds are (declaration_found end bytes (None, rest) q)
     go others (Ok (Some d, rest)) q = declared others d rest q (contains_key (by_code_of ds) d.code) refl
 
 -- ---- what is in the grammar is read
 
-feed : (end : ℕ) (seen : List Declaration) (bytes rest : List ℕ) (ds : List Declaration) → Sequence IsDeclaration bytes ds → AreDistinct (seen ++ ds) → table_in end (by_code_of seen) (bytes ++ rest) ≡ table_in end (by_code_of (seen ++ ds)) rest
+-- declarations whose codes are new and distinct are read into the table, which is then read on behind them
+feed : (end : ℕ) (seen : List Declaration) (bytes rest : List ℕ) (ds : List Declaration)
+    → Sequence IsDeclaration bytes ds → AreDistinct (seen ++ ds)
+    → table_in end (by_code_of seen) (bytes ++ rest) ≡ table_in end (by_code_of (seen ++ ds)) rest
 feed end seen bytes rest [] e h = rw (e, append-nil seen) refl
 feed end seen bytes rest (d ∷ ds) q h =
     let same : bytes ++ rest ≡ q.0 ++ (q.1 ++ rest) = ap (λ (b : List ℕ). b ++ rest) q.2 ∙ append_assoc q.0 q.1 rest in
     let new = distinct_front seen ds d h in
     let regrouped : (seen ++ d ∷ []) ++ ds ≡ seen ++ (d ∷ ds) = append_assoc seen (d ∷ []) ds in
     ap (table_in end (by_code_of seen)) same
-    ∙ table_goes_on end (by_code_of seen) (q.0 ++ (q.1 ++ rest)) d (q.1 ++ rest) (declaration_again end q.0 (q.1 ++ rest) d q.3) (fresh_code seen d.code new)
+    ∙ table_goes_on end (by_code_of seen) (q.0 ++ (q.1 ++ rest)) d (q.1 ++ rest)
+    (declaration_again end q.0 (q.1 ++ rest) d q.3) (fresh_code seen d.code new)
     ∙ ap (λ (t : ByCode). table_in end t (q.1 ++ rest)) (sym (table_push seen d new))
     ∙ feed end (seen ++ d ∷ []) q.1 rest ds q.4 (subst AreDistinct (sym regrouped) h)
     ∙ ap (λ (xs : List Declaration). table_in end (by_code_of xs) rest) regrouped
 
+-- bytes that begin with a table are read as that table
 pub table_again : {bytes : List ℕ} {t : Table} (end : ℕ) → IsTable bytes t → table_in end (by_code_of []) bytes ≡ Ok t
 table_again end (closed_by_null bytes zero_code rest ds are is) =
-    let some : eqb (length (zero_code ++ rest)) 0 ≡ false = ne_eqb (length (zero_code ++ rest)) 0 (λ e. omega (arith, length-append zero_code rest, nonempty zero_code is.encoding)) in
+    let some : eqb (length (zero_code ++ rest)) 0
+    ≡ false = ne_eqb (length (zero_code ++ rest)) 0
+    (λ e. omega (arith, length-append zero_code rest, nonempty zero_code is.encoding)) in
     ap (table_in end (by_code_of [])) (append_assoc bytes zero_code rest)
     ∙ feed end [] bytes (zero_code ++ rest) ds are.each are.distinct
     ∙ table_ends end (by_code_of ds) (zero_code ++ rest) rest (zero_again end zero_code rest is)
     ∙ rw some refl
 table_again end (closed_by_end bytes ds are) =
-    ap (table_in end (by_code_of [])) (sym (append-nil bytes)) ∙ feed end [] bytes [] ds are.each are.distinct ∙ table_ends end (by_code_of ds) [] [] (end_again end)
+    ap (table_in end (by_code_of [])) (sym (append-nil bytes)) ∙ feed end [] bytes [] ds are.each are.distinct
+    ∙ table_ends end (by_code_of ds) [] [] (end_again end)
 
-pub faults_again : {bytes : List ℕ} {e : Error} {end : ℕ} → IsFault end bytes e → table_in end (by_code_of []) bytes ≡ Err e
-faults_again {end = end} (in_declaration bytes rest ds e are some f) = feed end [] bytes rest ds are.each are.distinct ∙ table_fails end (by_code_of ds) rest e (fault_again end f some)
+-- bytes that have a first fault, in place of a table, are read as that fault
+pub faults_again : {bytes : List ℕ} {e : Error} {end : ℕ} → IsFault end bytes e
+    → table_in end (by_code_of []) bytes ≡ Err e
+faults_again {end = end} (in_declaration bytes rest ds e are some f) =
+    feed end [] bytes rest ds are.each are.distinct
+    ∙ table_fails end (by_code_of ds) rest e (fault_again end f some)
 faults_again {end = end} (repeated bytes declaration rest ds d are is twice) =
     ap (table_in end (by_code_of [])) (append_assoc bytes declaration rest)
     ∙ feed end [] bytes (declaration ++ rest) ds are.each are.distinct
-    ∙ table_repeats end (by_code_of ds) (declaration ++ rest) d rest (declaration_again end declaration rest d is) (repeated_code ds d.code twice)
+    ∙ table_repeats end (by_code_of ds) (declaration ++ rest) d rest (declaration_again end declaration rest d is)
+    (repeated_code ds d.code twice)
 
 -- ---- the one answer
 
 abbrev AnswerBy : Bool → Input → ℕ → Read
-AnswerBy t section offset = cond t (Err (end_fault section)) (table_in (end_of section) empty (drop offset section.bytes))
+AnswerBy t section offset =
+    cond t (Err (end_fault section)) (table_in (end_of section) empty (drop offset section.bytes))
 
+-- what is read at an offset of a section is an answer for them
 pub is_answer : (section : Input) (offset : ℕ) → Answer section offset (answer_at section offset)
 unfolding answer_at table_in
 is_answer section offset = go (ltb (length section.bytes) offset) refl
   where
-    read : (r : Read) → offset ≤ length section.bytes → Reads (end_of section) (drop offset section.bytes) r → Answer section offset r
+    read : (r : Read) → offset ≤ length section.bytes → Reads (end_of section) (drop offset section.bytes) r
+        → Answer section offset r
     read (Ok t) le is = table t le is
     read (Err e) le is = fault e le is
 
     go : (t : Bool) → ltb (length section.bytes) offset ≡ t → Answer section offset (AnswerBy t section offset)
     go true lt = outside (ltb-true (length section.bytes) offset lt)
-    go false le = read (table_in (end_of section) empty (drop offset section.bytes)) (ltb-false (length section.bytes) offset le) (reads_by (length (drop offset section.bytes) + 1) (end_of section) [] (drop offset section.bytes) [] (omega arith) (record { each = refl; distinct = tt }))
+    go false le =
+        read (table_in (end_of section) empty (drop offset section.bytes))
+        (ltb-false (length section.bytes) offset le)
+        (reads_by (length (drop offset section.bytes) + 1) (end_of section) [] (drop offset section.bytes) []
+        (omega arith) (record { each = refl; distinct = tt }))
 
+-- every answer for a section and an offset is what is read there
 pub only_answer : {section : Input} {offset : ℕ} {r : Read} → Answer section offset r → answer_at section offset ≡ r
 unfolding answer_at
 only_answer {section} {offset} (outside lt) = rw (lt-ltb (length section.bytes) offset lt) refl
-only_answer {section} {offset} (table t le is) = rw (le-ltb (length section.bytes) offset le, table_again (end_of section) is) refl
+only_answer {section} {offset} (table t le is) =
+    rw (le-ltb (length section.bytes) offset le, table_again (end_of section) is) refl
 only_answer {section} {offset} (fault e le is) = rw (le-ltb (length section.bytes) offset le, faults_again is) refl
 
 -- what the code reads behind the offset is the answer
-pub answered : (r : Read) (section : Input) (offset : ℕ) (rest : Input) → Takes offset section rest → Gives (λ t. t) r (table_in (end_of rest) empty rest.bytes) → Answers r section offset
+pub answered : (r : Read) (section : Input) (offset : ℕ) (rest : Input) → Takes offset section rest
+    → Gives (λ t. t) r (table_in (end_of rest) empty rest.bytes) → Answers r section offset
 unfolding answer_at
 answered r section offset rest takes given = go r (subst (λ (read : Read). Gives (λ t. t) r read) same given)
   where
@@ -247,20 +348,27 @@ answered r section offset rest takes given = go r (subst (λ (read : Read). Give
     go (Ok t) h = subst (Answer section offset) h (is_answer section offset)
     go (Err e) h = λ memory. subst (Answer section offset) (h memory) (is_answer section offset)
 
+-- a section and an offset have exactly one answer
 pub one_answer : (section : Input) (offset : ℕ) → HasOne (Answer section offset)
 one_answer section offset = (answer_at section offset, is_answer section offset, λ s a. sym (only_answer a))
 
 -- an offset past the end
-pub outside_of : (section : Input) (offset : ℕ) (e : Error) (new : Input) → EndsBefore offset section e new → Answer section offset (Err e)
-outside_of section offset e new short = subst (λ (x : Error). Answer section offset (Err x)) (sym short.fault) (outside short.short)
+pub outside_of : (section : Input) (offset : ℕ) (e : Error) (new : Input) → EndsBefore offset section e new
+    → Answer section offset (Err e)
+outside_of section offset e new short =
+    subst (λ (x : Error). Answer section offset (Err x)) (sym short.fault) (outside short.short)
 
 -- where no declaration begins
-pub nothing_declared : (end : ℕ) (section : Input) (offset : ℕ) (rest : List ℕ) → TakesNoMemory section offset → rest ≡ drop offset section.bytes → (behind : List ℕ) × (declaration_at end rest ≡ Ok (None, behind))
+pub nothing_declared : (end : ℕ) (section : Input) (offset : ℕ) (rest : List ℕ) → TakesNoMemory section offset
+    → rest ≡ drop offset section.bytes → (behind : List ℕ) × (declaration_at end rest ≡ Ok (None, behind))
 nothing_declared end section offset rest (inl past) is =
-    let none : rest ≡ [] = is ∙ nil_from_length (drop offset section.bytes) (omega (arith, length-drop offset section.bytes)) in
+    let none : rest ≡ [] = is ∙ nil_from_length (drop offset section.bytes)
+    (omega (arith, length-drop offset section.bytes)) in
     ([], ap (declaration_at end) none ∙ end_again end)
-nothing_declared end section offset rest (inr z) is = (z.1, ap (declaration_at end) (is ∙ z.2) ∙ zero_again end z.0 z.1 z.3)
+nothing_declared end section offset rest (inr z) is =
+    (z.1, ap (declaration_at end) (is ∙ z.2) ∙ zero_again end z.0 z.1 z.3)
 
+-- a result can't be both a value and an error
 pub ok_is_no_error : {A : Type 0} (r : Result A Error) (e : Error) → IsOk r → IsErrOf r e → ⊥
 ok_is_no_error (Ok x) e ok err = cc
 ok_is_no_error (Err d) e ok err = cc

@@ -18,26 +18,44 @@ use Rattle.dwarf_read_core.proofs.Ranges.{length_left}
 -- ---- going to the place
 
 -- a base past the end is the first fault
-pub no_base : (greatest : ℕ) (section : Input) (s : Slot) (e : Error) (new : Input) → EndsBefore s.base section e new → Misplaced greatest section s e
+pub no_base : (greatest : ℕ) (section : Input) (s : Slot) (e : Error) (new : Input)
+    → EndsBefore s.base section e new → Misplaced greatest section s e
 unfolding to_slot
 no_base greatest section s e new short = inl (new, short)
 
 -- then a distance that is no offset
-pub too_far_off : (greatest : ℕ) (section : Input) (s : Slot) (rest : Input) → Takes s.base section rest → greatest < distance s → Misplaced greatest section s UnsupportedOffset
+pub too_far_off : (greatest : ℕ) (section : Input) (s : Slot) (rest : Input) → Takes s.base section rest
+    → greatest < distance s → Misplaced greatest section s UnsupportedOffset
 unfolding to_slot
-too_far_off greatest section s rest takes over = inr (first s.base section, rest, (refl, takes), inl (rw (lt-leb (distance s) greatest over) refl))
+too_far_off greatest section s rest takes over =
+    inr (first s.base section, rest, (refl, takes), inl (rw (lt-leb (distance s) greatest over) refl))
 
 -- then a place past the end
-pub past_end : (greatest : ℕ) (section : Input) (s : Slot) (rest : Input) (e : Error) (new : Input) → Takes s.base section rest → distance s ≤ greatest → EndsBefore (distance s) rest e new → Misplaced greatest section s e
+pub past_end : (greatest : ℕ) (section : Input) (s : Slot) (rest : Input) (e : Error) (new : Input)
+    → Takes s.base section rest → distance s ≤ greatest → EndsBefore (distance s) rest e new
+    → Misplaced greatest section s e
 unfolding to_slot
-past_end greatest section s rest e new takes counted short = inr (first s.base section, rest, (refl, takes), inr (tt, rest, rw (le-leb (distance s) greatest counted) (refl, refl), (new, short)))
+past_end greatest section s rest e new takes counted short =
+    inr (
+      first s.base section,
+      rest,
+      (refl, takes),
+      inr
+          (tt, rest, rw (le-leb (distance s) greatest counted) (refl, refl), (new, short)),
+    )
 
-pub past_end_found : {A : Type 0} (greatest : ℕ) (section : Input) (s : Slot) (rest new : Input) (far : ℕ) (r : Result A Error) → Takes s.base section rest → far ≡ distance s → far ≤ greatest → IfErr r (λ e. EndsBefore far rest e new) → IfErr r (Misplaced greatest section s)
+-- the same, where the distance was counted by the code
+pub past_end_found : {A : Type 0} (greatest : ℕ) (section : Input) (s : Slot) (rest new : Input) (far : ℕ)
+    (r : Result A Error) → Takes s.base section rest → far ≡ distance s → far ≤ greatest
+    → IfErr r (λ e. EndsBefore far rest e new) → IfErr r (Misplaced greatest section s)
 past_end_found greatest section s rest new far (Ok x) takes is counted h = tt
-past_end_found greatest section s rest new far (Err e) takes is counted h = past_end greatest section s rest e new takes (subst (λ (n : ℕ). n ≤ greatest) is counted) (subst (λ (n : ℕ). EndsBefore n rest e new) is h)
+past_end_found greatest section s rest new far (Err e) takes is counted h =
+    past_end greatest section s rest e new takes (subst (λ (n : ℕ). n ≤ greatest) is counted)
+    (subst (λ (n : ℕ). EndsBefore n rest e new) is h)
 
 -- where both steps go, the place lies in the section
-pub placed : (greatest : ℕ) (section : Input) (s : Slot) (rest new : Input) → Takes s.base section rest → distance s ≤ greatest → Takes (distance s) rest new → IsPlaced greatest section s
+pub placed : (greatest : ℕ) (section : Input) (s : Slot) (rest new : Input) → Takes s.base section rest
+    → distance s ≤ greatest → Takes (distance s) rest new → IsPlaced greatest section s
 placed greatest section s rest new takes counted further = record {
   based = takes.enough;
   counted = counted;
@@ -45,107 +63,216 @@ placed greatest section s rest new takes counted further = record {
 }
 
 -- and its bytes are taken in all
-pub skipped : (section : Input) (s : Slot) (rest new : Input) → Takes s.base section rest → Takes (distance s) rest new → Takes (place s) section new
+pub skipped : (section : Input) (s : Slot) (rest new : Input) → Takes s.base section rest
+    → Takes (distance s) rest new → Takes (place s) section new
 skipped section s rest new takes further = record {
   enough = omega (arith, takes.enough, further.enough, length_left s.base section rest takes);
   left = further.left ∙ ap (after (distance s)) takes.left ∙ after-after (distance s) s.base section;
 }
 
 -- the bytes before a place in the section are those in front of the slot
-slot_reached : (greatest : ℕ) (section : Input) (s : Slot) (rest : Input) → IsPlaced greatest section s → Takes (place s) section rest → (to_slot greatest s).Reads section (first (distance s) (after s.base section)) rest
+slot_reached : (greatest : ℕ) (section : Input) (s : Slot) (rest : Input) → IsPlaced greatest section s
+    → Takes (place s) section rest → (to_slot greatest s).Reads section
+    (first (distance s) (after s.base section)) rest
 unfolding to_slot
 slot_reached greatest section s rest is_placed takes =
     let based : Takes s.base section (after s.base section) = record { enough = is_placed.based; left = refl } in
-    let further : Takes (distance s) (after s.base section) rest = record { enough = omega (arith, is_placed.within, length_left s.base section (after s.base section) based); left = takes.left ∙ sym (after-after (distance s) s.base section) } in
-    (first s.base section, after s.base section, (refl, based), (tt, after s.base section, rw (le-leb (distance s) greatest is_placed.counted) (refl, refl), (refl, further)))
+    let further : Takes (distance s) (after s.base section) rest = record {
+      enough = omega
+          (arith, is_placed.within, length_left s.base section (after s.base section) based);
+      left =
+          takes.left ∙ sym (after-after (distance s) s.base section);
+    } in (
+      first s.base section,
+      after s.base section,
+      (refl, based),
+      (
+        tt,
+        after s.base section,
+        rw (le-leb (distance s) greatest is_placed.counted) (refl, refl),
+        (refl, further),
+      ),
+    )
 
 -- ---- the number there
 
-pub word_taken : (greatest : ℕ) (section : Input) (s : Slot) (rest : Input) (x : ℕ) (new : Input) → IsPlaced greatest section s → Takes (place s) section rest → TakesNumber s.width rest x new → x ≤ greatest → WordAt greatest section s (Ok x)
+-- an offset that is taken at the place is the word
+pub word_taken : (greatest : ℕ) (section : Input) (s : Slot) (rest : Input) (x : ℕ) (new : Input)
+    → IsPlaced greatest section s → Takes (place s) section rest → TakesNumber s.width rest x new → x ≤ greatest
+    → WordAt greatest section s (Ok x)
 unfolding word string_offset
 word_taken greatest section s rest x new is_placed takes number fits =
-    value new (_, rest, slot_reached greatest section s rest is_placed takes, (x, new, number, (tt, new, rw (le-leb x greatest fits) (refl, refl), (refl, refl))))
+    value new (
+      _,
+      rest,
+      slot_reached greatest section s rest is_placed takes,
+      (x, new, number, (tt, new, rw (le-leb x greatest fits) (refl, refl), (refl, refl))),
+    )
 
-pub word_refused : (greatest : ℕ) (section : Input) (s : Slot) (rest : Input) (e : Error) (new : Input) → IsPlaced greatest section s → Takes (place s) section rest → (EndsBefore s.width rest e new ⊎ IsNoOffset greatest s.width rest e new) → WordAt greatest section s (Err e)
+-- one that isn't there, or is no offset, is the fault
+pub word_refused : (greatest : ℕ) (section : Input) (s : Slot) (rest : Input) (e : Error) (new : Input)
+    → IsPlaced greatest section s → Takes (place s) section rest
+    → (EndsBefore s.width rest e new ⊎ IsNoOffset greatest s.width rest e new) → WordAt greatest section s (Err e)
 unfolding word string_offset
-word_refused greatest section s rest e new is_placed takes (inl short) = refused (inr (_, rest, slot_reached greatest section s rest is_placed takes, inl (new, short)))
+word_refused greatest section s rest e new is_placed takes (inl short) =
+    refused (inr (_, rest, slot_reached greatest section s rest is_placed takes, inl (new, short)))
 word_refused greatest section s rest e new is_placed takes (inr unfit) =
-    refused (inr (_, rest, slot_reached greatest section s rest is_placed takes, inr (unfit.number, new, unfit.taken, inl (rw (lt-leb unfit.number greatest unfit.over) unfit.fault))))
+    refused (inr (
+      _,
+      rest,
+      slot_reached greatest section s rest is_placed takes,
+      inr
+          (unfit.number, new, unfit.taken, inl (rw (lt-leb unfit.number greatest unfit.over) unfit.fault)),
+    ))
 
-pub word_misplaced : (greatest : ℕ) (section : Input) (s : Slot) (e : Error) → Misplaced greatest section s e → WordAt greatest section s (Err e)
+-- so is a place that isn't there
+pub word_misplaced : (greatest : ℕ) (section : Input) (s : Slot) (e : Error) → Misplaced greatest section s e
+    → WordAt greatest section s (Err e)
 unfolding word
 word_misplaced greatest section s e misplaced = refused (inl misplaced)
 
-pub address_taken : (greatest : ℕ) (section : Input) (s : Slot) (rest : Input) (x : ℕ) (new : Input) → IsPlaced greatest section s → Takes (place s) section rest → TakesNumber s.width rest x new → IsTrue (is_number_size s.width) → AddressAt greatest section s (Ok x)
+-- a number that is taken at the place is the address
+pub address_taken : (greatest : ℕ) (section : Input) (s : Slot) (rest : Input) (x : ℕ) (new : Input)
+    → IsPlaced greatest section s → Takes (place s) section rest → TakesNumber s.width rest x new
+    → IsTrue (is_number_size s.width) → AddressAt greatest section s (Ok x)
 unfolding address
-address_taken greatest section s rest x new is_placed takes number size = value new (_, rest, slot_reached greatest section s rest is_placed takes, (tt, rest, rw size (refl, refl), number))
+address_taken greatest section s rest x new is_placed takes number size =
+    value new (
+      _,
+      rest,
+      slot_reached greatest section s rest is_placed takes,
+      (tt, rest, rw size (refl, refl), number),
+    )
 
-pub address_refused : (greatest : ℕ) (section : Input) (s : Slot) (rest : Input) (e : Error) (new : Input) → IsPlaced greatest section s → Takes (place s) section rest → RefusesAddress s.width rest e new → AddressAt greatest section s (Err e)
+-- a width that is no size, or bytes that aren't there, are the fault
+pub address_refused : (greatest : ℕ) (section : Input) (s : Slot) (rest : Input) (e : Error) (new : Input)
+    → IsPlaced greatest section s → Takes (place s) section rest → RefusesAddress s.width rest e new
+    → AddressAt greatest section s (Err e)
 unfolding address
-address_refused greatest section s rest e new is_placed takes (inl other) = refused (inr (_, rest, slot_reached greatest section s rest is_placed takes, inl (rw other.none other.fault)))
-address_refused greatest section s rest e new is_placed takes (inr (size, short)) = refused (inr (_, rest, slot_reached greatest section s rest is_placed takes, inr (tt, rest, rw size (refl, refl), (new, short))))
+address_refused greatest section s rest e new is_placed takes (inl other) =
+    refused (inr (_, rest, slot_reached greatest section s rest is_placed takes, inl (rw other.none other.fault)))
+address_refused greatest section s rest e new is_placed takes (inr (size, short)) =
+    refused (inr (
+      _,
+      rest,
+      slot_reached greatest section s rest is_placed takes,
+      inr
+          (tt, rest, rw size (refl, refl), (new, short)),
+    ))
 
-pub address_misplaced : (greatest : ℕ) (section : Input) (s : Slot) (e : Error) → Misplaced greatest section s e → AddressAt greatest section s (Err e)
+-- so is a place that isn't there
+pub address_misplaced : (greatest : ℕ) (section : Input) (s : Slot) (e : Error) → Misplaced greatest section s e
+    → AddressAt greatest section s (Err e)
 unfolding address
 address_misplaced greatest section s e misplaced = refused (inl misplaced)
 
-pub address_found : (greatest : ℕ) (section : Input) (s : Slot) (rest new : Input) (r : Result ℕ Error) → IsPlaced greatest section s → Takes (place s) section rest → IfOk r (λ x. TakesNumber s.width rest x new × IsTrue (is_number_size s.width)) → IfOk r (λ x. AddressAt greatest section s (Ok x))
-address_found greatest section s rest new (Ok x) is_placed takes (number, size) = address_taken greatest section s rest x new is_placed takes number size
+-- the address, if a result has one
+pub address_found : (greatest : ℕ) (section : Input) (s : Slot) (rest new : Input) (r : Result ℕ Error)
+    → IsPlaced greatest section s → Takes (place s) section rest
+    → IfOk r (λ x. TakesNumber s.width rest x new × IsTrue (is_number_size s.width))
+    → IfOk r (λ x. AddressAt greatest section s (Ok x))
+address_found greatest section s rest new (Ok x) is_placed takes (number, size) =
+    address_taken greatest section s rest x new is_placed takes number size
 address_found greatest section s rest new (Err e) is_placed takes h = tt
 
-pub address_missed : {A : Type 0} (greatest : ℕ) (section : Input) (s : Slot) (rest new : Input) (clone_is_free : Bool) (r : Result A Error) → IsPlaced greatest section s → Takes (place s) section rest → IfErr r (λ e. RefusesAddress s.width rest e new) → IfErr r (λ e. AddressAt greatest section s (Err e) ⊎ WantsMemory clone_is_free e)
+-- its fault, if a result has one
+pub address_missed : {A : Type 0} (greatest : ℕ) (section : Input) (s : Slot) (rest new : Input)
+    (clone_is_free : Bool) (r : Result A Error) → IsPlaced greatest section s → Takes (place s) section rest
+    → IfErr r (λ e. RefusesAddress s.width rest e new)
+    → IfErr r (λ e. AddressAt greatest section s (Err e) ⊎ WantsMemory clone_is_free e)
 address_missed greatest section s rest new clone_is_free (Ok x) is_placed takes h = tt
-address_missed greatest section s rest new clone_is_free (Err e) is_placed takes h = inl (address_refused greatest section s rest e new is_placed takes h)
+address_missed greatest section s rest new clone_is_free (Err e) is_placed takes h =
+    inl (address_refused greatest section s rest e new is_placed takes h)
 
 -- ---- one answer
 
+-- the bytes in front of a slot have exactly one outcome
 slot-definite : (greatest : ℕ) (s : Slot) → IsDefinite (to_slot greatest s)
 unfolding to_slot
-slot-definite greatest s = then_definite (sized_definite (part_size s.base)) (λ based. then_definite (check_definite _ _) (λ counted. sized_definite (part_size (distance s))))
+slot-definite greatest s =
+    then_definite (sized_definite (part_size s.base))
+    (λ based. then_definite (check_definite _ _) (λ counted. sized_definite (part_size (distance s))))
 
+-- a slot has exactly one word, or one fault
 pub one_word : (greatest : ℕ) (section : Input) (s : Slot) → HasOne (WordAt greatest section s)
 unfolding word
-one_word greatest section s = at_one section (then_definite (slot-definite greatest s) (λ reached. string_offset-definite greatest s.width))
+one_word greatest section s =
+    at_one section (then_definite (slot-definite greatest s) (λ reached. string_offset-definite greatest s.width))
 
+-- a slot has exactly one address, or one fault
 pub one_address : (greatest : ℕ) (section : Input) (s : Slot) → HasOne (AddressAt greatest section s)
 unfolding address
-one_address greatest section s = at_one section (then_definite (slot-definite greatest s) (λ reached. then_definite (check_definite _ _) (λ sized. sized_definite (fixed_size s.width))))
+one_address greatest section s =
+    at_one section (then_definite (slot-definite greatest s)
+    (λ reached. then_definite (check_definite _ _) (λ sized. sized_definite (fixed_size s.width))))
 
 -- ---- more bytes
 
+-- more bytes don't change what stands in front of a slot
 slot-stable : (greatest : ℕ) (s : Slot) → IsStable (to_slot greatest s)
 unfolding to_slot
-slot-stable greatest s = then_stable (sized_stable (part_size s.base)) (λ based. then_stable (check_stable _ _) (λ counted. sized_stable (part_size (distance s))))
+slot-stable greatest s =
+    then_stable (sized_stable (part_size s.base))
+    (λ based. then_stable (check_stable _ _) (λ counted. sized_stable (part_size (distance s))))
 
-pub word_more : (greatest : ℕ) (section : Input) (s : Slot) (answer : Result ℕ Error) (more : List ℕ) → WordAt greatest section s answer → IsSettled answer → WordAt greatest (followed_by section more) s answer
+-- more bytes change no word, and no fault but that bytes are missing
+pub word_more : (greatest : ℕ) (section : Input) (s : Slot) (answer : Result ℕ Error) (more : List ℕ)
+    → WordAt greatest section s answer → IsSettled answer → WordAt greatest (followed_by section more) s answer
 unfolding word
-word_more greatest section s answer more is settled = at_more (then_stable (slot-stable greatest s) (λ reached. string_offset-stable greatest s.width)) more is settled
+word_more greatest section s answer more is settled =
+    at_more (then_stable (slot-stable greatest s)
+    (λ reached. string_offset-stable greatest s.width)) more is settled
 
-pub address_more : (greatest : ℕ) (section : Input) (s : Slot) (answer : Result ℕ Error) (more : List ℕ) → AddressAt greatest section s answer → IsSettled answer → AddressAt greatest (followed_by section more) s answer
+-- nor an address
+pub address_more : (greatest : ℕ) (section : Input) (s : Slot) (answer : Result ℕ Error) (more : List ℕ)
+    → AddressAt greatest section s answer → IsSettled answer
+    → AddressAt greatest (followed_by section more) s answer
 unfolding address
-address_more greatest section s answer more is settled = at_more (then_stable (slot-stable greatest s) (λ reached. then_stable (check_stable _ _) (λ sized. sized_stable (fixed_size s.width)))) more is settled
+address_more greatest section s answer more is settled =
+    at_more (then_stable (slot-stable greatest s)
+    (λ reached. then_stable (check_stable _ _) (λ sized. sized_stable (fixed_size s.width)))) more is settled
 
+-- a number doesn't say that bytes are missing
 settled_ok : (x : ℕ) → let answer : Result ℕ Error = Ok x in IsSettled answer
 settled_ok x position same = cc
 
-pub word_stays : (greatest : ℕ) (section : Input) (s : Slot) (x : ℕ) → WordAt greatest section s (Ok x) → (more : List ℕ) → WordAt greatest (followed_by section more) s (Ok x)
+-- a word that is found stays
+pub word_stays : (greatest : ℕ) (section : Input) (s : Slot) (x : ℕ) → WordAt greatest section s (Ok x)
+    → (more : List ℕ) → WordAt greatest (followed_by section more) s (Ok x)
 word_stays greatest section s x is more = word_more greatest section s (Ok x) more is (settled_ok x)
 
-pub word_fault_stays : (greatest : ℕ) (section : Input) (s : Slot) (clone_is_free : Bool) (e : Error) → (WordAt greatest section s (Err e) ⊎ WantsMemory clone_is_free e) → IsSettled (Err e) → (more : List ℕ) → WordAt greatest (followed_by section more) s (Err e) ⊎ WantsMemory clone_is_free e
-word_fault_stays greatest section s clone_is_free e (inl fault) settled more = inl (word_more greatest section s (Err e) more fault settled)
+-- so does a fault, unless memory was wanted
+pub word_fault_stays : (greatest : ℕ) (section : Input) (s : Slot) (clone_is_free : Bool) (e : Error)
+    → (WordAt greatest section s (Err e) ⊎ WantsMemory clone_is_free e) → IsSettled (Err e) → (more : List ℕ)
+    → WordAt greatest (followed_by section more) s (Err e) ⊎ WantsMemory clone_is_free e
+word_fault_stays greatest section s clone_is_free e (inl fault) settled more =
+    inl (word_more greatest section s (Err e) more fault settled)
 word_fault_stays greatest section s clone_is_free e (inr want) settled more = inr want
 
-pub address_stays : (greatest : ℕ) (section : Input) (s : Slot) (x : ℕ) → AddressAt greatest section s (Ok x) → (more : List ℕ) → AddressAt greatest (followed_by section more) s (Ok x)
+-- an address that is found stays
+pub address_stays : (greatest : ℕ) (section : Input) (s : Slot) (x : ℕ) → AddressAt greatest section s (Ok x)
+    → (more : List ℕ) → AddressAt greatest (followed_by section more) s (Ok x)
 address_stays greatest section s x is more = address_more greatest section s (Ok x) more is (settled_ok x)
 
-pub address_fault_stays : (greatest : ℕ) (section : Input) (s : Slot) (clone_is_free : Bool) (e : Error) → (AddressAt greatest section s (Err e) ⊎ WantsMemory clone_is_free e) → IsSettled (Err e) → (more : List ℕ) → AddressAt greatest (followed_by section more) s (Err e) ⊎ WantsMemory clone_is_free e
-address_fault_stays greatest section s clone_is_free e (inl fault) settled more = inl (address_more greatest section s (Err e) more fault settled)
+-- so does a fault, unless memory was wanted
+pub address_fault_stays : (greatest : ℕ) (section : Input) (s : Slot) (clone_is_free : Bool) (e : Error)
+    → (AddressAt greatest section s (Err e) ⊎ WantsMemory clone_is_free e) → IsSettled (Err e) → (more : List ℕ)
+    → AddressAt greatest (followed_by section more) s (Err e) ⊎ WantsMemory clone_is_free e
+address_fault_stays greatest section s clone_is_free e (inl fault) settled more =
+    inl (address_more greatest section s (Err e) more fault settled)
 address_fault_stays greatest section s clone_is_free e (inr want) settled more = inr want
 
-pub found_stays : (greatest : ℕ) (section : Input) (s : Slot) (r : Result ℕ Error) → IfOk r (λ x. AddressAt greatest section s (Ok x)) → IfOk r (λ x. (more : List ℕ) → AddressAt greatest (followed_by section more) s (Ok x))
+-- the same of a result's address
+pub found_stays : (greatest : ℕ) (section : Input) (s : Slot) (r : Result ℕ Error)
+    → IfOk r (λ x. AddressAt greatest section s (Ok x))
+    → IfOk r (λ x. (more : List ℕ) → AddressAt greatest (followed_by section more) s (Ok x))
 found_stays greatest section s (Ok x) is = address_stays greatest section s x is
 found_stays greatest section s (Err e) is = tt
 
-pub missed_stays : {A : Type 0} (greatest : ℕ) (section : Input) (s : Slot) (clone_is_free : Bool) (r : Result A Error) → IfErr r (λ e. AddressAt greatest section s (Err e) ⊎ WantsMemory clone_is_free e) → IfErr r (λ e. IsSettled (Err e) → (more : List ℕ) → AddressAt greatest (followed_by section more) s (Err e) ⊎ WantsMemory clone_is_free e)
+-- and of its fault
+pub missed_stays : {A : Type 0} (greatest : ℕ) (section : Input) (s : Slot) (clone_is_free : Bool)
+    (r : Result A Error) → IfErr r (λ e. AddressAt greatest section s (Err e) ⊎ WantsMemory clone_is_free e)
+    → IfErr r (λ e. IsSettled (Err e) → (more : List ℕ)
+    → AddressAt greatest (followed_by section more) s (Err e) ⊎ WantsMemory clone_is_free e)
 missed_stays greatest section s clone_is_free (Ok x) is = tt
 missed_stays greatest section s clone_is_free (Err e) is = address_fault_stays greatest section s clone_is_free e is

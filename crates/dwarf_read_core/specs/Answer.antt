@@ -12,29 +12,45 @@ pub data IsBeginning : List ℕ → Kind → Type 0 where
   before_code : IsBeginning [] unsigned64
   before_tag : (bytes : List ℕ) (code : ℕ) → IsCode bytes code → IsBeginning bytes unsigned16
   before_name : (bytes : List ℕ) (d : Declaration) → IsFront bytes d → IsBeginning bytes unsigned16
-  before_form : (bytes name : List ℕ) (d : Declaration) (n : ℕ) → IsFront bytes d → IsNumber unsigned16 name n → IsBeginning (bytes ++ name) unsigned16
-  before_value : (bytes name form : List ℕ) (d : Declaration) (n : ℕ) → IsFront bytes d → IsNumber unsigned16 name n → 0 < n → IsNumber unsigned16 form implicit_const → IsBeginning (bytes ++ name ++ form) signed64
+  before_form : (bytes name : List ℕ) (d : Declaration) (n : ℕ) → IsFront bytes d → IsNumber unsigned16 name n
+      → IsBeginning (bytes ++ name) unsigned16
+  before_value : (bytes name form : List ℕ) (d : Declaration) (n : ℕ) → IsFront bytes d
+      → IsNumber unsigned16 name n → 0 < n → IsNumber unsigned16 form implicit_const
+      → IsBeginning (bytes ++ name ++ form) signed64
 
 -- bytes that begin as a declaration and do not go on as one
 pub data IsFaulty (end : ℕ) : List ℕ → Error → Type 0 where
-  number_cut : (front bytes : List ℕ) (k : Kind) → IsBeginning front k → IsCut k bytes → IsFaulty end (front ++ bytes) (eof end)
-  number_bad : (front bytes : List ℕ) (k : Kind) → IsBeginning front k → IsBad k bytes → IsFaulty end (front ++ bytes) (refusal k)
+  number_cut : (front bytes : List ℕ) (k : Kind) → IsBeginning front k → IsCut k bytes
+      → IsFaulty end (front ++ bytes) (eof end)
+  number_bad : (front bytes : List ℕ) (k : Kind) → IsBeginning front k → IsBad k bytes
+      → IsFaulty end (front ++ bytes) (refusal k)
   children_cut : (front : List ℕ) (code tag : ℕ) → IsHead front code tag → IsFaulty end front (eof end)
-  tag_zero : (front tag rest : List ℕ) (code : ℕ) → IsCode front code → IsNumber unsigned16 tag 0 → IsFaulty end (front ++ tag ++ rest) AbbreviationTagZero
-  children_bad : (front rest : List ℕ) (code tag byte : ℕ) → IsHead front code tag → 1 < byte → IsFaulty end (front ++ byte ∷ rest) (InvalidAbbreviationChildren (record { 0 = byte }))
-  name_zero : (front name form rest : List ℕ) (d : Declaration) (f : ℕ) → IsFront front d → IsNumber unsigned16 name 0 → IsNumber unsigned16 form f → 0 < f → IsFaulty end (front ++ name ++ form ++ rest) AttributeNameZero
-  form_zero : (front name form rest : List ℕ) (d : Declaration) (n : ℕ) → IsFront front d → IsNumber unsigned16 name n → 0 < n → IsNumber unsigned16 form 0 → IsFaulty end (front ++ name ++ form ++ rest) AttributeFormZero
+  tag_zero : (front tag rest : List ℕ) (code : ℕ) → IsCode front code → IsNumber unsigned16 tag 0
+      → IsFaulty end (front ++ tag ++ rest) AbbreviationTagZero
+  children_bad : (front rest : List ℕ) (code tag byte : ℕ) → IsHead front code tag → 1 < byte
+      → IsFaulty end (front ++ byte ∷ rest) (InvalidAbbreviationChildren (record { 0 = byte }))
+  name_zero : (front name form rest : List ℕ) (d : Declaration) (f : ℕ) → IsFront front d
+      → IsNumber unsigned16 name 0 → IsNumber unsigned16 form f → 0 < f
+      → IsFaulty end (front ++ name ++ form ++ rest) AttributeNameZero
+  form_zero : (front name form rest : List ℕ) (d : Declaration) (n : ℕ) → IsFront front d
+      → IsNumber unsigned16 name n → 0 < n → IsNumber unsigned16 form 0
+      → IsFaulty end (front ++ name ++ form ++ rest) AttributeFormZero
 
 -- the first fault of bytes that begin with no table
 pub data IsFault (end : ℕ) : List ℕ → Error → Type 0 where
-  in_declaration : (bytes rest : List ℕ) (ds : List Declaration) (e : Error) → AreDeclarations bytes ds → rest ≢ [] → IsFaulty end rest e → IsFault end (bytes ++ rest) e
-  repeated : (bytes declaration rest : List ℕ) (ds : List Declaration) (d : Declaration) → AreDeclarations bytes ds → IsDeclaration declaration d → Declares ds d.code → IsFault end (bytes ++ declaration ++ rest) (DuplicateAbbreviationCode d.code)
+  in_declaration : (bytes rest : List ℕ) (ds : List Declaration) (e : Error) → AreDeclarations bytes ds → rest ≢ []
+      → IsFaulty end rest e → IsFault end (bytes ++ rest) e
+  repeated : (bytes declaration rest : List ℕ) (ds : List Declaration) (d : Declaration) → AreDeclarations bytes ds
+      → IsDeclaration declaration d → Declares ds d.code
+      → IsFault end (bytes ++ declaration ++ rest) (DuplicateAbbreviationCode d.code)
 
 -- the answer for a section and an offset
 pub data Answer (section : Input) (offset : ℕ) : Result Table Error → Type 0 where
   outside : length section.bytes < offset → Answer section offset (Err (end_fault section))
-  table : (t : Table) → offset ≤ length section.bytes → IsTable (drop offset section.bytes) t → Answer section offset (Ok t)
-  fault : (e : Error) → offset ≤ length section.bytes → IsFault (end_of section) (drop offset section.bytes) e → Answer section offset (Err e)
+  table : (t : Table) → offset ≤ length section.bytes → IsTable (drop offset section.bytes) t
+      → Answer section offset (Ok t)
+  fault : (e : Error) → offset ≤ length section.bytes → IsFault (end_of section) (drop offset section.bytes) e
+      → Answer section offset (Err e)
 
 -- what is answered is the answer, unless memory ran out
 abbrev pub Answers : Result Table Error → Input → ℕ → Type 0
@@ -52,7 +68,9 @@ IsFinal (Err e) = (position : ℕ) → e ≢ eof position
 
 -- where an answer takes no memory: outside, at the end, or at a code of value 0
 abbrev pub TakesNoMemory : Input → ℕ → Type 0
-TakesNoMemory section offset = (length section.bytes ≤ offset) ⊎ ((zero_code rest : List ℕ) × (drop offset section.bytes ≡ zero_code ++ rest) × IsNumber unsigned64 zero_code 0)
+TakesNoMemory section offset =
+    (length section.bytes ≤ offset) ⊎ ((zero_code rest : List ℕ) × (drop offset section.bytes ≡ zero_code ++ rest)
+    × IsNumber unsigned64 zero_code 0)
 
 -- the error that no code of value 0 closes a table, which the section's end at a position does
 abbrev pub unterminated : ℕ → Error
@@ -65,7 +83,8 @@ strictly section (Err e) = Err e
 
 -- the strict answer for a section and an offset
 abbrev pub StrictAnswer : Input → ℕ → Result Table Error → Type 0
-StrictAnswer section offset strict = (answer : Result Table Error) × Answer section offset answer × (strict ≡ strictly section answer)
+StrictAnswer section offset strict =
+    (answer : Result Table Error) × Answer section offset answer × (strict ≡ strictly section answer)
 
 -- what is answered is the strict answer, unless memory ran out
 abbrev pub AnswersStrictly : Result Table Error → Input → ℕ → Type 0

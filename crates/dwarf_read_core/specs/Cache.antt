@@ -41,7 +41,8 @@ occurrences key offsets = count_by (λ offset. offset == key) offsets
 -- exactly the offsets that occur often enough are kept, each with its answer
 abbrev pub KeepsAnswers : ℕ → Input → List ℕ → (ℕ → Option (Result Table Error)) → Type 0
 KeepsAnswers least section offsets kept =
-    (key : ℕ) → MatchOption (kept key) (occurrences key offsets < least) (λ answer. (least ≤ occurrences key offsets) × Answer section key answer)
+    (key : ℕ) → MatchOption (kept key) (occurrences key offsets < least)
+    (λ answer. (least ≤ occurrences key offsets) × Answer section key answer)
 
 -- each kept answer is that of the section
 abbrev pub IsFaithful : Cache → Input → Type 0
@@ -53,7 +54,8 @@ EndsItems None = ⊤
 EndsItems (Some item) = MatchResult item (λ _. ⊥) (λ fault. fault ≢ OutOfMemory)
 
 -- calls of `next` gave these items, each as an `Ok`, and then the end or a first error
-pub record GivesBeforeError {S T : Type 0} (steps : S → Option (Result T Error) → S → Type 0) (from : S) (items : List T) : Type 0 where
+pub record GivesBeforeError {S T : Type 0} (steps : S → Option (Result T Error) → S → Type 0) (from : S)
+    (items : List T) : Type 0 where
   pub last : Option (Result T Error)
   pub left : S
   pub given : YieldsThen steps from (map (λ item. Ok item) items) last left
@@ -62,10 +64,12 @@ pub record GivesBeforeError {S T : Type 0} (steps : S → Option (Result T Error
 -- the first call of `next` gives an item, or an error that is want of memory
 abbrev pub GivesSome : {S T : Type 0} → (S → Option (Result T Error) → S → Type 0) → S → Type 0
 GivesSome {S = S} {T = T} steps from =
-    (first : Result T Error) × (left : S) × steps from (Some first) left × MatchResult first (λ _. ⊤) (λ fault. fault ≡ OutOfMemory)
+    (first : Result T Error) × (left : S) × steps from (Some first) left
+    × MatchResult first (λ _. ⊤) (λ fault. fault ≡ OutOfMemory)
 
 -- the numbers of the offsets that come before the first error
-pub record NamesOffsets {S T : Type 0} (steps : S → Option (Result T Error) → S → Type 0) (number : T → ℕ) (from : S) (offsets : List ℕ) : Type 0 where
+pub record NamesOffsets {S T : Type 0} (steps : S → Option (Result T Error) → S → Type 0) (number : T → ℕ)
+    (from : S) (offsets : List ℕ) : Type 0 where
   pub items : List T
   pub given : GivesBeforeError steps from items
   pub numbers : offsets ≡ map number items
@@ -73,9 +77,11 @@ pub record NamesOffsets {S T : Type 0} (steps : S → Option (Result T Error) �
 -- a kept answer is handed out as it is; sharing a table may find no room
 abbrev pub HandsOut : {Z : Type 0} → Result Table Error → Result (Rc Table Z) Error → Type 0
 HandsOut kept result =
-    MatchResult kept (λ table. MatchResult result (λ shared. shared.value ≡ table) (λ fault. fault ≡ OutOfMemory)) (λ fault. result ≡ Err fault)
+    MatchResult kept (λ table. MatchResult result (λ shared. shared.value ≡ table) (λ fault. fault ≡ OutOfMemory))
+    (λ fault. result ≡ Err fault)
 
--- whether appended bytes leave an answer as it is: a table that a code of value 0 closes, or an error but that bytes are missing
+-- whether appended bytes leave an answer as it is: a table that a code of value 0 closes, or an error but that
+-- bytes are missing
 abbrev pub is_final : Result Table Error → Bool
 is_final (Ok t) = is_by_null t.close
 is_final (Err (UnexpectedEof _)) = false

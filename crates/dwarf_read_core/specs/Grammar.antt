@@ -19,10 +19,16 @@ pub record Declaration : Type 0 where
   pub attributes : List Specification
 
 abbrev pub specification_code : Coded Specification
-specification_code = code_by (ℕ × (ℕ × Option ℤ)) (coded× coded_ℕ (coded× coded_ℕ (coded_option coded_ℤ))) (λ s. (s.name, (s.form, s.value))) (λ p. record { name = p.0; form = p.1.0; value = p.1.1 }) (λ _. refl)
+specification_code =
+    code_by (ℕ × (ℕ × Option ℤ)) (coded× coded_ℕ (coded× coded_ℕ (coded_option coded_ℤ)))
+    (λ s. (s.name, (s.form, s.value))) (λ p. record { name = p.0; form = p.1.0; value = p.1.1 }) (λ _. refl)
 
 abbrev pub declaration_code : Coded Declaration
-declaration_code = code_by (ℕ × (ℕ × (Bool × List Specification))) (coded× coded_ℕ (coded× coded_ℕ (coded× coded_bool (coded_list specification_code)))) (λ d. (d.code, (d.tag, (d.children, d.attributes)))) (λ p. record { code = p.0; tag = p.1.0; children = p.1.1.0; attributes = p.1.1.1 }) (λ _. refl)
+declaration_code =
+    code_by (ℕ × (ℕ × (Bool × List Specification)))
+    (coded× coded_ℕ (coded× coded_ℕ (coded× coded_bool (coded_list specification_code))))
+    (λ d. (d.code, (d.tag, (d.children, d.attributes))))
+    (λ p. record { code = p.0; tag = p.1.0; children = p.1.1.0; attributes = p.1.1.1 }) (λ _. refl)
 
 -- DW_FORM_implicit_const
 abbrev pub implicit_const : ℕ
@@ -126,8 +132,10 @@ closed by_code close = record { by_code = by_code; close = close }
 
 -- bytes that begin with a table
 pub data IsTable : List ℕ → Table → Type 0 where
-  closed_by_null : (bytes zero_code rest : List ℕ) (ds : List Declaration) → AreDeclarations bytes ds → IsNumber unsigned64 zero_code 0 → IsTable (bytes ++ zero_code ++ rest) (closed (by_code_of ds) by_null)
-  closed_by_end : (bytes : List ℕ) (ds : List Declaration) → AreDeclarations bytes ds → IsTable bytes (closed (by_code_of ds) by_end)
+  closed_by_null : (bytes zero_code rest : List ℕ) (ds : List Declaration) → AreDeclarations bytes ds
+      → IsNumber unsigned64 zero_code 0 → IsTable (bytes ++ zero_code ++ rest) (closed (by_code_of ds) by_null)
+  closed_by_end : (bytes : List ℕ) (ds : List Declaration) → AreDeclarations bytes ds
+      → IsTable bytes (closed (by_code_of ds) by_end)
 
 -- how many attributes all of them have
 abbrev pub attribute_count : ByCode → ℕ
@@ -141,9 +149,12 @@ abbrev pub close_from : Bool → Close
 close_from true = by_null
 close_from false = by_end
 
-pub table_again : (by_code : ByCode) (close : Close) → closed by_code (close_from (is_by_null close)) ≡ closed by_code close
+pub table_again : (by_code : ByCode) (close : Close)
+    → closed by_code (close_from (is_by_null close)) ≡ closed by_code close
 table_again by_code by_null = refl
 table_again by_code by_end = refl
 
 abbrev pub table_code : Coded Table
-table_code = code_by (ByCode × Bool) (coded× (map_code coded_ℕ declaration_code) coded_bool) (λ t. (t.by_code, is_by_null t.close)) (λ p. closed p.0 (close_from p.1)) (λ t. table_again t.by_code t.close)
+table_code =
+    code_by (ByCode × Bool) (coded× (map_code coded_ℕ declaration_code) coded_bool)
+    (λ t. (t.by_code, is_by_null t.close)) (λ p. closed p.0 (close_from p.1)) (λ t. table_again t.by_code t.close)

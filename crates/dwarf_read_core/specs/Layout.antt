@@ -19,7 +19,10 @@ byte = record { Reads = TakesByte; Fails = λ old e. (new : Input) × EndsBefore
 
 -- so many bytes, as an input of their own
 abbrev pub part : ℕ → Layout Input
-part size = record { Reads = λ old x new. (x ≡ first size old) × Takes size old new; Fails = λ old e. (new : Input) × EndsBefore size old e new }
+part size = record {
+  Reads = λ old x new. (x ≡ first size old) × Takes size old new;
+  Fails = λ old e. (new : Input) × EndsBefore size old e new;
+}
 
 -- no bytes, and this value
 abbrev pub pure : {A : Type 0} → A → Layout A
@@ -51,11 +54,15 @@ abbrev pub ◌>>=◌ : {A B : Type 0} → Layout A → (A → Layout B) → Layo
 abbrev pub inside : {A : Type 0} → Input → Layout A → Layout (A × Input)
 inside unit f = record { Reads = λ old x new. f.Reads unit x.0 x.1 × (new ≡ old); Fails = λ old e. f.Fails unit e }
 
--- the items that an input stands for, the first of which has the offset: values up to the end of its bytes, and a fault as the last
+-- the items that an input stands for, the first of which has the offset: values up to the end of its bytes, and a
+-- fault as the last
 pub data AreItems {A : Type 0} (item : ℕ → Layout A) : ℕ → Input → List (Result A Error) → Type 0 where
   none : {offset : ℕ} {old : Input} → old.bytes ≡ [] → AreItems item offset old []
-  more : {offset : ℕ} {old new : Input} {x : A} {items : List (Result A Error)} → old.bytes ≢ [] → (item offset).Reads old x new → AreItems item (offset + (length old.bytes - length new.bytes)) new items → AreItems item offset old (Ok x ∷ items)
-  fault : {offset : ℕ} {old : Input} {e : Error} → old.bytes ≢ [] → (item offset).Fails old e → AreItems item offset old (Err e ∷ [])
+  more : {offset : ℕ} {old new : Input} {x : A} {items : List (Result A Error)} → old.bytes ≢ []
+      → (item offset).Reads old x new → AreItems item (offset + (length old.bytes - length new.bytes)) new items
+      → AreItems item offset old (Ok x ∷ items)
+  fault : {offset : ℕ} {old : Input} {e : Error} → old.bytes ≢ [] → (item offset).Fails old e
+      → AreItems item offset old (Err e ∷ [])
 
 -- the value at the front of an input, whatever is left behind it, or the first fault
 pub data At {A : Type 0} (f : Layout A) (section : Input) : Result A Error → Type 0 where

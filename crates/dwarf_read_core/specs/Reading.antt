@@ -43,11 +43,14 @@ tag_at end bytes = do
 
 unfoldable pub children_at : ℕ → List ℕ → Result (Bool × List ℕ) Error
 children_at end [] = Err (eof end)
-children_at end (b ∷ bytes) = if b == 0 then Ok (false, bytes) else if b == 1 then Ok (true, bytes) else Err (InvalidAbbreviationChildren (record { 0 = b }))
+children_at end (b ∷ bytes) =
+    if b == 0 then Ok (false, bytes) else if b == 1 then Ok (true, bytes) else Err
+    (InvalidAbbreviationChildren (record { 0 = b }))
 
 -- the value behind a form
 unfoldable pub value_at : ℕ → ℕ → List ℕ → Result (Option ℤ × List ℕ) Error
-value_at end form bytes = if form == implicit_const then (number_at signed64 end bytes >>= λ v. Ok (Some v.0, v.1)) else Ok (None, bytes)
+value_at end form bytes =
+    if form == implicit_const then (number_at signed64 end bytes >>= λ v. Ok (Some v.0, v.1)) else Ok (None, bytes)
 
 abbrev pub specification_of : ℕ → ℕ → Option ℤ → Specification
 specification_of name form value = record { name = name; form = form; value = value }
@@ -57,27 +60,33 @@ unfoldable pub specification_at : ℕ → List ℕ → Result (Option Specificat
 specification_at end bytes = do
   name ← number_at unsigned16 end bytes
   form ← number_at unsigned16 end name.1
-  if name.0 == 0 then (if form.0 == 0 then Ok (None, form.1) else Err AttributeNameZero) else if form.0 == 0 then Err AttributeFormZero else (value_at end form.0 form.1 >>= λ value. Ok (Some (specification_of name.0 form.0 value.0), value.1))
+  if name.0 == 0 then (if form.0 == 0 then Ok
+      (None, form.1) else Err AttributeNameZero) else if form.0 == 0 then Err AttributeFormZero else
+      (value_at end form.0 form.1 >>= λ value. Ok (Some (specification_of name.0 form.0 value.0), value.1))
 
-abbrev pub and_others : Option Specification → List ℕ → Result (List Specification × List ℕ) Error → Result (List Specification × List ℕ) Error
+abbrev pub and_others : Option Specification → List ℕ → Result (List Specification × List ℕ) Error
+    → Result (List Specification × List ℕ) Error
 and_others None bytes others = Ok ([], bytes)
 and_others (Some s) bytes others = others >>= λ x. Ok (s ∷ x.0, x.1)
 
 -- specifications up to the null one, of fewer than so many bytes
 unfoldable pub attributes_at : ℕ → ℕ → List ℕ → Result (List Specification × List ℕ) Error
 attributes_at zero end bytes = Err (eof end)
-attributes_at (suc n) end bytes = specification_at end bytes >>= λ first. and_others first.0 first.1 (attributes_at n end first.1)
+attributes_at (suc n) end bytes =
+    specification_at end bytes >>= λ first. and_others first.0 first.1 (attributes_at n end first.1)
 
 -- specifications up to the null one
 unfoldable pub attributes_in : ℕ → List ℕ → Result (List Specification × List ℕ) Error
 attributes_in end bytes = attributes_at (length bytes + 1) end bytes
 
 -- those before, and those that are read
-abbrev pub with_front : List Specification → Result (List Specification × List ℕ) Error → Result (List Specification × List ℕ) Error
+abbrev pub with_front : List Specification → Result (List Specification × List ℕ) Error
+    → Result (List Specification × List ℕ) Error
 with_front front read = read >>= λ x. Ok (front ++ x.0, x.1)
 
 abbrev pub declaration_of : ℕ → ℕ → Bool → List Specification → Declaration
-declaration_of code tag children attributes = record { code = code; tag = tag; children = children; attributes = attributes }
+declaration_of code tag children attributes =
+    record { code = code; tag = tag; children = children; attributes = attributes }
 
 -- what is behind a code
 unfoldable pub declared_at : ℕ → ℕ → List ℕ → Result (Declaration × List ℕ) Error
@@ -89,19 +98,25 @@ declared_at end code bytes = do
 
 -- a declaration, or None where the table ends
 unfoldable pub declaration_at : ℕ → List ℕ → Result (Option Declaration × List ℕ) Error
-declaration_at end bytes = if length bytes == 0 then Ok (None, bytes) else (number_at unsigned64 end bytes >>= λ code. if code.0 == 0 then Ok (None, code.1) else (declared_at end code.0 code.1 >>= λ d. Ok (Some d.0, d.1)))
+declaration_at end bytes =
+    if length bytes == 0 then Ok (None, bytes) else
+    (number_at unsigned64 end bytes >>= λ code. if code.0 == 0 then Ok (None, code.1) else
+    (declared_at end code.0 code.1 >>= λ d. Ok (Some d.0, d.1)))
 
 abbrev pub close_of : List ℕ → Close
 close_of bytes = if length bytes == 0 then by_end else by_null
 
 abbrev pub and_declared : Close → ByCode → Option Declaration → (ByCode → Result Table Error) → Result Table Error
 and_declared close t None others = Ok (closed t close)
-and_declared close t (Some d) others = if contains_key t d.code then Err (DuplicateAbbreviationCode d.code) else others (insert t d.code d)
+and_declared close t (Some d) others =
+    if contains_key t d.code then Err (DuplicateAbbreviationCode d.code) else others (insert t d.code d)
 
 -- the declarations at the front of fewer than so many bytes, beside those of a table
 unfoldable pub table_at : ℕ → ℕ → ByCode → List ℕ → Result Table Error
 table_at zero end t bytes = Err (eof end)
-table_at (suc n) end t bytes = declaration_at end bytes >>= λ first. and_declared (close_of bytes) t first.0 (λ more. table_at n end more first.1)
+table_at (suc n) end t bytes =
+    declaration_at end bytes >>= λ first. and_declared (close_of bytes) t first.0
+    (λ more. table_at n end more first.1)
 
 -- the declarations at the front, beside those of a table
 unfoldable pub table_in : ℕ → ByCode → List ℕ → Result Table Error
@@ -109,4 +124,6 @@ table_in end t bytes = table_at (length bytes + 1) end t bytes
 
 -- the table at an offset of a section
 unfoldable pub answer_at : Input → ℕ → Result Table Error
-answer_at section offset = if nat_lt (length section.bytes) offset then Err (end_fault section) else table_in (end_of section) empty (drop offset section.bytes)
+answer_at section offset =
+    if nat_lt (length section.bytes) offset then Err (end_fault section) else table_in (end_of section) empty
+    (drop offset section.bytes)

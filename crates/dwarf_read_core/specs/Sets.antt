@@ -1,4 +1,5 @@
--- Sets of numbers, each with a header, one after the other: sets of offsets of strings (DWARF 5, 7.26), and of addresses (7.27).
+-- Sets of numbers, each with a header, one after the other: sets of offsets of strings (DWARF 5, 7.26), and of
+-- addresses (7.27).
 use Rattle.std.specs.Prelude.{ℕ, List, Result, nat_lt, nat_le, ◌==◌}
 use Rattle.dwarf_base_core.specs.declared.common.Format.{Format}
 use Rattle.dwarf_base_core.specs.declared.common.Format.TheVariants.{Dwarf32, Dwarf64}
@@ -15,7 +16,8 @@ use Rattle.dwarf_read_core.specs.Layout.{Layout, fixed, byte, part, pure, refuse
 unfoldable pub initial_length : Layout (Format × ℕ)
 initial_length = do
   short ← fixed 4
-  when nat_lt short 0xffff_fff0 then pure (Dwarf32, short) else when nat_lt short 0xffff_ffff then refuse (UnknownReservedLength short) else (fixed 8 >>= λ long. pure (Dwarf64, long))
+  when nat_lt short 0xffff_fff0 then pure (Dwarf32, short) else when nat_lt short 0xffff_ffff then refuse
+      (UnknownReservedLength short) else (fixed 8 >>= λ long. pure (Dwarf64, long))
 
 -- a set: its place in the section, its format and length, what its header says, and its entries
 pub record Set (H : Type 0) : Type 0 where

@@ -11,5 +11,8 @@ HasNoZero bytes = All (λ byte. byte ≢ 0) bytes
 -- the string at an offset of a section, at its own position and without its zero byte; or the fault
 pub data StringAt (section : Input) (offset : ℕ) : Result Input Error → Type 0 where
   outside : length section.bytes < offset → StringAt section offset (Err (end_fault section))
-  string : (bytes rest : List ℕ) → offset ≤ length section.bytes → drop offset section.bytes ≡ bytes ++ 0 ∷ rest → HasNoZero bytes → StringAt section offset (Ok (record section { bytes = bytes; position = section.position + offset }))
-  unended : offset ≤ length section.bytes → HasNoZero (drop offset section.bytes) → StringAt section offset (Err (eof (section.position + offset)))
+  string : (bytes rest : List ℕ) → offset ≤ length section.bytes → drop offset section.bytes ≡ bytes ++ 0 ∷ rest
+      → HasNoZero bytes → StringAt section offset
+      (Ok (record section { bytes = bytes; position = section.position + offset }))
+  unended : offset ≤ length section.bytes → HasNoZero (drop offset section.bytes)
+      → StringAt section offset (Err (eof (section.position + offset)))

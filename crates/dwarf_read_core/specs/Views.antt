@@ -12,16 +12,27 @@ use Rattle.dwarf_read_core.specs.declared.read.abbrev.Abbreviation.TheInside as 
 use Rattle.dwarf_read_core.specs.declared.read.abbrev.Abbreviations.TheInside as abbreviations
 
 abbrev pub specification_view : Inside → Specification
-specification_view a = record { name = a.name.0; form = a.form.0; value = if a.form.0 == implicit_const then Some a.implicit_const_value else None }
+specification_view a =
+    record {
+      name = a.name.0;
+      form = a.form.0;
+      value = if a.form.0 == implicit_const then Some a.implicit_const_value else None;
+    }
 
 -- with no value the field is 0
 abbrev pub IsCanonical : Inside → Type 0
 IsCanonical a = a.form.0 ≢ implicit_const → a.implicit_const_value ≡ pos 0
 
 abbrev pub specification_fields : Specification → Inside
-specification_fields s = record { name = record { 0 = s.name }; form = record { 0 = s.form }; implicit_const_value = unwrap_or s.value (pos 0) }
+specification_fields s =
+    record {
+      name = record { 0 = s.name };
+      form = record { 0 = s.form };
+      implicit_const_value = unwrap_or s.value (pos 0);
+    }
 
-value_again : (form : ℕ) (v : ℤ) → (form ≢ implicit_const → v ≡ pos 0) → unwrap_or (if form == implicit_const then Some v else None) (pos 0) ≡ v
+value_again : (form : ℕ) (v : ℤ) → (form ≢ implicit_const → v ≡ pos 0)
+    → unwrap_or (if form == implicit_const then Some v else None) (pos 0) ≡ v
 value_again form v h = go (form == implicit_const) refl
   where
     go : (b : Bool) → (form == implicit_const) ≡ b → unwrap_or (if b then Some v else None) (pos 0) ≡ v
@@ -29,10 +40,13 @@ value_again form v h = go (form == implicit_const) refl
     go false e = sym (h (eqb-false form implicit_const e))
 
 pub fields_again : (a : Inside) → IsCanonical a → specification_fields (specification_view a) ≡ a
-fields_again a h = ap (λ (v : ℤ). record { name = a.name; form = a.form; implicit_const_value = v }) (value_again a.form.0 a.implicit_const_value h)
+fields_again a h =
+    ap (λ (v : ℤ). record { name = a.name; form = a.form; implicit_const_value = v })
+    (value_again a.form.0 a.implicit_const_value h)
 
 abbrev pub abbreviation_view : abbreviation.Inside → Declaration
-abbreviation_view a = record { code = a.code; tag = a.tag.0; children = a.has_children.0 == 1; attributes = a.attributes.items }
+abbreviation_view a =
+    record { code = a.code; tag = a.tag.0; children = a.has_children.0 == 1; attributes = a.attributes.items }
 
 -- declarations by the codes from one on
 abbrev pub numbered : ℕ → List Declaration → List (ℕ × Declaration)
@@ -47,7 +61,9 @@ entries_of ds es = numbered 1 ds ++ es
 abbrev pub abbreviations_view : abbreviations.Inside → Table
 abbreviations_view a = closed (from_entries (entries_of a.vec.items a.map.entries)) (close_from a.closed_by_null)
 
--- the codes of the map are above those of the vector, and each declaration has the code by which it is found, which isn't 0
+-- the codes of the map are above those of the vector, and each declaration has the code by which it is found, which
+-- isn't 0
 pub record AreKept (ds : List Declaration) (es : List (ℕ × Declaration)) : Type 0 where
   pub apart : (code : ℕ) → code ≤ length ds → lookup (is_at (nat_cmp code)) es ≡ None
-  pub keyed : (code : ℕ) (d : Declaration) → lookup (is_at (nat_cmp code)) (entries_of ds es) ≡ Some d → (d.code ≡ code) × (0 < code)
+  pub keyed : (code : ℕ) (d : Declaration) → lookup (is_at (nat_cmp code)) (entries_of ds es) ≡ Some d
+      → (d.code ≡ code) × (0 < code)

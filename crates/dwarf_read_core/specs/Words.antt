@@ -30,7 +30,8 @@ pub record IsPlaced (greatest : ℕ) (section : Input) (s : Slot) : Type 0 where
   pub counted : distance s ≤ greatest
   pub within : place s ≤ length section.bytes
 
--- the bytes in front of the slot: those before the base, and behind it so many as the distance, which has to be an offset
+-- the bytes in front of the slot: those before the base, and behind it so many as the distance, which has to be an
+-- offset
 unfoldable pub to_slot : ℕ → Slot → Layout Input
 to_slot greatest s = do
   based ← part s.base

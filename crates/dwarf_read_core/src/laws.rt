@@ -41,7 +41,8 @@ pub fn exactly_one_strict_answer()
 #[tactic(auto, using(crate::proofs::Stable::answer_more))]
 pub fn appended_bytes_change_nothing()
     ensures { (section : Input) (more : List ℕ) (offset : ℕ) (answer : Outcome Table Fault)
-        → Answer section offset answer → IsFinal answer → Answer (followed_by section more) offset answer }
+        → Answer section offset answer → IsFinal answer
+        → Answer (followed_by section more) offset answer }
 {}
 
 /// A strategy, a section and offsets determine what a cache keeps: at each offset its one answer, or
@@ -49,16 +50,16 @@ pub fn appended_bytes_change_nothing()
 pub fn exactly_one_cache()
     ensures some { (least : ℕ) (section : Input) (offsets : List ℕ)
         → (kept : ℕ → Option (Outcome Table Fault)) × KeepsAnswers least section offsets kept }
-    ensures same { (least : ℕ) (section : Input) (offsets : List ℕ) (kept others : ℕ → Option (Outcome Table Fault))
-        → KeepsAnswers least section offsets kept → KeepsAnswers least section offsets others
-        → (key : ℕ) → others key ≡ kept key }
+    ensures same { (least : ℕ) (section : Input) (offsets : List ℕ)
+        (kept others : ℕ → Option (Outcome Table Fault)) → KeepsAnswers least section offsets kept
+        → KeepsAnswers least section offsets others → (key : ℕ) → others key ≡ kept key }
 {}
 
 /// Abbreviations are equal exactly where they are the same declaration.
 #[tactic(auto, using(crate::proofs::SameDeclaration::same_declaration_is_equality))]
 pub fn equality_is_of_declarations()
-    ensures { (a b : Declaration) → All HasValueByForm a.attributes → All HasValueByForm b.attributes
-        → IsTrue (same_declaration a b) ↔ (a ≡ b) }
+    ensures { (a b : Declaration) → All HasValueByForm a.attributes
+        → All HasValueByForm b.attributes → IsTrue (same_declaration a b) ↔ (a ≡ b) }
 {}
 
 /// Every section has exactly one answer to where a string is looked for: the string, or a fault.
@@ -71,7 +72,8 @@ pub fn exactly_one_string()
 #[tactic(auto, using(crate::proofs::StringLemmas::string_stays))]
 pub fn appended_bytes_change_no_string()
     ensures { (section : Input) (offset : ℕ) (found : Input) (more : List ℕ)
-        → StringAt section offset (Ok found) → StringAt (followed_by section more) offset (Ok found) }
+        → StringAt section offset (Ok found)
+        → StringAt (followed_by section more) offset (Ok found) }
 {}
 
 /// Every section has exactly one answer to where an offset of a string is looked for by its index.
@@ -91,7 +93,8 @@ pub fn exactly_one_address()
 #[tactic(auto, using(crate::proofs::Words::word_more))]
 pub fn appended_bytes_change_no_word()
     ensures { (greatest : ℕ) (section : Input) (s : Slot) (answer : Outcome ℕ Fault) (more : List ℕ)
-        → WordAt greatest section s answer → IsSettled answer → WordAt greatest (followed_by section more) s answer }
+        → WordAt greatest section s answer → IsSettled answer
+        → WordAt greatest (followed_by section more) s answer }
 {}
 
 /// An answer to where an address is looked for, but that bytes are missing, is the answer whatever
@@ -99,7 +102,8 @@ pub fn appended_bytes_change_no_word()
 #[tactic(auto, using(crate::proofs::Words::address_more))]
 pub fn appended_bytes_change_no_address()
     ensures { (greatest : ℕ) (section : Input) (s : Slot) (answer : Outcome ℕ Fault) (more : List ℕ)
-        → AddressAt greatest section s answer → IsSettled answer → AddressAt greatest (followed_by section more) s answer }
+        → AddressAt greatest section s answer → IsSettled answer
+        → AddressAt greatest (followed_by section more) s answer }
 {}
 
 /// Every section has exactly one answer to where a part of it is asked for: the part, or a fault.
@@ -111,16 +115,21 @@ pub fn exactly_one_range()
 /// The bytes that are left of a section stand for exactly one list of sets of addresses, an error
 /// as its last item. A set takes eight bytes at least, and an error one.
 pub fn exactly_one_list_of_sets()
-    ensures one { (greatest : ℕ) (headers : Headers) → HasOne (StandsForAddressSets greatest headers) }
-    ensures bound { (greatest : ℕ) (headers : Headers) (items : List (Outcome (Set ℕ) Fault)) → StandsForAddressSets greatest headers items
+    ensures one { (greatest : ℕ) (headers : Headers)
+        → HasOne (StandsForAddressSets greatest headers) }
+    ensures bound { (greatest : ℕ) (headers : Headers) (items : List (Outcome (Set ℕ) Fault))
+        → StandsForAddressSets greatest headers items
         → sum_by (least_taken 8) items ≤ length headers.rest.bytes }
 {}
 
 /// The bytes that are left of a section stand for exactly one list of sets of string offsets, an
 /// error as its last item. A set takes eight bytes at least, and an error one.
 pub fn exactly_one_list_of_offset_sets()
-    ensures one { (greatest : ℕ) (headers : Headers) → HasOne (StandsForStringOffsetSets greatest headers) }
-    ensures bound { (greatest : ℕ) (headers : Headers) (items : List (Outcome (Set (Unit {0})) Fault)) → StandsForStringOffsetSets greatest headers items
+    ensures one { (greatest : ℕ) (headers : Headers)
+        → HasOne (StandsForStringOffsetSets greatest headers) }
+    ensures bound { (greatest : ℕ) (headers : Headers)
+        (items : List (Outcome (Set (Unit {0})) Fault))
+        → StandsForStringOffsetSets greatest headers items
         → sum_by (least_taken 8) items ≤ length headers.rest.bytes }
 {}
 
@@ -129,7 +138,8 @@ pub fn sets_are_fronts()
     ensures addresses { (greatest offset : ℕ) (old new : Input) (s : Set ℕ)
         → (set address_header greatest offset).Reads old s new → (count : ℕ) × Takes count old new }
     ensures string_offsets { (greatest offset : ℕ) (old new : Input) (s : Set (Unit {0}))
-        → (set string_offsets_header greatest offset).Reads old s new → (count : ℕ) × Takes count old new }
+        → (set string_offsets_header greatest offset).Reads old s new → (count : ℕ)
+        × Takes count old new }
 {}
 
 /// The bytes that are left of a set stand for exactly one list of addresses, an error as its last
@@ -137,7 +147,8 @@ pub fn sets_are_fronts()
 #[tactic(auto, using(crate::proofs::Entries::addresses_one, crate::proofs::Entries::addresses_bounded))]
 pub fn exactly_one_list_of_entries()
     ensures one { (entries : Entries) → 0 < entries.width → HasOne (StandsForAddresses entries) }
-    ensures bound { (entries : Entries) (items : List (Outcome ℕ Fault)) → StandsForAddresses entries items
+    ensures bound { (entries : Entries) (items : List (Outcome ℕ Fault))
+        → StandsForAddresses entries items
         → sum_by (least_taken entries.width) items ≤ length entries.rest.bytes }
 {}
 
@@ -145,27 +156,36 @@ pub fn exactly_one_list_of_entries()
 /// last item. An offset takes as many bytes as a word has, and an error one byte at least.
 #[tactic(auto, using(crate::proofs::Entries::string_offsets_one, crate::proofs::Entries::string_offsets_bounded))]
 pub fn exactly_one_list_of_string_offsets()
-    ensures one { (greatest : ℕ) (entries : Entries) → 0 < entries.width → HasOne (StandsForStringOffsets greatest entries) }
-    ensures bound { (greatest : ℕ) (entries : Entries) (items : List (Outcome ℕ Fault)) → StandsForStringOffsets greatest entries items
+    ensures one { (greatest : ℕ) (entries : Entries) → 0 < entries.width
+        → HasOne (StandsForStringOffsets greatest entries) }
+    ensures bound { (greatest : ℕ) (entries : Entries) (items : List (Outcome ℕ Fault))
+        → StandsForStringOffsets greatest entries items
         → sum_by (least_taken entries.width) items ≤ length entries.rest.bytes }
 {}
 
 /// A set of addresses that comes first, or an error, but that bytes are missing, comes first
 /// whatever bytes are appended.
 pub fn appended_bytes_change_no_set()
-    ensures set { (greatest : ℕ) (headers : Headers) (s : Set ℕ) (items others : List (Outcome (Set ℕ) Fault)) (more : List ℕ)
-        → StandsForAddressSets greatest headers (Ok s ∷ items) → StandsForAddressSets greatest (followed_headers more headers) others
+    ensures set { (greatest : ℕ) (headers : Headers) (s : Set ℕ)
+        (items others : List (Outcome (Set ℕ) Fault)) (more : List ℕ)
+        → StandsForAddressSets greatest headers (Ok s ∷ items)
+        → StandsForAddressSets greatest (followed_headers more headers) others
         → (rest : List (Outcome (Set ℕ) Fault)) × (others ≡ Ok s ∷ rest) }
-    ensures fault { (greatest : ℕ) (headers : Headers) (e : Fault) (more : List ℕ) → StandsForAddressSets greatest headers (Err e ∷ [])
-        → ((position : ℕ) → e ≢ eof position) → StandsForAddressSets greatest (followed_headers more headers) (Err e ∷ []) }
+    ensures fault { (greatest : ℕ) (headers : Headers) (e : Fault) (more : List ℕ)
+        → StandsForAddressSets greatest headers (Err e ∷ []) → ((position : ℕ) → e ≢ eof position)
+        → StandsForAddressSets greatest (followed_headers more headers) (Err e ∷ []) }
 {}
 
 /// A set of string offsets that comes first, or an error, but that bytes are missing, comes first
 /// whatever bytes are appended.
 pub fn appended_bytes_change_no_offset_set()
-    ensures set { (greatest : ℕ) (headers : Headers) (s : Set (Unit {0})) (items others : List (Outcome (Set (Unit {0})) Fault)) (more : List ℕ)
-        → StandsForStringOffsetSets greatest headers (Ok s ∷ items) → StandsForStringOffsetSets greatest (followed_headers more headers) others
+    ensures set { (greatest : ℕ) (headers : Headers) (s : Set (Unit {0}))
+        (items others : List (Outcome (Set (Unit {0})) Fault)) (more : List ℕ)
+        → StandsForStringOffsetSets greatest headers (Ok s ∷ items)
+        → StandsForStringOffsetSets greatest (followed_headers more headers) others
         → (rest : List (Outcome (Set (Unit {0})) Fault)) × (others ≡ Ok s ∷ rest) }
-    ensures fault { (greatest : ℕ) (headers : Headers) (e : Fault) (more : List ℕ) → StandsForStringOffsetSets greatest headers (Err e ∷ [])
-        → ((position : ℕ) → e ≢ eof position) → StandsForStringOffsetSets greatest (followed_headers more headers) (Err e ∷ []) }
+    ensures fault { (greatest : ℕ) (headers : Headers) (e : Fault) (more : List ℕ)
+        → StandsForStringOffsetSets greatest headers (Err e ∷ [])
+        → ((position : ℕ) → e ≢ eof position)
+        → StandsForStringOffsetSets greatest (followed_headers more headers) (Err e ∷ []) }
 {}

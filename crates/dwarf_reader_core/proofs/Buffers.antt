@@ -16,7 +16,7 @@ zeros-more : (bytes : List ℕ) (len b : ℕ) → HasRoom bytes len
 zeros-more bytes len b has_room =
     let one_less : 10 - len - 1 ≡ 10 - (len + 1) = omega arith in
     drop-set-lt (len + 1) bytes len b (omega arith) ∙ sym (drop-drop 1 len bytes) ∙ ap (drop 1) has_room.zeros
-        ∙ drop-replicate 1 (10 - len) 0 ∙ ap (λ n. replicate n 0) one_less
+    ∙ drop-replicate 1 (10 - len) 0 ∙ ap (λ n. replicate n 0) one_less
 
 -- a buffer with one byte more has room for the others
 pub HasRoom-more : (bytes : List ℕ) (len b : ℕ) → HasRoom bytes len → len + 1 < 10 → HasRoom (set bytes len b) (len + 1)

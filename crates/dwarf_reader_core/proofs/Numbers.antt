@@ -11,5 +11,9 @@ pub number_taken : (n : ℕ) (old new : Input) (buf : List ℕ) (is_big : Bool) 
 number_taken n old new buf is_big x taken filled order is =
     let same : is_big ≡ old.is_big = order ∙ ap (λ (i : Input). i.is_big) taken.left in
     let whole : take n buf ≡ take n old.bytes = ap (take n) filled ∙ take-take n n old.bytes (le_refl n) in
-    record { enough = taken.enough; is = is ∙ ap (λ b. number_of b (take n buf)) same
-        ∙ ap (number_of old.is_big) whole; left = taken.left }
+    record {
+      enough = taken.enough;
+      is = is ∙ ap (λ b. number_of b (take n buf)) same
+          ∙ ap (number_of old.is_big) whole;
+      left = taken.left;
+    }

@@ -34,8 +34,12 @@ three_ways (suc bound) (b ∷ bs) =
     (λ last. inl (record { len = 1; enough = omega arith; short = omega arith; encoding = last }))
     (λ more.
     ⊎_elim
-    (λ e. inl (record { len = suc e.len; enough = omega (arith, e.enough); short = omega (arith, e.short);
-        encoding = IsEncoding-cons b _ more e.encoding }))
+    (λ e. inl (record {
+      len = suc e.len;
+      enough = omega (arith, e.enough);
+      short = omega (arith, e.short);
+      encoding = IsEncoding-cons b _ more e.encoding;
+    }))
     (λ r.
     ⊎_elim
     (λ cut. inr (inl (omega (arith, cut.0), (more, cut.1))))
@@ -49,14 +53,14 @@ same_length : (bytes : List ℕ) (m n : ℕ) → m ≤ length bytes → n ≤ le
     → IsEncoding (take n bytes) → m ≡ n
 same_length bytes m n p q s t =
     let same = same_encoding (take m bytes) (take n bytes) (drop m bytes) (drop n bytes) s t
-        (take-append-drop m bytes ∙ sym (take-append-drop n bytes)) in
+    (take-append-drop m bytes ∙ sym (take-append-drop n bytes)) in
     omega (arith, length-take-le m bytes p, length-take-le n bytes q, ap length same.0)
 
 module _ (k : Kind) (bytes : List ℕ) where
   cut_apart : (v : Number k) (n : ℕ) → HasNumber k bytes v n → IsCut k bytes → ⊥
   cut_apart v n found cut =
       let none : NoneIsLast (take (length bytes) bytes) = rw
-          (take_all (length bytes) bytes (omega arith)) cut.unended in
+      (take_all (length bytes) bytes (omega arith)) cut.unended in
       omega (arith, past_none bytes (length bytes) n (omega arith) none found.is_number.encoding, found.enough)
 
   -- a number has the length and the value of any other that begins the bytes
@@ -81,24 +85,37 @@ module _ (k : Kind) (bytes : List ℕ) where
       → (o : Outcome k) × HasOutcome k bytes o
   judged e true h =
       let within : length (take e.len bytes) ≤ limit k = omega (arith, e.short, length-take-le e.len bytes e.enough) in
-      let is : IsNumber k (take e.len bytes) (value k (take e.len bytes)) = record { encoding = e.encoding;
-          within = within; means = refl; in_range = h } in
+      let is : IsNumber k (take e.len bytes) (value k (take e.len bytes)) = record {
+        encoding = e.encoding;
+        within = within;
+        means = refl;
+        in_range = h;
+      } in
       (Value (value k (take e.len bytes)) e.len, record { enough = e.enough; is_number = is })
   judged e false h =
       let other : (v : Number k) (n : ℕ) → HasNumber k bytes v n → ⊥ = λ v n f.
       let same = same_length bytes e.len n e.enough f.enough e.encoding f.is_number.encoding in
       let has : is_in_range k (value k (take e.len bytes)) ≡ true =
       ap (λ i. is_in_range k (value k (take i bytes))) same ∙ ap (is_in_range k) f.is_number.means
-          ∙ f.is_number.in_range
+      ∙ f.is_number.in_range
       in
       let clash : false ≡ true = sym h ∙ has in
       cc clash
       in
       let none : NoneIsLast (take (length bytes) bytes)
-          → ⊥ = λ none. omega (arith, past_none bytes (length bytes) e.len
-          (omega arith) none e.encoding, e.enough) in
-      (Bad, record { no_number = other; not_cut = λ cut. none
-          (rw (take_all (length bytes) bytes (omega arith)) cut.unended) })
+      → ⊥ = λ none. omega (
+        arith,
+        past_none bytes (length bytes) e.len
+            (omega arith) none e.encoding,
+        e.enough,
+      ) in (
+        Bad,
+        record {
+          no_number = other;
+          not_cut = λ cut. none
+              (rw (take_all (length bytes) bytes (omega arith)) cut.unended);
+        },
+      )
 
   some : (o : Outcome k) × HasOutcome k bytes o
   some =

@@ -45,7 +45,7 @@ begun_next {old} {mid} {new} {k} {value} {byte} b t =
     let enough : k < length old.bytes = omega (arith, rest, t.enough) in
     let found : byte ≡ get_or old.bytes k 0 =
     t.is ∙ ap (λ (i : Input). get_or i.bytes 0 0) b.left ∙ get_or-drop k old.bytes 0 0
-        ∙ ap (λ i. get_or old.bytes i 0) (add-zero k)
+    ∙ ap (λ i. get_or old.bytes i 0) (add-zero k)
     in
     record {
       enough = enough;
@@ -108,11 +108,18 @@ pub begun_reads : {old mid new : Input} {n worth byte : ℕ} (k : Kind) (v : Num
 begun_reads {old} {n = n} k v b next last short means in_range =
     let e = begun_ends b next last in
     let within : length (take (n + 1) old.bytes)
-        ≤ limit k = omega (arith, short, length-take-le (n + 1) old.bytes e.enough) in
+    ≤ limit k = omega (arith, short, length-take-le (n + 1) old.bytes e.enough) in
     record {
       len = n + 1;
-      is = record { enough = e.enough; is_number = record { encoding = e.encoding; within = within; means = means;
-          in_range = in_range } };
+      is = record {
+        enough = e.enough;
+        is_number = record {
+          encoding = e.encoding;
+          within = within;
+          means = means;
+          in_range = in_range;
+        };
+      };
       left = e.left;
     }
 
@@ -125,7 +132,7 @@ begun_bad {old} {mid} {new} {n} {worth} {byte} k b next whole out =
     let none : (v : Number k) (m : ℕ) → HasNumber k old.bytes v m → ⊥ = λ v m found.
     let past = past_none old.bytes n m b.enough b.none found.is_number.encoding in
     let m_is : m
-        ≡ n + 1 = omega (arith, past, found.is_number.within, length-take-le m old.bytes found.enough, whole) in
+    ≡ n + 1 = omega (arith, past, found.is_number.within, length-take-le m old.bytes found.enough, whole) in
     let encoding : IsEncoding (take (n + 1) old.bytes) = rw (← m_is) found.is_number.encoding in
     let last : byte < 128 = IsEncoding-last (take n old.bytes) byte (rw next.taken at encoding) in
     out last (begun_ends b next last) (rw (← m_is, found.is_number.means) found.is_number.in_range)
@@ -141,7 +148,7 @@ signed_next {old} {k = k} {value = value} {byte = byte} b n =
     let s = take (k + 1) old.bytes in
     let sign = nat_le 64 (byte % 128) in
     let worth : unsigned_value s ≡ value + byte % 128 * 2 ^ (7 * k) = worth_next b n
-        ∙ ap (λ p. value + byte % 128 * p) (sym (pow_digits k)) in
+    ∙ ap (λ p. value + byte % 128 * p) (sym (pow_digits k)) in
     let signs : is_negative s ≡ sign = ap is_negative n.taken ∙ is_negative-push (take k old.bytes) byte in
     let place : 128 ^ length s ≡ 2 ^ (7 * (k + 1)) =
     ap (λ i. 128 ^ i) (length-take-le (k + 1) old.bytes (omega (arith, n.enough))) ∙ sym (pow_digits (k + 1))

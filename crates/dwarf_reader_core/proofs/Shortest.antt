@@ -22,9 +22,12 @@ pub record IsLeast {V : Type 0} (worth : List ℕ → V) (v : V) (bytes : List �
 IsSpelled-from : (bytes : List ℕ) → IsEncoding bytes → All (λ b. b < 256) bytes → IsSpelled bytes
 IsSpelled-from [] encoding all = absurd encoding
 IsSpelled-from (b ∷ []) encoding all = encoding
-IsSpelled-from (b ∷ c ∷ bytes) encoding all =
-    (encoding.0, All-head (λ x. x < 256) b (c ∷ bytes) all, IsSpelled-from (c ∷ bytes) encoding.1
-        (All-tail (λ x. x < 256) b (c ∷ bytes) all))
+IsSpelled-from (b ∷ c ∷ bytes) encoding all = (
+  encoding.0,
+  All-head (λ x. x < 256) b (c ∷ bytes) all,
+  IsSpelled-from (c ∷ bytes) encoding.1
+      (All-tail (λ x. x < 256) b (c ∷ bytes) all),
+)
 
 -- what is spelled by continuation bits is an encoding
 pub IsEncoding-from : (bytes : List ℕ) → IsSpelled bytes → IsEncoding bytes
@@ -42,8 +45,11 @@ are_bytes (b ∷ c ∷ bytes) spelled = (spelled.1, are_bytes (c ∷ bytes) spel
 pub IsShortest-from : (k : Kind) (number : Number k) (bytes : List ℕ) → IsLeast (value k) number bytes
     → IsShortest k number bytes
 IsShortest-from k number bytes least = record {
-  encodes = record { are_bytes = All-from_recursion _ bytes (are_bytes bytes least.is_spelled);
-      encoding = IsEncoding-from bytes least.is_spelled; means = least.has_value };
+  encodes = record {
+    are_bytes = All-from_recursion _ bytes (are_bytes bytes least.is_spelled);
+    encoding = IsEncoding-from bytes least.is_spelled;
+    means = least.has_value;
+  };
   shorter = λ other encodes apart. least.shorter other
       (IsSpelled-from other encodes.encoding encodes.are_bytes) encodes.means apart;
 }
@@ -53,10 +59,14 @@ pub HasNumber-append : (k : Kind) (number : Number k) (bytes rest : List ℕ) �
     → length bytes ≤ limit k → IsTrue (is_in_range k number) → HasNumber k (bytes ++ rest) number (length bytes)
 HasNumber-append k number bytes rest encodes within in_range =
     let front : take (length bytes) (bytes ++ rest)
-        ≡ bytes = take-append-le (length bytes) bytes rest (omega arith)
-        ∙ take_all (length bytes) bytes (omega arith) in
+    ≡ bytes = take-append-le (length bytes) bytes rest (omega arith)
+    ∙ take_all (length bytes) bytes (omega arith) in
     record {
       enough = omega (arith, length-append bytes rest);
-      is_number = rw front record { encoding = encodes.encoding; within = within; means = encodes.means;
-          in_range = in_range };
+      is_number = rw front record {
+        encoding = encodes.encoding;
+        within = within;
+        means = encodes.means;
+        in_range = in_range;
+      };
     }

@@ -17,9 +17,11 @@ shortest_unsigned (suc room) v within =
     elim (cases_lt v 128) [
       | inl small ↦ (v ∷ [], unsigned_last-is_least v small)
       | inr large ↦
-          let above = shortest_unsigned room (v / 128) (omega arith) in
-          ((v % 128 + 128) ∷ above.0, unsigned_more-is_least v (v % 128) (v / 128) above.0 (omega arith)
-              (omega arith) (omega arith) above.1)
+          let above = shortest_unsigned room (v / 128) (omega arith) in (
+            (v % 128 + 128) ∷ above.0,
+            unsigned_more-is_least v (v % 128) (v / 128) above.0 (omega arith)
+                (omega arith) (omega arith) above.1,
+          )
     ]
 
 -- a signed number from 0 on
@@ -31,9 +33,11 @@ shortest_positive (suc room) n within =
       | inl small ↦ (n ∷ [], signed_last-is_least (pos n) n (omega arith) (signed_value-low n small))
       | inr large ↦
           let above = shortest_positive room (n / 128) (omega arith) in
-          let parts : pos n ≡ pos (n % 128) +ℤ (pos 128 *ℤ pos (n / 128)) = omega (arith, ints) in
-          ((n % 128 + 128) ∷ above.0, signed_more-is_least (pos n) (n % 128) (pos (n / 128)) above.0 (omega arith)
-              (λ fits. omega (arith, ints, large, fits.1)) parts above.1)
+          let parts : pos n ≡ pos (n % 128) +ℤ (pos 128 *ℤ pos (n / 128)) = omega (arith, ints) in (
+            (n % 128 + 128) ∷ above.0,
+            signed_more-is_least (pos n) (n % 128) (pos (n / 128)) above.0 (omega arith)
+                (λ fits. omega (arith, ints, large, fits.1)) parts above.1,
+          )
     ]
 
 -- the last byte of a number from -64 to -1
@@ -49,9 +53,11 @@ shortest_negative (suc room) n within =
       | inl small ↦ ((127 - n) ∷ [], signed_last-is_least (negsuc n) (127 - n) (omega arith) (byte_of_negative n small))
       | inr large ↦
           let above = shortest_negative room (n / 128) (omega arith) in
-          let parts : negsuc n ≡ pos (127 - n % 128) +ℤ (pos 128 *ℤ negsuc (n / 128)) = omega (arith, ints) in
-          ((127 - n % 128 + 128) ∷ above.0, signed_more-is_least (negsuc n) (127 - n % 128)
-              (negsuc (n / 128)) above.0 (omega arith) (λ fits. omega (arith, ints, large, fits.0)) parts above.1)
+          let parts : negsuc n ≡ pos (127 - n % 128) +ℤ (pos 128 *ℤ negsuc (n / 128)) = omega (arith, ints) in (
+            (127 - n % 128 + 128) ∷ above.0,
+            signed_more-is_least (negsuc n) (127 - n % 128)
+                (negsuc (n / 128)) above.0 (omega arith) (λ fits. omega (arith, ints, large, fits.0)) parts above.1,
+          )
     ]
 
 -- each signed number has a least spelling
@@ -82,8 +88,12 @@ only_shortest k number a b is_a is_b =
     elim (same_or_not a b) [
       | inl same ↦ same
       | inr apart ↦
-          absurd (omega (arith, is_a.shorter b is_b.encodes
-          (λ e. apart (sym e)), is_b.shorter a is_a.encodes apart))
+          absurd (omega (
+            arith,
+            is_a.shorter b is_b.encodes
+                (λ e. apart (sym e)),
+            is_b.shorter a is_a.encodes apart,
+          ))
     ]
 
 -- each number has exactly one shortest encoding

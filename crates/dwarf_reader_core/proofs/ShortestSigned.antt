@@ -44,7 +44,7 @@ pub signed_value-cons : (b c : ℕ) (bytes : List ℕ)
     → signed_value (b ∷ c ∷ bytes) ≡ pos (b % 128) +ℤ (pos 128 *ℤ signed_value (c ∷ bytes))
 signed_value-cons b c bytes =
     rw (pow-suc 128 (length (c ∷ bytes)))
-        (with_digit (is_negative (c ∷ bytes)) (b % 128) (unsigned_value (c ∷ bytes)) (128 ^ length (c ∷ bytes)))
+    (with_digit (is_negative (c ∷ bytes)) (b % 128) (unsigned_value (c ∷ bytes)) (128 ^ length (c ∷ bytes)))
 
 -- one byte spells a number that fits a byte
 FitsByte-last : (b : ℕ) → b < 128 → FitsByte (signed_value (b ∷ []))
@@ -65,12 +65,12 @@ same_byte b d small small' same =
     (λ low. below_or_above d
     (λ low'. let is = signed_value-low b low in let is' = signed_value-low d low' in omega (arith, ints, is, is', same))
     (λ high'. let is = signed_value-low b low in let is' = signed_value-high d high' small' in omega
-        (arith, ints, is, is', same)))
+    (arith, ints, is, is', same)))
     (λ high. below_or_above d
     (λ low'. let is = signed_value-high b high small in let is' = signed_value-low d low' in omega
-        (arith, ints, is, is', same))
+    (arith, ints, is, is', same))
     (λ high'. let is = signed_value-high b high small in let is' = signed_value-high d high' small' in omega
-        (arith, ints, is, is', same)))
+    (arith, ints, is, is', same)))
 
 -- any other spelling of a number that fits a byte is longer than a byte
 signed_last-no_other : (v : ℤ) (b : ℕ) → b < 128 → signed_value (b ∷ []) ≡ v → (other : List ℕ) → IsSpelled other
@@ -84,16 +84,16 @@ signed_last-no_other v b small v_is (d ∷ c ∷ bytes) spelled same apart = ome
 signed_more-no_other : (v : ℤ) (digit : ℕ) (rest : ℤ) (tail : List ℕ) → digit < 128 → (FitsByte v → ⊥)
     → v ≡ pos digit +ℤ (pos 128 *ℤ rest) → IsLeast signed_value rest tail
     → (other : List ℕ) → IsSpelled other → signed_value other ≡ v → other ≢ ((digit + 128) ∷ tail)
-        → length ((digit + 128) ∷ tail) < length other
+    → length ((digit + 128) ∷ tail) < length other
 signed_more-no_other v digit rest tail small wide v_is shortest [] spelled same apart = absurd spelled
 signed_more-no_other v digit rest tail small wide v_is shortest (b ∷ []) spelled same apart =
     absurd (wide (subst FitsByte same (FitsByte-last b spelled)))
 signed_more-no_other v digit rest tail small wide v_is shortest (b ∷ c ∷ bytes) spelled same apart =
     let parts = same_digit (b % 128) digit (signed_value (c ∷ bytes)) rest (omega arith) small
-        (sym (signed_value-cons b c bytes) ∙ same ∙ v_is) in
+    (sym (signed_value-cons b c bytes) ∙ same ∙ v_is) in
     let b_is : b ≡ digit + 128 = omega arith in
     let longer : length tail < length (c ∷ bytes) = shortest.shorter (c ∷ bytes) spelled.2 parts.1
-        (λ tail_is. apart cc) in
+    (λ tail_is. apart cc) in
     omega arith
 
 -- a number of one signed byte is that byte
@@ -158,7 +158,7 @@ pub signed_last_of-is_least : (bits : ℕ) → bits < 2 ^ 64 → FitsByte (to_z 
     → IsLeast signed_value (to_z w64 bits) (nat_abs (to_z w64 (bit_and bits 127)) ∷ [])
 signed_last_of-is_least bits range fits =
     rw (low_digit_signed bits) (signed_last-is_least (to_z w64 bits) (bits % 128) (omega arith)
-        (signed_value-only (to_z w64 bits) (rest_of bits) (bits % 128) (omega arith) fits (split bits range)))
+    (signed_value-only (to_z w64 bits) (rest_of bits) (bits % 128) (omega arith) fits (split bits range)))
 
 -- a digit with a continuation bit before the least spelling of the bits above is the least one
 pub signed_more_of-is_least : (bits : ℕ) (tail : List ℕ) → bits < 2 ^ 64 → (FitsByte (to_z w64 bits) → ⊥)
@@ -166,5 +166,5 @@ pub signed_more_of-is_least : (bits : ℕ) (tail : List ℕ) → bits < 2 ^ 64 �
     → IsLeast signed_value (to_z w64 bits) (bit_or (nat_abs (to_z w64 (bit_and bits 127))) 128 ∷ tail)
 signed_more_of-is_least bits tail range wide shortest =
     rw (low_digit_signed bits, continued (bits % 128) (omega arith))
-        (signed_more-is_least (to_z w64 bits) (bits % 128) (rest_of bits) tail (omega arith) wide
-        (split bits range) shortest)
+    (signed_more-is_least (to_z w64 bits) (bits % 128) (rest_of bits) tail (omega arith) wide
+    (split bits range) shortest)

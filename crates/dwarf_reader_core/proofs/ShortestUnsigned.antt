@@ -23,14 +23,14 @@ unsigned_last-no_other v small (b ∷ c ∷ bytes) spelled same apart = omega ar
 unsigned_more-no_other : (v digit rest : ℕ) (tail : List ℕ) → digit < 128 → 0 < rest → v ≡ digit + 128 * rest
     → IsLeast unsigned_value rest tail
     → (other : List ℕ) → IsSpelled other → unsigned_value other ≡ v → other ≢ ((digit + 128) ∷ tail)
-        → length ((digit + 128) ∷ tail) < length other
+    → length ((digit + 128) ∷ tail) < length other
 unsigned_more-no_other v digit rest tail small more v_is shortest [] spelled same apart = absurd spelled
 unsigned_more-no_other v digit rest tail small more v_is shortest (b ∷ []) spelled same apart = absurd (omega arith)
 unsigned_more-no_other v digit rest tail small more v_is shortest (b ∷ c ∷ bytes) spelled same apart =
     let b_is : b ≡ digit + 128 = omega arith in
     let rest_is : unsigned_value (c ∷ bytes) ≡ rest = omega arith in
     let longer : length tail < length (c ∷ bytes) = shortest.shorter (c ∷ bytes) spelled.2 rest_is
-        (λ tail_is. apart cc) in
+    (λ tail_is. apart cc) in
     omega arith
 
 -- a number below 128 is a byte of its own
@@ -79,4 +79,4 @@ pub unsigned_more_of-is_least : (rest digit : ℕ) (tail : List ℕ) → 0 < res
     → IsLeast unsigned_value (rest / 128) tail → IsLeast unsigned_value rest (bit_or digit 128 ∷ tail)
 unsigned_more_of-is_least rest digit tail more is least =
     rw (continued digit (omega arith)) (unsigned_more-is_least rest digit (rest / 128) tail (omega arith) more
-        (omega arith) least)
+    (omega arith) least)

@@ -22,7 +22,7 @@ rest_of n = to_z w64 (of_z w64 (int_shr (to_z w64 n) 7))
 split_low : (n : ℕ) → n < 2 ^ 63 → to_z w64 n ≡ pos (n % 128) +ℤ (pos 128 *ℤ rest_of n)
 split_low n low =
     rw (to_z_pos w64 n low) (let small : n / 128
-        < 2 ^ 63 = omega arith in rw (to_z_pos w64 (n / 128) small) (omega (arith, ints)))
+    < 2 ^ 63 = omega arith in rw (to_z_pos w64 (n / 128) small) (omega (arith, ints)))
 
 -- bits with a sign are a number below 0
 to_z_neg : (n : ℕ) → 2 ^ 63 ≤ n → to_z w64 n ≡ negsuc (2 ^ 64 - suc n)
@@ -34,7 +34,7 @@ split_high n fits high =
     let n_is : to_z w64 n ≡ negsuc (2 ^ 64 - suc n) = to_z_neg n high in
     let above : ℕ = (2 ^ 64 - suc n) / 128 in
     let rest_is : to_z w64 (2 ^ 64 - suc above) ≡ negsuc above = to_z_neg (2 ^ 64 - suc above) (omega arith)
-        ∙ ap negsuc (omega arith) in
+    ∙ ap negsuc (omega arith) in
     rw (n_is, rest_is) (omega (arith, ints))
 
 -- so are all bits

@@ -61,4 +61,4 @@ RefusesAddress size old e new =
 abbrev pub RefusesOffset : ℕ → ℕ → Input → Error → Input → Type 0
 RefusesOffset greatest size old e new =
     IsNoSize UnsupportedOffsetSize size old e new
-        ⊎ (IsTrue (is_number_size size) × (EndsBefore size old e new ⊎ IsNoOffset greatest size old e new))
+    ⊎ (IsTrue (is_number_size size) × (EndsBefore size old e new ⊎ IsNoOffset greatest size old e new))

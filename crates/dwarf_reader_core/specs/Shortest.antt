@@ -39,7 +39,7 @@ padded bytes = record { bytes = bytes ++ replicate (10 - length bytes) 0; len = 
 pub padded-encoding_of : (buffer : Inside) → IsPadded buffer → padded (encoding_of buffer) ≡ buffer
 padded-encoding_of buffer is_padded =
     let len_is : length (encoding_of buffer)
-        ≡ buffer.len = length-take-le buffer.len buffer.bytes (rw is_padded.places is_padded.within) in
+    ≡ buffer.len = length-take-le buffer.len buffer.bytes (rw is_padded.places is_padded.within) in
     let bytes_are : encoding_of buffer ++ replicate (10 - buffer.len) 0 ≡ buffer.bytes =
     ap (λ rest. encoding_of buffer ++ rest) (sym is_padded.zeros) ∙ take-append-drop buffer.len buffer.bytes
     in

@@ -57,12 +57,28 @@ impl<R: Reader> DebugAddr<R> {
         base: DebugAddrBase<R::Offset>,
         index: DebugAddrIndex<R::Offset>,
     ) -> Result<u64>
-        ensures ok { IfOk result (λ address. AddressAt R.Offset.GREATEST (R.view (debug_addr_reader self.now)) (slot (R.Offset.value base.0) (R.Offset.value index.0) address_size) (Ok address)) }
-        ensures err { IfErr result (λ e. AddressAt R.Offset.GREATEST (R.view (debug_addr_reader self.now)) (slot (R.Offset.value base.0) (R.Offset.value index.0) address_size) (Err e) ⊎ WantsMemory R.clone_is_free e) }
+        ensures ok { let section = R.view (debug_addr_reader self.now) in
+            IfOk result
+            (λ address. AddressAt R.Offset.GREATEST section
+            (slot (R.Offset.value base.0) (R.Offset.value index.0) address_size) (Ok address)) }
+        ensures err { let section = R.view (debug_addr_reader self.now) in
+            IfErr result
+            (λ e. AddressAt R.Offset.GREATEST section
+            (slot (R.Offset.value base.0) (R.Offset.value index.0) address_size) (Err e)
+            ⊎ WantsMemory R.clone_is_free e) }
 
         // Bytes behind the section change no answer, but that bytes are missing.
-        ensures stable { IfOk result (λ address. (more : List ℕ) → AddressAt R.Offset.GREATEST (followed_by (R.view (debug_addr_reader self.now)) more) (slot (R.Offset.value base.0) (R.Offset.value index.0) address_size) (Ok address)) }
-        ensures stable_fault { IfErr result (λ e. IsSettled (Err e) → (more : List ℕ) → AddressAt R.Offset.GREATEST (followed_by (R.view (debug_addr_reader self.now)) more) (slot (R.Offset.value base.0) (R.Offset.value index.0) address_size) (Err e) ⊎ WantsMemory R.clone_is_free e) }
+        ensures stable { let section = R.view (debug_addr_reader self.now) in
+            IfOk result
+            (λ address. (more : List ℕ)
+            → AddressAt R.Offset.GREATEST (followed_by section more)
+            (slot (R.Offset.value base.0) (R.Offset.value index.0) address_size) (Ok address)) }
+        ensures stable_fault { let section = R.view (debug_addr_reader self.now) in
+            IfErr result
+            (λ e. IsSettled (Err e) → (more : List ℕ)
+            → AddressAt R.Offset.GREATEST (followed_by section more)
+            (slot (R.Offset.value base.0) (R.Offset.value index.0) address_size) (Err e)
+            ⊎ WantsMemory R.clone_is_free e) }
     {
         let input = &mut self.section.try_clone()?;
         skip_to_index(input, base.0, index.0, address_size)?;
@@ -75,7 +91,8 @@ impl<R: Reader> DebugAddr<R> {
     ///
     /// `OutOfMemory` where a clone of the reader was refused.
     pub fn headers(&self) -> Result<AddrHeaderIter<R>>
-        ensures ok { IfOk result (λ headers. headers ≡ record { offset = 0; rest = R.view (debug_addr_reader self.now) }) }
+        ensures ok { let section = R.view (debug_addr_reader self.now) in
+            IfOk result (λ headers. headers ≡ record { offset = 0; rest = section }) }
         ensures err { IfErr result (WantsMemory R.clone_is_free) }
     {
         Ok(AddrHeaderIter {
@@ -95,7 +112,9 @@ impl<T> DebugAddr<T> {
     where
         F: FnMut(&'a T) -> R + Drop,
         requires { TakesAt F.FnMut borrow (debug_addr_reader self.now) }
-        ensures { (after : F) × CalledAt F.FnMut borrow (debug_addr_reader self.now) (debug_addr_reader result) after }
+        ensures { (after : F)
+            × CalledAt F.FnMut borrow (debug_addr_reader self.now)
+            (debug_addr_reader result) after }
     {
         borrow(&self.section).into()
     }
@@ -183,13 +202,19 @@ impl<R: Reader> AddrHeaderIter<R> {
     /// answer is `Ok(None)`.
     #[tactic(auto, using(crate::proofs::Sets::sets_none))]
     pub fn next(&mut self) -> Result<Option<AddrHeader<R>>>
-        ensures first { GivesFirst (StandsForAddressSets R.Offset.GREATEST) (set_of R.view R.Offset.value) R.clone_is_free self.old (result_transpose result) self.new }
+        ensures first { GivesFirst (StandsForAddressSets R.Offset.GREATEST)
+            (set_of R.view R.Offset.value) R.clone_is_free self.old
+            (result_transpose result) self.new }
         ensures failed { OnErr result (self.new.rest.bytes ≡ []) }
-        ensures bound { IfOk result (λ item. IfSome item (λ _. length self.new.rest.bytes + 8 ≤ length self.old.rest.bytes)) }
+        ensures bound { IfOk result
+            (λ item. IfSome item
+            (λ _. length self.new.rest.bytes + 8 ≤ length self.old.rest.bytes)) }
         ensures some { OnErr result (1 ≤ length self.old.rest.bytes) }
 
         // Bytes behind those that are left change neither a set nor a fault, but that bytes are missing.
-        ensures stable { StaysFirst (StandsForAddressSets R.Offset.GREATEST) (set_of R.view R.Offset.value) R.clone_is_free followed_headers self.old (result_transpose result) self.new }
+        ensures stable { StaysFirst (StandsForAddressSets R.Offset.GREATEST)
+            (set_of R.view R.Offset.value) R.clone_is_free followed_headers self.old
+            (result_transpose result) self.new }
     {
         if self.input.is_empty() {
             return Ok(None);
@@ -284,9 +309,14 @@ impl<R: Reader> AddrHeader<R> {
     ghost use Rattle.dwarf_read_core.specs.Headers.{set_of};
 
     fn parse(input: &mut R, offset: DebugAddrOffset<R::Offset>) -> Result<AddrHeader<R>>
-        ensures ok { IfOk result (λ header. (set address_header R.Offset.GREATEST (R.Offset.value offset.0)).Reads (R.view input.old) (set_of R.view R.Offset.value header) (R.view input.new)) }
-        ensures err { IfErr result (λ e. (set address_header R.Offset.GREATEST (R.Offset.value offset.0)).Fails (R.view input.old) e ⊎ WantsMemory R.clone_is_free e) }
-        ensures bound { OnOk result (length (R.view input.new).bytes + 8 ≤ length (R.view input.old).bytes) }
+        ensures ok { IfOk result
+            (λ header. (set address_header R.Offset.GREATEST (R.Offset.value offset.0)).Reads
+            (R.view input.old) (set_of R.view R.Offset.value header) (R.view input.new)) }
+        ensures err { IfErr result
+            (λ e. (set address_header R.Offset.GREATEST (R.Offset.value offset.0)).Fails
+            (R.view input.old) e ⊎ WantsMemory R.clone_is_free e) }
+        ensures bound { OnOk result
+            (length (R.view input.new).bytes + 8 ≤ length (R.view input.old).bytes) }
     {
         let (length, format) = input.read_initial_length()?;
         let mut unit = input.split(length)?;
@@ -331,7 +361,8 @@ impl<R: Reader> AddrHeader<R> {
 
     /// The set's format and address size; the version is 5.
     pub fn encoding(&self) -> Encoding
-        ensures { result ≡ record { address_size = (set_of R.view R.Offset.value self.now).header; format = (set_of R.view R.Offset.value self.now).format; version = 5 } }
+        ensures { let set = set_of R.view R.Offset.value self.now in
+            result ≡ record { address_size = set.header; format = set.format; version = 5 } }
     {
         self.encoding.encoding
     }
@@ -342,7 +373,8 @@ impl<R: Reader> AddrHeader<R> {
     ///
     /// `OutOfMemory` where a clone of the reader was refused.
     pub fn entries(&self) -> Result<AddrEntryIter<R>>
-        ensures ok { IfOk result (λ entries. entries ≡ addresses_of (set_of R.view R.Offset.value self.now)) }
+        ensures ok { IfOk result
+            (λ entries. entries ≡ addresses_of (set_of R.view R.Offset.value self.now)) }
         ensures err { IfErr result (WantsMemory R.clone_is_free) }
     {
         Ok(AddrEntryIter {
@@ -376,9 +408,13 @@ impl<R: Reader> AddrEntryIter<R> {
     /// it the answer is `Ok(None)`. It takes no memory.
     #[tactic(auto, using(crate::proofs::Entries::entries_none))]
     pub fn next(&mut self) -> Result<Option<u64>>
-        ensures first { GivesFirst StandsForAddresses (λ address. address) true self.old (result_transpose result) self.new }
+        ensures first { GivesFirst StandsForAddresses
+            (λ address. address) true self.old (result_transpose result) self.new }
         ensures failed { OnErr result (self.new.rest.bytes ≡ []) }
-        ensures bound { IfOk result (λ item. IfSome item (λ _. (1 ≤ self.old.width) × (length self.new.rest.bytes + self.old.width ≤ length self.old.rest.bytes))) }
+        ensures bound { IfOk result
+            (λ item. IfSome item
+            (λ _. (1 ≤ self.old.width)
+            × (length self.new.rest.bytes + self.old.width ≤ length self.old.rest.bytes))) }
         ensures some { OnErr result (1 ≤ length self.old.rest.bytes) }
     {
         if self.input.is_empty() {

@@ -12,7 +12,8 @@ use dwarf_reader_core::Reader;
 /// offset.
 #[inline]
 fn length_before<Offset: ReaderOffset>(index: Offset, width: u8) -> Result<Offset>
-    ensures { OkBelow (Offset.GREATEST + 1) Offset.value (Offset.value index * width) Error.UnsupportedOffset result }
+    ensures { OkBelow (Offset.GREATEST + 1) Offset.value
+        (Offset.value index * width) Error.UnsupportedOffset result }
 {
     let length = index
         .into_u64()
@@ -36,9 +37,15 @@ pub(crate) fn skip_to_index<R: Reader>(
     index: R::Offset,
     width: u8,
 ) -> Result<()>
-    ensures placed { OnOk result (IsPlaced R.Offset.GREATEST (R.view input.old) (slot (R.Offset.value base) (R.Offset.value index) width)) }
-    ensures ok { OnOk result (Takes (place (slot (R.Offset.value base) (R.Offset.value index) width)) (R.view input.old) (R.view input.new)) }
-    ensures err { IfErr result (Misplaced R.Offset.GREATEST (R.view input.old) (slot (R.Offset.value base) (R.Offset.value index) width)) }
+    ensures placed { OnOk result
+        (IsPlaced R.Offset.GREATEST (R.view input.old)
+        (slot (R.Offset.value base) (R.Offset.value index) width)) }
+    ensures ok { OnOk result
+        (Takes (place (slot (R.Offset.value base) (R.Offset.value index) width)) (R.view input.old)
+        (R.view input.new)) }
+    ensures err { IfErr result
+        (Misplaced R.Offset.GREATEST (R.view input.old)
+        (slot (R.Offset.value base) (R.Offset.value index) width)) }
 {
     input.skip(base)?;
     input.skip(length_before(index, width)?)

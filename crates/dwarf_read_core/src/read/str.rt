@@ -31,7 +31,8 @@ impl<'input, Endian: Endianity> DebugStr<EndianSlice<'input, Endian>> {
 
     /// The section with these bytes, whose first byte has position 0.
     pub fn new(debug_str_section: &'input [u8], endian: Endian) -> Self
-        ensures { ⟦<EndianSlice<'input, Endian> as Reader>⟧.view (debug_str_reader result)
+        ensures { let reader = ⟦<EndianSlice<'input, Endian> as Reader>⟧ in
+            reader.view (debug_str_reader result)
             ≡ record { bytes = debug_str_section.now; position = 0; is_big = Endian.is_big endian } }
     {
         Self::from(EndianSlice::new(debug_str_section, endian))
@@ -60,12 +61,19 @@ impl<R: Reader> DebugStr<R> {
     /// start where no zero byte ends it. `OutOfMemory` where a clone of the reader was refused.
     #[tactic(auto, using(crate::proofs::StringLemmas::string_stays))]
     pub fn get_str(&self, offset: DebugStrOffset<R::Offset>) -> Result<R>
-        ensures ok { IfOk result (λ string. StringAt (R.view (debug_str_reader self.now)) (R.Offset.value offset.0) (Ok (R.view string))) }
-        ensures err { IfErr result (λ e. StringAt (R.view (debug_str_reader self.now)) (R.Offset.value offset.0) (Err e) ⊎ WantsMemory R.clone_is_free e) }
+        ensures ok { let section = R.view (debug_str_reader self.now) in
+            IfOk result
+            (λ string. StringAt section (R.Offset.value offset.0) (Ok (R.view string))) }
+        ensures err { let section = R.view (debug_str_reader self.now) in
+            IfErr result
+            (λ e. StringAt section (R.Offset.value offset.0) (Err e)
+            ⊎ WantsMemory R.clone_is_free e) }
 
         // Bytes behind the section change no string.
-        ensures stable { IfOk result (λ string. (more : List ℕ)
-            → StringAt (followed_by (R.view (debug_str_reader self.now)) more) (R.Offset.value offset.0) (Ok (R.view string))) }
+        ensures stable { let section = R.view (debug_str_reader self.now) in
+            IfOk result
+            (λ string. (more : List ℕ)
+            → StringAt (followed_by section more) (R.Offset.value offset.0) (Ok (R.view string))) }
     {
         string_at(&self.debug_str_section, offset.0)
     }
@@ -81,7 +89,8 @@ impl<T> DebugStr<T> {
     where
         F: FnMut(&'a T) -> R + Drop,
         requires { TakesAt F.FnMut borrow (debug_str_reader self.now) }
-        ensures { (after : F) × CalledAt F.FnMut borrow (debug_str_reader self.now) (debug_str_reader result) after }
+        ensures { (after : F)
+            × CalledAt F.FnMut borrow (debug_str_reader self.now) (debug_str_reader result) after }
     {
         borrow(&self.debug_str_section).into()
     }
@@ -139,12 +148,30 @@ impl<R: Reader> DebugStrOffsets<R> {
         base: DebugStrOffsetsBase<R::Offset>,
         index: DebugStrOffsetsIndex<R::Offset>,
     ) -> Result<DebugStrOffset<R::Offset>>
-        ensures ok { IfOk result (λ offset. WordAt R.Offset.GREATEST (R.view (debug_str_offsets_reader self.now)) (slot (R.Offset.value base.0) (R.Offset.value index.0) (word_size format)) (Ok (R.Offset.value offset.0))) }
-        ensures err { IfErr result (λ e. WordAt R.Offset.GREATEST (R.view (debug_str_offsets_reader self.now)) (slot (R.Offset.value base.0) (R.Offset.value index.0) (word_size format)) (Err e) ⊎ WantsMemory R.clone_is_free e) }
+        ensures ok { let section = R.view (debug_str_offsets_reader self.now) in
+            IfOk result
+            (λ offset. WordAt R.Offset.GREATEST section
+            (slot (R.Offset.value base.0) (R.Offset.value index.0) (word_size format))
+            (Ok (R.Offset.value offset.0))) }
+        ensures err { let section = R.view (debug_str_offsets_reader self.now) in
+            IfErr result
+            (λ e. WordAt R.Offset.GREATEST section
+            (slot (R.Offset.value base.0) (R.Offset.value index.0) (word_size format)) (Err e)
+            ⊎ WantsMemory R.clone_is_free e) }
 
         // Bytes behind the section change no answer, but that bytes are missing.
-        ensures stable { IfOk result (λ offset. (more : List ℕ) → WordAt R.Offset.GREATEST (followed_by (R.view (debug_str_offsets_reader self.now)) more) (slot (R.Offset.value base.0) (R.Offset.value index.0) (word_size format)) (Ok (R.Offset.value offset.0))) }
-        ensures stable_fault { IfErr result (λ e. IsSettled (Err e) → (more : List ℕ) → WordAt R.Offset.GREATEST (followed_by (R.view (debug_str_offsets_reader self.now)) more) (slot (R.Offset.value base.0) (R.Offset.value index.0) (word_size format)) (Err e) ⊎ WantsMemory R.clone_is_free e) }
+        ensures stable { let section = R.view (debug_str_offsets_reader self.now) in
+            IfOk result
+            (λ offset. (more : List ℕ)
+            → WordAt R.Offset.GREATEST (followed_by section more)
+            (slot (R.Offset.value base.0) (R.Offset.value index.0) (word_size format))
+            (Ok (R.Offset.value offset.0))) }
+        ensures stable_fault { let section = R.view (debug_str_offsets_reader self.now) in
+            IfErr result
+            (λ e. IsSettled (Err e) → (more : List ℕ)
+            → WordAt R.Offset.GREATEST (followed_by section more)
+            (slot (R.Offset.value base.0) (R.Offset.value index.0) (word_size format)) (Err e)
+            ⊎ WantsMemory R.clone_is_free e) }
     {
         let input = &mut self.section.try_clone()?;
         skip_to_index(input, base.0, index.0, format.word_size())?;
@@ -160,7 +187,8 @@ impl<R: Reader> DebugStrOffsets<R> {
     ///
     /// `OutOfMemory` where a clone of the reader was refused.
     pub fn headers(&self) -> Result<StrOffsetsHeaderIter<R>>
-        ensures ok { IfOk result (λ headers. headers ≡ record { offset = 0; rest = R.view (debug_str_offsets_reader self.now) }) }
+        ensures ok { let section = R.view (debug_str_offsets_reader self.now) in
+            IfOk result (λ headers. headers ≡ record { offset = 0; rest = section }) }
         ensures err { IfErr result (WantsMemory R.clone_is_free) }
     {
         Ok(StrOffsetsHeaderIter::new(self.section.try_clone()?))
@@ -177,7 +205,9 @@ impl<T> DebugStrOffsets<T> {
     where
         F: FnMut(&'a T) -> R + Drop,
         requires { TakesAt F.FnMut borrow (debug_str_offsets_reader self.now) }
-        ensures { (after : F) × CalledAt F.FnMut borrow (debug_str_offsets_reader self.now) (debug_str_offsets_reader result) after }
+        ensures { (after : F)
+            × CalledAt F.FnMut borrow (debug_str_offsets_reader self.now)
+            (debug_str_offsets_reader result) after }
     {
         borrow(&self.section).into()
     }
@@ -223,7 +253,8 @@ impl<'input, Endian: Endianity> DebugLineStr<EndianSlice<'input, Endian>> {
 
     /// The section with these bytes, whose first byte has position 0.
     pub fn new(debug_line_str_section: &'input [u8], endian: Endian) -> Self
-        ensures { ⟦<EndianSlice<'input, Endian> as Reader>⟧.view (debug_line_str_reader result)
+        ensures { let reader = ⟦<EndianSlice<'input, Endian> as Reader>⟧ in
+            reader.view (debug_line_str_reader result)
             ≡ record { bytes = debug_line_str_section.now; position = 0; is_big = Endian.is_big endian } }
     {
         Self::from(EndianSlice::new(debug_line_str_section, endian))
@@ -242,12 +273,19 @@ impl<R: Reader> DebugLineStr<R> {
     /// start where no zero byte ends it. `OutOfMemory` where a clone of the reader was refused.
     #[tactic(auto, using(crate::proofs::StringLemmas::string_stays))]
     pub fn get_str(&self, offset: DebugLineStrOffset<R::Offset>) -> Result<R>
-        ensures ok { IfOk result (λ string. StringAt (R.view (debug_line_str_reader self.now)) (R.Offset.value offset.0) (Ok (R.view string))) }
-        ensures err { IfErr result (λ e. StringAt (R.view (debug_line_str_reader self.now)) (R.Offset.value offset.0) (Err e) ⊎ WantsMemory R.clone_is_free e) }
+        ensures ok { let section = R.view (debug_line_str_reader self.now) in
+            IfOk result
+            (λ string. StringAt section (R.Offset.value offset.0) (Ok (R.view string))) }
+        ensures err { let section = R.view (debug_line_str_reader self.now) in
+            IfErr result
+            (λ e. StringAt section (R.Offset.value offset.0) (Err e)
+            ⊎ WantsMemory R.clone_is_free e) }
 
         // Bytes behind the section change no string.
-        ensures stable { IfOk result (λ string. (more : List ℕ)
-            → StringAt (followed_by (R.view (debug_line_str_reader self.now)) more) (R.Offset.value offset.0) (Ok (R.view string))) }
+        ensures stable { let section = R.view (debug_line_str_reader self.now) in
+            IfOk result
+            (λ string. (more : List ℕ)
+            → StringAt (followed_by section more) (R.Offset.value offset.0) (Ok (R.view string))) }
     {
         string_at(&self.section, offset.0)
     }
@@ -263,7 +301,9 @@ impl<T> DebugLineStr<T> {
     where
         F: FnMut(&'a T) -> R + Drop,
         requires { TakesAt F.FnMut borrow (debug_line_str_reader self.now) }
-        ensures { (after : F) × CalledAt F.FnMut borrow (debug_line_str_reader self.now) (debug_line_str_reader result) after }
+        ensures { (after : F)
+            × CalledAt F.FnMut borrow (debug_line_str_reader self.now)
+            (debug_line_str_reader result) after }
     {
         borrow(&self.section).into()
     }
@@ -301,8 +341,11 @@ impl<R> From<R> for DebugLineStr<R> {
 #[inline]
 #[tactic(auto, using(crate::proofs::StringLemmas::string_taken, crate::proofs::StringLemmas::string_refused, crate::proofs::StringLemmas::string_outside))]
 fn string_at<R: Reader>(section: &R, offset: R::Offset) -> Result<R>
-    ensures ok { IfOk result (λ string. StringAt (R.view section.now) (R.Offset.value offset) (Ok (R.view string))) }
-    ensures err { IfErr result (λ e. StringAt (R.view section.now) (R.Offset.value offset) (Err e) ⊎ WantsMemory R.clone_is_free e) }
+    ensures ok { IfOk result
+        (λ string. StringAt (R.view section.now) (R.Offset.value offset) (Ok (R.view string))) }
+    ensures err { IfErr result
+        (λ e. StringAt (R.view section.now) (R.Offset.value offset) (Err e)
+        ⊎ WantsMemory R.clone_is_free e) }
 {
     let input = &mut section.try_clone()?;
     input.skip(offset)?;

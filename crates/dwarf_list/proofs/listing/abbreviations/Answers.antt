@@ -2,4 +2,9 @@ use Rattle.std.proofs.Common.{◌∙◌, ap}
 use Rattle.dwarf_list.proofs.listing.abbreviations.Goals as goal
 
 pub returns : goal.returns
-returns c = (c.in_ok-table.table, rw c.new-section.ensures at c.in_ok-table.ensures.answer, ap (λ v. v.items) c.into_bytes.ensures.value ∙ c.in_ok-table_text.ensures)
+returns c = (
+  c.in_ok-table.table,
+  rw c.new-section.ensures at c.in_ok-table.ensures.answer,
+  ap
+      (λ v. v.items) c.into_bytes.ensures.value ∙ c.in_ok-table_text.ensures,
+)

@@ -8,4 +8,9 @@ returns-in_err-table c =
     rw (p.1, p.2) (rw c.new-section.ensures at c.in_err-table.ensures.answer)
 
 pub returns : goal.returns
-returns c = (c.in_ok-table.table, rw c.new-section.ensures at c.in_ok-table.ensures.answer, ap (λ v. v.items) c.into_bytes.ensures.value ∙ c.in_ok-table_text.ensures)
+returns c = (
+  c.in_ok-table.table,
+  rw c.new-section.ensures at c.in_ok-table.ensures.answer,
+  ap
+      (λ v. v.items) c.into_bytes.ensures.value ∙ c.in_ok-table_text.ensures,
+)

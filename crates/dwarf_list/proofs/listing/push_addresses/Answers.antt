@@ -11,4 +11,6 @@ returns-in_err-address-clause-err g c =
     rw (p.1, p.2) (λ memory. entries_fail c.loop-entries.invariant _ _ c.in_err-address.ensures.first memory)
 
 pub loop-entries-preserved : goal.loop-entries-preserved
-loop-entries-preserved g c = one_listed c.loop-entries.invariant _ _ _ (rw c.in-Some.is at c.in_ok-address.ensures.first) c.in_ok-push_address.ensures
+loop-entries-preserved g c =
+    one_listed c.loop-entries.invariant _ _ _
+    (rw c.in-Some.is at c.in_ok-address.ensures.first) c.in_ok-push_address.ensures

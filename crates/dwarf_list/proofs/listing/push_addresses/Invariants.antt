@@ -6,7 +6,8 @@ use Rattle.dwarf_list.proofs.listing.push_addresses.Given as goal
 
 -- the addresses so far have their lines, and those that are left stand behind them
 abbrev pub invariant-loop-entries : goal.invariant-loop-entries
-invariant-loop-entries g l = AreListed fixed address_line l.initial.entries l.entries (string_bytes l.initial.text) (string_bytes l.text)
+invariant-loop-entries g l =
+    AreListed fixed address_line l.initial.entries l.entries (string_bytes l.initial.text) (string_bytes l.text)
 
 abbrev pub decreases-loop-entries : goal.decreases-loop-entries
 decreases-loop-entries g l = length l.entries.rest.bytes

@@ -11,4 +11,6 @@ returns-in_err-offset-clause-err g c =
     rw (p.1, p.2) (λ memory. entries_fail c.loop-entries.invariant _ _ c.in_err-offset.ensures.first memory)
 
 pub loop-entries-preserved : goal.loop-entries-preserved
-loop-entries-preserved g c = one_listed c.loop-entries.invariant _ _ _ (rw c.in-Some.is at c.in_ok-offset.ensures.first) (rw c.into_u64.ensures.number at c.in_ok-push_offset.ensures)
+loop-entries-preserved g c =
+    one_listed c.loop-entries.invariant _ _ _ (rw c.in-Some.is at c.in_ok-offset.ensures.first)
+    (rw c.into_u64.ensures.number at c.in_ok-push_offset.ensures)

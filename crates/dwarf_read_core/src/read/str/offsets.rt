@@ -1,6 +1,6 @@
 //! Sets of string offsets: the headers and entries of `.debug_str_offsets` (DWARF 5, 7.26).
 
-ghost use Rattle.std.specs.Prelude.{◌≡◌, ◌+◌, ◌≤◌, ◌⊎◌, ℕ, List, [], true, length, IfOk, IfErr, IfSome, OnOk, OnErr};
+ghost use Rattle.std.specs.Prelude.{◌≡◌, ◌+◌, ◌≤◌, ◌⊎◌, [], true, length, IfOk, IfErr, IfSome, OnOk, OnErr};
 ghost use Rattle.std.specs.Result.{result_transpose};
 ghost use Rattle.dwarf_reader_core.specs.Faults.{WantsMemory};
 ghost use Rattle.dwarf_read_core.specs.Entries.{StandsForStringOffsets};
@@ -78,13 +78,19 @@ impl<R: Reader> StrOffsetsHeaderIter<R> {
     /// answer is `Ok(None)`.
     #[tactic(auto, using(crate::proofs::Sets::sets_none))]
     pub fn next(&mut self) -> Result<Option<StrOffsetsHeader<R>>>
-        ensures first { GivesFirst (StandsForStringOffsetSets R.Offset.GREATEST) (string_offset_set_of R.view R.Offset.value) R.clone_is_free self.old (result_transpose result) self.new }
+        ensures first { GivesFirst (StandsForStringOffsetSets R.Offset.GREATEST)
+            (string_offset_set_of R.view R.Offset.value) R.clone_is_free self.old
+            (result_transpose result) self.new }
         ensures failed { OnErr result (self.new.rest.bytes ≡ []) }
-        ensures bound { IfOk result (λ item. IfSome item (λ _. length self.new.rest.bytes + 8 ≤ length self.old.rest.bytes)) }
+        ensures bound { IfOk result
+            (λ item. IfSome item
+            (λ _. length self.new.rest.bytes + 8 ≤ length self.old.rest.bytes)) }
         ensures some { OnErr result (1 ≤ length self.old.rest.bytes) }
 
         // Bytes behind those that are left change neither a set nor a fault, but that bytes are missing.
-        ensures stable { StaysFirst (StandsForStringOffsetSets R.Offset.GREATEST) (string_offset_set_of R.view R.Offset.value) R.clone_is_free followed_headers self.old (result_transpose result) self.new }
+        ensures stable { StaysFirst (StandsForStringOffsetSets R.Offset.GREATEST)
+            (string_offset_set_of R.view R.Offset.value) R.clone_is_free followed_headers self.old
+            (result_transpose result) self.new }
     {
         if self.input.is_empty() {
             return Ok(None);
@@ -171,9 +177,15 @@ impl<R: Reader> StrOffsetsHeader<R> {
     ghost use Rattle.dwarf_read_core.specs.Headers.{string_offset_set_of};
 
     fn parse(input: &mut R, offset: R::Offset) -> Result<StrOffsetsHeader<R>>
-        ensures ok { IfOk result (λ header. (set string_offsets_header R.Offset.GREATEST (R.Offset.value offset)).Reads (R.view input.old) (string_offset_set_of R.view R.Offset.value header) (R.view input.new)) }
-        ensures err { IfErr result (λ e. (set string_offsets_header R.Offset.GREATEST (R.Offset.value offset)).Fails (R.view input.old) e ⊎ WantsMemory R.clone_is_free e) }
-        ensures bound { OnOk result (length (R.view input.new).bytes + 8 ≤ length (R.view input.old).bytes) }
+        ensures ok { IfOk result
+            (λ header. (set string_offsets_header R.Offset.GREATEST (R.Offset.value offset)).Reads
+            (R.view input.old) (string_offset_set_of R.view R.Offset.value header)
+            (R.view input.new)) }
+        ensures err { IfErr result
+            (λ e. (set string_offsets_header R.Offset.GREATEST (R.Offset.value offset)).Fails
+            (R.view input.old) e ⊎ WantsMemory R.clone_is_free e) }
+        ensures bound { OnOk result
+            (length (R.view input.new).bytes + 8 ≤ length (R.view input.old).bytes) }
     {
         let (length, format) = input.read_initial_length()?;
         let mut unit = input.split(length)?;
@@ -192,7 +204,8 @@ impl<R: Reader> StrOffsetsHeader<R> {
 
     /// Where the set begins, in bytes from the section's start.
     pub fn offset(&self) -> R::Offset
-        ensures { R.Offset.value result ≡ (string_offset_set_of R.view R.Offset.value self.now).offset }
+        ensures { R.Offset.value result
+            ≡ (string_offset_set_of R.view R.Offset.value self.now).offset }
     {
         self.offset
     }
@@ -200,7 +213,8 @@ impl<R: Reader> StrOffsetsHeader<R> {
     /// How many bytes of the set follow its initial length: the rest of the header, and the
     /// offsets.
     pub fn length(&self) -> R::Offset
-        ensures { R.Offset.value result ≡ (string_offset_set_of R.view R.Offset.value self.now).unit_length }
+        ensures { R.Offset.value result
+            ≡ (string_offset_set_of R.view R.Offset.value self.now).unit_length }
     {
         self.length
     }
@@ -218,7 +232,9 @@ impl<R: Reader> StrOffsetsHeader<R> {
     ///
     /// `OutOfMemory` where a clone of the reader was refused.
     pub fn entries(&self) -> Result<StrOffsetsEntryIter<R>>
-        ensures ok { IfOk result (λ entries. entries ≡ string_offsets_of (string_offset_set_of R.view R.Offset.value self.now)) }
+        ensures ok { IfOk result
+            (λ entries. entries
+            ≡ string_offsets_of (string_offset_set_of R.view R.Offset.value self.now)) }
         ensures err { IfErr result (WantsMemory R.clone_is_free) }
     {
         Ok(StrOffsetsEntryIter {
@@ -254,9 +270,13 @@ impl<R: Reader> StrOffsetsEntryIter<R> {
     /// It takes no memory.
     #[tactic(auto, using(crate::proofs::Entries::entries_none))]
     pub fn next(&mut self) -> Result<Option<DebugStrOffset<R::Offset>>>
-        ensures first { GivesFirst (StandsForStringOffsets R.Offset.GREATEST) (λ offset. R.Offset.value offset.0) true self.old (result_transpose result) self.new }
+        ensures first { GivesFirst (StandsForStringOffsets R.Offset.GREATEST)
+            (λ offset. R.Offset.value offset.0) true self.old (result_transpose result) self.new }
         ensures failed { OnErr result (self.new.rest.bytes ≡ []) }
-        ensures bound { IfOk result (λ item. IfSome item (λ _. (1 ≤ self.old.width) × (length self.new.rest.bytes + self.old.width ≤ length self.old.rest.bytes))) }
+        ensures bound { IfOk result
+            (λ item. IfSome item
+            (λ _. (1 ≤ self.old.width)
+            × (length self.new.rest.bytes + self.old.width ≤ length self.old.rest.bytes))) }
         ensures some { OnErr result (1 ≤ length self.old.rest.bytes) }
     {
         if self.input.is_empty() {

@@ -15,7 +15,7 @@ returns c =
       | then-is_negative w ↦
           rw (w.sign-is, w.if-is_negative.true)
           (ap (to_z w64) (or_ones c.args.value c.args.bits 64 c.requires.below (omega arith))
-              ∙ to_z_low c.args.value (2 ^ c.args.bits) c.requires.below low)
+          ∙ to_z_low c.args.value (2 ^ c.args.bits) c.requires.below low)
       | else-is_negative w ↦
           let small : c.args.value < 2 ^ 63 = omega (arith, c.requires.below) in
           let whole : pos c.args.value ≡ pos c.args.value -ℤ pos 0 = omega (arith, ints) in

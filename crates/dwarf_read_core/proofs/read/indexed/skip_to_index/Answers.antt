@@ -5,7 +5,11 @@ use Rattle.dwarf_read_core.proofs.read.indexed.skip_to_index.Goals as goal
 
 pub returns-in_err-length_before-clause-err : goal.returns-in_err-length_before-clause-err
 returns-in_err-length_before-clause-err g c =
-    handed_on _ _ c.from_residual-in_err-length_before.ensures.1 (rw c.in_err-length_before.ensures.0 (too_far_off _ _ _ _ c.in_ok-skip.ensures.ok (omega (arith, c.in_err-length_before.ensures.1))))
+    handed_on _ _ c.from_residual-in_err-length_before.ensures.1
+    (rw c.in_err-length_before.ensures.0
+    (too_far_off _ _ _ _ c.in_ok-skip.ensures.ok (omega (arith, c.in_err-length_before.ensures.1))))
 
 pub returns-clause-err : goal.returns-clause-err
-returns-clause-err g c = past_end_found _ _ _ _ _ _ _ c.in_ok-skip.ensures.ok c.in_ok-length_before.ensures.0 (omega (arith, c.in_ok-length_before.ensures)) c.skip-2.ensures.err
+returns-clause-err g c =
+    past_end_found _ _ _ _ _ _ _ c.in_ok-skip.ensures.ok c.in_ok-length_before.ensures.0
+    (omega (arith, c.in_ok-length_before.ensures)) c.skip-2.ensures.err

@@ -20,14 +20,14 @@ returns-then-not-has_continuation_bit-2-clause-ok g c =
     let last : c.in_ok-byte.byte < 128 = search rules in
     let e = begun_ends c.loop-index.invariant n last in
     begun_reads unsigned64 _ c.loop-index.invariant n last (omega arith)
-        (e.worth ∙ sym c.with_digit-result-in-loop-index.ensures) (search rules)
+    (e.worth ∙ sym c.with_digit-result-in-loop-index.ensures) (search rules)
 
 pub returns-then-byte-gt-MAX_TENTH_BYTE-clause-err : goal.returns-then-byte-gt-MAX_TENTH_BYTE-clause-err
 returns-then-byte-gt-MAX_TENTH_BYTE-clause-err g c =
     let view = g.Self.Reader.view in
     let nine : c.loop-index.index ≡ 9 = omega arith in
     let b : Begun (view c.args.self.now) 9 (view c.loop-index.self) c.loop-index.result = rw
-        (← nine) c.loop-index.invariant in
+    (← nine) c.loop-index.invariant in
     let n = begun_next b c.in_ok-byte-2.ensures.ok in
     begun_bad unsigned64 b n refl (λ last e has. omega (arith, e.worth, ltb-true _ _ has))
 
@@ -36,13 +36,13 @@ returns-clause-ok g c =
     let view = g.Self.Reader.view in
     let nine : c.loop-index.index ≡ 9 = omega arith in
     let b : Begun (view c.args.self.now) 9 (view c.loop-index.self) c.loop-index.result = rw
-        (← nine) c.loop-index.invariant in
+    (← nine) c.loop-index.invariant in
     let n = begun_next b c.in_ok-byte-2.ensures.ok in
     let last : c.in_ok-byte-2.byte < 128 = omega arith in
     let e = begun_ends b n last in
     let sum = or_digit c.loop-index.result c.from-2.result 63 1 64 (begun_below b) (omega arith) (omega arith) in
     begun_reads unsigned64 _ b n last (omega arith) (omega (arith, e.worth, sum))
-        (lt-ltb _ _ (omega (arith, sum, begun_below b)))
+    (lt-ltb _ _ (omega (arith, sum, begun_below b)))
 
 pub returns-then-not-has_continuation_bit-clause-ok : goal.returns-then-not-has_continuation_bit-clause-ok
 returns-then-not-has_continuation_bit-clause-ok g c =
@@ -51,4 +51,4 @@ returns-then-not-has_continuation_bit-clause-ok g c =
     let last : c.in_ok-first.first < 128 = search rules in
     let e = begun_ends b n last in
     begun_reads unsigned64 _ b n last (omega arith) (omega (arith, e.worth, c.from.ensures))
-        (lt-ltb _ _ (omega (arith, c.from.ensures)))
+    (lt-ltb _ _ (omega (arith, c.from.ensures)))

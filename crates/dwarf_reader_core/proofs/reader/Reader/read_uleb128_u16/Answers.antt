@@ -12,7 +12,7 @@ returns-then-not-has_continuation_bit-clause-ok g c =
     let last : c.in_ok-first.first < 128 = search rules in
     let e = begun_ends b n last in
     begun_reads unsigned16 _ b n last (omega arith) (omega (arith, e.worth, c.from.ensures))
-        (lt-ltb _ _ (omega (arith, c.from.ensures)))
+    (lt-ltb _ _ (omega (arith, c.from.ensures)))
 
 pub returns-then-not-has_continuation_bit-2-clause-ok : goal.returns-then-not-has_continuation_bit-2-clause-ok
 returns-then-not-has_continuation_bit-2-clause-ok g c =
@@ -26,7 +26,7 @@ returns-then-not-has_continuation_bit-2-clause-ok g c =
     let e = begun_ends one n last in
     let below : unsigned_value (take 2 old.bytes) < 2 ^ 14 = worth_below _ _ 2 e.enough (omega arith) in
     begun_reads unsigned16 _ one n last (omega arith) (e.worth ∙ sym c.with_digit-two.ensures)
-        (lt-ltb _ _ (omega (arith, e.worth, below)))
+    (lt-ltb _ _ (omega (arith, e.worth, below)))
 
 pub returns-then-third-gt-MAX_THIRD_BYTE-clause-err : goal.returns-then-third-gt-MAX_THIRD_BYTE-clause-err
 returns-then-third-gt-MAX_THIRD_BYTE-clause-err g c =

@@ -20,7 +20,8 @@ pub returns-in_err-parse_declared-clause-ends : goal.returns-in_err-parse_declar
 returns-in_err-parse_declared-clause-ends g c =
     let some : (g.R.Reader.view c.args.input.now).bytes ≢ [] = search rules in
     let nonzero : c.in_ok-code.code ≢ 0 = search rules in
-    let h = coded _ _ _ _ some (number_read (end_of (g.R.Reader.view c.args.input.now)) c.in_ok-code.ensures.ok) nonzero in
+    let h = coded _ _ _ _ some (number_read
+    (end_of (g.R.Reader.view c.args.input.now)) c.in_ok-code.ensures.ok) nonzero in
     λ rest e. absurd (is_some h rest e)
 
 pub returns-in_err-parse_declared-clause-read : goal.returns-in_err-parse_declared-clause-read
@@ -29,4 +30,5 @@ returns-in_err-parse_declared-clause-read g c =
     let nonzero : c.in_ok-code.code ≢ 0 = search rules in
     let code = c.in_ok-code.ensures.ok in
     let h = coded _ _ _ _ some (number_read (end_of (g.R.Reader.view c.args.input.now)) code) nonzero in
-    gives_err _ _ c.from_residual-in_err-parse_declared.ensures.1 (λ memory. declared_fails h (rw (end_stays code) at (c.in_err-parse_declared.ensures.read memory)))
+    gives_err _ _ c.from_residual-in_err-parse_declared.ensures.1
+    (λ memory. declared_fails h (rw (end_stays code) at (c.in_err-parse_declared.ensures.read memory)))

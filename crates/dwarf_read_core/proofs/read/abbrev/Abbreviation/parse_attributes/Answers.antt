@@ -6,17 +6,23 @@ use Rattle.dwarf_read_core.proofs.read.abbrev.Abbreviation.parse_attributes.Goal
 pub returns-in_err-attribute-clause-read : goal.returns-in_err-attribute-clause-read
 returns-in_err-attribute-clause-read g c =
     let loop = c.attributes in
-    gives_err _ _ c.from_residual.ensures.1 (λ memory. fails _ _ _ _ _ (rw loop.invariant.stays at (c.in_err-attribute.ensures.read memory)) loop.invariant.told)
+    gives_err _ _ c.from_residual.ensures.1
+    (λ memory. fails _ _ _ _ _ (rw loop.invariant.stays at
+    (c.in_err-attribute.ensures.read memory)) loop.invariant.told)
 
 pub attributes-preserved : goal.attributes-preserved
 attributes-preserved g c =
     let loop = c.attributes in
     record {
-      told = rw c.in_ok-push.ensures.items (goes_on _ _ _ c.in-Some.attribute _ _ (rw (loop.invariant.stays, c.in-Some.is) at c.in_ok-attribute.ensures.read) loop.invariant.told);
+      told = rw c.in_ok-push.ensures.items
+          (goes_on _ _ _ c.in-Some.attribute _ _
+          (rw (loop.invariant.stays, c.in-Some.is) at c.in_ok-attribute.ensures.read) loop.invariant.told);
       stays = c.in_ok-attribute.ensures.stays ∙ loop.invariant.stays;
     }
 
 pub returns-clause-read : goal.returns-clause-read
 returns-clause-read g c =
     let loop = c.attributes in
-    rw (c.in_ok-from_slice.ensures.ok, c.as_slice.ensures.value) (ends _ _ _ _ _ _ (rw loop.invariant.stays at c.in_ok-attribute.ensures.read) c.in_default.is loop.invariant.told)
+    rw (c.in_ok-from_slice.ensures.ok, c.as_slice.ensures.value)
+    (ends _ _ _ _ _ _
+    (rw loop.invariant.stays at c.in_ok-attribute.ensures.read) c.in_default.is loop.invariant.told)

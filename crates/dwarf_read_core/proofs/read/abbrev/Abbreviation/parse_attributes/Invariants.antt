@@ -9,7 +9,8 @@ invariant-attributes g l =
     let view = g.R.Reader.view in
     let end = end_of (view l.initial.input) in
     record {
-      told : with_front l.scratch.items (attributes_in end (view l.input).bytes) ≡ attributes_in end (view l.initial.input).bytes;
+      told : with_front l.scratch.items (attributes_in end (view l.input).bytes)
+          ≡ attributes_in end (view l.initial.input).bytes;
       stays : end_of (view l.input) ≡ end;
     }
 

@@ -5,17 +5,25 @@ use Rattle.dwarf_read_core.proofs.read.abbrev.Abbreviation.parse_declared.Goals 
 
 pub returns-in_err-tag-clause-read : goal.returns-in_err-tag-clause-read
 unfolding declared_at
-returns-in_err-tag-clause-read g c = gives_err _ _ c.from_residual.ensures.1 (λ memory. rw (c.in_err-tag.ensures.read memory) refl)
+returns-in_err-tag-clause-read g c =
+    gives_err _ _ c.from_residual.ensures.1 (λ memory. rw (c.in_err-tag.ensures.read memory) refl)
 
 pub returns-in_err-has_children-clause-read : goal.returns-in_err-has_children-clause-read
 unfolding declared_at
 returns-in_err-has_children-clause-read g c =
     let behind = c.in_ok-tag.ensures.stays in
-    gives_err _ _ c.from_residual-in_err-has_children.ensures.1 (λ memory. rw (c.in_ok-tag.ensures.read, rw behind at (c.in_err-has_children.ensures.read memory)) refl)
+    gives_err _ _ c.from_residual-in_err-has_children.ensures.1
+    (λ memory. rw (c.in_ok-tag.ensures.read, rw behind at (c.in_err-has_children.ensures.read memory)) refl)
 
 pub returns-in_err-attributes-clause-read : goal.returns-in_err-attributes-clause-read
 unfolding declared_at
 returns-in_err-attributes-clause-read g c =
     let behind = c.in_ok-tag.ensures.stays in
     let others = c.in_ok-has_children.ensures.stays ∙ behind in
-    gives_err _ _ c.from_residual-in_err-attributes.ensures.1 (λ memory. rw (c.in_ok-tag.ensures.read, rw behind at c.in_ok-has_children.ensures.read, rw others at (c.in_err-attributes.ensures.read memory)) refl)
+    gives_err _ _ c.from_residual-in_err-attributes.ensures.1
+    (λ memory. rw (
+      c.in_ok-tag.ensures.read,
+      rw behind at c.in_ok-has_children.ensures.read,
+      rw others at
+          (c.in_err-attributes.ensures.read memory),
+    ) refl)

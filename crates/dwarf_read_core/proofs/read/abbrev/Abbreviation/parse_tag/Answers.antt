@@ -6,4 +6,5 @@ use Rattle.dwarf_read_core.proofs.read.abbrev.Abbreviation.parse_tag.Goals as go
 
 pub returns-in_err-value-clause-read : goal.returns-in_err-value-clause-read
 unfolding tag_at
-returns-in_err-value-clause-read g c = gives_err _ _ c.from_residual.ensures.1 (λ memory. rw (refused c.in_err-value.ensures.err) refl)
+returns-in_err-value-clause-read g c =
+    gives_err _ _ c.from_residual.ensures.1 (λ memory. rw (refused c.in_err-value.ensures.err) refl)

@@ -17,7 +17,12 @@ returns-then-index-len-clause-repeated c =
     let fits = inside.vec.ok.0 in
     let within : code - 1 < length inside.vec.items = omega arith in
     let place : code ≡ (code - 1) + 1 = omega (arith, c.requires) in
-    λ memory. (ap (λ (t : Table). contains_key t.by_code code) (sym c.self.view_is) ∙ stands_in_vec inside.vec.items inside.map.entries code (code - 1) place within, ap DuplicateAbbreviationCode same)
+    λ memory. (
+      ap (λ (t : Table). contains_key t.by_code code) (sym c.self.view_is)
+          ∙ stands_in_vec inside.vec.items inside.map.entries code
+          (code - 1) place within,
+      ap DuplicateAbbreviationCode same,
+    )
 
 pub invariant_of-self-2 : goal.invariant_of-self-2
 invariant_of-self-2 c =
@@ -25,14 +30,16 @@ invariant_of-self-2 c =
     let inside = c.self.inside in
     let fits = inside.vec.ok.0 in
     let above : length inside.vec.items < c.code-code.result = omega arith in
-    kept_beside inside.vec.items inside.map.entries _ c.code-code.result c.args.abbreviation above (search rules) (sym same) c.self.invariant
+    kept_beside inside.vec.items inside.map.entries _ c.code-code.result c.args.abbreviation above (search rules)
+    (sym same) c.self.invariant
 
 -- the next code of the vector doesn't stand in the map
 absent : (c : goal.In_ok-push) → lookup (is_at (nat_cmp c.args.abbreviation.code)) c.self.inside.map.entries ≡ None
 absent c =
     let es = c.self.inside.map.entries in
     let none : lookup (is_at (nat_cmp c.code-code.result)) es ≡ None = elim c.else-not-is_empty.branch [
-      | else-not-is_empty-via-then-not-is_empty+else-contains_key w ↦ none_at c.code-code.result es (inr (sym w.contains_key.ensures ∙ w.if-contains_key.false))
+      | else-not-is_empty-via-then-not-is_empty+else-contains_key w ↦
+          none_at c.code-code.result es (inr (sym w.contains_key.ensures ∙ w.if-contains_key.false))
       | else-not-is_empty-via-else-not-is_empty w ↦ none_at c.code-code.result es (inl (search rules))
     ] in
     subst (λ (code : ℕ). lookup (is_at (nat_cmp code)) es ≡ None) c.code-code.ensures none
@@ -43,11 +50,15 @@ next c =
     omega (arith, c.requires)
 
 pub invariant_of-self-then-index-len-2 : goal.invariant_of-self-then-index-len-2
-invariant_of-self-then-index-len-2 c = rw c.in_ok-push.ensures.items (kept_pushed c.self.inside.vec.items c.self.inside.map.entries c.args.abbreviation.code c.args.abbreviation (next c) refl (absent c) c.self.invariant)
+invariant_of-self-then-index-len-2 c =
+    rw c.in_ok-push.ensures.items
+    (kept_pushed c.self.inside.vec.items c.self.inside.map.entries c.args.abbreviation.code c.args.abbreviation
+    (next c) refl (absent c) c.self.invariant)
 
 pub returns-then-index-len-2-clause-ok : goal.returns-then-index-len-2-clause-ok
 returns-then-index-len-2-clause-ok c =
     let ds = c.self.inside.vec.items in
     let es = c.self.inside.map.entries in
     let code = c.args.abbreviation.code in
-    rw (c.in_ok-push.ensures.items, ← c.self.view_is) (lacks_next ds es code (next c) (absent c), pushed ds es code c.args.abbreviation (next c))
+    rw (c.in_ok-push.ensures.items, ← c.self.view_is)
+    (lacks_next ds es code (next c) (absent c), pushed ds es code c.args.abbreviation (next c))

@@ -11,9 +11,11 @@ invariant-declarations g l =
     let view = g.R.Reader.view in
     let end = end_of (view l.initial.input) in
     record {
-      told : table_in end l.abbreviations.by_code (view l.input).bytes ≡ table_in end empty (view l.initial.input).bytes;
+      told : table_in end l.abbreviations.by_code (view l.input).bytes
+          ≡ table_in end empty (view l.initial.input).bytes;
       unclosed : l.abbreviations.close ≡ by_end;
-      first : (rest : List ℕ) → declaration_at end (view l.initial.input).bytes ≡ Ok (None, rest) → (view l.input).bytes ≡ (view l.initial.input).bytes;
+      first : (rest : List ℕ) → declaration_at end (view l.initial.input).bytes ≡ Ok (None, rest)
+          → (view l.input).bytes ≡ (view l.initial.input).bytes;
       stays : end_of (view l.input) ≡ end;
     }
 

@@ -17,5 +17,6 @@ returns-clause-ok c = rw (same_vec c, copied _ _ c.in_ok-clone-2.ensures.cases) 
 pub returns-then-is_empty-clause-ok : goal.returns-then-is_empty-clause-ok
 returns-then-is_empty-clause-ok c =
     let none = ap (λ (t : Table). t.by_code) c.result.view_is ∙ c.empty.ensures.none in
-    let same = none ∙ sym (empty_of_len c.args.self.now.by_code (search rules)) ∙ sym (ap (λ (t : Table). t.by_code) c.self.view_is) in
+    let same = none ∙ sym (empty_of_len c.args.self.now.by_code (search rules))
+    ∙ sym (ap (λ (t : Table). t.by_code) c.self.view_is) in
     ap (λ by_code. closed by_code (close_from c.self.inside.closed_by_null)) same ∙ c.self.view_is

@@ -7,14 +7,16 @@ use Rattle.dwarf_read_core.proofs.read.abbrev.AttributeSpecification.parse.Goals
 
 pub returns-in_err-read_uleb128_u16-clause-read : goal.returns-in_err-read_uleb128_u16-clause-read
 unfolding specification_at
-returns-in_err-read_uleb128_u16-clause-read g c = gives_err _ _ c.from_residual.ensures.1 (λ memory. rw (refused c.in_err-read_uleb128_u16.ensures.err) refl)
+returns-in_err-read_uleb128_u16-clause-read g c =
+    gives_err _ _ c.from_residual.ensures.1 (λ memory. rw (refused c.in_err-read_uleb128_u16.ensures.err) refl)
 
 pub returns-in_err-read_uleb128_u16-2-clause-read : goal.returns-in_err-read_uleb128_u16-2-clause-read
 unfolding specification_at
 returns-in_err-read_uleb128_u16-2-clause-read g c =
     let name = c.in_ok-read_uleb128_u16.ensures.ok in
     let h = refused c.in_err-read_uleb128_u16-2.ensures.err in
-    gives_err _ _ c.from_residual-in_err-read_uleb128_u16-2.ensures.1 (λ memory. rw (number_read _ name, rw (end_stays name) at h) refl)
+    gives_err _ _ c.from_residual-in_err-read_uleb128_u16-2.ensures.1
+    (λ memory. rw (number_read _ name, rw (end_stays name) at h) refl)
 
 pub returns-in_err-value-in_default-DW_FORM_implicit_const-clause-read : goal.returns-in_err-value-in_default-DW_FORM_implicit_const-clause-read
 unfolding specification_at value_at
@@ -25,4 +27,13 @@ returns-in_err-value-in_default-DW_FORM_implicit_const-clause-read g c =
     let named : (c.in_ok-read_uleb128_u16.field-0 == 0) ≡ false = search rules in
     let formed : (c.in_ok-read_uleb128_u16-2.field-0 == 0) ≡ false = search rules in
     let implicit : (c.in_ok-read_uleb128_u16-2.field-0 == implicit_const) ≡ true = search rules in
-    gives_err _ _ c.from_residual-in_err-value-in_default-DW_FORM_implicit_const.ensures.1 (λ memory. rw (number_read _ name, number_read _ form, named, formed, implicit, rw (end_stays form ∙ end_stays name) at h) refl)
+    gives_err _ _ c.from_residual-in_err-value-in_default-DW_FORM_implicit_const.ensures.1
+    (λ memory. rw (
+      number_read _ name,
+      number_read _ form,
+      named,
+      formed,
+      implicit,
+      rw
+          (end_stays form ∙ end_stays name) at h,
+    ) refl)

@@ -18,7 +18,8 @@ pub returns-clause-bound : goal.returns-clause-bound
 returns-clause-bound g c =
     let view = g.R.Reader.view in
     let same : view c.in_ok-input.input ≡ view (debug_abbrev_reader c.args.self.now) = c.in_ok-input.ensures.ok in
-    bounded_read c.parse.result (view (debug_abbrev_reader c.args.self.now)) (g.R.Offset.ReaderOffset.value c.args.offset.0) _ (rw same at c.in_ok-skip.ensures.ok) c.parse.ensures.read
+    bounded_read c.parse.result (view (debug_abbrev_reader c.args.self.now))
+    (g.R.Offset.ReaderOffset.value c.args.offset.0) _ (rw same at c.in_ok-skip.ensures.ok) c.parse.ensures.read
 
 pub returns-clause-memory : goal.returns-clause-memory
 returns-clause-memory g c =
@@ -26,7 +27,9 @@ returns-clause-memory g c =
     let rest = view c.skip.new.self in
     let same : view c.in_ok-input.input ≡ view (debug_abbrev_reader c.args.self.now) = c.in_ok-input.ensures.ok in
     let offset = g.R.Offset.ReaderOffset.value c.args.offset.0 in
-    let behind : rest.bytes ≡ drop offset (view (debug_abbrev_reader c.args.self.now)).bytes = ap (λ (i : Input). i.bytes) c.in_ok-skip.ensures.ok.left ∙ ap (λ (i : Input). drop offset i.bytes) same in
+    let behind : rest.bytes ≡ drop offset (view (debug_abbrev_reader c.args.self.now)).bytes = ap
+    (λ (i : Input). i.bytes) c.in_ok-skip.ensures.ok.left ∙ ap (λ (i : Input). drop offset i.bytes) same in
     λ free nothing failed.
-    let none = nothing_declared (end_of rest) (view (debug_abbrev_reader c.args.self.now)) offset rest.bytes nothing behind in
+    let none = nothing_declared (end_of rest)
+    (view (debug_abbrev_reader c.args.self.now)) offset rest.bytes nothing behind in
     ok_is_no_error c.parse.result OutOfMemory (c.parse.ensures.ends none.0 none.1) failed

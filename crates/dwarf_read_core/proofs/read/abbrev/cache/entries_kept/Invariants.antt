@@ -10,5 +10,6 @@ invariant-loop-offset g l =
     let seen = map (λ offset. g.R.Offset.ReaderOffset.value offset.0) (take l.offset-index l.offsets) in
     record {
       counted : (key : ℕ) → unwrap_or (get nat_cmp l.counts key) 0 ≡ count_by (λ offset. offset == key) seen;
-      kept : KeepsAnswers (least_count l.strategy) (g.R.Reader.view (debug_abbrev_reader l.debug_abbrev)) seen (λ key. option_map answer_of (get nat_cmp l.entries key));
+      kept : KeepsAnswers (least_count l.strategy) (g.R.Reader.view (debug_abbrev_reader l.debug_abbrev)) seen
+          (λ key. option_map answer_of (get nat_cmp l.entries key));
     }

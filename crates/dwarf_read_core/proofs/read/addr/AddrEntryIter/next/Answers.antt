@@ -4,8 +4,10 @@ use Rattle.dwarf_read_core.proofs.Entries.{address_fault, address_first}
 use Rattle.dwarf_read_core.proofs.read.addr.AddrEntryIter.next.Goals as goal
 
 pub returns-in-Ok-clause-first : goal.returns-in-Ok-clause-first
-returns-in-Ok-clause-first g c = rw (← c.self.view_is) (address_first _ _ _ c.in-Ok.ensures.ok.1 (search rules) c.in-Ok.ensures.ok.0)
+returns-in-Ok-clause-first g c =
+    rw (← c.self.view_is) (address_first _ _ _ c.in-Ok.ensures.ok.1 (search rules) c.in-Ok.ensures.ok.0)
 
 pub returns-in-Err-clause-first : goal.returns-in-Err-clause-first
 returns-in-Err-clause-first g c =
-    rw (← c.self.view_is) (inl (address_fault _ _ _ c.self.inside.encoding.sized (search rules) c.in-Err.ensures.err (ap (λ (i : Input). i.bytes) c.empty.ensures)))
+    rw (← c.self.view_is) (inl (address_fault _ _ _ c.self.inside.encoding.sized
+    (search rules) c.in-Err.ensures.err (ap (λ (i : Input). i.bytes) c.empty.ensures)))

@@ -5,7 +5,9 @@ use Rattle.dwarf_read_core.proofs.Sets.{address_header-is, set_header_fails, set
 use Rattle.dwarf_read_core.proofs.read.addr.AddrHeader.parse.Goals as goal
 
 pub returns-in_err-length-clause-err : goal.returns-in_err-length-clause-err
-returns-in_err-length-clause-err g c = handed_on _ _ c.from_residual.ensures.1 (inl (set_length_fails address_header _ _ _ _ c.in_err-length.ensures.err))
+returns-in_err-length-clause-err g c =
+    handed_on _ _ c.from_residual.ensures.1
+    (inl (set_length_fails address_header _ _ _ _ c.in_err-length.ensures.err))
 
 pub returns-in_err-unit-clause-err : goal.returns-in_err-unit-clause-err
 returns-in_err-unit-clause-err g c =
@@ -27,7 +29,18 @@ unfolding address_header
 returns-in_err-address_size-clause-err g c =
     let known : (c.in_ok-version.version == 5) ≡ true = search rules in
     handed_on _ _ c.from_residual-in_err-address_size.ensures.1 (inl (set_header_fails address_header _ _ _ _ _ c.in_ok-length.ensures.ok c.in_ok-length.ensures.in_range c.in_ok-unit.ensures.part c.in_ok-unit.ensures.ok
-    (inr (_, _, c.in_ok-version.ensures.ok, inr (tt, _, rw known (refl, refl), ⊎_elim (λ short. inl (_, short)) (λ other. inr (_, _, other.taken, inl (rw other.none other.fault))) c.in_err-address_size.ensures.err)))))
+    (inr (
+      _,
+      _,
+      c.in_ok-version.ensures.ok,
+      inr (
+        tt,
+        _,
+        rw known (refl, refl),
+        ⊎_elim (λ short. inl (_, short))
+            (λ other. inr (_, _, other.taken, inl (rw other.none other.fault))) c.in_err-address_size.ensures.err,
+      ),
+    ))))
 
 pub returns-in_err-segment_size-clause-err : goal.returns-in_err-segment_size-clause-err
 unfolding address_header
@@ -35,7 +48,18 @@ returns-in_err-segment_size-clause-err g c =
     let known : (c.in_ok-version.version == 5) ≡ true = search rules in
     let size = c.in_ok-address_size.ensures.ok in
     handed_on _ _ c.from_residual-in_err-segment_size.ensures.1 (inl (set_header_fails address_header _ _ _ _ _ c.in_ok-length.ensures.ok c.in_ok-length.ensures.in_range c.in_ok-unit.ensures.part c.in_ok-unit.ensures.ok
-    (inr (_, _, c.in_ok-version.ensures.ok, inr (tt, _, rw known (refl, refl), inr (_, _, size.0, inr (tt, _, rw size.1 (refl, refl), inl (_, c.in_err-segment_size.ensures.err))))))))
+    (inr (
+      _,
+      _,
+      c.in_ok-version.ensures.ok,
+      inr (
+        tt,
+        _,
+        rw known (refl, refl),
+        inr
+            (_, _, size.0, inr (tt, _, rw size.1 (refl, refl), inl (_, c.in_err-segment_size.ensures.err))),
+      ),
+    ))))
 
 pub returns-then-segment_size-ne0-clause-err : goal.returns-then-segment_size-ne0-clause-err
 unfolding address_header
@@ -44,7 +68,28 @@ returns-then-segment_size-ne0-clause-err g c =
     let size = c.in_ok-address_size.ensures.ok in
     let other : (c.in_ok-segment_size.segment_size == 0) ≡ false = search rules in
     inl (set_header_fails address_header _ _ _ _ _ c.in_ok-length.ensures.ok c.in_ok-length.ensures.in_range c.in_ok-unit.ensures.part c.in_ok-unit.ensures.ok
-    (inr (_, _, c.in_ok-version.ensures.ok, inr (tt, _, rw known (refl, refl), inr (_, _, size.0, inr (tt, _, rw size.1 (refl, refl), inr (_, _, c.in_ok-segment_size.ensures.ok, inl (rw other refl))))))))
+    (inr (
+      _,
+      _,
+      c.in_ok-version.ensures.ok,
+      inr (
+        tt,
+        _,
+        rw known (refl, refl),
+        inr (
+          _,
+          _,
+          size.0,
+          inr (
+            tt,
+            _,
+            rw size.1 (refl, refl),
+            inr
+                (_, _, c.in_ok-segment_size.ensures.ok, inl (rw other refl)),
+          ),
+        ),
+      ),
+    )))
 
 pub returns-clause-ok : goal.returns-clause-ok
 unfolding address_header
@@ -52,8 +97,28 @@ returns-clause-ok g c =
     let known : (c.in_ok-version.version == 5) ≡ true = search rules in
     let size = c.in_ok-address_size.ensures.ok in
     let flat : (c.in_ok-segment_size.segment_size == 0) ≡ true = search rules in
-    set_reads address_header _ _ _ _ _ c.in_ok-length.ensures.ok c.in_ok-length.ensures.in_range c.in_ok-unit.ensures.part c.in_ok-unit.ensures.ok
-    (_, _, c.in_ok-version.ensures.ok, (tt, _, rw known (refl, refl), (_, _, size.0, (tt, _, rw size.1 (refl, refl), (_, _, c.in_ok-segment_size.ensures.ok, (tt, _, rw flat (refl, refl), (refl, refl)))))))
+    set_reads address_header _ _ _ _ _ c.in_ok-length.ensures.ok c.in_ok-length.ensures.in_range c.in_ok-unit.ensures.part c.in_ok-unit.ensures.ok (
+      _,
+      _,
+      c.in_ok-version.ensures.ok,
+      (
+        tt,
+        _,
+        rw known (refl, refl),
+        (
+          _,
+          _,
+          size.0,
+          (
+            tt,
+            _,
+            rw size.1 (refl, refl),
+            (_, _, c.in_ok-segment_size.ensures.ok, (tt, _, rw flat (refl, refl), (refl, refl))),
+          ),
+        ),
+      ),
+    )
 
 pub returns-clause-bound : goal.returns-clause-bound
-returns-clause-bound g c = let taken = (set_least address_header-is _ _).all _ _ _ (returns-clause-ok g c) in omega (arith, taken)
+returns-clause-bound g c =
+    let taken = (set_least address_header-is _ _).all _ _ _ (returns-clause-ok g c) in omega (arith, taken)

@@ -7,14 +7,20 @@ use Rattle.dwarf_read_core.proofs.read.addr.AddrHeaderIter.next.Goals as goal
 pub returns-in-Ok-clause-first : goal.returns-in-Ok-clause-first
 returns-in-Ok-clause-first g c =
     rw (← c.self.view_is)
-    (set_first address_header-is _ (record { offset = g.R.Offset.ReaderOffset.value c.self.inside.offset.0; rest = g.R.Reader.view c.self.inside.input })
+    (set_first address_header-is _ (record {
+      offset = g.R.Offset.ReaderOffset.value c.self.inside.offset.0;
+      rest = g.R.Reader.view c.self.inside.input;
+    })
     (record { offset = g.R.Offset.ReaderOffset.value c.add_assign.new.self; rest = g.R.Reader.view c.parse.new.input })
     (search rules) c.in-Ok.ensures.ok (search rules))
 
 pub returns-in-Ok-clause-stable : goal.returns-in-Ok-clause-stable
 returns-in-Ok-clause-stable g c =
     rw (← c.self.view_is)
-    (set_stays address_header-is _ (record { offset = g.R.Offset.ReaderOffset.value c.self.inside.offset.0; rest = g.R.Reader.view c.self.inside.input })
+    (set_stays address_header-is _ (record {
+      offset = g.R.Offset.ReaderOffset.value c.self.inside.offset.0;
+      rest = g.R.Reader.view c.self.inside.input;
+    })
     (record { offset = g.R.Offset.ReaderOffset.value c.add_assign.new.self; rest = g.R.Reader.view c.parse.new.input })
     (search rules) c.in-Ok.ensures.ok (search rules))
 
@@ -23,7 +29,11 @@ returns-in-Err-clause-first g c =
     let none = ap (λ (i : Input). i.bytes) c.empty.ensures in
     rw (← c.self.view_is)
     (⊎_elim
-    (λ fault. inl (set_fault address_header-is _ (record { offset = g.R.Offset.ReaderOffset.value c.self.inside.offset.0; rest = g.R.Reader.view c.self.inside.input }) _ (search rules) fault none))
+    (λ fault. inl (set_fault address_header-is _
+    (record {
+      offset = g.R.Offset.ReaderOffset.value c.self.inside.offset.0;
+      rest = g.R.Reader.view c.self.inside.input;
+    }) _ (search rules) fault none))
     (λ want. inr (want, sets_none address_header _ _ none))
     c.in-Err.ensures.err)
 
@@ -31,6 +41,10 @@ pub returns-in-Err-clause-stable : goal.returns-in-Err-clause-stable
 returns-in-Err-clause-stable g c = λ settled more.
     rw (← c.self.view_is)
     (⊎_elim
-    (λ fault. inl (set_fault_stays address_header _ (record { offset = g.R.Offset.ReaderOffset.value c.self.inside.offset.0; rest = g.R.Reader.view c.self.inside.input }) (search rules) fault settled more))
+    (λ fault. inl (set_fault_stays address_header _
+    (record {
+      offset = g.R.Offset.ReaderOffset.value c.self.inside.offset.0;
+      rest = g.R.Reader.view c.self.inside.input;
+    }) (search rules) fault settled more))
     inr
     c.in-Err.ensures.err)

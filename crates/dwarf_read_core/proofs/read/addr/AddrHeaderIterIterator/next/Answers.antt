@@ -4,4 +4,5 @@ use Rattle.dwarf_read_core.proofs.read.addr.AddrHeaderIterIterator.next.Goals as
 
 pub returns-clause-goes : goal.returns-clause-goes
 returns-clause-goes g c =
-    rw c.transpose.ensures (makes_progress (λ (headers : Headers). headers.rest.bytes) _ _ _ (eight_shorter _ _ _ c.next.ensures.bound) c.next.ensures.failed c.next.ensures.some)
+    rw c.transpose.ensures (makes_progress (λ (headers : Headers). headers.rest.bytes) _ _ _
+    (eight_shorter _ _ _ c.next.ensures.bound) c.next.ensures.failed c.next.ensures.some)

@@ -5,15 +5,19 @@ use Rattle.dwarf_read_core.proofs.read.addr.DebugAddr.get_address.Goals as goal
 
 pub returns-in_err-skip_to_index-clause-stable_fault : goal.returns-in_err-skip_to_index-clause-stable_fault
 returns-in_err-skip_to_index-clause-stable_fault g c =
-    handed_on _ _ c.from_residual-in_err-skip_to_index.ensures.1 (address_fault_stays _ _ _ _ _ (inl (address_misplaced _ _ _ _ (rw c.in_ok-input.ensures.ok at c.in_err-skip_to_index.ensures.err))))
+    handed_on _ _ c.from_residual-in_err-skip_to_index.ensures.1
+    (address_fault_stays _ _ _ _ _ (inl
+    (address_misplaced _ _ _ _ (rw c.in_ok-input.ensures.ok at c.in_err-skip_to_index.ensures.err))))
 
 pub returns-clause-ok : goal.returns-clause-ok
 returns-clause-ok g c =
-    address_found _ _ _ _ _ _ (rw c.in_ok-input.ensures.ok at c.in_ok-skip_to_index.ensures.placed) (rw c.in_ok-input.ensures.ok at c.in_ok-skip_to_index.ensures.ok) c.read_address.ensures.ok
+    address_found _ _ _ _ _ _ (rw c.in_ok-input.ensures.ok at c.in_ok-skip_to_index.ensures.placed)
+    (rw c.in_ok-input.ensures.ok at c.in_ok-skip_to_index.ensures.ok) c.read_address.ensures.ok
 
 pub returns-clause-err : goal.returns-clause-err
 returns-clause-err g c =
-    address_missed _ _ _ _ _ _ _ (rw c.in_ok-input.ensures.ok at c.in_ok-skip_to_index.ensures.placed) (rw c.in_ok-input.ensures.ok at c.in_ok-skip_to_index.ensures.ok) c.read_address.ensures.err
+    address_missed _ _ _ _ _ _ _ (rw c.in_ok-input.ensures.ok at c.in_ok-skip_to_index.ensures.placed)
+    (rw c.in_ok-input.ensures.ok at c.in_ok-skip_to_index.ensures.ok) c.read_address.ensures.err
 
 pub returns-clause-stable : goal.returns-clause-stable
 returns-clause-stable g c = found_stays _ _ _ _ (returns-clause-ok g c)

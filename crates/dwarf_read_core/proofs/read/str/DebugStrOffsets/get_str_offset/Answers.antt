@@ -5,7 +5,10 @@ use Rattle.dwarf_read_core.proofs.read.str.DebugStrOffsets.get_str_offset.Goals 
 
 pub returns-in_err-skip_to_index-clause-stable_fault : goal.returns-in_err-skip_to_index-clause-stable_fault
 returns-in_err-skip_to_index-clause-stable_fault g c =
-    handed_on _ _ c.from_residual-in_err-skip_to_index.ensures.1 (word_fault_stays _ _ _ _ _ (inl (word_misplaced _ _ _ _ (rw (c.word_size.ensures, c.in_ok-input.ensures.ok) at c.in_err-skip_to_index.ensures.err))))
+    handed_on _ _ c.from_residual-in_err-skip_to_index.ensures.1
+    (word_fault_stays _ _ _ _ _ (inl
+    (word_misplaced _ _ _ _
+    (rw (c.word_size.ensures, c.in_ok-input.ensures.ok) at c.in_err-skip_to_index.ensures.err))))
 
 pub returns-in_err-read_offset-clause-stable_fault : goal.returns-in_err-read_offset-clause-stable_fault
 returns-in_err-read_offset-clause-stable_fault g c =

@@ -17,21 +17,21 @@ invariant_of-result c =
     let bits = c.digits.rest-bits in
     let digit = nat_abs (to_z w64 (bit_and bits 127)) in
     IsPadded-last _ _ digit c.digits.invariant.has_room
-        (c.digits.invariant.completes (digit ∷ [])
-        (signed_last_of-is_least bits (omega arith) (c.if-fits_byte.ensures.0 refl))).is_spelled
+    (c.digits.invariant.completes (digit ∷ [])
+    (signed_last_of-is_least bits (omega arith) (c.if-fits_byte.ensures.0 refl))).is_spelled
 
 pub returns-then-fits_byte-clause-shortest : goal.returns-then-fits_byte-clause-shortest
 returns-then-fits_byte-clause-shortest c =
     let bits = c.digits.rest-bits in
     let digit = nat_abs (to_z w64 (bit_and bits 127)) in
     let shortest = rw (to_z-of_z w64 c.args.value c.ranges.value) at c.digits.invariant.completes (digit ∷ [])
-        (signed_last_of-is_least bits (omega arith) (c.if-fits_byte.ensures.0 refl)) in
+    (signed_last_of-is_least bits (omega arith) (c.if-fits_byte.ensures.0 refl)) in
     IsShortest-from signed64 _ _ (rw (take-placed _ _ digit c.digits.invariant.has_room) shortest)
 
 pub returns-then-fits_byte-clause-read : goal.returns-then-fits_byte-clause-read
 returns-then-fits_byte-clause-read c rest =
     HasNumber-append signed64 c.args.value _ rest (returns-then-fits_byte-clause-shortest c).encodes
-        (simp length-take (omega arith)) (in_range_i64 _ c.ranges.value)
+    (simp length-take (omega arith)) (in_range_i64 _ c.ranges.value)
 
 pub digits-preserved : goal.digits-preserved
 digits-preserved c =
@@ -40,8 +40,8 @@ digits-preserved c =
     let byte = bit_or digit 128 in
     let wide : FitsByte (to_z w64 bits) → ⊥ = λ fits. false≢true (c.if-fits_byte.ensures.1 fits) in
     let room = signed_more-has_room c.digits.len (to_z w64 bits) (rest_of bits)
-        (bits % 128) c.digits.invariant.has_room.room (omega arith) wide
-        (split bits (omega arith)) c.digits.invariant.fits in
+    (bits % 128) c.digits.invariant.has_room.room (omega arith) wide
+    (split bits (omega arith)) c.digits.invariant.fits in
     record {
       completes = λ tail shortest. rw
           (take-placed-append c.digits.bytes c.digits.len byte tail c.digits.invariant.has_room)

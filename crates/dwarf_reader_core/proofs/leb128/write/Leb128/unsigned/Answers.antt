@@ -19,12 +19,12 @@ returns-then-rest-eq0-clause-shortest c =
     IsShortest-from unsigned64 _ _
     (rw (take-placed _ _ digit c.digits.invariant.has_room)
     (c.digits.invariant.completes (digit ∷ [])
-        (unsigned_last_of-is_least c.digits.rest digit c.if-rest-eq0.true c.low_bits_of_u64-digit.ensures)))
+    (unsigned_last_of-is_least c.digits.rest digit c.if-rest-eq0.true c.low_bits_of_u64-digit.ensures)))
 
 pub returns-then-rest-eq0-clause-read : goal.returns-then-rest-eq0-clause-read
 returns-then-rest-eq0-clause-read c rest =
     HasNumber-append unsigned64 c.args.value _ rest (returns-then-rest-eq0-clause-shortest c).encodes
-        (simp length-take (omega arith)) (lt-ltb _ _ (omega arith))
+    (simp length-take (omega arith)) (lt-ltb _ _ (omega arith))
 
 pub digits-preserved : goal.digits-preserved
 digits-preserved c =

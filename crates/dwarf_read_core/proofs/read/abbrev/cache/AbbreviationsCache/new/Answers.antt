@@ -5,4 +5,5 @@ use Rattle.dwarf_read_core.proofs.Shown.{Entries, shown}
 use Rattle.dwarf_read_core.proofs.read.abbrev.cache.AbbreviationsCache.new.Goals as goal
 
 pub invariant_of-result : goal.invariant_of-result
-invariant_of-result c = subst (λ (entries : Entries _). KeepsNoWant (shown entries)) (sym c.new.ensures.empty) no_want_empty
+invariant_of-result c =
+    subst (λ (entries : Entries _). KeepsNoWant (shown entries)) (sym c.new.ensures.empty) no_want_empty

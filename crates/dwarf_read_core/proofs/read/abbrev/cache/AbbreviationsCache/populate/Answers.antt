@@ -19,11 +19,20 @@ returns-clause-ok g c = (
 )
 
 pub returns-clause-faithful : goal.returns-clause-faithful
-returns-clause-faithful g c = faithful_of_kept (least_count c.args.strategy) _ (map (λ offset. g.R.Offset.ReaderOffset.value offset.0) c.deref.result.now) (shown c.in_ok-entries.entries.entries) (λ key. rw (get-shown c.in_ok-entries.entries.entries key) (c.in_ok-entries.ensures.ok key))
+returns-clause-faithful g c =
+    faithful_of_kept (least_count c.args.strategy) _
+    (map (λ offset. g.R.Offset.ReaderOffset.value offset.0) c.deref.result.now)
+    (shown c.in_ok-entries.entries.entries)
+    (λ key. rw (get-shown c.in_ok-entries.entries.entries key) (c.in_ok-entries.ensures.ok key))
 
 pub invariant_of-self : goal.invariant_of-self
-invariant_of-self g c = no_want_answers (least_count c.args.strategy) (g.R.Reader.view (debug_abbrev_reader c.args.debug_abbrev.now)) (map (λ offset. g.R.Offset.ReaderOffset.value offset.0) c.deref.result.now) (shown c.in_ok-entries.entries.entries) (λ key. rw (get-shown c.in_ok-entries.entries.entries key) (c.in_ok-entries.ensures.ok key))
+invariant_of-self g c =
+    no_want_answers (least_count c.args.strategy) (g.R.Reader.view (debug_abbrev_reader c.args.debug_abbrev.now))
+    (map (λ offset. g.R.Offset.ReaderOffset.value offset.0) c.deref.result.now)
+    (shown c.in_ok-entries.entries.entries)
+    (λ key. rw (get-shown c.in_ok-entries.entries.entries key) (c.in_ok-entries.ensures.ok key))
 
 pub returns-in_err-entries-clause-some : goal.returns-in_err-entries-clause-some
 returns-in_err-entries-clause-some g c =
-    first_item-of_items g.I.Iterator.next_gives c.args.units c.in_ok-offsets.offsets.items _ _ _ (λ none. c.in_err-entries.ensures.some (c.deref.ensures.value ∙ none)) c.in_ok-offsets.ensures.ok.given
+    first_item-of_items g.I.Iterator.next_gives c.args.units c.in_ok-offsets.offsets.items _ _ _
+    (λ none. c.in_err-entries.ensures.some (c.deref.ensures.value ∙ none)) c.in_ok-offsets.ensures.ok.given

@@ -11,15 +11,19 @@ pub returns-clause-kept : goal.returns-clause-kept
 returns-clause-kept c =
     let old = c.self.inside.abbreviations.entries in
     let new = c.retain.new.self.entries in
-    let retained = filter_same_pairs _ (λ entry. is_final (answer_of entry.1)) _ (λ k v b w f' t. search rules) old new c.retain.ensures.filtered in
-    λ key. get-shown-final old new retained c.retain.ensures.was_ordered key ∙ ap (λ (cache : Cache). still_kept (get cache key)) c.self.view_is
+    let retained = filter_same_pairs _ (λ entry. is_final (answer_of entry.1)) _
+    (λ k v b w f' t. search rules) old new c.retain.ensures.filtered in
+    λ key. get-shown-final old new retained c.retain.ensures.was_ordered key
+    ∙ ap (λ (cache : Cache). still_kept (get cache key)) c.self.view_is
 
 pub invariant_of-self : goal.invariant_of-self
 invariant_of-self c =
     let old = c.self.inside.abbreviations.entries in
     let new = c.retain.new.self.entries in
-    let retained = filter_same_pairs _ (λ entry. is_final (answer_of entry.1)) _ (λ k v b w f' t. search rules) old new c.retain.ensures.filtered in
-    no_want_final (shown old) (shown new) (get-shown-final old new retained c.retain.ensures.was_ordered) c.self.invariant
+    let retained = filter_same_pairs _ (λ entry. is_final (answer_of entry.1)) _
+    (λ k v b w f' t. search rules) old new c.retain.ensures.filtered in
+    no_want_final (shown old) (shown new)
+    (get-shown-final old new retained c.retain.ensures.was_ordered) c.self.invariant
 
 pub returns-clause-faithful : goal.returns-clause-faithful
 returns-clause-faithful c = faithful_of_final c.args.self.now (shown c.retain.new.self.entries) (returns-clause-kept c)

@@ -4,8 +4,10 @@ use Rattle.dwarf_read_core.proofs.Entries.{string_offset_fault, string_offset_fi
 use Rattle.dwarf_read_core.proofs.read.str.offsets.StrOffsetsEntryIter.next.Goals as goal
 
 pub returns-in-Ok-clause-first : goal.returns-in-Ok-clause-first
-returns-in-Ok-clause-first g c = rw (← c.self.view_is) (string_offset_first _ _ _ _ (search rules) c.in-Ok.ensures.ok c.in-Ok.ensures.in_range)
+returns-in-Ok-clause-first g c =
+    rw (← c.self.view_is) (string_offset_first _ _ _ _ (search rules) c.in-Ok.ensures.ok c.in-Ok.ensures.in_range)
 
 pub returns-in-Err-clause-first : goal.returns-in-Err-clause-first
 returns-in-Err-clause-first g c =
-    rw (← c.self.view_is) (inl (string_offset_fault _ _ _ _ (search rules) c.in-Err.ensures.err (ap (λ (i : Input). i.bytes) c.empty.ensures)))
+    rw (← c.self.view_is) (inl (string_offset_fault _ _ _ _ (search rules) c.in-Err.ensures.err
+    (ap (λ (i : Input). i.bytes) c.empty.ensures)))

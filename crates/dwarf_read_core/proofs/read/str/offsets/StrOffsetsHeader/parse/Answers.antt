@@ -5,7 +5,9 @@ use Rattle.dwarf_read_core.proofs.Sets.{set_header_fails, set_least, set_length_
 use Rattle.dwarf_read_core.proofs.read.str.offsets.StrOffsetsHeader.parse.Goals as goal
 
 pub returns-in_err-length-clause-err : goal.returns-in_err-length-clause-err
-returns-in_err-length-clause-err g c = handed_on _ _ c.from_residual.ensures.1 (inl (set_length_fails string_offsets_header _ _ _ _ c.in_err-length.ensures.err))
+returns-in_err-length-clause-err g c =
+    handed_on _ _ c.from_residual.ensures.1
+    (inl (set_length_fails string_offsets_header _ _ _ _ c.in_err-length.ensures.err))
 
 pub returns-in_err-unit-clause-err : goal.returns-in_err-unit-clause-err
 returns-in_err-unit-clause-err g c =
@@ -27,14 +29,30 @@ unfolding string_offsets_header
 returns-in_err-_padding-clause-err g c =
     let known : (c.in_ok-version.version == 5) ≡ true = search rules in
     handed_on _ _ c.from_residual-in_err-_padding.ensures.1 (inl (set_header_fails string_offsets_header _ _ _ _ _ c.in_ok-length.ensures.ok c.in_ok-length.ensures.in_range c.in_ok-unit.ensures.part c.in_ok-unit.ensures.ok
-    (inr (_, _, c.in_ok-version.ensures.ok, inr (tt, _, rw known (refl, refl), inl (_, c.in_err-_padding.ensures.err))))))
+    (inr (
+      _,
+      _,
+      c.in_ok-version.ensures.ok,
+      inr
+          (tt, _, rw known (refl, refl), inl (_, c.in_err-_padding.ensures.err)),
+    ))))
 
 pub returns-clause-ok : goal.returns-clause-ok
 unfolding string_offsets_header
 returns-clause-ok g c =
     let known : (c.in_ok-version.version == 5) ≡ true = search rules in
-    set_reads string_offsets_header _ _ _ _ _ c.in_ok-length.ensures.ok c.in_ok-length.ensures.in_range c.in_ok-unit.ensures.part c.in_ok-unit.ensures.ok
-    (_, _, c.in_ok-version.ensures.ok, (tt, _, rw known (refl, refl), (_, _, c.in_ok-_padding.ensures.ok, (refl, refl))))
+    set_reads string_offsets_header _ _ _ _ _ c.in_ok-length.ensures.ok c.in_ok-length.ensures.in_range c.in_ok-unit.ensures.part c.in_ok-unit.ensures.ok (
+      _,
+      _,
+      c.in_ok-version.ensures.ok,
+      (
+        tt,
+        _,
+        rw known (refl, refl),
+        (_, _, c.in_ok-_padding.ensures.ok, (refl, refl)),
+      ),
+    )
 
 pub returns-clause-bound : goal.returns-clause-bound
-returns-clause-bound g c = let taken = (set_least string_offsets_header-is _ _).all _ _ _ (returns-clause-ok g c) in omega (arith, taken)
+returns-clause-bound g c =
+    let taken = (set_least string_offsets_header-is _ _).all _ _ _ (returns-clause-ok g c) in omega (arith, taken)

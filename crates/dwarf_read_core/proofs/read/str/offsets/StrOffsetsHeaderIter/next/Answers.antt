@@ -7,14 +7,22 @@ use Rattle.dwarf_read_core.proofs.read.str.offsets.StrOffsetsHeaderIter.next.Goa
 pub returns-in-Ok-clause-first : goal.returns-in-Ok-clause-first
 returns-in-Ok-clause-first g c =
     rw (← c.self.view_is)
-    (set_first string_offsets_header-is _ (record { offset = g.R.Offset.ReaderOffset.value c.self.inside.offset; rest = g.R.Reader.view c.self.inside.input })
+    (set_first string_offsets_header-is _
+    (record {
+      offset = g.R.Offset.ReaderOffset.value c.self.inside.offset;
+      rest = g.R.Reader.view c.self.inside.input;
+    })
     (record { offset = g.R.Offset.ReaderOffset.value c.add_assign.new.self; rest = g.R.Reader.view c.parse.new.input })
     (search rules) c.in-Ok.ensures.ok (search rules))
 
 pub returns-in-Ok-clause-stable : goal.returns-in-Ok-clause-stable
 returns-in-Ok-clause-stable g c =
     rw (← c.self.view_is)
-    (set_stays string_offsets_header-is _ (record { offset = g.R.Offset.ReaderOffset.value c.self.inside.offset; rest = g.R.Reader.view c.self.inside.input })
+    (set_stays string_offsets_header-is _
+    (record {
+      offset = g.R.Offset.ReaderOffset.value c.self.inside.offset;
+      rest = g.R.Reader.view c.self.inside.input;
+    })
     (record { offset = g.R.Offset.ReaderOffset.value c.add_assign.new.self; rest = g.R.Reader.view c.parse.new.input })
     (search rules) c.in-Ok.ensures.ok (search rules))
 
@@ -23,7 +31,11 @@ returns-in-Err-clause-first g c =
     let none = ap (λ (i : Input). i.bytes) c.empty.ensures in
     rw (← c.self.view_is)
     (⊎_elim
-    (λ fault. inl (set_fault string_offsets_header-is _ (record { offset = g.R.Offset.ReaderOffset.value c.self.inside.offset; rest = g.R.Reader.view c.self.inside.input }) _ (search rules) fault none))
+    (λ fault. inl (set_fault string_offsets_header-is _
+    (record {
+      offset = g.R.Offset.ReaderOffset.value c.self.inside.offset;
+      rest = g.R.Reader.view c.self.inside.input;
+    }) _ (search rules) fault none))
     (λ want. inr (want, sets_none string_offsets_header _ _ none))
     c.in-Err.ensures.err)
 
@@ -31,6 +43,10 @@ pub returns-in-Err-clause-stable : goal.returns-in-Err-clause-stable
 returns-in-Err-clause-stable g c = λ settled more.
     rw (← c.self.view_is)
     (⊎_elim
-    (λ fault. inl (set_fault_stays string_offsets_header _ (record { offset = g.R.Offset.ReaderOffset.value c.self.inside.offset; rest = g.R.Reader.view c.self.inside.input }) (search rules) fault settled more))
+    (λ fault. inl (set_fault_stays string_offsets_header _
+    (record {
+      offset = g.R.Offset.ReaderOffset.value c.self.inside.offset;
+      rest = g.R.Reader.view c.self.inside.input;
+    }) (search rules) fault settled more))
     inr
     c.in-Err.ensures.err)
