@@ -15,13 +15,13 @@ Read = Result (List Specification × List ℕ) Error
 -- ---- one specification after the other
 
 -- more fuel than bytes is enough
-enough : (n m end : ℕ) (bytes : List ℕ) → length bytes < n → length bytes < m
+attributes_enough : (n m end : ℕ) (bytes : List ℕ) → length bytes < n → length bytes < m
     → attributes_at n end bytes ≡ attributes_at m end bytes
 unfolding attributes_at
-enough zero m end bytes short other = absurd (omega arith)
-enough (suc n) zero end bytes short other = absurd (omega arith)
-enough (suc n) (suc m) end bytes short other =
-    go (λ rest h. enough n m end rest (omega arith) (omega arith)) (specification_at end bytes) refl
+attributes_enough zero m end bytes short other = absurd (omega arith)
+attributes_enough (suc n) zero end bytes short other = absurd (omega arith)
+attributes_enough (suc n) (suc m) end bytes short other =
+    go (λ rest h. attributes_enough n m end rest (omega arith) (omega arith)) (specification_at end bytes) refl
   where
     go : ((rest : List ℕ) → length rest < length bytes → attributes_at n end rest ≡ attributes_at m end rest)
         → (r : Result (Option Specification × List ℕ) Error) → specification_at end bytes ≡ r
@@ -36,8 +36,8 @@ next : (end : ℕ) (bytes : List ℕ) (x : Option Specification × List ℕ) →
 unfolding attributes_in attributes_at
 next end bytes x q =
     let h = specification_shorter end bytes x.0 x.1 q in
-    enough (length bytes + 1) (suc (length bytes)) end bytes (omega arith) (omega arith)
-    ∙ rw q (ap (and_others x.0 x.1) (enough (length bytes) (length x.1 + 1) end x.1 (omega arith)
+    attributes_enough (length bytes + 1) (suc (length bytes)) end bytes (omega arith) (omega arith)
+    ∙ rw q (ap (and_others x.0 x.1) (attributes_enough (length bytes) (length x.1 + 1) end x.1 (omega arith)
     (omega arith)))
 
 -- reading a list of specifications fails with the error with which reading the first one fails
@@ -45,7 +45,7 @@ pub attributes_fail : (end : ℕ) (bytes : List ℕ) (e : Error) → specificati
     → attributes_in end bytes ≡ Err e
 unfolding attributes_in attributes_at
 attributes_fail end bytes e q =
-    enough (length bytes + 1) (suc (length bytes)) end bytes (omega arith) (omega arith) ∙ rw q refl
+    attributes_enough (length bytes + 1) (suc (length bytes)) end bytes (omega arith) (omega arith) ∙ rw q refl
 
 -- ---- as a loop does
 

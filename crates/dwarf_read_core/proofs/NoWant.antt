@@ -19,16 +19,16 @@ pub no_want_empty : KeepsNoWant finite.empty
 no_want_empty key is = let none = finite.get-empty {X = Result Table Error} nat_cmp key in cc
 
 -- a choice between a table and an entry that is no want of memory is no want of memory either
-chosen : (b : Bool) (t : Table) (before : Option (Result Table Error)) → before ≢ want
+chosen-no_want : (b : Bool) (t : Table) (before : Option (Result Table Error)) → before ≢ want
     → cond b (Some (Ok t)) before ≢ want
-chosen true t before other is = cc
-chosen false t before other is = other is
+chosen-no_want true t before other is = cc
+chosen-no_want false t before other is = other is
 
 -- a cache that keeps no want of memory keeps none after a table is inserted
 pub no_want_insert : (cache : Cache) (key : ℕ) (t : Table) → KeepsNoWant cache
     → KeepsNoWant (finite.insert cache key (Ok t))
 no_want_insert cache key t none q is =
-    chosen _ t _ (none q) (sym (finite.get-insert nat_cmp_total cache key (Ok t) q) ∙ is)
+    chosen-no_want _ t _ (none q) (sym (finite.get-insert nat_cmp_total cache key (Ok t) q) ∙ is)
 
 -- the fault of a declaration that breaks off or goes wrong is never want of memory
 never_faulty : {end : ℕ} {bytes : List ℕ} {e : Error} → IsFaulty end bytes e → e ≢ OutOfMemory

@@ -27,13 +27,13 @@ Read = Result Table Error
 -- ---- one declaration after the other
 
 -- a table is read the same under any two bounds that are above the number of its bytes
-enough : (n m end : ℕ) (t : ByCode) (bytes : List ℕ) → length bytes < n → length bytes < m
+table_enough : (n m end : ℕ) (t : ByCode) (bytes : List ℕ) → length bytes < n → length bytes < m
     → table_at n end t bytes ≡ table_at m end t bytes
 unfolding table_at
-enough zero m end t bytes short other = absurd (omega arith)
-enough (suc n) zero end t bytes short other = absurd (omega arith)
-enough (suc n) (suc m) end t bytes short other =
-    go (λ more rest h. enough n m end more rest (omega arith) (omega arith)) (declaration_at end bytes) refl
+table_enough zero m end t bytes short other = absurd (omega arith)
+table_enough (suc n) zero end t bytes short other = absurd (omega arith)
+table_enough (suc n) (suc m) end t bytes short other =
+    go (λ more rest h. table_enough n m end more rest (omega arith) (omega arith)) (declaration_at end bytes) refl
   where
     go : ((more : ByCode) (rest : List ℕ) → length rest < length bytes
         → table_at n end more rest ≡ table_at m end more rest) → (r : Result (Option Declaration × List ℕ) Error)
@@ -51,14 +51,14 @@ pub table_fails : (end : ℕ) (t : ByCode) (bytes : List ℕ) (e : Error) → de
     → table_in end t bytes ≡ Err e
 unfolding table_in table_at
 table_fails end t bytes e q =
-    enough (length bytes + 1) (suc (length bytes)) end t bytes (omega arith) (omega arith) ∙ rw q refl
+    table_enough (length bytes + 1) (suc (length bytes)) end t bytes (omega arith) (omega arith) ∙ rw q refl
 
 -- a table ends where no declaration is read, closed by the end if no bytes are left, or else by a code of 0
 pub table_ends : (end : ℕ) (t : ByCode) (bytes rest : List ℕ) → declaration_at end bytes ≡ Ok (None, rest)
     → table_in end t bytes ≡ Ok (closed t (close_of bytes))
 unfolding table_in table_at
 table_ends end t bytes rest q =
-    enough (length bytes + 1) (suc (length bytes)) end t bytes (omega arith) (omega arith) ∙ rw q refl
+    table_enough (length bytes + 1) (suc (length bytes)) end t bytes (omega arith) (omega arith) ∙ rw q refl
 
 -- a code of value 0 closes the table
 pub table_nulled : (end : ℕ) (t : ByCode) (bytes rest : List ℕ) → bytes ≢ []
@@ -73,7 +73,7 @@ pub table_repeats : (end : ℕ) (t : ByCode) (bytes : List ℕ) (d : Declaration
     → table_in end t bytes ≡ Err (DuplicateAbbreviationCode d.code)
 unfolding table_in table_at
 table_repeats end t bytes d rest q twice =
-    enough (length bytes + 1) (suc (length bytes)) end t bytes (omega arith) (omega arith) ∙ rw (q, twice) refl
+    table_enough (length bytes + 1) (suc (length bytes)) end t bytes (omega arith) (omega arith) ∙ rw (q, twice) refl
 
 -- a declaration whose code is new is inserted into the table, which is then read on behind it
 pub table_goes_on : (end : ℕ) (t : ByCode) (bytes : List ℕ) (d : Declaration) (rest : List ℕ)
@@ -82,8 +82,8 @@ pub table_goes_on : (end : ℕ) (t : ByCode) (bytes : List ℕ) (d : Declaration
 unfolding table_in table_at
 table_goes_on end t bytes d rest q fresh =
     let h = declaration_shorter end bytes d rest q in
-    enough (length bytes + 1) (suc (length bytes)) end t bytes (omega arith) (omega arith)
-    ∙ rw (q, fresh) (enough (length bytes) (length rest + 1) end (insert t d.code d) rest (omega arith) (omega arith))
+    table_enough (length bytes + 1) (suc (length bytes)) end t bytes (omega arith) (omega arith)
+    ∙ rw (q, fresh) (table_enough (length bytes) (length rest + 1) end (insert t d.code d) rest (omega arith) (omega arith))
 
 -- ---- codes that stand once
 
@@ -91,13 +91,13 @@ abbrev pub entries_of : List Declaration → List (ℕ × Declaration)
 entries_of ds = map (λ d. (d.code, d)) ds
 
 -- two codes are equal by their order exactly where they are equal as numbers
-same_code : (a b : ℕ) → eq_by_cmp nat_cmp a b ≡ eqb a b
-same_code a b = grind (arith, nat_tests)
+same_code_in_order : (a b : ℕ) → eq_by_cmp nat_cmp a b ≡ eqb a b
+same_code_in_order a b = grind (arith, nat_tests)
 
 -- a code finds the first declaration if that one has it, and otherwise what it finds among the others
 looked_up : (code : ℕ) (x : Declaration) (ds : List Declaration) (t : Bool) → eqb code x.code ≡ t
     → find nat_cmp code (entries_of (x ∷ ds)) ≡ cond t (Some x) (find nat_cmp code (entries_of ds))
-looked_up code x ds t e = ap (λ b. cond b (Some x) (find nat_cmp code (entries_of ds))) (same_code code x.code ∙ e)
+looked_up code x ds t e = ap (λ b. cond b (Some x) (find nat_cmp code (entries_of ds))) (same_code_in_order code x.code ∙ e)
 
 -- a code that none of the declarations has finds nothing among them
 find_none : (ds : List Declaration) (code : ℕ) → (Declares ds code → ⊥) → find nat_cmp code (entries_of ds) ≡ None

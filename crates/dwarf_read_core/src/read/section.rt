@@ -91,7 +91,8 @@ pub trait Section<R>: From<R> + Sized {
         ensures ok { let section = R.view (section_reader self.now) in
             IfOk result (λ part. RangeAt section offset size (Ok (R.view (section_reader part)))) }
         ensures err { let section = R.view (section_reader self.now) in
-            IfErr result (λ e. RangeAt section offset size (Err e) ⊎ WantsMemory R.clone_is_free e) }
+            IfErr result (λ e. RangeAt section offset size (Err e)
+            ⊎ WantsMemory R.clone_is_free e) }
     {
         let mut part = self.reader().try_clone()?;
         part.skip(R::Offset::from_u32(offset))?;
