@@ -1,13 +1,14 @@
 -- Laws of layouts: exactly one outcome, the front of the bytes, how many are taken, and that more bytes change nothing.
-use Rattle.std.proofs.Common.{◌≡◌, ◌≢◌, ℕ, ◌+◌, ◌<◌, ◌≤◌, take, drop, Bool, true, false, List, [], ◌∷◌, ◌++◌, length, Result, Ok, Err, refl, sym, ap, subst, ◌∙◌, arith, inl, inr, slice_index}
+use Rattle.std.proofs.Common.{◌≡◌, ℕ, ◌+◌, ◌-◌, ◌<◌, ◌≤◌, take, drop, Bool, true, false, List, [], ◌∷◌, ◌++◌, length, Result, Ok, Err, refl, sym, ap, subst, ◌∙◌, arith, inl, inr, slice_index}
 use Rattle.std.proofs.lemmas.Bool.{cases_lt}
 use Rattle.std.proofs.lemmas.List.{length-append, length-drop, length-take-le, take-append-le, drop-append-le, drop-drop}
+use Rattle.std.specs.Prelude.{IfErr}
 use Rattle.dwarf_base_core.specs.declared.error.Error.{Error}
 use Rattle.dwarf_base_core.specs.Number.{number_of}
-use Rattle.dwarf_reader_core.specs.Faults.{eof, end_fault}
+use Rattle.dwarf_reader_core.specs.Faults.{end_fault}
 use Rattle.dwarf_reader_core.specs.Input.{Input, after, first as first_of_input, Takes}
 use Rattle.dwarf_reader_core.specs.Once.{HasOne}
-use Rattle.dwarf_read_core.specs.Answer.{followed_by}
+use Rattle.dwarf_read_core.specs.Appended.{followed_by, IsNoEof}
 use Rattle.dwarf_read_core.specs.Layout.{Layout, fixed, byte, part, pure, refuse, when◌then◌else◌, check, ◌>>=◌, inside, At, value, refused}
 
 -- what reading comes to: a value and what is left behind it, or a fault
@@ -36,7 +37,7 @@ TakesLeast n f = Covers 0 (λ _. n) f
 pub record IsStable {A : Type 0} (f : Layout A) : Type 0 where
   pub stays : (more : List ℕ) (old : Input) (x : A) (new : Input) → f.Reads old x new
       → f.Reads (followed_by old more) x (followed_by new more)
-  pub fault_stays : (more : List ℕ) (old : Input) (e : Error) → ((position : ℕ) → e ≢ eof position) → f.Fails old e
+  pub fault_stays : (more : List ℕ) (old : Input) (e : Error) → IsNoEof e → f.Fails old e
       → f.Fails (followed_by old more) e
 
 -- outcomes are the same where value and rest are
@@ -268,6 +269,10 @@ after-after m n old = λ i. record { bytes = bytes i; position = place i; is_big
     place : (old.position + n) + m ≡ old.position + (n + m)
     place = omega arith
 
+-- what remains is as long as what was there, without what was consumed
+pub rest-length : (n : ℕ) (old new : Input) → Takes n old new → length new.bytes ≡ length old.bytes - n
+rest-length n old new takes = ap (λ (i : Input). length i.bytes) takes.left ∙ length-drop n old.bytes
+
 -- where nothing is taken, no bytes are
 nothing-taken : (old new : Input) → new ≡ old → (n : ℕ) × Takes n old new
 nothing-taken old new e = (
@@ -401,7 +406,7 @@ then_stable {A} {B} {p} {f} first second = record {
   fault_stays = faulty;
 }
   where
-    faulty : (more : List ℕ) (old : Input) (e : Error) → ((position : ℕ) → e ≢ eof position)
+    faulty : (more : List ℕ) (old : Input) (e : Error) → IsNoEof e
         → (p >>= f).Fails old e → (p >>= f).Fails (followed_by old more) e
     faulty more old e settled (inl h) = inl (first.fault_stays more old e settled h)
     faulty more old e settled (inr h) =
@@ -438,9 +443,9 @@ at_one {A} {f} section law = go (law.one section)
 
 -- more bytes change no answer, but that bytes are missing
 pub at_more : {A : Type 0} {f : Layout A} {section : Input} {answer : Result A Error} → IsStable f
-    → (more : List ℕ) → At f section answer → ((position : ℕ) → answer ≢ Err (eof position))
+    → (more : List ℕ) → At f section answer → IfErr answer IsNoEof
     → At f (followed_by section more) answer
 at_more {section = section} law more (value {x = x} behind h) settled =
     value (followed_by behind more) (law.stays more section x behind h)
 at_more {section = section} law more (refused {e = e} h) settled =
-    refused (law.fault_stays more section e (λ p q. settled p (λ i. Err (q i))) h)
+    refused (law.fault_stays more section e settled h)

@@ -5,6 +5,7 @@ use Rattle.dwarf_base_core.specs.declared.error.Error.TheVariants.{AbbreviationT
 use Rattle.dwarf_reader_core.specs.Leb128.{Kind, unsigned64, unsigned16, signed64, refusal, IsNumber, IsCut, IsBad}
 use Rattle.dwarf_reader_core.specs.Faults.{eof, end_fault}
 use Rattle.dwarf_reader_core.specs.Input.{Input, end_of}
+use Rattle.dwarf_read_core.specs.Appended.{IsNoEof}
 use Rattle.dwarf_read_core.specs.Grammar.{Declaration, implicit_const, Table, by_null, is_by_null, IsCode, IsHead, IsFront, IsDeclaration, Declares, AreDeclarations, IsTable}
 
 -- a declaration that is cut before a number of this kind
@@ -57,14 +58,10 @@ abbrev pub Answers : Result Table Error → Input → ℕ → Type 0
 Answers (Ok t) section offset = Answer section offset (Ok t)
 Answers (Err e) section offset = e ≢ OutOfMemory → Answer section offset (Err e)
 
--- a section with more bytes behind it
-abbrev pub followed_by : Input → List ℕ → Input
-followed_by section more = record section { bytes = section.bytes ++ more }
-
 -- an answer that does not depend on where the section ends
 abbrev pub IsFinal : Result Table Error → Type 0
 IsFinal (Ok t) = t.close ≡ by_null
-IsFinal (Err e) = (position : ℕ) → e ≢ eof position
+IsFinal (Err e) = IsNoEof e
 
 -- where an answer takes no memory: outside, at the end, or at a code of value 0
 abbrev pub TakesNoMemory : Input → ℕ → Type 0
@@ -94,4 +91,4 @@ AnswersStrictly (Err e) section offset = e ≢ OutOfMemory → StrictAnswer sect
 -- a strict answer that does not depend on where the section ends: every table, and every error but these two
 abbrev pub IsStrictlyFinal : Result Table Error → Type 0
 IsStrictlyFinal (Ok t) = ⊤
-IsStrictlyFinal (Err e) = (position : ℕ) → (e ≢ eof position) × (e ≢ unterminated position)
+IsStrictlyFinal (Err e) = IsNoEof e × ((position : ℕ) → e ≢ unterminated position)

@@ -9,8 +9,8 @@ use Rattle.dwarf_base_core.specs.declared.error.Error.TheVariants.{OutOfMemory, 
 use Rattle.dwarf_reader_core.specs.Input.{Input}
 use Rattle.dwarf_read_core.specs.Answer.{Answer}
 use Rattle.dwarf_read_core.specs.Grammar.{Table, is_by_null}
-use Rattle.dwarf_read_core.specs.declared.read.abbrev.AbbreviationsCacheStrategy.{AbbreviationsCacheStrategy}
-use Rattle.dwarf_read_core.specs.declared.read.abbrev.AbbreviationsCacheStrategy.TheVariants.{Duplicates, All}
+use Rattle.dwarf_read_core.specs.declared.read.abbrev.cache.AbbreviationsCacheStrategy.{AbbreviationsCacheStrategy}
+use Rattle.dwarf_read_core.specs.declared.read.abbrev.cache.AbbreviationsCacheStrategy.TheVariants.{Duplicates, All}
 
 -- an answer whose table is shared
 abbrev pub answer_of : {Z : Type 0} → Result (Rc Table Z) Error → Result Table Error
@@ -74,11 +74,12 @@ pub record NamesOffsets {S T : Type 0} (steps : S → Option (Result T Error) �
   pub given : GivesBeforeError steps from items
   pub numbers : offsets ≡ map number items
 
--- a kept answer is handed out as it is; sharing a table may find no room
+-- a kept result is returned as it is, except that memory to share a table may run out; a kept error isn't
+-- `OutOfMemory`
 abbrev pub HandsOut : {Z : Type 0} → Result Table Error → Result (Rc Table Z) Error → Type 0
 HandsOut kept result =
     MatchResult kept (λ table. MatchResult result (λ shared. shared.value ≡ table) (λ fault. fault ≡ OutOfMemory))
-    (λ fault. result ≡ Err fault)
+    (λ e. (result ≡ Err e) × (e ≢ OutOfMemory))
 
 -- whether appended bytes leave an answer as it is: a table that a code of value 0 closes, or an error but that
 -- bytes are missing

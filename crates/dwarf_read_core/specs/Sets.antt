@@ -8,7 +8,7 @@ use Rattle.dwarf_base_core.specs.declared.error.Error.TheVariants.{UnknownReserv
 use Rattle.dwarf_base_core.specs.Format.{word_size}
 use Rattle.dwarf_reader_core.specs.Faults.{is_number_size}
 use Rattle.dwarf_reader_core.specs.Input.{Input}
-use Rattle.dwarf_read_core.specs.Answer.{followed_by}
+use Rattle.dwarf_read_core.specs.Appended.{followed_by}
 use Rattle.dwarf_read_core.specs.Entries.{Entries}
 use Rattle.dwarf_read_core.specs.Layout.{Layout, fixed, byte, part, pure, refuse, when◌then◌else◌, check, ◌>>=◌, inside, AreItems}
 

@@ -1,8 +1,8 @@
 -- Numbers that are looked up by an index: offsets of strings (DWARF 5, 7.26) and addresses (7.27).
-use Rattle.std.specs.Prelude.{◌≢◌, ℕ, ◌+◌, ◌*◌, ◌≤◌, length, nat_le, Result, Err}
+use Rattle.std.specs.Prelude.{ℕ, ◌+◌, ◌*◌, ◌≤◌, length, nat_le, Result}
 use Rattle.dwarf_base_core.specs.declared.error.Error.{Error}
 use Rattle.dwarf_base_core.specs.declared.error.Error.TheVariants.{UnsupportedOffset, UnsupportedAddressSize}
-use Rattle.dwarf_reader_core.specs.Faults.{eof, is_number_size}
+use Rattle.dwarf_reader_core.specs.Faults.{is_number_size}
 use Rattle.dwarf_reader_core.specs.Input.{Input}
 use Rattle.dwarf_read_core.specs.Entries.{string_offset}
 use Rattle.dwarf_read_core.specs.Layout.{Layout, At, fixed, part, check, ◌>>=◌}
@@ -60,7 +60,3 @@ WordAt greatest section s answer = At (word greatest s) section answer
 -- the address of a slot of a section, or the first fault
 abbrev pub AddressAt : ℕ → Input → Slot → Result ℕ Error → Type 0
 AddressAt greatest section s answer = At (address greatest s) section answer
-
--- an answer that doesn't say that bytes are missing
-abbrev pub IsSettled : Result ℕ Error → Type 0
-IsSettled answer = (position : ℕ) → answer ≢ Err (eof position)

@@ -1,4 +1,4 @@
-use Rattle.dwarf_read_core.proofs.Sets.{address_header-is, fault_more, set_more}
+use Rattle.dwarf_read_core.proofs.sets.Sets.{address_header-is, fault_more, set_more}
 use Rattle.dwarf_read_core.proofs.laws.appended_bytes_change_no_set.Goals as goal
 
 pub returns-clause-set : goal.returns-clause-set

@@ -15,7 +15,7 @@ use std::marker::Model;
 // The version of every set: earlier standards have none.
 const VERSION: u16 = 5;
 
-/// The sets of string offsets that are left of a section, each by its header.
+/// The sets of string offsets that remain of a section, each by its header.
 ///
 /// ```
 /// for header in section.headers()? {
@@ -54,29 +54,29 @@ impl<R: Reader> StrOffsetsHeaderIter<R> {
         }
     }
 
-    /// The header of the next set, or `None` where no bytes are left.
+    /// The header of the next set, or `None` if no bytes remain.
     ///
-    /// A set has eight bytes at least.
+    /// A set has at least eight bytes.
     ///
     /// # Errors
     ///
-    /// The first fault of the bytes that are left, where they don't begin with a set. Positions
-    /// are those of the section.
+    /// If the bytes that remain don't begin with a set, the first of these. Positions are those of
+    /// the section.
     ///
-    /// - `UnexpectedEof` at the set where fewer than four bytes are left;
-    /// - `UnknownReservedLength` where the first four bytes are reserved;
-    /// - `UnexpectedEof` behind the first four bytes where they are followed by a length of eight
-    ///   bytes, and fewer are left;
-    /// - `UnsupportedOffset` where the length is no offset;
-    /// - `UnexpectedEof` behind the length where fewer bytes are left, or where the set has no
-    ///   room for the version;
-    /// - `UnknownVersion` for another version than 5;
-    /// - `UnexpectedEof` behind the version where the set has no room for two bytes of padding,
-    ///   which may have any value.
+    /// - `UnexpectedEof` at the set if fewer than four bytes remain;
+    /// - `UnknownReservedLength` if the first four bytes are a reserved value;
+    /// - `UnexpectedEof` after the first four bytes if they announce a length of eight bytes, and
+    ///   fewer remain;
+    /// - `UnsupportedOffset` if the length doesn't fit the offset type;
+    /// - `UnexpectedEof` after the length if fewer bytes remain, or if the set ends before the
+    ///   version;
+    /// - `UnknownVersion` if the version isn't 5;
+    /// - `UnexpectedEof` after the version if the set ends before the two bytes of padding, which
+    ///   may have any value.
     ///
-    /// `OutOfMemory` where memory for a reader of the set was refused. After any error the
-    /// answer is `Ok(None)`.
-    #[tactic(auto, using(crate::proofs::Sets::sets_none))]
+    /// `OutOfMemory` if memory for a reader of the set runs out. After any error the iterator is
+    /// exhausted: `next` returns `Ok(None)`.
+    #[tactic(auto, using(crate::proofs::sets::Sets::sets_none))]
     pub fn next(&mut self) -> Result<Option<StrOffsetsHeader<R>>>
         ensures first { GivesFirst (StandsForStringOffsetSets R.Offset.GREATEST)
             (string_offset_set_of R.view R.Offset.value) R.clone_is_free self.old
@@ -87,7 +87,7 @@ impl<R: Reader> StrOffsetsHeaderIter<R> {
             (λ _. length self.new.rest.bytes + 8 ≤ length self.old.rest.bytes)) }
         ensures some { OnErr result (1 ≤ length self.old.rest.bytes) }
 
-        // Bytes behind those that are left change neither a set nor a fault, but that bytes are missing.
+        // Appended bytes change neither a set nor an error, unless it is an `UnexpectedEof`.
         ensures stable { StaysFirst (StandsForStringOffsetSets R.Offset.GREATEST)
             (string_offset_set_of R.view R.Offset.value) R.clone_is_free followed_headers self.old
             (result_transpose result) self.new }
@@ -97,10 +97,10 @@ impl<R: Reader> StrOffsetsHeaderIter<R> {
         }
         let before = self.input.len();
         match StrOffsetsHeader::parse(&mut self.input, self.offset) {
-            Err(error) => {
+            Err(e) => {
                 // Nothing says where another set would begin.
                 self.input.empty();
-                Err(error)
+                Err(e)
             }
             Ok(header) => {
                 self.offset += before - self.input.len();
@@ -144,7 +144,7 @@ impl<R: Reader + Clone> Clone for StrOffsetsHeaderIter<R> {
     }
 }
 
-/// The header of a set of string offsets, and the offsets behind it.
+/// The header of a set of string offsets, and the offsets that follow it.
 #[derive(Debug, Drop, PartialEq, Eq)]
 pub struct StrOffsetsHeader<R: Reader> {
     offset: R::Offset,
@@ -219,7 +219,7 @@ impl<R: Reader> StrOffsetsHeader<R> {
         self.length
     }
 
-    /// The set's format, whose words the offsets are.
+    /// The set's format. The offsets are words of it.
     pub fn format(&self) -> Format
         ensures { result ≡ (string_offset_set_of R.view R.Offset.value self.now).format }
     {
@@ -230,7 +230,7 @@ impl<R: Reader> StrOffsetsHeader<R> {
     ///
     /// # Errors
     ///
-    /// `OutOfMemory` where a clone of the reader was refused.
+    /// `OutOfMemory` if a clone of the reader runs out of memory.
     pub fn entries(&self) -> Result<StrOffsetsEntryIter<R>>
         ensures ok { IfOk result
             (λ entries. entries
@@ -244,7 +244,7 @@ impl<R: Reader> StrOffsetsHeader<R> {
     }
 }
 
-/// The string offsets that are left of a set.
+/// The string offsets that remain of a set.
 #[derive(Debug, Drop)]
 pub struct StrOffsetsEntryIter<R: Reader> {
     input: R,
@@ -261,14 +261,15 @@ impl<R: Reader> Model for StrOffsetsEntryIter<R> {
 }
 
 impl<R: Reader> StrOffsetsEntryIter<R> {
-    /// The next offset of a string in `.debug_str`, or `None` where no bytes are left.
+    /// The next offset of a string in `.debug_str`, or `None` if no bytes remain. It doesn't
+    /// allocate.
     ///
     /// # Errors
     ///
-    /// `UnexpectedEof` at the bytes that are left where they are fewer than a word has, and
-    /// `UnsupportedOffset` where the next word is no offset. After either the answer is `Ok(None)`.
-    /// It takes no memory.
-    #[tactic(auto, using(crate::proofs::Entries::entries_none))]
+    /// `UnexpectedEof` at the bytes that remain if they are fewer than a word has, and
+    /// `UnsupportedOffset` if the next word doesn't fit the offset type. After either `next` returns
+    /// `Ok(None)`.
+    #[tactic(auto, using(crate::proofs::sets::Entries::entries_none))]
     pub fn next(&mut self) -> Result<Option<DebugStrOffset<R::Offset>>>
         ensures first { GivesFirst (StandsForStringOffsets R.Offset.GREATEST)
             (λ offset. R.Offset.value offset.0) true self.old (result_transpose result) self.new }
@@ -284,9 +285,9 @@ impl<R: Reader> StrOffsetsEntryIter<R> {
         }
         match self.input.read_offset(self.format) {
             Ok(entry) => Ok(Some(DebugStrOffset(entry))),
-            Err(fault) => {
+            Err(e) => {
                 self.input.empty();
-                Err(fault)
+                Err(e)
             }
         }
     }

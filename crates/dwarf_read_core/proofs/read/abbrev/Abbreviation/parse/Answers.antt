@@ -1,8 +1,8 @@
 use Rattle.std.proofs.Common.{rules, ◌≡◌, ◌≢◌, [], Ok, Err, None, ◌∙◌, sym}
 use Rattle.dwarf_reader_core.specs.Input.{end_of}
-use Rattle.dwarf_read_core.proofs.Steps.{gives_err}
-use Rattle.dwarf_read_core.proofs.Numbers.{refused, number_read, end_stays}
-use Rattle.dwarf_read_core.proofs.Parts.{code_fails, coded, is_some, declared_fails}
+use Rattle.dwarf_read_core.proofs.ResultLemmas.{gives_err}
+use Rattle.dwarf_read_core.proofs.tables.ReadingNumbers.{refused, number_read, end_stays}
+use Rattle.dwarf_read_core.proofs.tables.DeclarationSteps.{code_fails, coded, is_some, declared_fails}
 use Rattle.dwarf_read_core.proofs.read.abbrev.Abbreviation.parse.Goals as goal
 
 pub returns-in_err-code-clause-ends : goal.returns-in_err-code-clause-ends

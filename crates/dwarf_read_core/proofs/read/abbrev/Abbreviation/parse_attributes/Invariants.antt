@@ -11,7 +11,7 @@ invariant-attributes g l =
     record {
       told : with_front l.scratch.items (attributes_in end (view l.input).bytes)
           ≡ attributes_in end (view l.initial.input).bytes;
-      stays : end_of (view l.input) ≡ end;
+      same_end : end_of (view l.input) ≡ end;
     }
 
 abbrev pub decreases-attributes : goal.decreases-attributes

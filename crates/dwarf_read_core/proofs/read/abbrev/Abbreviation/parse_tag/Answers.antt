@@ -1,7 +1,7 @@
 use Rattle.std.proofs.Common.{refl}
 use Rattle.dwarf_read_core.specs.Reading.{tag_at}
-use Rattle.dwarf_read_core.proofs.Steps.{gives_err}
-use Rattle.dwarf_read_core.proofs.Numbers.{refused}
+use Rattle.dwarf_read_core.proofs.ResultLemmas.{gives_err}
+use Rattle.dwarf_read_core.proofs.tables.ReadingNumbers.{refused}
 use Rattle.dwarf_read_core.proofs.read.abbrev.Abbreviation.parse_tag.Goals as goal
 
 pub returns-in_err-value-clause-read : goal.returns-in_err-value-clause-read

@@ -5,7 +5,7 @@ use Rattle.std.specs.Map.{lookup}
 use Rattle.std.specs.Ordering.{nat_cmp}
 use Rattle.dwarf_base_core.specs.declared.error.Error.TheVariants.{DuplicateAbbreviationCode}
 use Rattle.dwarf_read_core.specs.Grammar.{Table}
-use Rattle.dwarf_read_core.proofs.Tables.{stands_in_vec, none_at, pushed, lacks_next, kept_pushed, kept_beside}
+use Rattle.dwarf_read_core.proofs.tables.VectorAndMap.{stands_in_vec, none_at, pushed, lacks_next, kept_pushed, kept_beside}
 use Rattle.dwarf_read_core.proofs.read.abbrev.Abbreviations.insert.Goals as goal
 use Rattle.dwarf_read_core.proofs.read.abbrev.Abbreviations.insert.Goals.{else-not-is_empty-via-then-not-is_empty+else-contains_key, else-not-is_empty-via-else-not-is_empty}
 

@@ -2,7 +2,7 @@ use Rattle.std.proofs.Common.{◌≡◌, ap, sym, ◌∙◌, rules}
 use Rattle.std.specs.FinMap.{empty_of_len}
 use Rattle.std.proofs.lemmas.List.Elements.{same_from_all_zip}
 use Rattle.dwarf_read_core.specs.Grammar.{Declaration, Table, closed, close_from}
-use Rattle.dwarf_read_core.proofs.Tables.{copied}
+use Rattle.dwarf_read_core.proofs.tables.VectorAndMap.{copied}
 use Rattle.dwarf_read_core.proofs.read.abbrev.Abbreviations.try_clone.Goals as goal
 
 same_vec : (c : goal.In_ok-clone-2) → c.in_ok-clone.field-0.items ≡ c.self.inside.vec.items

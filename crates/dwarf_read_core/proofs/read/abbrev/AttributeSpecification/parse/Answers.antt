@@ -1,8 +1,8 @@
 use Rattle.std.proofs.Common.{refl, rules, ◌≡◌, ◌==◌, true, false, ◌∙◌}
 use Rattle.dwarf_read_core.specs.Grammar.{implicit_const}
 use Rattle.dwarf_read_core.specs.Reading.{specification_at, value_at}
-use Rattle.dwarf_read_core.proofs.Steps.{gives_err}
-use Rattle.dwarf_read_core.proofs.Numbers.{refused, number_read, end_stays}
+use Rattle.dwarf_read_core.proofs.ResultLemmas.{gives_err}
+use Rattle.dwarf_read_core.proofs.tables.ReadingNumbers.{refused, number_read, end_stays}
 use Rattle.dwarf_read_core.proofs.read.abbrev.AttributeSpecification.parse.Goals as goal
 
 pub returns-in_err-read_uleb128_u16-clause-read : goal.returns-in_err-read_uleb128_u16-clause-read

@@ -1,7 +1,7 @@
 use Rattle.std.proofs.Common.{rules, inl, inr, ap, ⊎_elim}
 use Rattle.dwarf_reader_core.specs.Input.{Input}
 use Rattle.dwarf_read_core.specs.Sets.{address_header}
-use Rattle.dwarf_read_core.proofs.Sets.{address_header-is, set_fault, set_fault_stays, set_first, set_stays, sets_none}
+use Rattle.dwarf_read_core.proofs.sets.Sets.{address_header-is, set_fault, set_fault_stays, set_first, set_stays, sets_none}
 use Rattle.dwarf_read_core.proofs.read.addr.AddrHeaderIter.next.Goals as goal
 
 pub returns-in-Ok-clause-first : goal.returns-in-Ok-clause-first

@@ -1,5 +1,5 @@
 use Rattle.dwarf_read_core.specs.Sets.{Headers}
-use Rattle.dwarf_read_core.proofs.Items.{eight_shorter, makes_progress}
+use Rattle.dwarf_read_core.proofs.sets.IteratorsEnd.{eight_shorter, makes_progress}
 use Rattle.dwarf_read_core.proofs.read.addr.AddrHeaderIterIterator.next.Goals as goal
 
 pub returns-clause-goes : goal.returns-clause-goes

@@ -1,7 +1,7 @@
 use Rattle.std.proofs.Common.{subst, sym}
 use Rattle.dwarf_read_core.specs.Cache.{KeepsNoWant}
-use Rattle.dwarf_read_core.proofs.NoWant.{no_want_empty}
-use Rattle.dwarf_read_core.proofs.Shown.{Entries, shown}
+use Rattle.dwarf_read_core.proofs.cache.NoMemoryError.{no_want_empty}
+use Rattle.dwarf_read_core.proofs.cache.EntriesAsMap.{Entries, shown}
 use Rattle.dwarf_read_core.proofs.read.abbrev.cache.AbbreviationsCache.new.Goals as goal
 
 pub invariant_of-result : goal.invariant_of-result

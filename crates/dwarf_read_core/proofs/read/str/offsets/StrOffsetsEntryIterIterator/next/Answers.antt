@@ -1,5 +1,5 @@
 use Rattle.dwarf_read_core.specs.Entries.{Entries}
-use Rattle.dwarf_read_core.proofs.Items.{makes_progress, shorter}
+use Rattle.dwarf_read_core.proofs.sets.IteratorsEnd.{makes_progress, shorter}
 use Rattle.dwarf_read_core.proofs.read.str.offsets.StrOffsetsEntryIterIterator.next.Goals as goal
 
 pub returns-clause-goes : goal.returns-clause-goes

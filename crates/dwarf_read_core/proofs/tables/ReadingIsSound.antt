@@ -9,10 +9,10 @@ use Rattle.dwarf_reader_core.specs.Faults.{eof}
 use Rattle.dwarf_read_core.specs.Grammar.{Specification, Declaration, children_byte, IsCode, IsHead, IsFront, IsDeclaration}
 use Rattle.dwarf_read_core.specs.Answer.{before_code, before_tag, IsFaulty, children_cut, tag_zero, children_bad}
 use Rattle.dwarf_read_core.specs.Reading.{◌>>=◌, number_at, attributes_in, tag_at, children_at, declaration_of, declared_at, declaration_at}
-use Rattle.dwarf_read_core.proofs.Steps.{bind_ok, bind_err, chosen}
-use Rattle.dwarf_read_core.proofs.Numbers.{number_at-ok, Found}
-use Rattle.dwarf_read_core.proofs.Specifications.{nonempty, positive, number_fault}
-use Rattle.dwarf_read_core.proofs.Attributes.{attributes_found, attributes_fault}
+use Rattle.dwarf_read_core.proofs.ResultLemmas.{bind_ok, bind_err, chosen}
+use Rattle.dwarf_read_core.proofs.tables.ReadingNumbers.{encoding-nonempty, number-positive, number_at-ok, Found}
+use Rattle.dwarf_read_core.proofs.tables.ReadingSpecifications.{number_fault}
+use Rattle.dwarf_read_core.proofs.tables.ReadingAttributes.{attributes_found, attributes_fault}
 
 abbrev children_by : Bool → Bool → ℕ → List ℕ → Result (Bool × List ℕ) Error
 children_by s t b bytes =
@@ -44,7 +44,7 @@ tag_found end bytes x e =
       | inr c ↦
           let p : a.0 ≡ x = let h = c.1 in cc in
           subst (λ (y : ℕ × List ℕ). TagFound bytes y.0 y.1) p
-          (record { found = number_at-ok unsigned16 end bytes a.0.0 a.0.1 a.1; tagged = positive a.0.0 c.0 })
+          (record { found = number_at-ok unsigned16 end bytes a.0.0 a.0.1 a.1; tagged = number-positive a.0.0 c.0 })
     ]
 
 -- an error of reading the tag behind a code is a fault of both together
@@ -256,7 +256,7 @@ declaration_found end bytes x e = go (eqb (length bytes) 0) refl e
         let a = bind_ok (declared_at end code behind) (λ d. Ok (Some d.0, d.1)) x e in
         let p : ◌≡◌ {A = Option Declaration × List ℕ} (Some a.0.0, a.0.1) x = let h = a.2 in cc in
         let d = declared_found end code f.front behind a.0
-        (record { is_code = f.string; nonzero = positive code t }) a.1 in
+        (record { is_code = f.string; nonzero = number-positive code t }) a.1 in
         subst (λ (y : Option Declaration × List ℕ). EntryFound bytes y.0 y.1) p
         (record { front = d.front; parts = f.parts ∙ d.parts; is_declaration = d.is_declaration })
 
@@ -283,7 +283,7 @@ declaration_fault end bytes e q = go (eqb (length bytes) 0) refl q
         elim (bind_err (declared_at end code behind) (λ d. Ok (Some d.0, d.1)) e q) [
           | inl r ↦ subst (λ (b : List ℕ). IsFaulty end b e) (sym f.parts)
               (declared_fault end code f.front behind e
-              (record { is_code = f.string; nonzero = positive code t }) r)
+              (record { is_code = f.string; nonzero = number-positive code t }) r)
           | inr r ↦ absurd (let h = r.2 in cc)
         ]
 
@@ -304,8 +304,8 @@ declaration_fault end bytes e q = go (eqb (length bytes) 0) refl q
 pub front_long : (bytes : List ℕ) (d : Declaration) → IsFront bytes d → 3 ≤ length bytes
 front_long bytes d is =
     let h = is.is_head in
-    let c = nonempty h.first h.is_code.is_code.encoding in
-    let t = nonempty h.second h.is_tag.encoding in
+    let c = encoding-nonempty h.first h.is_code.is_code.encoding in
+    let t = encoding-nonempty h.second h.is_tag.encoding in
     let e : length is.head ≡ length (h.first ++ h.second) = ap length h.parts in
     let w : length bytes ≡ length (is.head ++ children_byte d.children ∷ is.specifications) = ap length is.parts in
     omega (arith, length-append h.first h.second, length-append is.head (children_byte d.children ∷ is.specifications))

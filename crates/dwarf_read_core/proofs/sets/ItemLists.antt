@@ -3,10 +3,9 @@ use Rattle.std.proofs.Common.{◌≡◌, ◌≢◌, ℕ, zero, suc, ◌+◌, ◌
 use Rattle.std.specs.List.{sum_by}
 use Rattle.std.proofs.lemmas.List.Sums.{sum_by-cons}
 use Rattle.dwarf_base_core.specs.declared.error.Error.{Error}
-use Rattle.dwarf_reader_core.specs.Faults.{eof}
 use Rattle.dwarf_reader_core.specs.Input.{Input}
 use Rattle.dwarf_reader_core.specs.Once.{HasOne}
-use Rattle.dwarf_read_core.specs.Answer.{followed_by}
+use Rattle.dwarf_read_core.specs.Appended.{followed_by, IsNoEof}
 use Rattle.dwarf_read_core.specs.Items.{least_taken}
 use Rattle.dwarf_read_core.specs.Layout.{Layout, AreItems, none, more, fault}
 use Rattle.dwarf_read_core.proofs.Layouts.{IsDefinite, Comes, TakesLeast, IsStable}
@@ -154,7 +153,7 @@ module _ {A : Type 0} {item : ℕ → Layout A} (law : (offset : ℕ) → IsDefi
 
     -- so does a fault, but that bytes are missing
     pub fault-stays : {offset : ℕ} {old : Input} {e : Error} → AreItems item offset old (Err e ∷ [])
-        → ((place : ℕ) → e ≢ eof place) → (behind : List ℕ)
+        → IsNoEof e → (behind : List ℕ)
         → AreItems item offset (followed_by old behind) (Err e ∷ [])
     fault-stays {offset} {old} {e} (fault some h) settled behind =
         fault (bytes-still_some old.bytes behind some) ((stable offset).fault_stays behind old e settled h)

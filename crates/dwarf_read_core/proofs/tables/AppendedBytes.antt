@@ -2,13 +2,13 @@
 use Rattle.std.proofs.Common.{◌≡◌, ◌≢◌, ℕ, List, [], ◌∷◌, ◌++◌, length, take, drop, Result, Ok, Err, refl, sym, ap, subst, append_assoc, arith}
 use Rattle.std.proofs.lemmas.List.{length-append, drop-append-le, take-append-drop}
 use Rattle.dwarf_reader_core.specs.Input.{Input, end_of}
-use Rattle.dwarf_read_core.proofs.Numbers.{found_has}
+use Rattle.dwarf_read_core.proofs.tables.ReadingNumbers.{found_has}
 use Rattle.dwarf_base_core.specs.declared.error.Error.{Error}
 use Rattle.dwarf_base_core.specs.declared.error.Error.TheVariants.{AbbreviationTagZero, InvalidAbbreviationChildren, AttributeNameZero, AttributeFormZero, DuplicateAbbreviationCode}
 use Rattle.dwarf_reader_core.specs.Leb128.{Kind, Number, refusal, IsEncoding, NoneIsLast, IsNumber, IsBad}
-use Rattle.dwarf_reader_core.specs.Faults.{eof}
 use Rattle.dwarf_read_core.specs.Grammar.{Table, closed, by_code_of, by_null, IsTable, closed_by_null, closed_by_end}
-use Rattle.dwarf_read_core.specs.Answer.{IsFaulty, number_cut, number_bad, children_cut, tag_zero, children_bad, name_zero, form_zero, IsFault, in_declaration, repeated, Answer, outside, table, fault, followed_by, IsFinal, Answers}
+use Rattle.dwarf_read_core.specs.Appended.{followed_by, IsNoEof}
+use Rattle.dwarf_read_core.specs.Answer.{IsFaulty, number_cut, number_bad, children_cut, tag_zero, children_bad, name_zero, form_zero, IsFault, in_declaration, repeated, Answer, outside, table, fault, IsFinal, Answers}
 
 -- ---- bad numbers
 
@@ -78,7 +78,7 @@ table_more more (closed_by_end bytes ds are) final = absurd cc
 
 -- a fault in a declaration, other than that the bytes end, stays the fault with more bytes behind them
 faulty_more : {end : ℕ} {bytes : List ℕ} {e : Error} (longer : ℕ) (more : List ℕ) → IsFaulty end bytes e
-    → ((at : ℕ) → e ≢ eof at) → IsFaulty longer (bytes ++ more) e
+    → IsNoEof e → IsFaulty longer (bytes ++ more) e
 faulty_more {end = end} longer more (number_cut front bytes k b c) final = absurd (final end refl)
 faulty_more longer more (number_bad front bytes k b c) final =
     subst (λ (x : List ℕ). IsFaulty longer x (refusal k)) (sym (append_assoc front bytes more))
@@ -106,7 +106,7 @@ still_some (x ∷ rest) more some e = cc
 
 -- the first fault of bytes, other than that they end, stays their first fault with more bytes behind them
 fault_more : {end : ℕ} {bytes : List ℕ} {e : Error} (longer : ℕ) (more : List ℕ) → IsFault end bytes e
-    → ((at : ℕ) → e ≢ eof at) → IsFault longer (bytes ++ more) e
+    → IsNoEof e → IsFault longer (bytes ++ more) e
 fault_more longer more (in_declaration bytes rest ds e are some f) final =
     subst (λ (x : List ℕ). IsFault longer x e) (sym (append_assoc bytes rest more))
     (in_declaration bytes (rest ++ more) ds e are (still_some rest more some) (faulty_more longer more f final))

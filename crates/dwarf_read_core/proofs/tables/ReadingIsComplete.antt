@@ -9,9 +9,8 @@ use Rattle.dwarf_reader_core.specs.Faults.{eof}
 use Rattle.dwarf_read_core.specs.Grammar.{Declaration, implicit_const, children_byte, IsCode, IsHead, IsFront, IsDeclaration}
 use Rattle.dwarf_read_core.specs.Answer.{IsBeginning, before_code, before_tag, before_name, before_form, before_value, IsFaulty, number_cut, number_bad, children_cut, tag_zero, children_bad, name_zero, form_zero}
 use Rattle.dwarf_read_core.specs.Reading.{◌>>=◌, number_at, value_at, specification_at, attributes_in, with_front, tag_at, children_at, declaration_of, declared_at, declaration_at}
-use Rattle.dwarf_read_core.proofs.Numbers.{number_at-string, number_at-cut, number_at-bad}
-use Rattle.dwarf_read_core.proofs.Specifications.{nonempty}
-use Rattle.dwarf_read_core.proofs.Attributes.{Read, attributes_fail, attributes_again, attributes_end}
+use Rattle.dwarf_read_core.proofs.tables.ReadingNumbers.{encoding-nonempty, number_at-string, number_at-cut, number_at-bad}
+use Rattle.dwarf_read_core.proofs.tables.ReadingAttributes.{Read, attributes_fail, attributes_again, attributes_end}
 
 abbrev Entry : Type 0
 Entry = Result (Option Declaration × List ℕ) Error
@@ -41,7 +40,7 @@ unfolding declaration_at
 code_again end front rest code is =
     let some : eqb (length (front ++ rest)) 0
     ≡ false = nonzero (length (front ++ rest))
-    (omega (arith, length-append front rest, nonempty front is.is_code.encoding)) in
+    (omega (arith, length-append front rest, encoding-nonempty front is.is_code.encoding)) in
     rw (some, number_at-string unsigned64 end front rest code is.is_code, nonzero code is.nonzero) refl
 
 -- a tag above 0 at the front is read as that tag, with the rest left
@@ -100,7 +99,7 @@ unfolding declaration_at
 zero_again end bytes rest is =
     let some : eqb (length (bytes ++ rest)) 0
     ≡ false = nonzero (length (bytes ++ rest))
-    (omega (arith, length-append bytes rest, nonempty bytes is.encoding)) in
+    (omega (arith, length-append bytes rest, encoding-nonempty bytes is.encoding)) in
     rw (some, number_at-string unsigned64 end bytes rest 0 is) refl
 
 -- the end of the bytes is read as no declaration, with nothing left

@@ -3,13 +3,15 @@ use Rattle.std.proofs.Common.{◌≡◌, ◌≢◌, ℕ, zero, suc, ◌+◌, ◌
 use Rattle.std.proofs.lemmas.Bool.{cases_lt}
 use Rattle.std.proofs.lemmas.List.{length-append, drop-append-le}
 use Rattle.std.proofs.lemmas.List.Elements.{All-nil, All-cons, All-head, All-tail}
-use Rattle.std.specs.Prelude.{slice_index, IfErr}
+use Rattle.std.specs.Prelude.{slice_index, IfOk, IfErr}
 use Rattle.dwarf_base_core.specs.declared.error.Error.{Error}
 use Rattle.dwarf_reader_core.specs.Faults.{eof, end_fault, EndsBefore, Lacks, WantsMemory}
 use Rattle.dwarf_reader_core.specs.Input.{Input, first, Takes, TakesString}
 use Rattle.dwarf_reader_core.specs.Once.{HasOne}
+use Rattle.dwarf_read_core.specs.Lookups.{AnswersBy, StaysBy}
 use Rattle.dwarf_read_core.specs.Strings.{HasNoZero, StringAt, outside, string, unended}
-use Rattle.dwarf_read_core.specs.Answer.{followed_by}
+use Rattle.dwarf_read_core.specs.Appended.{followed_by, IsNoEof}
+use Rattle.dwarf_read_core.proofs.lookups.Returned.{answer-stays}
 
 -- a list round an item
 cut_at : (bytes : List ℕ) (index item : ℕ) → index < length bytes → slice_index bytes index ≡ item
@@ -38,14 +40,17 @@ string_lacks section offset rest e takes lacks =
     subst (λ (x : Error). StringAt section offset (Err x))
     (sym (lacks.fault ∙ ap (λ (i : Input). eof i.position) takes.left)) (unended takes.enough none)
 
--- no string is taken
-pub string_refused : {A : Type 0} (section : Input) (offset : ℕ) (rest : Input) (clone_is_free : Bool)
-    (r : Result A Error) → Takes offset section rest → IfErr r (λ e. Lacks 0 rest e ⊎ WantsMemory clone_is_free e)
-    → IfErr r (λ e. StringAt section offset (Err e) ⊎ WantsMemory clone_is_free e)
-string_refused section offset rest clone_is_free (Ok x) takes h = tt
-string_refused section offset rest clone_is_free (Err e) takes (inl lacks) =
+-- what a reader returns that reads a string behind the offset is the section's answer for a string there
+pub string-read : {X : Type 0} (section : Input) (offset : ℕ) (rest new : Input) (view : X → Input)
+    (clone_is_free : Bool) (r : Result X Error) → Takes offset section rest
+    → IfOk r (λ x. TakesString rest (view x) new)
+    → IfErr r (λ e. Lacks 0 rest e ⊎ WantsMemory clone_is_free e)
+    → AnswersBy (StringAt section offset) view clone_is_free r
+string-read section offset rest new view clone_is_free (Ok x) takes read h =
+    string_taken section offset rest (view x) new takes read
+string-read section offset rest new view clone_is_free (Err e) takes read (inl lacks) =
     inl (string_lacks section offset rest e takes lacks)
-string_refused section offset rest clone_is_free (Err e) takes (inr want) = inr want
+string-read section offset rest new view clone_is_free (Err e) takes read (inr want) = inr want
 
 -- an error that the section ends before the offset is the section's answer for a string there
 pub string_outside : (section : Input) (offset : ℕ) (e : Error) (new : Input) → EndsBefore offset section e new
@@ -145,20 +150,23 @@ one_string section offset =
 -- ---- more bytes
 
 -- an answer for a string, other than that the bytes end too early, stays the answer where more bytes follow
-more_string : {section : Input} {offset : ℕ} {r : Result Input Error} (more : List ℕ) → StringAt section offset r
-    → ((position : ℕ) → r ≢ Err (eof position)) → StringAt (followed_by section more) offset r
-more_string {section} more (outside past) final = absurd (final section.position refl)
-more_string {section} {offset} more (string bytes rest le parts unbroken) final =
+pub string-more : {section : Input} {offset : ℕ} {r : Result Input Error} (more : List ℕ) → StringAt section offset r
+    → IfErr r IsNoEof → StringAt (followed_by section more) offset r
+string-more {section} more (outside past) final = absurd (final section.position refl)
+string-more {section} {offset} more (string bytes rest le parts unbroken) final =
     string bytes (rest ++ more) (omega (arith, length-append section.bytes more))
     (drop-append-le offset section.bytes more le ∙ ap (λ (b : List ℕ). b ++ more) parts
     ∙ append_assoc bytes (0 ∷ rest) more) unbroken
-more_string {section} {offset} more (unended le none) final = absurd (final (section.position + offset) refl)
+string-more {section} {offset} more (unended le none) final = absurd (final (section.position + offset) refl)
 
 -- a string that is found at an offset of a section is still found there where more bytes follow
-pub string_stays : (section : Input) (offset : ℕ) (found : Input) → StringAt section offset (Ok found)
+pub string_more : (section : Input) (offset : ℕ) (found : Input) → StringAt section offset (Ok found)
     → (more : List ℕ) → StringAt (followed_by section more) offset (Ok found)
-string_stays section offset found is more = more_string more is (λ position e. ok_err found (eof position) e)
-  where
-    ok_err : (x : Input) (e : Error) → let one : Result Input Error = Ok x in
-        let two : Result Input Error = Err e in one ≢ two
-    ok_err x e q = cc
+string_more section offset found is more = string-more more is tt
+
+-- the string that a lookup returned stays
+pub string-stays : {X : Type 0} (section : Input) (offset : ℕ) (view : X → Input) (clone_is_free : Bool)
+    (r : Result X Error) → AnswersBy (StringAt section offset) view clone_is_free r
+    → StaysBy (λ input. StringAt input offset) view clone_is_free section r
+string-stays section offset view clone_is_free r =
+    answer-stays (λ input. StringAt input offset) view clone_is_free section r (λ answer more. string-more more)

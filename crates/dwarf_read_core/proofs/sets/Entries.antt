@@ -14,7 +14,7 @@ use Rattle.dwarf_read_core.specs.Entries.{Entries, StandsForAddresses, StandsFor
 use Rattle.dwarf_read_core.specs.Items.{ComesFirst, least_taken}
 use Rattle.dwarf_read_core.specs.Layout.{Layout, AreItems, none, more}
 use Rattle.dwarf_read_core.proofs.Layouts.{IsDefinite, TakesLeast, sized_definite, sized_least, fixed_size, pure_definite, check_definite, then_definite, pure_covers, check_least, then_covers, IsStable, sized_stable, pure_stable, check_stable, then_stable}
-use Rattle.dwarf_read_core.proofs.ItemLists.{items-one, items-bounded, items-anywhere, fault-first}
+use Rattle.dwarf_read_core.proofs.sets.ItemLists.{items-one, items-bounded, items-anywhere, fault-first}
 
 module _ {f : Layout ℕ} {width : ℕ} (law : IsDefinite f) (least : TakesLeast width f) (positive : 1 ≤ width)
     {old new : Input} (some : old.bytes ≢ []) where

@@ -1,19 +1,20 @@
 -- A number that is looked up is a layout, and has the laws of layouts; what a reader takes of it.
 use Rattle.std.proofs.Common.{◌≡◌, ℕ, ◌<◌, ◌≤◌, List, Bool, Result, Ok, Err, refl, sym, ap, subst, ◌∙◌, arith, ◌⊎◌, inl, inr}
 use Rattle.std.proofs.lemmas.Bool.{le-leb, lt-leb}
-use Rattle.std.specs.Prelude.{IsTrue, IfOk, IfErr}
+use Rattle.std.specs.Prelude.{IsTrue, IfOk, IfErr, IsErrAnd}
 use Rattle.dwarf_base_core.specs.declared.error.Error.{Error}
 use Rattle.dwarf_base_core.specs.declared.error.Error.TheVariants.{UnsupportedOffset}
-use Rattle.dwarf_reader_core.specs.Faults.{EndsBefore, IsNoOffset, RefusesAddress, WantsMemory, is_number_size}
+use Rattle.dwarf_reader_core.specs.Faults.{EndsBefore, IsNoOffset, RefusesAddress, is_number_size}
 use Rattle.dwarf_reader_core.specs.Input.{Input, after, first, Takes, TakesNumber}
 use Rattle.dwarf_reader_core.specs.Once.{HasOne}
-use Rattle.dwarf_read_core.specs.Answer.{followed_by}
+use Rattle.dwarf_read_core.specs.Appended.{followed_by, IsNoEof}
 use Rattle.dwarf_read_core.specs.Entries.{string_offset}
 use Rattle.dwarf_read_core.specs.Layout.{value, refused}
-use Rattle.dwarf_read_core.specs.Words.{Slot, distance, place, IsPlaced, Misplaced, to_slot, word, address, WordAt, AddressAt, IsSettled}
-use Rattle.dwarf_read_core.proofs.Layouts.{IsDefinite, IsStable, at_one, at_more, sized_definite, sized_stable, fixed_size, part_size, check_definite, check_stable, then_definite, then_stable, after-after}
-use Rattle.dwarf_read_core.proofs.Entries.{string_offset-definite, string_offset-stable}
-use Rattle.dwarf_read_core.proofs.Ranges.{length_left}
+use Rattle.dwarf_read_core.specs.Lookups.{AnswersBy, StaysBy}
+use Rattle.dwarf_read_core.specs.Words.{Slot, distance, place, IsPlaced, Misplaced, to_slot, word, address, WordAt, AddressAt}
+use Rattle.dwarf_read_core.proofs.Layouts.{IsDefinite, IsStable, at_one, at_more, sized_definite, sized_stable, fixed_size, part_size, check_definite, check_stable, then_definite, then_stable, after-after, rest-length}
+use Rattle.dwarf_read_core.proofs.lookups.Returned.{answer-stays, propagated-answer}
+use Rattle.dwarf_read_core.proofs.sets.Entries.{string_offset-definite, string_offset-stable}
 
 -- ---- going to the place
 
@@ -59,14 +60,14 @@ pub placed : (greatest : ℕ) (section : Input) (s : Slot) (rest new : Input) �
 placed greatest section s rest new takes counted further = record {
   based = takes.enough;
   counted = counted;
-  within = omega (arith, takes.enough, further.enough, length_left s.base section rest takes);
+  within = omega (arith, takes.enough, further.enough, rest-length s.base section rest takes);
 }
 
 -- and its bytes are taken in all
 pub skipped : (section : Input) (s : Slot) (rest new : Input) → Takes s.base section rest
     → Takes (distance s) rest new → Takes (place s) section new
 skipped section s rest new takes further = record {
-  enough = omega (arith, takes.enough, further.enough, length_left s.base section rest takes);
+  enough = omega (arith, takes.enough, further.enough, rest-length s.base section rest takes);
   left = further.left ∙ ap (after (distance s)) takes.left ∙ after-after (distance s) s.base section;
 }
 
@@ -79,7 +80,7 @@ slot_reached greatest section s rest is_placed takes =
     let based : Takes s.base section (after s.base section) = record { enough = is_placed.based; left = refl } in
     let further : Takes (distance s) (after s.base section) rest = record {
       enough = omega
-          (arith, is_placed.within, length_left s.base section (after s.base section) based);
+          (arith, is_placed.within, rest-length s.base section (after s.base section) based);
       left =
           takes.left ∙ sym (after-after (distance s) s.base section);
     } in (
@@ -166,22 +167,15 @@ pub address_misplaced : (greatest : ℕ) (section : Input) (s : Slot) (e : Error
 unfolding address
 address_misplaced greatest section s e misplaced = refused (inl misplaced)
 
--- the address, if a result has one
-pub address_found : (greatest : ℕ) (section : Input) (s : Slot) (rest new : Input) (r : Result ℕ Error)
-    → IsPlaced greatest section s → Takes (place s) section rest
+-- what a reader returns that reads an address at the place is the section's answer there
+pub address-read : (greatest : ℕ) (section : Input) (s : Slot) (rest new : Input) (clone_is_free : Bool)
+    (r : Result ℕ Error) → IsPlaced greatest section s → Takes (place s) section rest
     → IfOk r (λ x. TakesNumber s.width rest x new × IsTrue (is_number_size s.width))
-    → IfOk r (λ x. AddressAt greatest section s (Ok x))
-address_found greatest section s rest new (Ok x) is_placed takes (number, size) =
-    address_taken greatest section s rest x new is_placed takes number size
-address_found greatest section s rest new (Err e) is_placed takes h = tt
-
--- its fault, if a result has one
-pub address_missed : {A : Type 0} (greatest : ℕ) (section : Input) (s : Slot) (rest new : Input)
-    (clone_is_free : Bool) (r : Result A Error) → IsPlaced greatest section s → Takes (place s) section rest
     → IfErr r (λ e. RefusesAddress s.width rest e new)
-    → IfErr r (λ e. AddressAt greatest section s (Err e) ⊎ WantsMemory clone_is_free e)
-address_missed greatest section s rest new clone_is_free (Ok x) is_placed takes h = tt
-address_missed greatest section s rest new clone_is_free (Err e) is_placed takes h =
+    → AnswersBy (AddressAt greatest section s) (λ x. x) clone_is_free r
+address-read greatest section s rest new clone_is_free (Ok x) is_placed takes (number, size) h =
+    address_taken greatest section s rest x new is_placed takes number size
+address-read greatest section s rest new clone_is_free (Err e) is_placed takes read h =
     inl (address_refused greatest section s rest e new is_placed takes h)
 
 -- ---- one answer
@@ -217,7 +211,7 @@ slot-stable greatest s =
 
 -- more bytes change no word, and no fault but that bytes are missing
 pub word_more : (greatest : ℕ) (section : Input) (s : Slot) (answer : Result ℕ Error) (more : List ℕ)
-    → WordAt greatest section s answer → IsSettled answer → WordAt greatest (followed_by section more) s answer
+    → WordAt greatest section s answer → IfErr answer IsNoEof → WordAt greatest (followed_by section more) s answer
 unfolding word
 word_more greatest section s answer more is settled =
     at_more (then_stable (slot-stable greatest s)
@@ -225,54 +219,49 @@ word_more greatest section s answer more is settled =
 
 -- nor an address
 pub address_more : (greatest : ℕ) (section : Input) (s : Slot) (answer : Result ℕ Error) (more : List ℕ)
-    → AddressAt greatest section s answer → IsSettled answer
+    → AddressAt greatest section s answer → IfErr answer IsNoEof
     → AddressAt greatest (followed_by section more) s answer
 unfolding address
 address_more greatest section s answer more is settled =
     at_more (then_stable (slot-stable greatest s)
     (λ reached. then_stable (check_stable _ _) (λ sized. sized_stable (fixed_size s.width)))) more is settled
 
--- a number doesn't say that bytes are missing
-settled_ok : (x : ℕ) → let answer : Result ℕ Error = Ok x in IsSettled answer
-settled_ok x position same = cc
+-- ---- what a lookup returns
 
--- a word that is found stays
-pub word_stays : (greatest : ℕ) (section : Input) (s : Slot) (x : ℕ) → WordAt greatest section s (Ok x)
-    → (more : List ℕ) → WordAt greatest (followed_by section more) s (Ok x)
-word_stays greatest section s x is more = word_more greatest section s (Ok x) more is (settled_ok x)
+-- the word that a lookup returned stays
+pub word-stays : {X : Type 0} (greatest : ℕ) (section : Input) (s : Slot) (view : X → ℕ) (clone_is_free : Bool)
+    (r : Result X Error) → AnswersBy (WordAt greatest section s) view clone_is_free r
+    → StaysBy (λ input. WordAt greatest input s) view clone_is_free section r
+word-stays greatest section s view clone_is_free r =
+    answer-stays (λ input. WordAt greatest input s) view clone_is_free section r (word_more greatest section s)
 
--- so does a fault, unless memory was wanted
-pub word_fault_stays : (greatest : ℕ) (section : Input) (s : Slot) (clone_is_free : Bool) (e : Error)
-    → (WordAt greatest section s (Err e) ⊎ WantsMemory clone_is_free e) → IsSettled (Err e) → (more : List ℕ)
-    → WordAt greatest (followed_by section more) s (Err e) ⊎ WantsMemory clone_is_free e
-word_fault_stays greatest section s clone_is_free e (inl fault) settled more =
-    inl (word_more greatest section s (Err e) more fault settled)
-word_fault_stays greatest section s clone_is_free e (inr want) settled more = inr want
+-- the error that a lookup of a word propagates is its answer
+pub word-propagated : {X : Type 0} (greatest : ℕ) (section : Input) (s : Slot) (view : X → ℕ) (clone_is_free : Bool)
+    {e : Error} (r : Result X Error) → IsErrAnd r (λ x. x ≡ e) → WordAt greatest section s (Err e)
+    → AnswersBy (WordAt greatest section s) view clone_is_free r
+word-propagated greatest section s view clone_is_free r h is =
+    propagated-answer (WordAt greatest section s) view clone_is_free r h (inl is)
 
--- an address that is found stays
-pub address_stays : (greatest : ℕ) (section : Input) (s : Slot) (x : ℕ) → AddressAt greatest section s (Ok x)
-    → (more : List ℕ) → AddressAt greatest (followed_by section more) s (Ok x)
-address_stays greatest section s x is more = address_more greatest section s (Ok x) more is (settled_ok x)
+-- the address that a lookup returned stays
+pub address-stays : (greatest : ℕ) (section : Input) (s : Slot) (clone_is_free : Bool) (r : Result ℕ Error)
+    → AnswersBy (AddressAt greatest section s) (λ x. x) clone_is_free r
+    → StaysBy (λ input. AddressAt greatest input s) (λ x. x) clone_is_free section r
+address-stays greatest section s clone_is_free r =
+    answer-stays (λ input. AddressAt greatest input s) (λ x. x) clone_is_free section r
+    (address_more greatest section s)
 
--- so does a fault, unless memory was wanted
-pub address_fault_stays : (greatest : ℕ) (section : Input) (s : Slot) (clone_is_free : Bool) (e : Error)
-    → (AddressAt greatest section s (Err e) ⊎ WantsMemory clone_is_free e) → IsSettled (Err e) → (more : List ℕ)
-    → AddressAt greatest (followed_by section more) s (Err e) ⊎ WantsMemory clone_is_free e
-address_fault_stays greatest section s clone_is_free e (inl fault) settled more =
-    inl (address_more greatest section s (Err e) more fault settled)
-address_fault_stays greatest section s clone_is_free e (inr want) settled more = inr want
+-- the error that a lookup of an address propagates is its answer
+pub address-propagated : (greatest : ℕ) (section : Input) (s : Slot) (clone_is_free : Bool) {e : Error}
+    (r : Result ℕ Error) → IsErrAnd r (λ x. x ≡ e) → AddressAt greatest section s (Err e)
+    → AnswersBy (AddressAt greatest section s) (λ x. x) clone_is_free r
+address-propagated greatest section s clone_is_free r h is =
+    propagated-answer (AddressAt greatest section s) (λ x. x) clone_is_free r h (inl is)
 
--- the same of a result's address
-pub found_stays : (greatest : ℕ) (section : Input) (s : Slot) (r : Result ℕ Error)
-    → IfOk r (λ x. AddressAt greatest section s (Ok x))
-    → IfOk r (λ x. (more : List ℕ) → AddressAt greatest (followed_by section more) s (Ok x))
-found_stays greatest section s (Ok x) is = address_stays greatest section s x is
-found_stays greatest section s (Err e) is = tt
+-- the ways to the place of a slot, and how they fail
+pub ruleset slot_steps = (no_base, too_far_off, past_end, skipped, placed)
 
--- and of its fault
-pub missed_stays : {A : Type 0} (greatest : ℕ) (section : Input) (s : Slot) (clone_is_free : Bool)
-    (r : Result A Error) → IfErr r (λ e. AddressAt greatest section s (Err e) ⊎ WantsMemory clone_is_free e)
-    → IfErr r (λ e. IsSettled (Err e) → (more : List ℕ)
-    → AddressAt greatest (followed_by section more) s (Err e) ⊎ WantsMemory clone_is_free e)
-missed_stays greatest section s clone_is_free (Ok x) is = tt
-missed_stays greatest section s clone_is_free (Err e) is = address_fault_stays greatest section s clone_is_free e is
+-- a word at a slot, or its error
+pub ruleset word_steps = (word_taken, word_refused, word_misplaced)
+
+-- an address at a slot, or its error
+pub ruleset address_steps = (address_taken, address_refused, address_misplaced)

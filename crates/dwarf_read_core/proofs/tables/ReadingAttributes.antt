@@ -5,9 +5,9 @@ use Rattle.dwarf_base_core.specs.declared.error.Error.{Error}
 use Rattle.dwarf_read_core.specs.Grammar.{Specification, Declaration, Sequence, IsSpecification, IsNull, IsFront}
 use Rattle.dwarf_read_core.specs.Answer.{IsFaulty}
 use Rattle.dwarf_read_core.specs.Reading.{◌>>=◌, specification_at, and_others, attributes_at, attributes_in, with_front, declaration_of}
-use Rattle.dwarf_read_core.proofs.Sequences.{Sequence-push}
-use Rattle.dwarf_read_core.proofs.Steps.{bind_ok, bind_err}
-use Rattle.dwarf_read_core.proofs.Specifications.{NullFound, SpecificationFound, specification_found, specification_fault, specification_again, null_again, specification_shorter}
+use Rattle.dwarf_read_core.proofs.tables.Sequences.{Sequence-push}
+use Rattle.dwarf_read_core.proofs.ResultLemmas.{bind_ok, bind_err}
+use Rattle.dwarf_read_core.proofs.tables.ReadingSpecifications.{NullFound, SpecificationFound, specification_found, specification_fault, specification_again, null_again, specification_shorter}
 
 abbrev pub Read : Type 0
 Read = Result (List Specification × List ℕ) Error
@@ -207,3 +207,6 @@ attributes_again end bytes rest (s ∷ ss) q =
 -- bytes of the null specification are read as an empty list, whatever bytes follow
 pub attributes_end : (end : ℕ) (bytes rest : List ℕ) → IsNull bytes → attributes_in end (bytes ++ rest) ≡ Ok ([], rest)
 attributes_end end bytes rest is = next end (bytes ++ rest) (None, rest) (null_again end bytes rest is)
+
+-- what one more specification that is read makes of the attributes
+pub ruleset attribute_steps = (goes_on, ends, fails, begins, specification_shorter)

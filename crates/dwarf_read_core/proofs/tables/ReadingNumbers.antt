@@ -1,6 +1,6 @@
 -- The function that reads a number answers as the definition of LEB128 numbers says, and nothing else.
-use Rattle.std.proofs.Common.{◌≡◌, ℕ, zero, suc, ◌<◌, ◌≤◌, Bool, true, false, cond, ltb, List, [], ◌∷◌, ◌++◌, length, drop, Option, Some, None, Result, Ok, Err, refl, sym, ap, subst, ◌∙◌, arith, ◌⊎◌, inl, inr}
-use Rattle.std.proofs.lemmas.Bool.{ltb-true, ltb-false, lt-ltb, le-ltb}
+use Rattle.std.proofs.Common.{◌≡◌, ℕ, zero, suc, ◌<◌, ◌≤◌, Bool, true, false, cond, eqb, ltb, List, [], ◌∷◌, ◌++◌, length, drop, Option, Some, None, Result, Ok, Err, refl, sym, ap, subst, ◌∙◌, arith, ◌⊎◌, inl, inr}
+use Rattle.std.proofs.lemmas.Bool.{eqb-false, ltb-true, ltb-false, lt-ltb, le-ltb}
 use Rattle.std.proofs.lemmas.List.{length-append, length-drop, take-append-drop}
 use Rattle.std.proofs.Math.Seq.{take-append_seam}
 use Rattle.std.proofs.Common.{take}
@@ -9,7 +9,16 @@ use Rattle.dwarf_reader_core.specs.Leb128.{Kind, Number, unsigned64, unsigned16,
 use Rattle.dwarf_reader_core.specs.Input.{Input, end_of, after}
 use Rattle.dwarf_reader_core.specs.Faults.{eof}
 use Rattle.dwarf_read_core.specs.Reading.{with_byte, encoding_at, number_from, number_at}
-use Rattle.dwarf_read_core.proofs.Steps.{chosen}
+use Rattle.dwarf_read_core.proofs.ResultLemmas.{chosen}
+
+-- an encoding of a number takes at least one byte
+pub encoding-nonempty : (bytes : List ℕ) → IsEncoding bytes → 0 < length bytes
+encoding-nonempty [] h = absurd h
+encoding-nonempty (b ∷ bytes) h = omega arith
+
+-- a number that the test tells from 0 is greater than 0
+pub number-positive : (n : ℕ) → eqb n 0 ≡ false → 0 < n
+number-positive n e = let h = eqb-false n 0 e in omega arith
 
 -- ---- the string at the front
 
@@ -220,3 +229,6 @@ end_after n old le = omega (arith, length-drop n old.bytes)
 pub end_stays : {k : Kind} {old : Input} {number : Number k} {new : Input} → ReadsNumber k old number new
     → end_of new ≡ end_of old
 end_stays {old = old} r = ap end_of r.left ∙ end_after r.len old r.is.enough
+
+-- what a reader that reads a number says of the function that reads it
+pub ruleset number_steps = (number_read, refused, end_stays)

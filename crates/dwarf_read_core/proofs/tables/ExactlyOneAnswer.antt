@@ -11,15 +11,14 @@ use Rattle.dwarf_base_core.specs.declared.error.Error.{Error}
 use Rattle.dwarf_base_core.specs.declared.error.Error.TheVariants.{DuplicateAbbreviationCode}
 use Rattle.dwarf_reader_core.specs.Input.{Input, end_of, Takes}
 use Rattle.dwarf_reader_core.specs.Faults.{end_fault, EndsBefore}
-use Rattle.dwarf_read_core.proofs.Numbers.{end_after}
+use Rattle.dwarf_read_core.proofs.tables.ReadingNumbers.{encoding-nonempty, end_after}
 use Rattle.dwarf_read_core.specs.Grammar.{Declaration, Sequence, IsDeclaration, Declares, AreDistinct, AreDeclarations, ByCode, Table, closed, by_code_of, by_null, by_end, IsTable, closed_by_null, closed_by_end}
 use Rattle.dwarf_reader_core.specs.Once.{HasOne}
 use Rattle.dwarf_read_core.specs.Answer.{IsFault, in_declaration, repeated, Answer, Answers, TakesNoMemory, outside, table, fault}
 use Rattle.dwarf_read_core.specs.Reading.{◌>>=◌, Gives, declaration_at, close_of, and_declared, table_at, table_in, answer_at}
-use Rattle.dwarf_read_core.proofs.Sequences.{Sequence-push}
-use Rattle.dwarf_read_core.proofs.Specifications.{nonempty}
-use Rattle.dwarf_read_core.proofs.Declarations.{DeclarationFound, EndFound, at_end, at_zero, declaration_found, declaration_fault, declaration_shorter}
-use Rattle.dwarf_read_core.proofs.Again.{declaration_again, zero_again, end_again, fault_again}
+use Rattle.dwarf_read_core.proofs.tables.Sequences.{Sequence-push}
+use Rattle.dwarf_read_core.proofs.tables.ReadingIsSound.{DeclarationFound, EndFound, at_end, at_zero, declaration_found, declaration_fault, declaration_shorter}
+use Rattle.dwarf_read_core.proofs.tables.ReadingIsComplete.{declaration_again, zero_again, end_again, fault_again}
 
 abbrev pub Read : Type 0
 Read = Result Table Error
@@ -213,7 +212,7 @@ ended front ds are (at_zero bytes rest z) =
     ∙ ap (λ (b : List ℕ). front ++ b) (sym z.parts) in
     let w : length bytes ≡ length (z.front ++ rest) = ap length z.parts in
     let some : eqb (length bytes) 0 ≡ false = ne_eqb (length bytes) 0
-    (λ e. omega (arith, length-append z.front rest, nonempty z.front z.is_zero.encoding)) in
+    (λ e. omega (arith, length-append z.front rest, encoding-nonempty z.front z.is_zero.encoding)) in
     rw some (subst (λ (b : List ℕ). IsTable b (closed (by_code_of ds) by_null)) same
     (closed_by_null front z.front rest ds are z.is_zero))
 
@@ -279,7 +278,7 @@ pub table_again : {bytes : List ℕ} {t : Table} (end : ℕ) → IsTable bytes t
 table_again end (closed_by_null bytes zero_code rest ds are is) =
     let some : eqb (length (zero_code ++ rest)) 0
     ≡ false = ne_eqb (length (zero_code ++ rest)) 0
-    (λ e. omega (arith, length-append zero_code rest, nonempty zero_code is.encoding)) in
+    (λ e. omega (arith, length-append zero_code rest, encoding-nonempty zero_code is.encoding)) in
     ap (table_in end (by_code_of [])) (append_assoc bytes zero_code rest)
     ∙ feed end [] bytes (zero_code ++ rest) ds are.each are.distinct
     ∙ table_ends end (by_code_of ds) (zero_code ++ rest) rest (zero_again end zero_code rest is)
@@ -372,3 +371,6 @@ nothing_declared end section offset rest (inr z) is =
 pub ok_is_no_error : {A : Type 0} (r : Result A Error) (e : Error) → IsOk r → IsErrOf r e → ⊥
 ok_is_no_error (Ok x) e ok err = cc
 ok_is_no_error (Err d) e ok err = cc
+
+-- what one more entry that is read makes of the table
+pub ruleset table_steps = (table_fails, table_ends, table_repeats, table_goes_on, declaration_shorter)

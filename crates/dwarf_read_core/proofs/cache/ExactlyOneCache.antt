@@ -6,7 +6,7 @@ use Rattle.dwarf_reader_core.specs.Input.{Input}
 use Rattle.dwarf_read_core.specs.Answer.{Answer}
 use Rattle.dwarf_read_core.specs.Cache.{KeepsAnswers, occurrences}
 use Rattle.dwarf_read_core.specs.Grammar.{Table}
-use Rattle.dwarf_read_core.proofs.Whole.{one_answer}
+use Rattle.dwarf_read_core.proofs.tables.ExactlyOneAnswer.{one_answer}
 
 abbrev Kept : Type 0
 Kept = Option (Result Table Error)

@@ -6,9 +6,10 @@ use Rattle.dwarf_base_core.specs.declared.reader_offset.ReaderOffsetId.{ReaderOf
 use Rattle.dwarf_reader_core.specs.Input.{Input, end_of}
 use Rattle.dwarf_reader_core.specs.Once.{HasOne}
 use Rattle.dwarf_read_core.specs.Grammar.{Table, Close, by_null, by_end, is_by_null}
-use Rattle.dwarf_read_core.specs.Answer.{Answer, Answers, followed_by, unterminated, strictly, StrictAnswer, AnswersStrictly, IsStrictlyFinal}
-use Rattle.dwarf_read_core.proofs.Stable.{answer_more}
-use Rattle.dwarf_read_core.proofs.Whole.{one_answer}
+use Rattle.dwarf_read_core.specs.Appended.{followed_by}
+use Rattle.dwarf_read_core.specs.Answer.{Answer, Answers, unterminated, strictly, StrictAnswer, AnswersStrictly, IsStrictlyFinal}
+use Rattle.dwarf_read_core.proofs.tables.AppendedBytes.{answer_more}
+use Rattle.dwarf_read_core.proofs.tables.ExactlyOneAnswer.{one_answer}
 
 -- every section has exactly one strict answer at every offset
 pub one_strict_answer : (section : Input) (offset : ℕ) → HasOne (StrictAnswer section offset)
@@ -46,12 +47,12 @@ strict_answer_more section more offset strict is final =
         → IsStrictlyFinal (strict_by section t close)
         → StrictAnswer (followed_by section more) offset (strict_by section t close)
     by_close t is by_null e final = closed_strictly (followed_by section more) offset t (answer_more more is e) e
-    by_close t is by_end e final = absurd ((final (end_of section)).1 refl)
+    by_close t is by_end e final = absurd (final.1 (end_of section) refl)
 
     go : (answer : Result Table Error) → Answer section offset answer → IsStrictlyFinal (strictly section answer)
         → StrictAnswer (followed_by section more) offset (strictly section answer)
     go (Ok t) is final = by_close t is t.close refl final
-    go (Err e) is final = (Err e, answer_more more is (λ position. (final position).0), refl)
+    go (Err e) is final = (Err e, answer_more more is final.0, refl)
 
 -- the same of what the code answers
 pub strictly_stays : (strict : Result Table Error) (section : Input) (offset : ℕ)
@@ -65,4 +66,4 @@ strictly_stays (Err e) section offset h final more =
 pub unclosed_stays : (id : ReaderOffsetId) (section : Input) (offset : ℕ)
     → IsStrictlyFinal (Err (UnterminatedAbbreviations id)) → (more : List ℕ)
     → AnswersStrictly (Err (UnterminatedAbbreviations id)) (followed_by section more) offset
-unclosed_stays id section offset final more = absurd ((final id.0).1 refl)
+unclosed_stays id section offset final more = absurd (final.1 id.0 refl)

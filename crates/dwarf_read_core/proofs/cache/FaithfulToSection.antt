@@ -5,10 +5,11 @@ use Rattle.std.specs.FinMap.{get}
 use Rattle.std.specs.declared.rc.Rc.{Rc}
 use Rattle.dwarf_base_core.specs.declared.error.Error.{Error}
 use Rattle.dwarf_read_core.specs.Grammar.{Table, Close, by_null, by_end, is_by_null}
-use Rattle.dwarf_read_core.specs.Answer.{Answer, Answers, IsFinal, followed_by}
+use Rattle.dwarf_read_core.specs.Appended.{followed_by}
+use Rattle.dwarf_read_core.specs.Answer.{Answer, Answers, IsFinal}
 use Rattle.dwarf_read_core.specs.Cache.{Cache, answer_of, HandsOut, KeepsAnswers, IsFaithful, is_final, still_kept}
 use Rattle.dwarf_reader_core.specs.Input.{Input}
-use Rattle.dwarf_read_core.proofs.Stable.{answer_more}
+use Rattle.dwarf_read_core.proofs.tables.AppendedBytes.{answer_more}
 
 -- an answer handed out or read afresh, where what is kept is the section's
 pub faithful_answer : {Z : Type 0} (section : Input) (key : ℕ) (kept : Option (Result Table Error))
@@ -18,8 +19,8 @@ pub faithful_answer : {Z : Type 0} (section : Input) (key : ℕ) (kept : Option 
     → Answers (answer_of result) section key
 faithful_answer section key None result h faithful = h
 faithful_answer section key (Some (Ok t)) (Ok shared) h faithful = rw h faithful
-faithful_answer section key (Some (Ok t)) (Err fault) h faithful = λ memory. absurd (memory h)
-faithful_answer section key (Some (Err fault)) result h faithful = rw h (λ memory. faithful)
+faithful_answer section key (Some (Ok t)) (Err e) h faithful = λ memory. absurd (memory h)
+faithful_answer section key (Some (Err e)) result h faithful = rw h.0 (λ memory. faithful)
 
 -- what is kept at a key, if anything, is the section's answer, where it is so along with a further condition
 kept_answer : (input : Input) (key : ℕ) (P Q : Type 0) (kept : Option (Result Table Error))

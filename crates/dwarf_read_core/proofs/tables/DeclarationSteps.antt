@@ -6,7 +6,7 @@ use Rattle.dwarf_base_core.specs.declared.error.Error.{Error}
 use Rattle.dwarf_reader_core.specs.Leb128.{unsigned64}
 use Rattle.dwarf_read_core.specs.Grammar.{Declaration}
 use Rattle.dwarf_read_core.specs.Reading.{◌>>=◌, number_at, declared_at, declaration_at}
-use Rattle.dwarf_read_core.proofs.Steps.{bind_ok}
+use Rattle.dwarf_read_core.proofs.ResultLemmas.{bind_ok}
 
 abbrev Entry : Type 0
 Entry = Result (Option Declaration × List ℕ) Error

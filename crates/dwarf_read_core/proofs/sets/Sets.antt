@@ -7,10 +7,11 @@ use Rattle.std.proofs.lemmas.List.{length-append}
 use Rattle.dwarf_base_core.specs.declared.common.Format.{Format}
 use Rattle.dwarf_base_core.specs.declared.common.Format.TheVariants.{Dwarf32, Dwarf64}
 use Rattle.dwarf_base_core.specs.declared.error.Error.{Error}
-use Rattle.dwarf_reader_core.specs.Faults.{eof, EndsBefore}
+use Rattle.dwarf_reader_core.specs.Faults.{EndsBefore}
 use Rattle.dwarf_reader_core.specs.Input.{Input, after, first, Takes}
 use Rattle.dwarf_reader_core.specs.InitialLength.{TakesLength, RefusesLength}
 use Rattle.dwarf_reader_core.specs.Once.{HasOne}
+use Rattle.dwarf_read_core.specs.Appended.{IsNoEof}
 use Rattle.dwarf_read_core.specs.Items.{ComesFirst, least_taken}
 use Rattle.dwarf_read_core.specs.Layout.{Layout, none, fault}
 use Rattle.dwarf_read_core.specs.Sets.{initial_length, Set, set, address_header, string_offsets_header, Headers, StandsForSets, followed_headers}
@@ -18,7 +19,7 @@ use Rattle.dwarf_read_core.proofs.Layouts.{IsDefinite, sized_definite, pure_defi
 use Rattle.dwarf_read_core.proofs.Layouts.{IsFront, sized_front, pure_front, refuse_front, when_front, then_front, check_front, inside_front}
 use Rattle.dwarf_read_core.proofs.Layouts.{TakesLeast, sized_least, pure_covers, refuse_covers, when_covers, then_covers, check_least, part_covers, inside_covers}
 use Rattle.dwarf_read_core.proofs.Layouts.{IsStable, sized_stable, pure_stable, refuse_stable, when_stable, then_stable, check_stable, inside_stable, fixed_size, byte_size, part_size}
-use Rattle.dwarf_read_core.proofs.ItemLists.{items-one, items-bounded, item-first, fault-first, item-stays, fault-stays, bytes-still_some}
+use Rattle.dwarf_read_core.proofs.sets.ItemLists.{items-one, items-bounded, item-first, fault-first, item-stays, fault-stays, bytes-still_some}
 
 -- ---- the laws of an initial length
 
@@ -205,7 +206,7 @@ module _ {H : Type 0} {header : Layout H} (is : IsHeader header) (greatest : ℕ
 
   -- so does a fault, but that bytes are missing
   pub fault_more : (headers : Headers) (e : Error) (more : List ℕ)
-      → StandsForSets header greatest headers (Err e ∷ []) → ((place : ℕ) → e ≢ eof place)
+      → StandsForSets header greatest headers (Err e ∷ []) → IsNoEof e
       → StandsForSets header greatest (followed_headers more headers) (Err e ∷ [])
   fault_more headers e more stands settled =
       fault-stays (set_definite greatest is.definite) (set_stable header greatest) stands settled more
@@ -240,7 +241,7 @@ module _ {H : Type 0} {header : Layout H} (is : IsHeader header) (greatest : ℕ
 
 -- so does a fault, but that bytes are missing
 pub set_fault_stays : {H : Type 0} (header : Layout H) (greatest : ℕ) (old : Headers) {e : Error}
-    → old.rest.bytes ≢ [] → (set header greatest old.offset).Fails old.rest e → ((place : ℕ) → e ≢ eof place)
+    → old.rest.bytes ≢ [] → (set header greatest old.offset).Fails old.rest e → IsNoEof e
     → (more : List ℕ) → StandsForSets header greatest (followed_headers more old) (Err e ∷ [])
 set_fault_stays header greatest old {e} some h settled more =
     fault (bytes-still_some old.rest.bytes more some)

@@ -1,24 +1,15 @@
 -- Reading one specification is the grammar's.
-use Rattle.std.proofs.Common.{◌≡◌, ℕ, ◌<◌, ◌≤◌, Bool, true, false, cond, eqb, ℤ, List, [], ◌∷◌, ◌++◌, length, Option, Some, None, Result, Ok, Err, refl, sym, ap, subst, ◌∙◌, append_assoc, arith, inl, inr}
+use Rattle.std.proofs.Common.{◌≡◌, ℕ, ◌<◌, ◌≤◌, Bool, true, false, cond, eqb, ℤ, List, [], ◌++◌, length, Option, Some, None, Result, Ok, Err, refl, sym, ap, subst, ◌∙◌, append_assoc, arith, inl, inr}
 use Rattle.std.proofs.lemmas.Bool.{eqb-true, eqb-false, eq-eqb, ne_eqb}
 use Rattle.std.proofs.lemmas.List.{length-append}
 use Rattle.dwarf_base_core.specs.declared.error.Error.{Error}
 use Rattle.dwarf_base_core.specs.declared.error.Error.TheVariants.{AttributeNameZero, AttributeFormZero}
-use Rattle.dwarf_reader_core.specs.Leb128.{Kind, unsigned16, signed64, IsEncoding, IsNumber}
+use Rattle.dwarf_reader_core.specs.Leb128.{Kind, unsigned16, signed64, IsNumber}
 use Rattle.dwarf_read_core.specs.Grammar.{Specification, Declaration, implicit_const, IsImplicit, IsSpecification, IsNull, IsFront}
 use Rattle.dwarf_read_core.specs.Answer.{IsBeginning, before_name, before_form, before_value, IsFaulty, number_cut, number_bad, name_zero, form_zero}
 use Rattle.dwarf_read_core.specs.Reading.{◌>>=◌, number_at, value_at, specification_of, specification_at}
-use Rattle.dwarf_read_core.proofs.Steps.{bind_ok, bind_err, chosen}
-use Rattle.dwarf_read_core.proofs.Numbers.{number_at-string, number_at-ok, number_at-err, Found}
-
--- an encoding of a number takes at least one byte
-pub nonempty : (bytes : List ℕ) → IsEncoding bytes → 0 < length bytes
-nonempty [] h = absurd h
-nonempty (b ∷ bytes) h = omega arith
-
--- a number that the test tells from 0 is greater than 0
-pub positive : (n : ℕ) → eqb n 0 ≡ false → 0 < n
-positive n e = let h = eqb-false n 0 e in omega arith
+use Rattle.dwarf_read_core.proofs.ResultLemmas.{bind_ok, bind_err, chosen}
+use Rattle.dwarf_read_core.proofs.tables.ReadingNumbers.{encoding-nonempty, number-positive, number_at-string, number_at-ok, number_at-err, Found}
 
 -- what is behind the name and the form
 abbrev judged_by : Bool → Bool → ℕ → ℕ → ℕ → List ℕ → Result (Option Specification × List ℕ) Error
@@ -125,8 +116,8 @@ specification_found end bytes x e =
                 parts = refl;
                 is_name = name.string;
                 is_form = form.string;
-                named = positive n s;
-                formed = positive f t;
+                named = number-positive n s;
+                formed = number-positive f t;
                 is_value = v.is_value;
               };
         })
@@ -215,16 +206,16 @@ specification_fault end front bytes d e is h =
         subst (IsFaulty end (front ++ bytes)) c
         (subst (λ (x : List ℕ). IsFaulty end x AttributeNameZero) (regrouped behind name form parts)
         (name_zero front name form behind d f is
-        (subst (IsNumber unsigned16 name) (eqb-true n 0 s) is_name) is_form (positive f t)))
+        (subst (IsNumber unsigned16 name) (eqb-true n 0 s) is_name) is_form (number-positive f t)))
     at_judged n f behind name form parts is_name is_form false s true t q =
         let c : AttributeFormZero ≡ e = cc in
         subst (IsFaulty end (front ++ bytes)) c
         (subst (λ (x : List ℕ). IsFaulty end x AttributeFormZero) (regrouped behind name form parts)
-        (form_zero front name form behind d n is is_name (positive n s)
+        (form_zero front name form behind d n is is_name (number-positive n s)
         (subst (IsNumber unsigned16 form) (eqb-true f 0 t) is_form)))
     at_judged n f behind name form parts is_name is_form false s false t q =
         elim (bind_err (value_at end f behind) (λ value. Ok (Some (specification_of n f value.0), value.1)) e q) [
-          | inl r ↦ at_value n f behind name form parts is_name is_form (positive n s) r
+          | inl r ↦ at_value n f behind name form parts is_name is_form (number-positive n s) r
           | inr r ↦ absurd (let w = r.2 in cc)
         ]
 
@@ -248,16 +239,16 @@ specification_fault end front bytes d e is h =
 -- a specification takes at least two bytes
 pub specification_long : (s : Specification) (bytes : List ℕ) → IsSpecification bytes s → 2 ≤ length bytes
 specification_long s bytes is =
-    let n = nonempty is.name is.is_name.encoding in
-    let f = nonempty is.form is.is_form.encoding in
+    let n = encoding-nonempty is.name is.is_name.encoding in
+    let f = encoding-nonempty is.form is.is_form.encoding in
     let e : length bytes ≡ length (is.name ++ is.form ++ is.value) = ap length is.parts in
     omega (arith, length-append (is.name ++ is.form) is.value, length-append is.name is.form)
 
 -- the null specification takes at least two bytes
 pub null_long : (bytes : List ℕ) → IsNull bytes → 2 ≤ length bytes
 null_long bytes is =
-    let n = nonempty is.name is.is_name.encoding in
-    let f = nonempty is.form is.is_form.encoding in
+    let n = encoding-nonempty is.name is.is_name.encoding in
+    let f = encoding-nonempty is.form is.is_form.encoding in
     let e : length bytes ≡ length (is.name ++ is.form) = ap length is.parts in
     omega (arith, length-append is.name is.form)
 

@@ -15,8 +15,9 @@ use Rattle.dwarf_read_core.specs.Grammar.{Specification, Declaration, Sequence, 
 use Rattle.dwarf_reader_core.specs.Input.{Input, Takes, end_of}
 use Rattle.dwarf_read_core.specs.Reading.{Gives, table_in}
 use Rattle.dwarf_read_core.specs.Answer.{Answer, table, Answers}
-use Rattle.dwarf_read_core.proofs.Specifications.{nonempty, specification_long, null_long}
-use Rattle.dwarf_read_core.proofs.Whole.{fresh_code, answered}
+use Rattle.dwarf_read_core.proofs.tables.ReadingNumbers.{encoding-nonempty}
+use Rattle.dwarf_read_core.proofs.tables.ReadingSpecifications.{specification_long, null_long}
+use Rattle.dwarf_read_core.proofs.tables.ExactlyOneAnswer.{fresh_code, answered}
 
 -- the number of attributes that a declaration has
 attributes : Declaration → ℕ
@@ -41,8 +42,8 @@ declaration_long bytes d is =
     let e1 : length bytes ≡ length (is.front ++ is.null) = ap length is.parts in
     let e2 : length is.front ≡ length (f.head ++ children_byte d.children ∷ f.specifications) = ap length f.parts in
     let e3 : length f.head ≡ length (h.first ++ h.second) = ap length h.parts in
-    let n1 = nonempty h.first h.is_code.is_code.encoding in
-    let n2 = nonempty h.second h.is_tag.encoding in
+    let n1 = encoding-nonempty h.first h.is_code.is_code.encoding in
+    let n2 = encoding-nonempty h.second h.is_tag.encoding in
     let n3 = null_long is.null is.is_null in
     let n4 = specifications_long f.specifications d.attributes f.are_attributes in
     omega (

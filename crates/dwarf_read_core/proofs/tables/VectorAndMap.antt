@@ -353,3 +353,9 @@ pub stands_in_vec : (ds : List Declaration) (es : List (ℕ × Declaration)) (co
 stands_in_vec ds es code index e lt =
     ap is_some (found_in_vec ds es code index
     (record { code = 0; tag = 0; children = false; attributes = [] }) e lt)
+
+-- what an insertion makes of the vector and the map
+pub ruleset insertion = (stands_in_vec, found_in_map, pushed, put_beside, kept_beside)
+
+-- what the vector and the map have at a code
+pub ruleset lookup_steps = (found_in_vec, found_in_map, not_found, keyed_in_vec, keyed_in_map)
