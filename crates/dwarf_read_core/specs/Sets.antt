@@ -19,13 +19,29 @@ initial_length = do
   when nat_lt short 0xffff_fff0 then pure (Dwarf32, short) else when nat_lt short 0xffff_ffff then refuse
       (UnknownReservedLength short) else (fixed 8 >>= λ long. pure (Dwarf64, long))
 
--- a set: its place in the section, its format and length, what its header says, and its entries
-pub record Set (H : Type 0) : Type 0 where
+-- a set: its place in the section, its format and length, what its header says, and its entries, which are a part
+-- of the section or a reader of it
+pub record SetOf (H E : Type 0) : Type 0 where
   pub offset : ℕ
   pub format : Format
   pub unit_length : ℕ
   pub header : H
-  pub entries : Input
+  pub entries : E
+
+-- a set whose entries are a part of the section
+abbrev pub Set : Type 0 → Type 0
+Set H = SetOf H Input
+
+-- a set by what the reader of its entries has
+abbrev pub seen_by : {H R : Type 0} → (R → Input) → SetOf H R → Set H
+seen_by input s =
+    record {
+      offset = s.offset;
+      format = s.format;
+      unit_length = s.unit_length;
+      header = s.header;
+      entries = input s.entries;
+    }
 
 -- the initial length, and in that length the header and the entries
 unfoldable pub set : {H : Type 0} → Layout H → ℕ → ℕ → Layout (Set H)

@@ -1,14 +1,16 @@
 //! Addresses: the section `.debug_addr` (DWARF 5, 7.27).
 
-ghost use Rattle.std.specs.Prelude.{◌≡◌, ◌+◌, ◌≤◌, ◌⊎◌, ℕ, List, [], Ok, Err, true, length, IsTrue, IfOk, IfErr, IfSome, OnOk, OnErr, IsOk};
+ghost use Rattle.std.specs.Prelude.{nat_eq, ◌≡◌, ◌+◌, ◌≤◌, ◌⊎◌, ℕ, List, [], Ok, Err, true, length, IsTrue, IfOk, IfErr, IfSome, OnOk, OnErr, IsOk};
+ghost use Rattle.std.specs.Cmp.{nat_eq_equiv};
 ghost use Rattle.std.specs.Fn.{CalledAt, TakesAt};
 ghost use Rattle.dwarf_base_core.specs.declared.common.SectionId.TheVariants.{DebugAddr as debug_addr};
 ghost use Rattle.std.specs.Result.{result_transpose};
 ghost use Rattle.dwarf_reader_core.specs.Faults.{WantsMemory, is_number_size};
 ghost use Rattle.dwarf_read_core.specs.Entries.{StandsForAddresses};
+ghost use Rattle.dwarf_read_core.specs.Equality.{same_set, same_set_per, same_set_equiv};
 ghost use Rattle.dwarf_read_core.specs.Items.{GivesFirst, StaysFirst};
 ghost use Rattle.dwarf_read_core.specs.Lookups.{AnswersBy, StaysBy};
-ghost use Rattle.dwarf_read_core.specs.Sets.{StandsForAddressSets, address_header, addresses_of, followed_headers, set};
+ghost use Rattle.dwarf_read_core.specs.Sets.{StandsForAddressSets, address_header, addresses_of, followed_headers, seen_by, set};
 ghost use Rattle.dwarf_read_core.specs.Words.{AddressAt, slot};
 
 use super::indexed::skip_to_index;
@@ -163,8 +165,6 @@ impl<R: Reader> Model for AddrHeaderIter<R> {
 }
 
 impl<R: Reader> AddrHeaderIter<R> {
-    ghost use Rattle.dwarf_read_core.specs.Headers.{set_of};
-
     /// The header of the next set, or `None` if no bytes remain.
     ///
     /// A set has at least eight bytes.
@@ -191,7 +191,7 @@ impl<R: Reader> AddrHeaderIter<R> {
     #[tactic(auto, using(crate::proofs::sets::Sets::sets_none))]
     pub fn next(&mut self) -> Result<Option<AddrHeader<R>>>
         ensures first { GivesFirst (StandsForAddressSets R.Offset.GREATEST)
-            (set_of R.view R.Offset.value) R.clone_is_free self.old
+            (seen_by R.view) R.clone_is_free self.old
             (result_transpose result) self.new }
         ensures failed { OnErr result (self.new.rest.bytes ≡ []) }
         ensures bound { IfOk result
@@ -201,7 +201,7 @@ impl<R: Reader> AddrHeaderIter<R> {
 
         // Appended bytes change neither a set nor an error, unless it is an `UnexpectedEof`.
         ensures stable { StaysFirst (StandsForAddressSets R.Offset.GREATEST)
-            (set_of R.view R.Offset.value) R.clone_is_free followed_headers self.old
+            (seen_by R.view) R.clone_is_free followed_headers self.old
             (result_transpose result) self.new }
     {
         if self.input.is_empty() {
@@ -227,11 +227,10 @@ impl<R: Reader> Iterator for AddrHeaderIter<R> {
 
     ghost use Rattle.std.specs.Prelude.{length};
     ghost use Rattle.std.specs.Iterator.{at_most};
-    ghost use Rattle.dwarf_read_core.specs.Headers.{set_of};
     ghost use Rattle.dwarf_read_core.specs.Items.{GivesFirst};
-    ghost use Rattle.dwarf_read_core.specs.Sets.{StandsForAddressSets};
+    ghost use Rattle.dwarf_read_core.specs.Sets.{StandsForAddressSets, seen_by};
 
-    ghost next_gives = { GivesFirst (StandsForAddressSets R.Offset.GREATEST) (set_of R.view R.Offset.value) R.clone_is_free };
+    ghost next_gives = { GivesFirst (StandsForAddressSets R.Offset.GREATEST) (seen_by R.view) R.clone_is_free };
 
     ghost remaining = { λ headers. at_most (length headers.rest.bytes) };
 
@@ -257,7 +256,7 @@ impl<R: Reader + Clone> Clone for AddrHeaderIter<R> {
 }
 
 /// The header of a set of addresses, and the addresses that follow it.
-#[derive(Debug, Drop, PartialEq, Eq)]
+#[derive(Debug, Drop)]
 pub struct AddrHeader<R: Reader> {
     offset: DebugAddrOffset<R::Offset>,
     encoding: SetEncoding,
@@ -273,10 +272,41 @@ struct SetEncoding {
     ghost known: { encoding.version ≡ 5 },
 }
 
-impl<R: Reader + Clone> Clone for AddrHeader<R> {
-    ghost use Rattle.dwarf_read_core.specs.Headers.{set_of};
+impl<R: Reader> Model for AddrHeader<R> {
+    ghost use Rattle.std.specs.Prelude.{ℕ};
+    ghost use Rattle.dwarf_read_core.specs.Sets.{SetOf};
 
-    ghost is_clone = { λ header copy. set_of R.view R.Offset.value copy ≡ set_of R.view R.Offset.value header };
+    ghost Value = { SetOf ℕ R };
+
+    ghost view = { λ a. record {
+      offset = R.Offset.value a.offset.0;
+      format = a.encoding.encoding.format;
+      unit_length = R.Offset.value a.length;
+      header = a.encoding.encoding.address_size;
+      entries = a.entries;
+    } };
+}
+
+/// Two headers are equal if their offsets, lengths, encodings and readers are.
+impl<R: Reader + PartialEq> PartialEq for AddrHeader<R> {
+    ghost eq = { same_set nat_eq R.eq };
+
+    ghost laws = { same_set_per nat_eq_equiv R.PartialEq.laws };
+
+    fn eq(&self, other: &Self) -> bool {
+        self.offset == other.offset
+            && self.length == other.length
+            && self.encoding == other.encoding
+            && self.entries == other.entries
+    }
+}
+
+impl<R: Reader + Eq> Eq for AddrHeader<R> {
+    ghost laws = { same_set_equiv nat_eq_equiv R.Eq.laws };
+}
+
+impl<R: Reader + Clone> Clone for AddrHeader<R> {
+    ghost is_clone = { λ header copy. seen_by R.view copy ≡ seen_by R.view header };
 
     ghost is_infallible = { λ _. R.clone_is_free ≡ true };
 
@@ -294,12 +324,10 @@ impl<R: Reader + Clone> Clone for AddrHeader<R> {
 }
 
 impl<R: Reader> AddrHeader<R> {
-    ghost use Rattle.dwarf_read_core.specs.Headers.{set_of};
-
     fn parse(input: &mut R, offset: DebugAddrOffset<R::Offset>) -> Result<AddrHeader<R>>
         ensures ok { IfOk result
             (λ header. (set address_header R.Offset.GREATEST (R.Offset.value offset.0)).Reads
-            (R.view input.old) (set_of R.view R.Offset.value header) (R.view input.new)) }
+            (R.view input.old) (seen_by R.view header) (R.view input.new)) }
         ensures err { IfErr result
             (λ e. (set address_header R.Offset.GREATEST (R.Offset.value offset.0)).Fails
             (R.view input.old) e ⊎ WantsMemory R.clone_is_free e) }
@@ -334,7 +362,7 @@ impl<R: Reader> AddrHeader<R> {
 
     /// Where the set begins, in bytes from the section's start.
     pub fn offset(&self) -> DebugAddrOffset<R::Offset>
-        ensures { R.Offset.value result.0 ≡ (set_of R.view R.Offset.value self.now).offset }
+        ensures { R.Offset.value result.0 ≡ self.now.offset }
     {
         self.offset
     }
@@ -342,15 +370,18 @@ impl<R: Reader> AddrHeader<R> {
     /// How many bytes of the set follow its initial length: the rest of the header, and the
     /// addresses.
     pub fn length(&self) -> R::Offset
-        ensures { R.Offset.value result ≡ (set_of R.view R.Offset.value self.now).unit_length }
+        ensures { R.Offset.value result ≡ self.now.unit_length }
     {
         self.length
     }
 
     /// The set's format and address size; the version is 5.
     pub fn encoding(&self) -> Encoding
-        ensures { let set = set_of R.view R.Offset.value self.now in
-            result ≡ record { address_size = set.header; format = set.format; version = 5 } }
+        ensures { result ≡ record {
+          address_size = self.now.header;
+          format = self.now.format;
+          version = 5;
+        } }
     {
         self.encoding.encoding
     }
@@ -362,7 +393,7 @@ impl<R: Reader> AddrHeader<R> {
     /// `OutOfMemory` if a clone of the reader runs out of memory.
     pub fn entries(&self) -> Result<AddrEntryIter<R>>
         ensures ok { IfOk result
-            (λ entries. entries ≡ addresses_of (set_of R.view R.Offset.value self.now)) }
+            (λ entries. entries ≡ addresses_of (seen_by R.view self.now)) }
         ensures err { IfErr result (WantsMemory R.clone_is_free) }
     {
         Ok(AddrEntryIter {
