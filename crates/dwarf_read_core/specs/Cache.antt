@@ -15,7 +15,7 @@ use Rattle.dwarf_read_core.specs.declared.read.abbrev.cache.AbbreviationsCacheSt
 -- an answer whose table is shared
 abbrev pub answer_of : {Z : Type 0} → Result (Rc Table Z) Error → Result Table Error
 answer_of (Ok shared) = Ok shared.value
-answer_of (Err fault) = Err fault
+answer_of (Err e) = Err e
 
 -- the entries of a cache, whose tables are shared
 abbrev pub shown_entries : {Z : Type 0} → List (ℕ × Result (Rc Table Z) Error) → List (ℕ × Result Table Error)
@@ -25,7 +25,7 @@ shown_entries entries = map (λ entry. (entry.0, answer_of entry.1)) entries
 abbrev pub Cache : Type 0
 Cache = finite.FinMap nat_cmp (Result Table Error)
 
--- no want of memory is kept
+-- no `OutOfMemory` is kept
 abbrev pub KeepsNoWant : Cache → Type 0
 KeepsNoWant cache = (key : ℕ) → finite.get cache key ≢ Some (Err OutOfMemory)
 
@@ -48,10 +48,10 @@ KeepsAnswers least section offsets kept =
 abbrev pub IsFaithful : Cache → Input → Type 0
 IsFaithful cache section = (key : ℕ) → IfSome (finite.get cache key) (Answer section key)
 
--- nothing, or an error that is not want of memory
+-- nothing, or an error that is not `OutOfMemory`
 abbrev pub EndsItems : {T : Type 0} → Option (Result T Error) → Type 0
 EndsItems None = ⊤
-EndsItems (Some item) = MatchResult item (λ _. ⊥) (λ fault. fault ≢ OutOfMemory)
+EndsItems (Some item) = MatchResult item (λ _. ⊥) (λ e. e ≢ OutOfMemory)
 
 -- calls of `next` gave these items, each as an `Ok`, and then the end or a first error
 pub record GivesBeforeError {S T : Type 0} (steps : S → Option (Result T Error) → S → Type 0) (from : S)
@@ -61,11 +61,11 @@ pub record GivesBeforeError {S T : Type 0} (steps : S → Option (Result T Error
   pub given : YieldsThen steps from (map (λ item. Ok item) items) last left
   pub ends : EndsItems last
 
--- the first call of `next` gives an item, or an error that is want of memory
+-- the first call of `next` yields an item, or `OutOfMemory`
 abbrev pub GivesSome : {S T : Type 0} → (S → Option (Result T Error) → S → Type 0) → S → Type 0
 GivesSome {S = S} {T = T} steps from =
     (first : Result T Error) × (left : S) × steps from (Some first) left
-    × MatchResult first (λ _. ⊤) (λ fault. fault ≡ OutOfMemory)
+    × MatchResult first (λ _. ⊤) (λ e. e ≡ OutOfMemory)
 
 -- the numbers of the offsets that come before the first error
 pub record NamesOffsets {S T : Type 0} (steps : S → Option (Result T Error) → S → Type 0) (number : T → ℕ)
@@ -78,11 +78,11 @@ pub record NamesOffsets {S T : Type 0} (steps : S → Option (Result T Error) �
 -- `OutOfMemory`
 abbrev pub HandsOut : {Z : Type 0} → Result Table Error → Result (Rc Table Z) Error → Type 0
 HandsOut kept result =
-    MatchResult kept (λ table. MatchResult result (λ shared. shared.value ≡ table) (λ fault. fault ≡ OutOfMemory))
+    MatchResult kept (λ table. MatchResult result (λ shared. shared.value ≡ table) (λ e. e ≡ OutOfMemory))
     (λ e. (result ≡ Err e) × (e ≢ OutOfMemory))
 
--- whether appended bytes leave an answer as it is: a table that a code of value 0 closes, or an error but that
--- bytes are missing
+-- whether appended bytes leave an answer as it is: a table that a code of value 0 closes, or an error except
+-- `UnexpectedEof`
 abbrev pub is_final : Result Table Error → Bool
 is_final (Ok t) = is_by_null t.close
 is_final (Err (UnexpectedEof _)) = false

@@ -1,8 +1,8 @@
 //! Laws over the definitions: each function has one as its contract, and does nothing.
 
-ghost use Rattle.std.specs.Prelude.{◌≡◌, ◌≢◌, ◌↔◌, IsTrue, Option, ℕ, ◌<◌, ◌≤◌, List, [], ◌∷◌, length, All, IfErr, Ok, Err, Result as Outcome};
+ghost use Rattle.std.specs.Prelude.{◌≡◌, ◌≢◌, ◌↔◌, IsTrue, Option, ℕ, ◌<◌, ◌≤◌, List, [], ◌∷◌, length, All, IfErr, Ok, Err, Result};
 ghost use Rattle.std.specs.List.{sum_by};
-ghost use Rattle.dwarf_base_core.specs.declared.error.Error.{Error as Fault};
+ghost use Rattle.dwarf_base_core.specs.declared.error.Error.{Error};
 ghost use Rattle.dwarf_reader_core.specs.Input.{Input, Takes};
 ghost use Rattle.dwarf_reader_core.specs.Once.{HasOne};
 ghost use Rattle.dwarf_read_core.specs.Appended.{followed_by, IsNoEof};
@@ -32,7 +32,7 @@ pub fn exactly_one_answer()
 #[tactic(auto, using(crate::proofs::tables::StrictAnswers::one_strict_answer, crate::proofs::tables::StrictAnswers::strict_answer_more))]
 pub fn exactly_one_strict_answer()
     ensures one { (section : Input) (offset : ℕ) → HasOne (StrictAnswer section offset) }
-    ensures stable { (section : Input) (more : List ℕ) (offset : ℕ) (answer : Outcome Table Fault)
+    ensures stable { (section : Input) (more : List ℕ) (offset : ℕ) (answer : Result Table Error)
         → StrictAnswer section offset answer → IsStrictlyFinal answer
         → StrictAnswer (followed_by section more) offset answer }
 {}
@@ -40,7 +40,7 @@ pub fn exactly_one_strict_answer()
 /// An answer that doesn't tell of the section's end is the answer whatever bytes are appended.
 #[tactic(auto, using(crate::proofs::tables::AppendedBytes::answer_more))]
 pub fn appended_bytes_change_nothing()
-    ensures { (section : Input) (more : List ℕ) (offset : ℕ) (answer : Outcome Table Fault)
+    ensures { (section : Input) (more : List ℕ) (offset : ℕ) (answer : Result Table Error)
         → Answer section offset answer → IsFinal answer
         → Answer (followed_by section more) offset answer }
 {}
@@ -49,9 +49,9 @@ pub fn appended_bytes_change_nothing()
 /// nothing.
 pub fn exactly_one_cache()
     ensures some { (least : ℕ) (section : Input) (offsets : List ℕ)
-        → (kept : ℕ → Option (Outcome Table Fault)) × KeepsAnswers least section offsets kept }
+        → (kept : ℕ → Option (Result Table Error)) × KeepsAnswers least section offsets kept }
     ensures same { (least : ℕ) (section : Input) (offsets : List ℕ)
-        (kept others : ℕ → Option (Outcome Table Fault)) → KeepsAnswers least section offsets kept
+        (kept others : ℕ → Option (Result Table Error)) → KeepsAnswers least section offsets kept
         → KeepsAnswers least section offsets others → (key : ℕ) → others key ≡ kept key }
 {}
 
@@ -92,7 +92,7 @@ pub fn exactly_one_address()
 /// `UnexpectedEof`.
 #[tactic(auto, using(crate::proofs::lookups::Words::word_more))]
 pub fn appended_bytes_change_no_word()
-    ensures { (greatest : ℕ) (section : Input) (s : Slot) (answer : Outcome ℕ Fault) (more : List ℕ)
+    ensures { (greatest : ℕ) (section : Input) (s : Slot) (answer : Result ℕ Error) (more : List ℕ)
         → WordAt greatest section s answer → IfErr answer IsNoEof
         → WordAt greatest (followed_by section more) s answer }
 {}
@@ -101,7 +101,7 @@ pub fn appended_bytes_change_no_word()
 /// `UnexpectedEof`.
 #[tactic(auto, using(crate::proofs::lookups::Words::address_more))]
 pub fn appended_bytes_change_no_address()
-    ensures { (greatest : ℕ) (section : Input) (s : Slot) (answer : Outcome ℕ Fault) (more : List ℕ)
+    ensures { (greatest : ℕ) (section : Input) (s : Slot) (answer : Result ℕ Error) (more : List ℕ)
         → AddressAt greatest section s answer → IfErr answer IsNoEof
         → AddressAt greatest (followed_by section more) s answer }
 {}
@@ -117,7 +117,7 @@ pub fn exactly_one_range()
 pub fn exactly_one_list_of_sets()
     ensures one { (greatest : ℕ) (headers : Headers)
         → HasOne (StandsForAddressSets greatest headers) }
-    ensures bound { (greatest : ℕ) (headers : Headers) (items : List (Outcome (Set ℕ) Fault))
+    ensures bound { (greatest : ℕ) (headers : Headers) (items : List (Result (Set ℕ) Error))
         → StandsForAddressSets greatest headers items
         → sum_by (least_taken 8) items ≤ length headers.rest.bytes }
 {}
@@ -128,7 +128,7 @@ pub fn exactly_one_list_of_offset_sets()
     ensures one { (greatest : ℕ) (headers : Headers)
         → HasOne (StandsForStringOffsetSets greatest headers) }
     ensures bound { (greatest : ℕ) (headers : Headers)
-        (items : List (Outcome (Set (Unit {0})) Fault))
+        (items : List (Result (Set (Unit {0})) Error))
         → StandsForStringOffsetSets greatest headers items
         → sum_by (least_taken 8) items ≤ length headers.rest.bytes }
 {}
@@ -147,7 +147,7 @@ pub fn sets_are_fronts()
 #[tactic(auto, using(crate::proofs::sets::Entries::addresses_one, crate::proofs::sets::Entries::addresses_bounded))]
 pub fn exactly_one_list_of_entries()
     ensures one { (entries : Entries) → 0 < entries.width → HasOne (StandsForAddresses entries) }
-    ensures bound { (entries : Entries) (items : List (Outcome ℕ Fault))
+    ensures bound { (entries : Entries) (items : List (Result ℕ Error))
         → StandsForAddresses entries items
         → sum_by (least_taken entries.width) items ≤ length entries.rest.bytes }
 {}
@@ -158,7 +158,7 @@ pub fn exactly_one_list_of_entries()
 pub fn exactly_one_list_of_string_offsets()
     ensures one { (greatest : ℕ) (entries : Entries) → 0 < entries.width
         → HasOne (StandsForStringOffsets greatest entries) }
-    ensures bound { (greatest : ℕ) (entries : Entries) (items : List (Outcome ℕ Fault))
+    ensures bound { (greatest : ℕ) (entries : Entries) (items : List (Result ℕ Error))
         → StandsForStringOffsets greatest entries items
         → sum_by (least_taken entries.width) items ≤ length entries.rest.bytes }
 {}
@@ -167,11 +167,11 @@ pub fn exactly_one_list_of_string_offsets()
 /// is an `UnexpectedEof`.
 pub fn appended_bytes_change_no_set()
     ensures set { (greatest : ℕ) (headers : Headers) (s : Set ℕ)
-        (items others : List (Outcome (Set ℕ) Fault)) (more : List ℕ)
+        (items others : List (Result (Set ℕ) Error)) (more : List ℕ)
         → StandsForAddressSets greatest headers (Ok s ∷ items)
         → StandsForAddressSets greatest (followed_headers more headers) others
-        → (rest : List (Outcome (Set ℕ) Fault)) × (others ≡ Ok s ∷ rest) }
-    ensures fault { (greatest : ℕ) (headers : Headers) (e : Fault) (more : List ℕ)
+        → (rest : List (Result (Set ℕ) Error)) × (others ≡ Ok s ∷ rest) }
+    ensures error { (greatest : ℕ) (headers : Headers) (e : Error) (more : List ℕ)
         → StandsForAddressSets greatest headers (Err e ∷ []) → IsNoEof e
         → StandsForAddressSets greatest (followed_headers more headers) (Err e ∷ []) }
 {}
@@ -180,11 +180,11 @@ pub fn appended_bytes_change_no_set()
 /// it is an `UnexpectedEof`.
 pub fn appended_bytes_change_no_offset_set()
     ensures set { (greatest : ℕ) (headers : Headers) (s : Set (Unit {0}))
-        (items others : List (Outcome (Set (Unit {0})) Fault)) (more : List ℕ)
+        (items others : List (Result (Set (Unit {0})) Error)) (more : List ℕ)
         → StandsForStringOffsetSets greatest headers (Ok s ∷ items)
         → StandsForStringOffsetSets greatest (followed_headers more headers) others
-        → (rest : List (Outcome (Set (Unit {0})) Fault)) × (others ≡ Ok s ∷ rest) }
-    ensures fault { (greatest : ℕ) (headers : Headers) (e : Fault) (more : List ℕ)
+        → (rest : List (Result (Set (Unit {0})) Error)) × (others ≡ Ok s ∷ rest) }
+    ensures error { (greatest : ℕ) (headers : Headers) (e : Error) (more : List ℕ)
         → StandsForStringOffsetSets greatest headers (Err e ∷ [])
         → IsNoEof e
         → StandsForStringOffsetSets greatest (followed_headers more headers) (Err e ∷ []) }

@@ -9,7 +9,7 @@ use Rattle.dwarf_read_core.specs.Answer.{Answer}
 use Rattle.dwarf_read_core.specs.Cache.{KeepsAnswers, occurrences}
 use Rattle.dwarf_read_core.specs.Grammar.{Table}
 
--- an offset occurs once more where it is the new one
+-- an offset occurs once more if it is the new one
 pub occurrences-push : (q key : ℕ) (seen : List ℕ)
     → occurrences q (seen ++ key ∷ []) ≡ occurrences q seen + cond (eqb key q) 1 0
 occurrences-push q key seen = sum_by_push (λ o. cond (eqb o q) 1 0) seen key

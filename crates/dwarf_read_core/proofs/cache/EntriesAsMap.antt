@@ -29,14 +29,14 @@ mapped_filter f (Some x) =
     ≡ cond b (Some (f x)) None) [ true ↦ refl | false ↦ refl ]
 
 -- the entries of a cache, with their tables shared
-abbrev pub Entries : Type 0 → Type 0
-Entries Z = List (ℕ × Result (Rc Table Z) Error)
+abbrev pub SharedEntries : Type 0 → Type 0
+SharedEntries Z = List (ℕ × Result (Rc Table Z) Error)
 
 module _ {Z : Type 0} where
-  abbrev pub shown : Entries Z → Cache
+  abbrev pub shown : SharedEntries Z → Cache
   shown entries = from_entries (shown_entries entries)
 
-  find-shown : (entries : Entries Z) (key : ℕ)
+  find-shown : (entries : SharedEntries Z) (key : ℕ)
       → find nat_cmp key (shown_entries entries) ≡ option_map answer_of (lookup (is_at (nat_cmp key)) entries)
   find-shown [] key = refl
   find-shown (e ∷ es) key =
@@ -44,12 +44,12 @@ module _ {Z : Type 0} where
       ∙ mapped_choice answer_of (is_at (nat_cmp key) e.0) e.1 _
 
   -- what the map has at a key
-  pub get-shown : (entries : Entries Z) (key : ℕ)
+  pub get-shown : (entries : SharedEntries Z) (key : ℕ)
       → get (shown entries) key ≡ option_map answer_of (lookup (is_at (nat_cmp key)) entries)
   get-shown entries key = get-from_entries nat_cmp_total (shown_entries entries) key ∙ find-shown entries key
 
   -- entries that differ at one key show maps that differ there
-  pub shown-insert : (es fs : Entries Z) (key : ℕ) (v : Result (Rc Table Z) Error)
+  pub shown-insert : (es fs : SharedEntries Z) (key : ℕ) (v : Result (Rc Table Z) Error)
       → ((q : ℕ) → lookup (is_at (nat_cmp q)) fs
       ≡ cond (is_at (nat_cmp key) q) (Some v) (lookup (is_at (nat_cmp q)) es))
       → shown fs ≡ insert (shown es) key (answer_of v)
@@ -61,10 +61,10 @@ module _ {Z : Type 0} where
       ∙ ap (cond (is_at (nat_cmp q) key) (Some (answer_of v))) (get-shown es q)))
 
   -- entries of which those that are final were retained
-  pub get-shown-final : (es fs : Entries Z) → fs ≡ filter (λ entry. is_final (answer_of entry.1)) es
+  pub get-shown-final : (es fs : SharedEntries Z) → fs ≡ filter (λ entry. is_final (answer_of entry.1)) es
       → IsStrictlySortedBy nat_cmp (keys_of es) → (key : ℕ) → get (shown fs) key ≡ still_kept (get (shown es) key)
   get-shown-final es fs retained sorted key =
-      ap (λ (entries : Entries Z). get (shown entries) key) retained
+      ap (λ (entries : SharedEntries Z). get (shown entries) key) retained
       ∙ get-shown (filter (λ entry. is_final (answer_of entry.1)) es) key
       ∙ ap (option_map answer_of) (lookup-filter-values (eq_by_cmp_equiv nat_cmp_total)
       (λ v. is_final (answer_of v)) key es (IsDistinct-from_sorted nat_cmp _ sorted))

@@ -6,7 +6,7 @@ use Rattle.dwarf_base_core.specs.declared.error.Error.{Error}
 use Rattle.dwarf_base_core.specs.declared.error.Error.TheVariants.{OutOfMemory}
 use Rattle.dwarf_read_core.specs.Cache.{GivesSome}
 
--- the first of the items, where there is one
+-- the first of the items, if there is one
 pub first_item-of_items : {S T A : Type 0} (steps : S → Option (Result T Error) → S → Type 0) (from : S)
     (items : List T) (last : Option (Result T Error)) (left : S) (r : Result A Error)
     → items ≢ [] → YieldsThen steps from

@@ -1,4 +1,4 @@
--- A part that is taken is the range at its offset.
+-- A part that is read is the range at its offset.
 use Rattle.std.proofs.Common.{◌≡◌, ℕ, ◌+◌, ◌≤◌, length, Result, Ok, Err, refl, sym, ap, subst, ◌∙◌, arith, Bool, inl, inr}
 use Rattle.std.proofs.lemmas.Bool.{cases_lt}
 use Rattle.std.specs.Prelude.{IsErrAnd}
@@ -11,14 +11,14 @@ use Rattle.dwarf_read_core.specs.Lookups.{AnswersBy}
 use Rattle.dwarf_read_core.proofs.lookups.Returned.{propagated-answer}
 use Rattle.dwarf_read_core.specs.Ranges.{RangeAt, outside, cut, range}
 
--- the first bytes of what is left behind an offset are the range there, where as many as its size are left
+-- the first bytes of what remains behind an offset are the range there, if as many as its size remain
 pub range_taken : (section : Input) (offset size : ℕ) (rest part : Input) → Takes offset section rest
     → size ≤ length rest.bytes → part ≡ first size rest → RangeAt section offset size (Ok part)
 range_taken section offset size rest part takes enough is =
     subst (λ (i : Input). RangeAt section offset size (Ok i)) (sym (is ∙ ap (first size) takes.left))
     (range (omega (arith, takes.enough, rest-length offset section rest takes)))
 
--- a range is answered with the fault of missing bytes, where fewer than its size are left behind its offset
+-- a range has `UnexpectedEof`, if fewer than its size remain behind its offset
 pub range_cut : (section : Input) (offset size : ℕ) (rest : Input) (e : Error) (new : Input)
     → Takes offset section rest → EndsBefore size rest e new → RangeAt section offset size (Err e)
 range_cut section offset size rest e new takes short =
@@ -26,7 +26,7 @@ range_cut section offset size rest e new takes short =
     (sym (short.fault ∙ ap (λ (i : Input). eof i.position) takes.left))
     (cut takes.enough (omega (arith, short.short, takes.enough, rest-length offset section rest takes)))
 
--- a range is answered with the fault of missing bytes, where the section ends before its offset
+-- a range has `UnexpectedEof`, if the section ends before its offset
 pub range_outside : (section : Input) (offset size : ℕ) (e : Error) (new : Input) → EndsBefore offset section e new
     → RangeAt section offset size (Err e)
 range_outside section offset size e new short =
@@ -54,7 +54,7 @@ only_range (range le) (outside past) = absurd (omega arith)
 only_range (range le) (cut le' short) = absurd (omega arith)
 only_range (range le) (range le') = refl
 
--- each offset and size of a section has an answer, which is a range or a fault
+-- each offset and size of a section has an answer, which is a range or an error
 some_range : (section : Input) (offset size : ℕ) → (answer : Result Input Error) × RangeAt section offset size answer
 some_range section offset size =
     elim (cases_lt (length section.bytes) offset) [

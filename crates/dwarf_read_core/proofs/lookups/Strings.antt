@@ -1,4 +1,4 @@
--- A string that is taken is the one at the offset.
+-- A string that is read is the one at the offset.
 use Rattle.std.proofs.Common.{◌≡◌, ◌≢◌, ℕ, zero, suc, ◌+◌, ◌<◌, ◌≤◌, List, [], ◌∷◌, ◌++◌, length, take, drop, Result, Ok, Err, refl, sym, ap, subst, ◌∙◌, append_assoc, arith, ◌⊎◌, inl, inr, Bool}
 use Rattle.std.proofs.lemmas.Bool.{cases_lt}
 use Rattle.std.proofs.lemmas.List.{length-append, drop-append-le}
@@ -20,7 +20,7 @@ cut_at [] index item within is = absurd (omega arith)
 cut_at (b ∷ bytes) zero item within is = ap (λ (x : ℕ). x ∷ bytes) is
 cut_at (b ∷ bytes) (suc index) item within is = ap (λ (x : List ℕ). b ∷ x) (cut_at bytes index item (omega arith) is)
 
--- a string that is taken from what is left behind the offset is the section's string at the offset
+-- a string that is read from what remains behind the offset is the section's string at the offset
 pub string_taken : (section : Input) (offset : ℕ) (rest found new : Input) → Takes offset section rest
     → TakesString rest found new → StringAt section offset (Ok found)
 string_taken section offset rest found new takes t =
@@ -32,7 +32,7 @@ string_taken section offset rest found new takes t =
     (string (take t.len (drop offset section.bytes))
     (drop (suc t.len) (drop offset section.bytes)) takes.enough parts unbroken)
 
--- an error that no zero byte is left behind the offset is the section's answer for a string there
+-- an error that no zero byte remains behind the offset is the section's answer for a string there
 string_lacks : (section : Input) (offset : ℕ) (rest : Input) (e : Error) → Takes offset section rest
     → Lacks 0 rest e → StringAt section offset (Err e)
 string_lacks section offset rest e takes lacks =
@@ -84,7 +84,7 @@ zero_or_none (suc b ∷ bytes) =
           })
     ]
 
--- two runs without a zero byte are the same where the same bytes begin with each and then a zero byte
+-- two runs without a zero byte are the same if the same bytes begin with each and then a zero byte
 same_front : (s r t q : List ℕ) → s ++ 0 ∷ r ≡ t ++ 0 ∷ q → HasNoZero s → HasNoZero t → s ≡ t
 same_front [] r [] q e a b = refl
 same_front [] r (y ∷ t) q e a b = absurd (All-head (λ b. b ≢ 0) y t b (let h : 0 ≡ y = cc in sym h))
@@ -149,7 +149,7 @@ one_string section offset =
 
 -- ---- more bytes
 
--- an answer for a string, other than that the bytes end too early, stays the answer where more bytes follow
+-- an answer for a string, other than that the bytes end too early, stays the answer when more bytes follow
 pub string-more : {section : Input} {offset : ℕ} {r : Result Input Error} (more : List ℕ) → StringAt section offset r
     → IfErr r IsNoEof → StringAt (followed_by section more) offset r
 string-more {section} more (outside past) final = absurd (final section.position refl)
@@ -159,7 +159,7 @@ string-more {section} {offset} more (string bytes rest le parts unbroken) final 
     ∙ append_assoc bytes (0 ∷ rest) more) unbroken
 string-more {section} {offset} more (unended le none) final = absurd (final (section.position + offset) refl)
 
--- a string that is found at an offset of a section is still found there where more bytes follow
+-- a string that is found at an offset of a section is still found there when more bytes follow
 pub string_more : (section : Input) (offset : ℕ) (found : Input) → StringAt section offset (Ok found)
     → (more : List ℕ) → StringAt (followed_by section more) offset (Ok found)
 string_more section offset found is more = string-more more is tt

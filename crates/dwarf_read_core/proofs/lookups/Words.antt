@@ -1,4 +1,4 @@
--- A number that is looked up is a layout, and has the laws of layouts; what a reader takes of it.
+-- A number that is looked up is a layout, and has the laws of layouts; what a reader reads of it.
 use Rattle.std.proofs.Common.{◌≡◌, ℕ, ◌<◌, ◌≤◌, List, Bool, Result, Ok, Err, refl, sym, ap, subst, ◌∙◌, arith, ◌⊎◌, inl, inr}
 use Rattle.std.proofs.lemmas.Bool.{le-leb, lt-leb}
 use Rattle.std.specs.Prelude.{IsTrue, IfOk, IfErr, IsErrAnd}
@@ -18,7 +18,7 @@ use Rattle.dwarf_read_core.proofs.sets.Entries.{string_offset-definite, string_o
 
 -- ---- going to the place
 
--- a base past the end is the first fault
+-- a base past the end is the first error
 pub no_base : (greatest : ℕ) (section : Input) (s : Slot) (e : Error) (new : Input)
     → EndsBefore s.base section e new → Misplaced greatest section s e
 unfolding to_slot
@@ -45,7 +45,7 @@ past_end greatest section s rest e new takes counted short =
           (tt, rest, rw (le-leb (distance s) greatest counted) (refl, refl), (new, short)),
     )
 
--- the same, where the distance was counted by the code
+-- the same, if the distance was counted by the code
 pub past_end_found : {A : Type 0} (greatest : ℕ) (section : Input) (s : Slot) (rest new : Input) (far : ℕ)
     (r : Result A Error) → Takes s.base section rest → far ≡ distance s → far ≤ greatest
     → IfErr r (λ e. EndsBefore far rest e new) → IfErr r (Misplaced greatest section s)
@@ -54,7 +54,7 @@ past_end_found greatest section s rest new far (Err e) takes is counted h =
     past_end greatest section s rest e new takes (subst (λ (n : ℕ). n ≤ greatest) is counted)
     (subst (λ (n : ℕ). EndsBefore n rest e new) is h)
 
--- where both steps go, the place lies in the section
+-- if both steps go, the place lies in the section
 pub placed : (greatest : ℕ) (section : Input) (s : Slot) (rest new : Input) → Takes s.base section rest
     → distance s ≤ greatest → Takes (distance s) rest new → IsPlaced greatest section s
 placed greatest section s rest new takes counted further = record {
@@ -63,7 +63,7 @@ placed greatest section s rest new takes counted further = record {
   within = omega (arith, takes.enough, further.enough, rest-length s.base section rest takes);
 }
 
--- and its bytes are taken in all
+-- and its bytes are consumed in all
 pub skipped : (section : Input) (s : Slot) (rest new : Input) → Takes s.base section rest
     → Takes (distance s) rest new → Takes (place s) section new
 skipped section s rest new takes further = record {
@@ -97,7 +97,7 @@ slot_reached greatest section s rest is_placed takes =
 
 -- ---- the number there
 
--- an offset that is taken at the place is the word
+-- an offset that is read at the place is the word
 pub word_taken : (greatest : ℕ) (section : Input) (s : Slot) (rest : Input) (x : ℕ) (new : Input)
     → IsPlaced greatest section s → Takes (place s) section rest → TakesNumber s.width rest x new → x ≤ greatest
     → WordAt greatest section s (Ok x)
@@ -110,7 +110,7 @@ word_taken greatest section s rest x new is_placed takes number fits =
       (x, new, number, (tt, new, rw (le-leb x greatest fits) (refl, refl), (refl, refl))),
     )
 
--- one that isn't there, or is no offset, is the fault
+-- one that isn't there, or is no offset, is the error
 pub word_refused : (greatest : ℕ) (section : Input) (s : Slot) (rest : Input) (e : Error) (new : Input)
     → IsPlaced greatest section s → Takes (place s) section rest
     → (EndsBefore s.width rest e new ⊎ IsNoOffset greatest s.width rest e new) → WordAt greatest section s (Err e)
@@ -132,7 +132,7 @@ pub word_misplaced : (greatest : ℕ) (section : Input) (s : Slot) (e : Error) �
 unfolding word
 word_misplaced greatest section s e misplaced = refused (inl misplaced)
 
--- a number that is taken at the place is the address
+-- a number that is read at the place is the address
 pub address_taken : (greatest : ℕ) (section : Input) (s : Slot) (rest : Input) (x : ℕ) (new : Input)
     → IsPlaced greatest section s → Takes (place s) section rest → TakesNumber s.width rest x new
     → IsTrue (is_number_size s.width) → AddressAt greatest section s (Ok x)
@@ -145,7 +145,7 @@ address_taken greatest section s rest x new is_placed takes number size =
       (tt, rest, rw size (refl, refl), number),
     )
 
--- a width that is no size, or bytes that aren't there, are the fault
+-- a width that is no size, or bytes that aren't there, are the error
 pub address_refused : (greatest : ℕ) (section : Input) (s : Slot) (rest : Input) (e : Error) (new : Input)
     → IsPlaced greatest section s → Takes (place s) section rest → RefusesAddress s.width rest e new
     → AddressAt greatest section s (Err e)
@@ -187,13 +187,13 @@ slot-definite greatest s =
     then_definite (sized_definite (part_size s.base))
     (λ based. then_definite (check_definite _ _) (λ counted. sized_definite (part_size (distance s))))
 
--- a slot has exactly one word, or one fault
+-- a slot has exactly one word, or one error
 pub one_word : (greatest : ℕ) (section : Input) (s : Slot) → HasOne (WordAt greatest section s)
 unfolding word
 one_word greatest section s =
     at_one section (then_definite (slot-definite greatest s) (λ reached. string_offset-definite greatest s.width))
 
--- a slot has exactly one address, or one fault
+-- a slot has exactly one address, or one error
 pub one_address : (greatest : ℕ) (section : Input) (s : Slot) → HasOne (AddressAt greatest section s)
 unfolding address
 one_address greatest section s =
@@ -202,14 +202,14 @@ one_address greatest section s =
 
 -- ---- more bytes
 
--- more bytes don't change what stands in front of a slot
+-- more bytes don't change what is in front of a slot
 slot-stable : (greatest : ℕ) (s : Slot) → IsStable (to_slot greatest s)
 unfolding to_slot
 slot-stable greatest s =
     then_stable (sized_stable (part_size s.base))
     (λ based. then_stable (check_stable _ _) (λ counted. sized_stable (part_size (distance s))))
 
--- more bytes change no word, and no fault but that bytes are missing
+-- more bytes change no word, and no error but that bytes are missing
 pub word_more : (greatest : ℕ) (section : Input) (s : Slot) (answer : Result ℕ Error) (more : List ℕ)
     → WordAt greatest section s answer → IfErr answer IsNoEof → WordAt greatest (followed_by section more) s answer
 unfolding word

@@ -30,14 +30,14 @@ module _ {f : Layout ℕ} {width : ℕ} (law : IsDefinite f) (least : TakesLeast
 abbrev entries_in : ℕ → Input → Entries
 entries_in width rest = record { width = width; rest = rest }
 
--- no bytes stand for no entries
+-- no bytes have no entries
 pub entries_none : (entry : ℕ → Layout ℕ) (entries : Entries) → entries.rest.bytes ≡ []
     → StandsForEntries entry entries []
 entries_none entry entries empty = none empty
 
 -- ---- addresses
 
--- bytes stand for exactly one list of addresses
+-- bytes have exactly one list of addresses
 pub addresses_one : (entries : Entries) → 0 < entries.width → HasOne (StandsForAddresses entries)
 addresses_one entries positive =
     items-one (λ _. sized_definite (fixed_size entries.width)) (λ _. sized_least (fixed_size entries.width))
@@ -54,14 +54,14 @@ size-positive zero sized = absurd cc
 size-positive (suc width) sized = omega arith
 
 module _ (width : ℕ) (old new : Input) (sized : IsTrue (is_number_size width)) (some : old.bytes ≢ []) where
-  -- an address that is taken comes first
+  -- an address that is read comes first
   pub address_first : {x : ℕ} → TakesNumber width old x new
       → ComesFirst StandsForAddresses (entries_in width old) (Ok x) (entries_in width new)
   address_first takes =
       entry-first (sized_definite (fixed_size width)) (sized_least (fixed_size width))
       (size-positive width sized) some takes
 
-  -- fewer bytes are the end fault, and nothing is left
+  -- fewer bytes are `UnexpectedEof`, and nothing remains
   pub address_fault : {e : Error} {left : Input} → RefusesAddress width old e new → left.bytes ≡ []
       → ComesFirst StandsForAddresses (entries_in width old) (Err e) (entries_in width left)
   address_fault (inl size) empty = absurd (let n = size.none in cc)
@@ -86,14 +86,14 @@ module _ (greatest : ℕ) where
       then_stable (sized_stable (fixed_size width))
       (λ number. then_stable (check_stable _ _) (λ fits. pure_stable number))
 
-  -- it takes its width
+  -- it has its width
   string_offset-least : (width : ℕ) → TakesLeast width (string_offset greatest width)
   unfolding string_offset
   string_offset-least width =
       then_covers (sized_least (fixed_size width))
       (λ number. then_covers (check_least _ _) (λ fits. pure_covers (omega arith)))
 
-  -- bytes stand for exactly one list of offsets
+  -- bytes have exactly one list of offsets
   pub string_offsets_one : (entries : Entries) → 0 < entries.width → HasOne (StandsForStringOffsets greatest entries)
   string_offsets_one entries positive =
       items-one (λ _. string_offset-definite entries.width) (λ _. string_offset-least entries.width)
@@ -111,7 +111,7 @@ module _ (greatest : ℕ) where
   word_size-positive Dwarf64 = omega arith
 
   module _ (format : Format) (old new : Input) (some : old.bytes ≢ []) where
-    -- an offset that is taken comes first
+    -- an offset that is read comes first
     pub string_offset_first : {x : ℕ} → TakesNumber (word_size format) old x new → x ≤ greatest
         → ComesFirst (StandsForStringOffsets greatest) (entries_in (word_size format) old) (Ok x)
         (entries_in (word_size format) new)
@@ -121,7 +121,7 @@ module _ (greatest : ℕ) where
         (word_size-positive format) some
         (x, new, takes, (tt, new, rw (le-leb x greatest fits) (refl, refl), (refl, refl)))
 
-    -- fewer bytes are the end fault, and a number that is no offset is refused; nothing is left
+    -- fewer bytes are `UnexpectedEof`, and a number that is no offset is refused; nothing remains
     pub string_offset_fault : {e : Error} {left : Input}
         → EndsBefore (word_size format) old e new ⊎ IsNoOffset greatest (word_size format) old e new
         → left.bytes ≡ [] → ComesFirst (StandsForStringOffsets greatest) (entries_in (word_size format) old)

@@ -1,4 +1,4 @@
--- Bytes stand for one list of items, and a call gives the first.
+-- Bytes have one list of items, and a call gives the first.
 use Rattle.std.proofs.Common.{◌≡◌, ◌≢◌, ℕ, zero, suc, ◌+◌, ◌-◌, ◌<◌, ◌≤◌, List, [], ◌∷◌, ◌++◌, length, Result, Ok, Err, refl, sym, subst, ◌∙◌, arith, inl, inr, ◌⊎◌}
 use Rattle.std.specs.List.{sum_by}
 use Rattle.std.proofs.lemmas.List.Sums.{sum_by-cons}
@@ -20,7 +20,7 @@ bytes-none_or_some : (bytes : List ℕ) → (bytes ≡ []) ⊎ (bytes ≢ [])
 bytes-none_or_some [] = inl refl
 bytes-none_or_some (b ∷ bytes) = inr (λ e. cc)
 
--- some bytes stay some where more follow
+-- some bytes stay some when more follow
 pub bytes-still_some : (bytes behind : List ℕ) → bytes ≢ [] → bytes ++ behind ≢ []
 bytes-still_some [] behind some e = some refl
 bytes-still_some (x ∷ bytes) behind some e = cc
@@ -36,7 +36,7 @@ module _ {A : Type 0} {item : ℕ → Layout A} {n : ℕ} (least : (offset : ℕ
   items-bounded {offset} {old} (fault {e = e} full h) =
       rw (sum_by-cons (least_taken n) (Err e) []) (omega (arith, bytes-some old.bytes full))
 
--- where items don't depend on their offset, they are the same from every offset on
+-- if items don't depend on their offset, they are the same from every offset on
 pub items-anywhere : {A : Type 0} {f : Layout A} {from : ℕ} (offset : ℕ) {old : Input}
     {items : List (Result A Error)} → AreItems (λ _. f) from old items → AreItems (λ _. f) offset old items
 items-anywhere offset (none e) = none e
@@ -59,7 +59,7 @@ module _ {A : Type 0} {item : ℕ → Layout A} (law : (offset : ℕ) → IsDefi
   item-taken : {x y : A} {i j : Input} → ◌≡◌ {A = ItemRead} (Ok (x, i)) (Ok (y, j)) → ◌≡◌ {A = A × Input} (x, i) (y, j)
   item-taken e = cc
 
-  -- what stands behind an item stands behind it however the item was read
+  -- what is behind an item is behind it however the item was read
   items-behind : (offset : ℕ) (old i j : Input) (x y : A) (ys : Items) → ◌≡◌ {A = A × Input} (x, i) (y, j)
       → AreItems item (offset + (length old.bytes - length j.bytes)) j ys
       → AreItems item (offset + (length old.bytes - length i.bytes)) i ys
@@ -86,7 +86,7 @@ module _ {A : Type 0} {item : ℕ → Layout A} (law : (offset : ℕ) → IsDefi
   items-same {offset} {old} (fault {e = d} some h) (fault {e = c} full k) =
       let q = item-same offset old (Err d) (Err c) h k in let s : d ≡ c = cc in λ i. Err (s i) ∷ []
 
-  -- ---- where each item takes bytes
+  -- ---- if each item has bytes
   module _ {n : ℕ} (least : (offset : ℕ) → TakesLeast n (item offset)) (positive : 1 ≤ n) where
     -- there are items, in at least as many steps as there are bytes
     items-some : (steps offset : ℕ) (old : Input) → length old.bytes < steps
@@ -104,7 +104,7 @@ module _ {A : Type 0} {item : ℕ → Layout A} (law : (offset : ℕ) → IsDefi
             (let l = (least offset).all old x new is in omega (arith, l, positive, few)) in
             (Ok x ∷ others.0, more full is others.1)
 
-    -- an input stands for exactly one list of items
+    -- an input has exactly one list of items
     pub items-one : (offset : ℕ) (old : Input) → HasOne (AreItems item offset old)
     items-one offset old =
         let found = items-some (suc (length old.bytes)) offset old (omega arith) in
@@ -119,7 +119,7 @@ module _ {A : Type 0} {item : ℕ → Layout A} (law : (offset : ℕ) → IsDefi
         let found = items-one behind new in
         ((found.0, found.1), λ others k. more some h (subst (λ (o : ℕ). AreItems item o new others) place k))
 
-    -- a fault comes first, and nothing is left behind it
+    -- an error comes first, and nothing remains behind it
     pub fault-first : (offset behind : ℕ) (old left : Input) (e : Error) → old.bytes ≢ []
         → (item offset).Fails old e → left.bytes ≡ []
         → ((others : Items) × AreItems item behind left others)
@@ -132,7 +132,7 @@ module _ {A : Type 0} {item : ℕ → Layout A} (law : (offset : ℕ) → IsDefi
 
   -- ---- more bytes
   module _ (stable : (offset : ℕ) → IsStable (item offset)) where
-    -- an item that comes first comes first also where more bytes follow
+    -- an item that comes first comes first also when more bytes follow
     pub item-stays : {offset : ℕ} {old : Input} {x : A} {items : Items} → AreItems item offset old (Ok x ∷ items)
         → (behind : List ℕ) (others : Items) → AreItems item offset (followed_by old behind) others
         → (rest : Items) × (others ≡ Ok x ∷ rest)
@@ -151,7 +151,7 @@ module _ {A : Type 0} {item : ℕ → Layout A} (law : (offset : ℕ) → IsDefi
             absurd (let c = item-same offset (followed_by old behind) (Err d)
             (Ok (x, followed_by new behind)) k here in cc)
 
-    -- so does a fault, but that bytes are missing
+    -- so does an error, unless it is an `UnexpectedEof`
     pub fault-stays : {offset : ℕ} {old : Input} {e : Error} → AreItems item offset old (Err e ∷ [])
         → IsNoEof e → (behind : List ℕ)
         → AreItems item offset (followed_by old behind) (Err e ∷ [])

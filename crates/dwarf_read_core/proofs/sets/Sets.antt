@@ -1,5 +1,5 @@
--- Sets are layouts, and have the laws of layouts; what a reader takes of one, and what a call gives.
-use Rattle.std.proofs.Common.{◌≡◌, ◌≢◌, ℕ, ◌+◌, ◌-◌, ◌≤◌, List, [], ◌∷◌, length, Result, Ok, Err, arith, refl, inl, inr}
+-- Sets are layouts, and have the laws of layouts; what a reader reads of one, and what a call gives.
+use Rattle.std.proofs.Common.{◌≡◌, ◌≢◌, ℕ, ◌+◌, ◌-◌, ◌≤◌, List, [], ◌∷◌, length, Result, Ok, Err, arith, refl, Bool, ◌⊎◌, inl, inr}
 use Rattle.std.specs.List.{sum_by}
 use Rattle.std.specs.Prelude.{nat_lt}
 use Rattle.std.proofs.lemmas.Bool.{lt-ltb, le-ltb, le-leb, lt-leb}
@@ -7,7 +7,7 @@ use Rattle.std.proofs.lemmas.List.{length-append}
 use Rattle.dwarf_base_core.specs.declared.common.Format.{Format}
 use Rattle.dwarf_base_core.specs.declared.common.Format.TheVariants.{Dwarf32, Dwarf64}
 use Rattle.dwarf_base_core.specs.declared.error.Error.{Error}
-use Rattle.dwarf_reader_core.specs.Faults.{EndsBefore}
+use Rattle.dwarf_reader_core.specs.Faults.{EndsBefore, WantsMemory}
 use Rattle.dwarf_reader_core.specs.Input.{Input, after, first, Takes}
 use Rattle.dwarf_reader_core.specs.InitialLength.{TakesLength, RefusesLength}
 use Rattle.dwarf_reader_core.specs.Once.{HasOne}
@@ -41,7 +41,7 @@ initial_length-front =
     (when_front (nat_lt short 0xffff_ffff) (refuse_front _)
     (then_front (sized_front (fixed_size 8)) (λ long. pure_front _))))
 
--- it takes four bytes at least
+-- it has at least four bytes
 initial_length-least : TakesLeast 4 initial_length
 unfolding initial_length
 initial_length-least =
@@ -61,7 +61,7 @@ initial_length-stable =
 
 -- ---- the laws of a set
 
--- a set has exactly one outcome where its header has
+-- a set has exactly one outcome if its header has
 pub set_definite : {H : Type 0} {header : Layout H} (greatest : ℕ) → IsDefinite header → (offset : ℕ)
     → IsDefinite (set header greatest offset)
 unfolding set
@@ -71,7 +71,7 @@ set_definite greatest law offset =
     (λ fits. then_definite (sized_definite (part_size initial.1))
     (λ unit. then_definite (inside_definite unit law) (λ said. pure_definite _))))
 
--- whatever its header, which stands in a part
+-- whatever its header, which is in a part
 pub set_front : {H : Type 0} (header : Layout H) (greatest offset : ℕ) → IsFront (set header greatest offset)
 unfolding set
 set_front header greatest offset =
@@ -79,7 +79,7 @@ set_front header greatest offset =
     (λ fits. then_front (sized_front (part_size initial.1))
     (λ unit. then_front (inside_front header unit) (λ said. pure_front _))))
 
--- it takes four bytes, and those of the header
+-- it has four bytes, and those of the header
 pub set-at_least : {H : Type 0} {header : Layout H} (n greatest : ℕ) → TakesLeast n header → (offset : ℕ)
     → TakesLeast (4 + n) (set header greatest offset)
 unfolding set
@@ -96,7 +96,7 @@ set_stable header greatest offset =
     (λ fits. then_stable (sized_stable (part_size initial.1))
     (λ unit. then_stable (inside_stable header unit) (λ said. pure_stable _))))
 
--- ---- a set by what a reader takes
+-- ---- a set by what a reader reads
 
 -- the contract of an initial length is its layout
 initial_length-reads : (greatest : ℕ) (old : Input) (n : ℕ) (format : Format) (new : Input)
@@ -108,7 +108,7 @@ initial_length-reads greatest old n Dwarf64 new takes =
     (0xffff_ffff, after 4 old, takes.0, (n, new, takes.1, (refl, refl)))
 
 module _ {H : Type 0} (header : Layout H) (greatest offset : ℕ) (old : Input) where
-  -- a length that is refused is the set's fault
+  -- a length that is refused is the set's error
   pub set_length_fails : {e : Error} (new : Input) → RefusesLength greatest old e new
       → (set header greatest offset).Fails old e
   unfolding set initial_length
@@ -141,7 +141,7 @@ module _ {H : Type 0} (header : Layout H) (greatest offset : ℕ) (old : Input) 
         )
 
     module _ {unit new : Input} (is : unit ≡ first n behind) (taken : Takes n behind new) where
-      -- so is the fault of the header
+      -- so is the error of the header
       pub set_header_fails : {e : Error} → header.Fails unit e → (set header greatest offset).Fails old e
       unfolding set
       set_header_fails h =
@@ -170,24 +170,24 @@ module _ {H : Type 0} (header : Layout H) (greatest offset : ℕ) (old : Input) 
         ),
       )
 
--- ---- what sets stand for, and what a call gives
+-- ---- the lists that sets are, and what a call gives
 
--- a header has exactly one outcome, and takes four bytes
+-- a header has exactly one outcome, and has four bytes
 pub record IsHeader {H : Type 0} (header : Layout H) : Type 0 where
   pub definite : IsDefinite header
   pub least : TakesLeast 4 header
 
--- no bytes stand for no sets
+-- no bytes have no sets
 pub sets_none : {H : Type 0} (header : Layout H) (greatest : ℕ) (headers : Headers) → headers.rest.bytes ≡ []
     → StandsForSets header greatest headers []
 sets_none header greatest headers empty = none empty
 
 module _ {H : Type 0} {header : Layout H} (is : IsHeader header) (greatest : ℕ) where
-  -- a set takes eight bytes
+  -- a set has eight bytes
   pub set_least : (offset : ℕ) → TakesLeast 8 (set header greatest offset)
   set_least = set-at_least 4 greatest is.least
 
-  -- bytes stand for exactly one list of sets
+  -- bytes have exactly one list of sets
   pub sets_one : (headers : Headers) → HasOne (StandsForSets header greatest headers)
   sets_one headers = items-one (set_definite greatest is.definite) set_least (omega arith) headers.offset headers.rest
 
@@ -196,7 +196,7 @@ module _ {H : Type 0} {header : Layout H} (is : IsHeader header) (greatest : ℕ
       → StandsForSets header greatest headers items → sum_by (least_taken 8) items ≤ length headers.rest.bytes
   sets_bounded headers items stands = items-bounded set_least stands
 
-  -- the first set stays first where more bytes follow
+  -- the first set stays first when more bytes follow
   pub set_more : (headers : Headers) (s : Set H) (items others : List (Result (Set H) Error)) (more : List ℕ)
       → StandsForSets header greatest headers (Ok s ∷ items)
       → StandsForSets header greatest (followed_headers more headers) others
@@ -204,11 +204,11 @@ module _ {H : Type 0} {header : Layout H} (is : IsHeader header) (greatest : ℕ
   set_more headers s items others more stands h =
       item-stays (set_definite greatest is.definite) (set_stable header greatest) stands more others h
 
-  -- so does a fault, but that bytes are missing
-  pub fault_more : (headers : Headers) (e : Error) (more : List ℕ)
+  -- so does an error, unless it is an `UnexpectedEof`
+  pub set_error_more : (headers : Headers) (e : Error) (more : List ℕ)
       → StandsForSets header greatest headers (Err e ∷ []) → IsNoEof e
       → StandsForSets header greatest (followed_headers more headers) (Err e ∷ [])
-  fault_more headers e more stands settled =
+  set_error_more headers e more stands settled =
       fault-stays (set_definite greatest is.definite) (set_stable header greatest) stands settled more
 
   -- a set that is read comes first
@@ -220,15 +220,23 @@ module _ {H : Type 0} {header : Layout H} (is : IsHeader header) (greatest : ℕ
       item-first (set_definite greatest is.definite) set_least
       (omega arith) old.offset new.offset old.rest new.rest s some h place
 
-  -- a fault comes first, and nothing is left
-  pub set_fault : (old new : Headers) {e : Error} → old.rest.bytes ≢ []
+  -- an error comes first, and nothing remains
+  pub set_error : (old new : Headers) {e : Error} → old.rest.bytes ≢ []
       → (set header greatest old.offset).Fails old.rest e → new.rest.bytes ≡ []
       → ComesFirst (StandsForSets header greatest) old (Err e) new
-  set_fault old new {e} some h empty =
+  set_error old new {e} some h empty =
       fault-first (set_definite greatest is.definite) set_least
       (omega arith) old.offset new.offset old.rest new.rest e some h empty
 
-  -- a set that is read comes first also where more bytes follow
+  -- what `next` returns if there is no set: the first error, or that memory ran out; and nothing remains
+  pub set_refused : (old new : Headers) {e : Error} (is_free : Bool) → old.rest.bytes ≢ []
+      → ((set header greatest old.offset).Fails old.rest e ⊎ WantsMemory is_free e) → new.rest.bytes ≡ []
+      → ComesFirst (StandsForSets header greatest) old (Err e) new
+      ⊎ (WantsMemory is_free e × StandsForSets header greatest new [])
+  set_refused old new is_free some (inl fails) empty = inl (set_error old new some fails empty)
+  set_refused old new is_free some (inr want) empty = inr (want, none empty)
+
+  -- a set that is read comes first also when more bytes follow
   pub set_stays : (old new : Headers) {s : Set H} → old.rest.bytes ≢ []
       → (set header greatest old.offset).Reads old.rest s new.rest
       → new.offset ≡ old.offset + (length old.rest.bytes - length new.rest.bytes) → (more : List ℕ)
@@ -239,13 +247,22 @@ module _ {H : Type 0} {header : Layout H} (is : IsHeader header) (greatest : ℕ
       ((set_stable header greatest old.offset).stays more old.rest s new.rest h)
       (omega (arith, place, l, length-append old.rest.bytes more, length-append new.rest.bytes more))
 
--- so does a fault, but that bytes are missing
-pub set_fault_stays : {H : Type 0} (header : Layout H) (greatest : ℕ) (old : Headers) {e : Error}
+-- so does an error, unless it is an `UnexpectedEof`
+pub set_error_stays : {H : Type 0} (header : Layout H) (greatest : ℕ) (old : Headers) {e : Error}
     → old.rest.bytes ≢ [] → (set header greatest old.offset).Fails old.rest e → IsNoEof e
     → (more : List ℕ) → StandsForSets header greatest (followed_headers more old) (Err e ∷ [])
-set_fault_stays header greatest old {e} some h settled more =
+set_error_stays header greatest old {e} some h settled more =
     fault (bytes-still_some old.rest.bytes more some)
     ((set_stable header greatest old.offset).fault_stays more old.rest e settled h)
+
+-- so does the error that `next` returns, or that memory ran out
+pub set_refused_stays : {H : Type 0} (header : Layout H) (greatest : ℕ) (old : Headers) {e : Error} (is_free : Bool)
+    → old.rest.bytes ≢ [] → ((set header greatest old.offset).Fails old.rest e ⊎ WantsMemory is_free e) → IsNoEof e
+    → (more : List ℕ)
+    → StandsForSets header greatest (followed_headers more old) (Err e ∷ []) ⊎ WantsMemory is_free e
+set_refused_stays header greatest old is_free some (inl fails) settled more =
+    inl (set_error_stays header greatest old some fails settled more)
+set_refused_stays header greatest old is_free some (inr want) settled more = inr want
 
 -- ---- headers
 

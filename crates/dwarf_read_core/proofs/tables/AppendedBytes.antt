@@ -65,7 +65,7 @@ bad_more k bytes more bad = record {
       unended = unended bytes b r (subst IsEncoding e s.encoding);
     })
 
--- ---- tables and faults
+-- ---- tables and errors
 
 -- bytes that begin with a table that a code of 0 closes still begin with it with more bytes behind them
 table_more : {bytes : List ℕ} {t : Table} (more : List ℕ) → IsTable bytes t → t.close ≡ by_null
@@ -76,7 +76,7 @@ table_more more (closed_by_null bytes zero_code rest ds are is) final =
     (closed_by_null bytes zero_code (rest ++ more) ds are is)
 table_more more (closed_by_end bytes ds are) final = absurd cc
 
--- a fault in a declaration, other than that the bytes end, stays the fault with more bytes behind them
+-- an error in a declaration, other than that the bytes end, stays the error with more bytes behind them
 faulty_more : {end : ℕ} {bytes : List ℕ} {e : Error} (longer : ℕ) (more : List ℕ) → IsFaulty end bytes e
     → IsNoEof e → IsFaulty longer (bytes ++ more) e
 faulty_more {end = end} longer more (number_cut front bytes k b c) final = absurd (final end refl)
@@ -104,13 +104,13 @@ still_some : (rest more : List ℕ) → rest ≢ [] → rest ++ more ≢ []
 still_some [] more some e = some refl
 still_some (x ∷ rest) more some e = cc
 
--- the first fault of bytes, other than that they end, stays their first fault with more bytes behind them
-fault_more : {end : ℕ} {bytes : List ℕ} {e : Error} (longer : ℕ) (more : List ℕ) → IsFault end bytes e
+-- the first error of bytes, other than that they end, stays their first error with more bytes behind them
+first_error_more : {end : ℕ} {bytes : List ℕ} {e : Error} (longer : ℕ) (more : List ℕ) → IsFault end bytes e
     → IsNoEof e → IsFault longer (bytes ++ more) e
-fault_more longer more (in_declaration bytes rest ds e are some f) final =
+first_error_more longer more (in_declaration bytes rest ds e are some f) final =
     subst (λ (x : List ℕ). IsFault longer x e) (sym (append_assoc bytes rest more))
     (in_declaration bytes (rest ++ more) ds e are (still_some rest more some) (faulty_more longer more f final))
-fault_more longer more (repeated bytes declaration rest ds d are is twice) final =
+first_error_more longer more (repeated bytes declaration rest ds d are is twice) final =
     subst (λ (x : List ℕ). IsFault longer x (DuplicateAbbreviationCode d.code))
     (sym (append_assoc (bytes ++ declaration) rest more))
     (repeated bytes declaration (rest ++ more) ds d are is twice)
@@ -127,10 +127,10 @@ answer_more {section} {offset} more (fault e le is) final =
     fault e (omega (arith, length-append section.bytes more))
     (subst (λ (b : List ℕ). IsFault (end_of (followed_by section more)) b e)
     (sym (drop-append-le offset section.bytes more le))
-    (fault_more (end_of (followed_by section more)) more is final))
+    (first_error_more (end_of (followed_by section more)) more is final))
 
 -- a final result that is the answer, unless memory ran out, is still so with more bytes behind the section
-pub stays : (r : Result Table Error) (section : Input) (offset : ℕ) → Answers r section offset → IsFinal r
+pub returned_stays : (r : Result Table Error) (section : Input) (offset : ℕ) → Answers r section offset → IsFinal r
     → (more : List ℕ) → Answers r (followed_by section more) offset
-stays (Ok t) section offset h final more = answer_more more h final
-stays (Err e) section offset h final more = λ memory. answer_more more (h memory) final
+returned_stays (Ok t) section offset h final more = answer_more more h final
+returned_stays (Err e) section offset h final more = λ memory. answer_more more (h memory) final

@@ -8,8 +8,8 @@ use Rattle.dwarf_read_core.specs.Grammar.{Declaration}
 use Rattle.dwarf_read_core.specs.Reading.{◌>>=◌, number_at, declared_at, declaration_at}
 use Rattle.dwarf_read_core.proofs.ResultLemmas.{bind_ok}
 
-abbrev Entry : Type 0
-Entry = Result (Option Declaration × List ℕ) Error
+abbrev ReadEntry : Type 0
+ReadEntry = Result (Option Declaration × List ℕ) Error
 
 -- the code can't be read
 pub code_fails : (end : ℕ) (bytes : List ℕ) (e : Error) → bytes ≢ [] → number_at unsigned64 end bytes ≡ Err e
@@ -17,15 +17,15 @@ pub code_fails : (end : ℕ) (bytes : List ℕ) (e : Error) → bytes ≢ [] →
 unfolding declaration_at
 code_fails end bytes e some q = rw (ne_eqb (length bytes) 0 (λ h. some (nil_from_length bytes h)), q) refl
 
--- the code is not 0, so that a declaration stands there
+-- the code is not 0, so that a declaration is there
 pub record IsCoded (end : ℕ) (bytes : List ℕ) (code : ℕ) (after : List ℕ) : Type 0 where
   pub read : declaration_at end bytes ≡ (declared_at end code after >>= λ d. Ok (Some d.0, d.1))
 
--- bytes whose code is read and isn't 0 are read as what stands behind that code
-pub coded : (end : ℕ) (bytes : List ℕ) (code : ℕ) (after : List ℕ) → bytes ≢ []
+-- bytes whose code is read and isn't 0 are read as what is behind that code
+pub declaration-coded : (end : ℕ) (bytes : List ℕ) (code : ℕ) (after : List ℕ) → bytes ≢ []
     → number_at unsigned64 end bytes ≡ Ok (code, after) → code ≢ 0 → IsCoded end bytes code after
 unfolding declaration_at
-coded end bytes code after some q nonzero =
+declaration-coded end bytes code after some q nonzero =
     record {
       read = rw (
         ne_eqb (length bytes) 0
@@ -35,15 +35,15 @@ coded end bytes code after some q nonzero =
       ) refl;
     }
 
--- so a declaration is read, or a fault
-pub is_some : {end : ℕ} {bytes : List ℕ} {code : ℕ} {after : List ℕ} → IsCoded end bytes code after
+-- so a declaration is read, or an error
+pub declaration-some : {end : ℕ} {bytes : List ℕ} {code : ℕ} {after : List ℕ} → IsCoded end bytes code after
     → (rest : List ℕ) → declaration_at end bytes ≢ Ok (None, rest)
-is_some {end} {bytes} {code} {after} h rest e =
+declaration-some {end} {bytes} {code} {after} h rest e =
     let b = bind_ok (declared_at end code after) (λ d. Ok (Some d.0, d.1)) (None, rest) (sym h.read ∙ e) in
     ok_some b.0.0 b.0.1 rest b.2
   where
-    ok_some : (d : Declaration) (x y : List ℕ) → let one : Entry = Ok (Some d, x) in
-        let two : Entry = Ok (None, y) in one ≢ two
+    ok_some : (d : Declaration) (x y : List ℕ) → let one : ReadEntry = Ok (Some d, x) in
+        let two : ReadEntry = Ok (None, y) in one ≢ two
     ok_some d x y q =
         let p : ◌≡◌ {A = Option Declaration × List ℕ} (Some d, x) (None, y) = cc in
         let none : ◌≡◌ {A = Option Declaration} (Some d) None = ap (λ (z : Option Declaration × List ℕ). z.0) p in

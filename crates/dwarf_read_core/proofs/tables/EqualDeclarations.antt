@@ -104,7 +104,7 @@ same_by_parts a b of_a of_b same =
     } in
     ap coded code ∙ ap tagged tag ∙ ap flagged children ∙ ap listed attributes
 
--- the test finds two declarations equal exactly where they are the same, if their values are as their forms say
+-- the test finds two declarations equal exactly if they are the same, if their values are as their forms say
 pub same_declaration_is_equality : (a b : Declaration) → All HasValueByForm a.attributes
     → All HasValueByForm b.attributes → IsTrue (same_declaration a b) ↔ (a ≡ b)
 same_declaration_is_equality a b of_a of_b =

@@ -20,8 +20,8 @@ use Rattle.dwarf_read_core.proofs.tables.Sequences.{Sequence-push}
 use Rattle.dwarf_read_core.proofs.tables.ReadingIsSound.{DeclarationFound, EndFound, at_end, at_zero, declaration_found, declaration_fault, declaration_shorter}
 use Rattle.dwarf_read_core.proofs.tables.ReadingIsComplete.{declaration_again, zero_again, end_again, fault_again}
 
-abbrev pub Read : Type 0
-Read = Result Table Error
+abbrev pub TableRead : Type 0
+TableRead = Result Table Error
 
 -- ---- one declaration after the other
 
@@ -52,7 +52,7 @@ unfolding table_in table_at
 table_fails end t bytes e q =
     table_enough (length bytes + 1) (suc (length bytes)) end t bytes (omega arith) (omega arith) ∙ rw q refl
 
--- a table ends where no declaration is read, closed by the end if no bytes are left, or else by a code of 0
+-- a table ends if no declaration is read, closed by the end if no bytes remain, or else by a code of 0
 pub table_ends : (end : ℕ) (t : ByCode) (bytes rest : List ℕ) → declaration_at end bytes ≡ Ok (None, rest)
     → table_in end t bytes ≡ Ok (closed t (close_of bytes))
 unfolding table_in table_at
@@ -84,52 +84,52 @@ table_goes_on end t bytes d rest q fresh =
     table_enough (length bytes + 1) (suc (length bytes)) end t bytes (omega arith) (omega arith)
     ∙ rw (q, fresh) (table_enough (length bytes) (length rest + 1) end (insert t d.code d) rest (omega arith) (omega arith))
 
--- ---- codes that stand once
+-- ---- codes that occur once
 
-abbrev pub entries_of : List Declaration → List (ℕ × Declaration)
-entries_of ds = map (λ d. (d.code, d)) ds
+abbrev pub entries_by_code : List Declaration → List (ℕ × Declaration)
+entries_by_code ds = map (λ d. (d.code, d)) ds
 
--- two codes are equal by their order exactly where they are equal as numbers
+-- two codes are equal by their order exactly if they are equal as numbers
 same_code_in_order : (a b : ℕ) → eq_by_cmp nat_cmp a b ≡ eqb a b
 same_code_in_order a b = grind (arith, nat_tests)
 
 -- a code finds the first declaration if that one has it, and otherwise what it finds among the others
 looked_up : (code : ℕ) (x : Declaration) (ds : List Declaration) (t : Bool) → eqb code x.code ≡ t
-    → find nat_cmp code (entries_of (x ∷ ds)) ≡ cond t (Some x) (find nat_cmp code (entries_of ds))
-looked_up code x ds t e = ap (λ b. cond b (Some x) (find nat_cmp code (entries_of ds))) (same_code_in_order code x.code ∙ e)
+    → find nat_cmp code (entries_by_code (x ∷ ds)) ≡ cond t (Some x) (find nat_cmp code (entries_by_code ds))
+looked_up code x ds t e = ap (λ b. cond b (Some x) (find nat_cmp code (entries_by_code ds))) (same_code_in_order code x.code ∙ e)
 
 -- a code that none of the declarations has finds nothing among them
-find_none : (ds : List Declaration) (code : ℕ) → (Declares ds code → ⊥) → find nat_cmp code (entries_of ds) ≡ None
+find_none : (ds : List Declaration) (code : ℕ) → (Declares ds code → ⊥) → find nat_cmp code (entries_by_code ds) ≡ None
 find_none [] code h = refl
 find_none (x ∷ ds) code h =
     looked_up code x ds false (ne_eqb code x.code (λ e. h (inl (sym e)))) ∙ find_none ds code (λ w. h (inr w))
 
 -- a code that one of the declarations has finds something among them
-find_some : (ds : List Declaration) (code : ℕ) → Declares ds code → is_some (find nat_cmp code (entries_of ds)) ≡ true
+find_some : (ds : List Declaration) (code : ℕ) → Declares ds code → is_some (find nat_cmp code (entries_by_code ds)) ≡ true
 find_some [] code h = absurd h
 find_some (x ∷ ds) code h = go (eqb code x.code) refl (λ w. find_some ds code w) h
   where
-    go : (t : Bool) → eqb code x.code ≡ t → (Declares ds code → is_some (find nat_cmp code (entries_of ds)) ≡ true)
-        → (x.code ≡ code) ⊎ Declares ds code → is_some (find nat_cmp code (entries_of (x ∷ ds))) ≡ true
+    go : (t : Bool) → eqb code x.code ≡ t → (Declares ds code → is_some (find nat_cmp code (entries_by_code ds)) ≡ true)
+        → (x.code ≡ code) ⊎ Declares ds code → is_some (find nat_cmp code (entries_by_code (x ∷ ds))) ≡ true
     go true e later h = ap is_some (looked_up code x ds true e)
     go false e later (inl same) = absurd (eqb-false code x.code e (sym same))
     go false e later (inr w) = ap is_some (looked_up code x ds false e) ∙ later w
 
 -- a code that finds something among declarations is the code of one of them
-declared_from_find : (ds : List Declaration) (code : ℕ) → is_some (find nat_cmp code (entries_of ds)) ≡ true
+declared_from_find : (ds : List Declaration) (code : ℕ) → is_some (find nat_cmp code (entries_by_code ds)) ≡ true
     → Declares ds code
 declared_from_find [] code h = absurd cc
 declared_from_find (x ∷ ds) code h = go (eqb code x.code) refl (λ w. declared_from_find ds code w)
   where
-    go : (t : Bool) → eqb code x.code ≡ t → (is_some (find nat_cmp code (entries_of ds)) ≡ true → Declares ds code)
+    go : (t : Bool) → eqb code x.code ≡ t → (is_some (find nat_cmp code (entries_by_code ds)) ≡ true → Declares ds code)
         → (x.code ≡ code) ⊎ Declares ds code
     go true e later = inl (sym (eqb-true code x.code e))
     go false e later = inr (later (sym (ap is_some (looked_up code x ds false e)) ∙ h))
 
--- the map of declarations has a code exactly where the code finds something among them
+-- the map of declarations has a code exactly if the code finds something among them
 contains_is : (ds : List Declaration) (code : ℕ)
-    → contains_key (by_code_of ds) code ≡ is_some (find nat_cmp code (entries_of ds))
-contains_is ds code = ap is_some (get-from_entries nat_cmp_total (entries_of ds) code)
+    → contains_key (by_code_of ds) code ≡ is_some (find nat_cmp code (entries_by_code ds))
+contains_is ds code = ap is_some (get-from_entries nat_cmp_total (entries_by_code ds) code)
 
 -- the map of declarations lacks a code that none of them has
 pub fresh_code : (ds : List Declaration) (code : ℕ) → (Declares ds code → ⊥) → contains_key (by_code_of ds) code ≡ false
@@ -154,7 +154,7 @@ pub table_push : (ds : List Declaration) (d : Declaration) → (Declares ds d.co
 table_push ds d h =
     ap (λ (es : List (ℕ × Declaration)). from_entries {R = nat_cmp} es)
     (map_push (λ (x : Declaration). (x.code, x)) ds d)
-    ∙ from_entries_push nat_cmp_total nat_cmp-IsAntisymmetric (entries_of ds) d.code d (find_none ds d.code h)
+    ∙ from_entries_push nat_cmp_total nat_cmp-IsAntisymmetric (entries_by_code ds) d.code d (find_none ds d.code h)
 
 -- a code of declarations and one more is a code of those declarations, or that of the one more
 declared_later : (ds : List Declaration) (d : Declaration) (code : ℕ) → Declares (ds ++ d ∷ []) code
@@ -187,7 +187,7 @@ distinct_front (x ∷ ds) more d h (inr w) = distinct_front ds more d h.1 w
 -- ---- what is read is in the grammar
 
 -- the declarations so far, and a table that is read behind them
-abbrev Reads : ℕ → List ℕ → Read → Type 0
+abbrev Reads : ℕ → List ℕ → TableRead → Type 0
 Reads end bytes (Ok t) = IsTable bytes t
 Reads end bytes (Err e) = IsFault end bytes e
 
@@ -216,7 +216,7 @@ ended front ds are (at_zero bytes rest z) =
     rw some (subst (λ (b : List ℕ). IsTable b (closed (by_code_of ds) by_null)) same
     (closed_by_null front z.front rest ds are z.is_zero))
 
--- what is read behind the declarations so far is the table that all the bytes begin with, or their first fault
+-- what is read behind the declarations so far is the table that all the bytes begin with, or their first error
 reads_by : (n end : ℕ) (front bytes : List ℕ) (ds : List Declaration) → length bytes < n → AreDeclarations front ds
     → Reads end (front ++ bytes) (table_at n end (by_code_of ds) bytes)
 unfolding table_at
@@ -287,7 +287,7 @@ table_again end (closed_by_end bytes ds are) =
     ap (table_in end (by_code_of [])) (sym (append-nil bytes)) ∙ feed end [] bytes [] ds are.each are.distinct
     ∙ table_ends end (by_code_of ds) [] [] (end_again end)
 
--- bytes that have a first fault, in place of a table, are read as that fault
+-- bytes that have a first error, in place of a table, are read as that error
 pub faults_again : {bytes : List ℕ} {e : Error} {end : ℕ} → IsFault end bytes e
     → table_in end (by_code_of []) bytes ≡ Err e
 faults_again {end = end} (in_declaration bytes rest ds e are some f) =
@@ -301,7 +301,7 @@ faults_again {end = end} (repeated bytes declaration rest ds d are is twice) =
 
 -- ---- the one answer
 
-abbrev AnswerBy : Bool → Input → ℕ → Read
+abbrev AnswerBy : Bool → Input → ℕ → TableRead
 AnswerBy t section offset =
     cond t (Err (end_fault section)) (table_in (end_of section) empty (drop offset section.bytes))
 
@@ -310,7 +310,7 @@ pub is_answer : (section : Input) (offset : ℕ) → Answer section offset (answ
 unfolding answer_at table_in
 is_answer section offset = go (ltb (length section.bytes) offset) refl
   where
-    read : (r : Read) → offset ≤ length section.bytes → Reads (end_of section) (drop offset section.bytes) r
+    read : (r : TableRead) → offset ≤ length section.bytes → Reads (end_of section) (drop offset section.bytes) r
         → Answer section offset r
     read (Ok t) le is = table t le is
     read (Err e) le is = fault e le is
@@ -324,7 +324,7 @@ is_answer section offset = go (ltb (length section.bytes) offset) refl
         (omega arith) (record { each = refl; distinct = tt }))
 
 -- every answer for a section and an offset is what is read there
-pub only_answer : {section : Input} {offset : ℕ} {r : Read} → Answer section offset r → answer_at section offset ≡ r
+pub only_answer : {section : Input} {offset : ℕ} {r : TableRead} → Answer section offset r → answer_at section offset ≡ r
 unfolding answer_at
 only_answer {section} {offset} (outside lt) = rw (lt-ltb (length section.bytes) offset lt) refl
 only_answer {section} {offset} (table t le is) =
@@ -332,10 +332,10 @@ only_answer {section} {offset} (table t le is) =
 only_answer {section} {offset} (fault e le is) = rw (le-ltb (length section.bytes) offset le, faults_again is) refl
 
 -- what the code reads behind the offset is the answer
-pub answered : (r : Read) (section : Input) (offset : ℕ) (rest : Input) → Takes offset section rest
+pub answer_returned : (r : TableRead) (section : Input) (offset : ℕ) (rest : Input) → Takes offset section rest
     → Gives (λ t. t) r (table_in (end_of rest) empty rest.bytes) → Answers r section offset
 unfolding answer_at
-answered r section offset rest takes given = go r (subst (λ (read : Read). Gives (λ t. t) r read) same given)
+answer_returned r section offset rest takes given = go r (subst (λ (read : TableRead). Gives (λ t. t) r read) same given)
   where
     same : table_in (end_of rest) empty rest.bytes ≡ answer_at section offset
     same =
@@ -343,7 +343,7 @@ answered r section offset rest takes given = go r (subst (λ (read : Read). Give
         let b : rest.bytes ≡ drop offset section.bytes = ap (λ (i : Input). i.bytes) takes.left in
         rw (e, b, le-ltb (length section.bytes) offset takes.enough) refl
 
-    go : (r : Read) → Gives (λ t. t) r (answer_at section offset) → Answers r section offset
+    go : (r : TableRead) → Gives (λ t. t) r (answer_at section offset) → Answers r section offset
     go (Ok t) h = subst (Answer section offset) h (is_answer section offset)
     go (Err e) h = λ memory. subst (Answer section offset) (h memory) (is_answer section offset)
 
@@ -357,7 +357,7 @@ pub outside_of : (section : Input) (offset : ℕ) (e : Error) (new : Input) → 
 outside_of section offset e new short =
     subst (λ (x : Error). Answer section offset (Err x)) (sym short.fault) (outside short.short)
 
--- where no declaration begins
+-- if no declaration begins
 pub nothing_declared : (end : ℕ) (section : Input) (offset : ℕ) (rest : List ℕ) → TakesNoMemory section offset
     → rest ≡ drop offset section.bytes → (behind : List ℕ) × (declaration_at end rest ≡ Ok (None, behind))
 nothing_declared end section offset rest (inl past) is =

@@ -9,8 +9,8 @@ use Rattle.dwarf_read_core.proofs.tables.Sequences.{Sequence-push}
 use Rattle.dwarf_read_core.proofs.ResultLemmas.{bind_ok, bind_err}
 use Rattle.dwarf_read_core.proofs.tables.ReadingSpecifications.{NullFound, SpecificationFound, specification_found, specification_fault, specification_again, null_again, specification_shorter}
 
-abbrev pub Read : Type 0
-Read = Result (List Specification × List ℕ) Error
+abbrev pub AttributesRead : Type 0
+AttributesRead = Result (List Specification × List ℕ) Error
 
 -- ---- one specification after the other
 
@@ -50,38 +50,38 @@ attributes_fail end bytes e q =
 -- ---- as a loop does
 
 -- a specification put before what is read, and a front before both, is the front with that one at its end
-regroup : (front : List Specification) (s : Specification) (read : Read)
+front-regrouped : (front : List Specification) (s : Specification) (read : AttributesRead)
     → with_front front (read >>= λ x. Ok (s ∷ x.0, x.1)) ≡ with_front (front ++ s ∷ []) read
-regroup front s (Ok x) = ap (λ (all : List Specification). Ok (all, x.1)) (simp append_assoc)
-regroup front s (Err e) = refl
+front-regrouped front s (Ok x) = ap (λ (all : List Specification). Ok (all, x.1)) (simp append_assoc)
+front-regrouped front s (Err e) = refl
 
--- a whole made of a front and the list read behind it stays the same where the next one joins the front
-pub goes_on : (front : List Specification) (end : ℕ) (bytes : List ℕ) (s : Specification) (after : List ℕ)
-    (total : Read) → specification_at end bytes ≡ Ok (Some s, after)
+-- a whole made of a front and the list read behind it stays the same if the next one joins the front
+pub front-goes_on : (front : List Specification) (end : ℕ) (bytes : List ℕ) (s : Specification) (after : List ℕ)
+    (total : AttributesRead) → specification_at end bytes ≡ Ok (Some s, after)
     → with_front front (attributes_in end bytes) ≡ total
     → with_front (front ++ s ∷ []) (attributes_in end after) ≡ total
-goes_on front end bytes s after total q so_far =
-    sym (regroup front s (attributes_in end after))
+front-goes_on front end bytes s after total q so_far =
+    sym (front-regrouped front s (attributes_in end after))
     ∙ ap (with_front front) (sym (next end bytes (Some s, after) q)) ∙ so_far
 
--- a whole reading is the front and the bytes behind the null specification, where that one is read next
-pub ends : (front : List Specification) (end : ℕ) (bytes : List ℕ) (o : Option Specification) (after : List ℕ)
-    (total : Read) → specification_at end bytes ≡ Ok (o, after) → o ≡ None
+-- a whole reading is the front and the bytes behind the null specification, if that one is read next
+pub front-ends : (front : List Specification) (end : ℕ) (bytes : List ℕ) (o : Option Specification) (after : List ℕ)
+    (total : AttributesRead) → specification_at end bytes ≡ Ok (o, after) → o ≡ None
     → with_front front (attributes_in end bytes) ≡ total → total ≡ Ok (front, after)
-ends front end bytes o after total q none so_far =
+front-ends front end bytes o after total q none so_far =
     let r : specification_at end bytes ≡ Ok (None, after) = rw none at q in
     sym so_far ∙ ap (with_front front) (next end bytes (None, after) r)
     ∙ ap (λ (all : List Specification). Ok (all, after)) (append-nil front)
 
 -- a whole reading fails with the error with which reading the next specification fails
-pub fails : (front : List Specification) (end : ℕ) (bytes : List ℕ) (e : Error) (total : Read)
+pub front-fails : (front : List Specification) (end : ℕ) (bytes : List ℕ) (e : Error) (total : AttributesRead)
     → specification_at end bytes ≡ Err e → with_front front (attributes_in end bytes) ≡ total → total ≡ Err e
-fails front end bytes e total q so_far = sym so_far ∙ ap (with_front front) (attributes_fail end bytes e q)
+front-fails front end bytes e total q so_far = sym so_far ∙ ap (with_front front) (attributes_fail end bytes e q)
 
 -- an empty front changes nothing of what is read
-pub begins : (read : Read) → with_front [] read ≡ read
-begins (Ok x) = refl
-begins (Err e) = refl
+pub front-begins : (read : AttributesRead) → with_front [] read ≡ read
+front-begins (Ok x) = refl
+front-begins (Err e) = refl
 
 -- ---- what is read is in the grammar
 
@@ -103,7 +103,7 @@ more_found bytes s ss behind rest f g = record {
   is_null = g.is_null;
 }
 
--- specifications read up to the null one, with any fuel, stand at the front of the bytes as the grammar has them
+-- specifications read up to the null one, with any fuel, are at the front of the bytes as the grammar has them
 found_by : (n end : ℕ) (bytes : List ℕ) (x : List Specification × List ℕ) → attributes_at n end bytes ≡ Ok x
     → AttributesFound bytes x.0 x.1
 unfolding attributes_at
@@ -129,7 +129,7 @@ found_by (suc n) end bytes x e =
         subst (λ (y : List Specification × List ℕ). AttributesFound bytes y.0 y.1) p
         (more_found bytes s b.0.0 behind b.0.1 f (others behind b.0 b.1))
 
--- specifications read up to the null one stand at the front of the bytes as the grammar has them
+-- specifications read up to the null one are at the front of the bytes as the grammar has them
 pub attributes_found : (end : ℕ) (bytes : List ℕ) (x : List Specification × List ℕ)
     → attributes_in end bytes ≡ Ok x → AttributesFound bytes x.0 x.1
 unfolding attributes_in
@@ -150,7 +150,7 @@ front_push front first d s is one = record {
   are_attributes = Sequence-push IsSpecification is.specifications d.attributes first s is.are_attributes one;
 }
 
--- an error of reading specifications behind a front, with more fuel than bytes, is a fault of both together
+-- an error of reading specifications behind a front, with more fuel than bytes, is an error of both together
 fault_by : (n end : ℕ) (front bytes : List ℕ) (d : Declaration) (e : Error) → length bytes < n → IsFront front d
     → attributes_at n end bytes ≡ Err e → IsFaulty end (front ++ bytes) e
 unfolding attributes_at
@@ -179,7 +179,7 @@ fault_by (suc n) end front bytes d e short is q =
           | inr w ↦ absurd (let v = w.2 in cc)
         ]
 
--- an error of reading the specifications behind the front of a declaration is a fault of both together
+-- an error of reading the specifications behind the front of a declaration is an error of both together
 pub attributes_fault : (end : ℕ) (front bytes : List ℕ) (d : Declaration) (e : Error) → IsFront front d
     → attributes_in end bytes ≡ Err e → IsFaulty end (front ++ bytes) e
 unfolding attributes_in
@@ -188,7 +188,7 @@ attributes_fault end front bytes d e is q = fault_by (length bytes + 1) end fron
 -- ---- what is in the grammar is read
 
 -- one specification put before a reading that has others before it is all of them put before that reading
-twice : (s : Specification) (ss : List Specification) (read : Read)
+twice : (s : Specification) (ss : List Specification) (read : AttributesRead)
     → (with_front ss read >>= λ x. Ok (s ∷ x.0, x.1)) ≡ with_front (s ∷ ss) read
 twice s ss (Ok x) = refl
 twice s ss (Err e) = refl
@@ -196,12 +196,12 @@ twice s ss (Err e) = refl
 -- bytes of a list of specifications are read as that list, put before what is read behind them
 pub attributes_again : (end : ℕ) (bytes rest : List ℕ) (ss : List Specification)
     → Sequence IsSpecification bytes ss → attributes_in end (bytes ++ rest) ≡ with_front ss (attributes_in end rest)
-attributes_again end bytes rest [] e = rw e (sym (begins (attributes_in end rest)))
+attributes_again end bytes rest [] e = rw e (sym (front-begins (attributes_in end rest)))
 attributes_again end bytes rest (s ∷ ss) q =
     let regrouped : bytes ++ rest ≡ q.0 ++ (q.1 ++ rest) = rw q.2 (simp append_assoc) in
     ap (attributes_in end) regrouped
     ∙ next end (q.0 ++ (q.1 ++ rest)) (Some s, q.1 ++ rest) (specification_again end q.0 (q.1 ++ rest) s q.3)
-    ∙ ap (λ (read : Read). read >>= λ x. Ok (s ∷ x.0, x.1)) (attributes_again end q.1 rest ss q.4)
+    ∙ ap (λ (read : AttributesRead). read >>= λ x. Ok (s ∷ x.0, x.1)) (attributes_again end q.1 rest ss q.4)
     ∙ twice s ss (attributes_in end rest)
 
 -- bytes of the null specification are read as an empty list, whatever bytes follow
@@ -209,4 +209,4 @@ pub attributes_end : (end : ℕ) (bytes rest : List ℕ) → IsNull bytes → at
 attributes_end end bytes rest is = next end (bytes ++ rest) (None, rest) (null_again end bytes rest is)
 
 -- what one more specification that is read makes of the attributes
-pub ruleset attribute_steps = (goes_on, ends, fails, begins, specification_shorter)
+pub ruleset attribute_steps = (front-goes_on, front-ends, front-fails, front-begins, specification_shorter)

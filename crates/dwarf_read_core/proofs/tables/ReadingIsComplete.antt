@@ -1,4 +1,4 @@
--- What the grammar has at the front is read, and each fault is met.
+-- What the grammar has at the front is read, and so is each error.
 use Rattle.std.proofs.Common.{◌≡◌, ◌≢◌, ℕ, ◌<◌, Bool, true, false, eqb, List, [], ◌∷◌, ◌++◌, length, Option, Some, None, Result, Ok, Err, refl, sym, ap, ◌∙◌, append_assoc, arith}
 use Rattle.std.proofs.lemmas.Bool.{ne_eqb}
 use Rattle.std.proofs.lemmas.List.{length-append, append-nil, nil_from_length}
@@ -10,20 +10,20 @@ use Rattle.dwarf_read_core.specs.Grammar.{Declaration, implicit_const, children_
 use Rattle.dwarf_read_core.specs.Answer.{IsBeginning, before_code, before_tag, before_name, before_form, before_value, IsFaulty, number_cut, number_bad, children_cut, tag_zero, children_bad, name_zero, form_zero}
 use Rattle.dwarf_read_core.specs.Reading.{◌>>=◌, number_at, value_at, specification_at, attributes_in, with_front, tag_at, children_at, declaration_of, declared_at, declaration_at}
 use Rattle.dwarf_read_core.proofs.tables.ReadingNumbers.{encoding-nonempty, number_at-string, number_at-cut, number_at-bad}
-use Rattle.dwarf_read_core.proofs.tables.ReadingAttributes.{Read, attributes_fail, attributes_again, attributes_end}
+use Rattle.dwarf_read_core.proofs.tables.ReadingAttributes.{AttributesRead, attributes_fail, attributes_again, attributes_end}
 
-abbrev Entry : Type 0
-Entry = Result (Option Declaration × List ℕ) Error
+abbrev EntryRead : Type 0
+EntryRead = Result (Option Declaration × List ℕ) Error
 
-abbrev found : Result (Declaration × List ℕ) Error → Entry
+abbrev found : Result (Declaration × List ℕ) Error → EntryRead
 found read = read >>= λ d. Ok (Some d.0, d.1)
 
-abbrev after_tag : ℕ → ℕ → ℕ → List ℕ → Entry
+abbrev after_tag : ℕ → ℕ → ℕ → List ℕ → EntryRead
 after_tag end code tag bytes =
     found (children_at end bytes >>= λ children. attributes_in end children.1 >>= λ attributes. Ok
     (declaration_of code tag children.0 attributes.0, attributes.1))
 
-abbrev after_attributes : ℕ → ℕ → Bool → Read → Entry
+abbrev after_attributes : ℕ → ℕ → Bool → AttributesRead → EntryRead
 after_attributes code tag children read =
     found (read >>= λ attributes. Ok (declaration_of code tag children attributes.0, attributes.1))
 
@@ -43,7 +43,7 @@ code_again end front rest code is =
     (omega (arith, length-append front rest, encoding-nonempty front is.is_code.encoding)) in
     rw (some, number_at-string unsigned64 end front rest code is.is_code, nonzero code is.nonzero) refl
 
--- a tag above 0 at the front is read as that tag, with the rest left
+-- a tag above 0 at the front is read as that tag, and the rest remains
 tag_again : (end : ℕ) (front rest : List ℕ) (tag : ℕ) → IsNumber unsigned16 front tag → 0 < tag
     → tag_at end (front ++ rest) ≡ Ok (tag, rest)
 unfolding tag_at
@@ -59,7 +59,7 @@ head_again end front rest code tag is =
     ap (declaration_at end) same ∙ code_again end is.first (is.second ++ rest) code is.is_code
     ∙ rw (tag_again end is.second rest tag is.is_tag is.tagged) refl
 
--- the byte that says whether there are children is read as what it says, with the rest left
+-- the byte that says whether there are children is read as what it says, and the rest remains
 children_again : (end : ℕ) (children : Bool) (rest : List ℕ)
     → children_at end (children_byte children ∷ rest) ≡ Ok (children, rest)
 unfolding children_at
@@ -92,7 +92,7 @@ declaration_again end bytes rest d is =
     ∙ front_again end is.front (is.null ++ rest) d is.is_front
     ∙ rw (attributes_end end is.null rest is.is_null, append-nil d.attributes) refl
 
--- a code of value 0 at the front is read as no declaration, with the rest left
+-- a code of value 0 at the front is read as no declaration, and the rest remains
 pub zero_again : (end : ℕ) (bytes rest : List ℕ) → IsNumber unsigned64 bytes 0
     → declaration_at end (bytes ++ rest) ≡ Ok (None, rest)
 unfolding declaration_at
@@ -102,12 +102,12 @@ zero_again end bytes rest is =
     (omega (arith, length-append bytes rest, encoding-nonempty bytes is.encoding)) in
     rw (some, number_at-string unsigned64 end bytes rest 0 is) refl
 
--- the end of the bytes is read as no declaration, with nothing left
+-- the end of the bytes is read as no declaration, and nothing remains
 pub end_again : (end : ℕ) → declaration_at end [] ≡ Ok (None, [])
 unfolding declaration_at
 end_again end = refl
 
--- ---- faults
+-- ---- errors
 
 -- a specification that is refused behind a front
 front_fails : (end : ℕ) (front bytes : List ℕ) (d : Declaration) (e : Error) → IsFront front d
@@ -145,7 +145,7 @@ stops end bytes e (before_value front name form d n is is_name named is_form) so
     ap (declaration_at end) same ∙ front_fails end front (name ++ (form ++ bytes)) d e is
     (value_fails end name form bytes n e is_name named is_form q)
 
--- bytes that begin as a declaration and do not go on as one are read as their fault, unless there are none
+-- bytes that begin as a declaration and do not go on as one are read as their error, unless there are none
 pub fault_again : {bytes : List ℕ} {e : Error} (end : ℕ) → IsFaulty end bytes e → bytes ≢ []
     → declaration_at end bytes ≡ Err e
 unfolding tag_at children_at declared_at specification_at

@@ -33,7 +33,7 @@ pub record TagFound (bytes : List ℕ) (tag : ℕ) (rest : List ℕ) : Type 0 wh
   pub found : Found unsigned16 bytes tag rest
   pub tagged : 0 < tag
 
--- a tag that is read stands at the front of the bytes as a number, and isn't 0
+-- a tag that is read is at the front of the bytes as a number, and isn't 0
 tag_found : (end : ℕ) (bytes : List ℕ) (x : ℕ × List ℕ) → tag_at end bytes ≡ Ok x → TagFound bytes x.0 x.1
 unfolding tag_at
 tag_found end bytes x e =
@@ -47,7 +47,7 @@ tag_found end bytes x e =
           (record { found = number_at-ok unsigned16 end bytes a.0.0 a.0.1 a.1; tagged = number-positive a.0.0 c.0 })
     ]
 
--- an error of reading the tag behind a code is a fault of both together
+-- an error of reading the tag behind a code is an error of both together
 tag_fault : (end : ℕ) (front bytes : List ℕ) (code : ℕ) (e : Error) → IsCode front code → tag_at end bytes ≡ Err e
     → IsFaulty end (front ++ bytes) e
 unfolding tag_at
@@ -70,7 +70,7 @@ tag_fault end front bytes code e is q =
           ]
     ]
 
--- a children flag that is read stands at the front of the bytes as its byte
+-- a children flag that is read is at the front of the bytes as its byte
 children_found : (end : ℕ) (bytes : List ℕ) (x : Bool × List ℕ) → children_at end bytes ≡ Ok x
     → bytes ≡ children_byte x.0 ∷ x.1
 unfolding children_at
@@ -89,7 +89,7 @@ children_found end (b ∷ bytes) x e = go (eqb b 0) refl (eqb b 1) refl e
         (ap (λ (c : ℕ). c ∷ bytes) (eqb-true b 1 u))
     go false s false u e = absurd cc
 
--- an error of reading the children flag behind a code and a tag is a fault of all of them together
+-- an error of reading the children flag behind a code and a tag is an error of all of them together
 children_fault : (end : ℕ) (front bytes : List ℕ) (code tag : ℕ) (e : Error) → IsHead front code tag
     → children_at end bytes ≡ Err e → IsFaulty end (front ++ bytes) e
 unfolding children_at
@@ -157,7 +157,7 @@ declared_found end code front bytes x is e =
       };
     })
 
--- an error of reading what is behind a code is a fault of both together
+-- an error of reading what is behind a code is an error of both together
 declared_fault : (end code : ℕ) (front bytes : List ℕ) (e : Error) → IsCode front code
     → declared_at end code bytes ≡ Err e → IsFaulty end (front ++ bytes) e
 unfolding declared_at
@@ -270,7 +270,7 @@ declaration_found end bytes x e = go (eqb (length bytes) 0) refl e
         let a = bind_ok (number_at unsigned64 end bytes) (λ code. behind_code (eqb code.0 0) end code.0 code.1) x e in
         coded a.0.0 a.0.1 (number_at-ok unsigned64 end bytes a.0.0 a.0.1 a.1) (eqb a.0.0 0) refl a.2
 
--- bytes at which reading a declaration fails are some, and the error is a fault of theirs
+-- bytes at which reading a declaration fails are some, and the error is an error of theirs
 pub declaration_fault : (end : ℕ) (bytes : List ℕ) (e : Error) → declaration_at end bytes ≡ Err e
     → (bytes ≢ []) × IsFaulty end bytes e
 unfolding declaration_at
@@ -298,9 +298,9 @@ declaration_fault end bytes e q = go (eqb (length bytes) 0) refl q
           ],
         )
 
--- ---- a declaration takes at least five bytes
+-- ---- a declaration has at least five bytes
 
--- the front of a declaration takes at least three bytes
+-- the front of a declaration has at least three bytes
 pub front_long : (bytes : List ℕ) (d : Declaration) → IsFront bytes d → 3 ≤ length bytes
 front_long bytes d is =
     let h = is.is_head in

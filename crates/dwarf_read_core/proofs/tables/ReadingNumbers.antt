@@ -1,4 +1,4 @@
--- The function that reads a number answers as the definition of LEB128 numbers says, and nothing else.
+-- The function that reads a number returns what the definition of LEB128 numbers says, and nothing else.
 use Rattle.std.proofs.Common.{◌≡◌, ℕ, zero, suc, ◌<◌, ◌≤◌, Bool, true, false, cond, eqb, ltb, List, [], ◌∷◌, ◌++◌, length, drop, Option, Some, None, Result, Ok, Err, refl, sym, ap, subst, ◌∙◌, arith, ◌⊎◌, inl, inr}
 use Rattle.std.proofs.lemmas.Bool.{eqb-false, ltb-true, ltb-false, lt-ltb, le-ltb}
 use Rattle.std.proofs.lemmas.List.{length-append, length-drop, take-append-drop}
@@ -11,7 +11,7 @@ use Rattle.dwarf_reader_core.specs.Faults.{eof}
 use Rattle.dwarf_read_core.specs.Reading.{with_byte, encoding_at, number_from, number_at}
 use Rattle.dwarf_read_core.proofs.ResultLemmas.{chosen}
 
--- an encoding of a number takes at least one byte
+-- an encoding of a number has at least one byte
 pub encoding-nonempty : (bytes : List ℕ) → IsEncoding bytes → 0 < length bytes
 encoding-nonempty [] h = absurd h
 encoding-nonempty (b ∷ bytes) h = omega arith
@@ -93,14 +93,14 @@ encoding_at-unended (suc n) (b ∷ bytes) high = rw (le-ltb b 128 high.0, encodi
 
 -- ---- the number at the front
 
--- the number that bytes encode is read from their front, and what follows them is left
+-- the number that bytes encode is read from their front, and what follows them remains
 pub number_at-string : (k : Kind) (end : ℕ) (front rest : List ℕ) (number : Number k) → IsNumber k front number
     → number_at k end (front ++ rest) ≡ Ok (number, rest)
 unfolding number_at
 number_at-string k end front rest number s =
     rw (encoding_at-string front rest (limit k) s.encoding s.within, s.means, s.in_range) refl
 
--- bytes that end before their number does are answered with the fault at the end
+-- bytes that end before their number does have `UnexpectedEof` at the end
 pub number_at-cut : (k : Kind) (end : ℕ) (bytes : List ℕ) → IsCut k bytes → number_at k end bytes ≡ Err (eof end)
 unfolding number_at
 number_at-cut k end bytes c =
@@ -136,14 +136,14 @@ number_at-ok k end bytes number rest e = go (encoding_at (limit k) bytes) refl e
           | inr c ↦ absurd (let h = c.1 in cc)
         ]
 
--- the number that the first bytes encode is read, and the bytes behind them are left
+-- the number that the first bytes encode is read, and the bytes behind them remain
 pub number_at-has : (k : Kind) (end : ℕ) (bytes : List ℕ) (number : Number k) (n : ℕ) → HasNumber k bytes number n
     → number_at k end bytes ≡ Ok (number, drop n bytes)
 number_at-has k end bytes number n h =
     ap (number_at k end) (sym (take-append-drop n bytes))
     ∙ number_at-string k end (take n bytes) (drop n bytes) number h.is_number
 
--- the fault at the end is never the error that refuses a number
+-- `UnexpectedEof` at the end is never the error that refuses a number
 eof≢refusal : (k : Kind) (end : ℕ) → eof end ≡ refusal k → ⊥
 eof≢refusal unsigned64 end e = cc
 eof≢refusal unsigned16 end e = cc
@@ -156,7 +156,7 @@ is_bad k end bytes e = record {
   not_cut = λ c. eof≢refusal k end (let a = number_at-cut k end bytes c in cc);
 }
 
--- an error that is answered is the fault at the end, for cut bytes, or the refusal of a number, for bad bytes
+-- an error that is returned is `UnexpectedEof` at the end, for cut bytes, or the refusal of a number, for bad bytes
 pub number_at-err : (k : Kind) (end : ℕ) (bytes : List ℕ) (d : Error) → number_at k end bytes ≡ Err d
     → (IsCut k bytes × (d ≡ eof end)) ⊎ (IsBad k bytes × (d ≡ refusal k))
 unfolding number_at
@@ -191,7 +191,7 @@ found_has {k = k} {bytes = bytes} {number = number} {rest = rest} f = record {
       (sym (ap (take (length f.front)) f.parts ∙ take-append_seam f.front rest)) f.string;
 }
 
--- bytes that are bad are answered with the refusal of a number
+-- bytes that are bad have the refusal of a number
 pub number_at-bad : (k : Kind) (end : ℕ) (bytes : List ℕ) → IsBad k bytes → number_at k end bytes ≡ Err (refusal k)
 number_at-bad k end bytes b = go (number_at k end bytes) refl
   where
@@ -206,29 +206,29 @@ number_at-bad k end bytes b = go (number_at k end bytes) refl
 
 -- ---- what a reader's contract says of a number that it reads
 
--- the function answers with the error with which a reader refuses a number
-pub refused : {k : Kind} {old : Input} {e : Error} {new : Input} → RefusesNumber k old e new
+-- the function returns the error with which a reader refuses a number
+pub number_refused : {k : Kind} {old : Input} {e : Error} {new : Input} → RefusesNumber k old e new
     → number_at k (end_of old) old.bytes ≡ Err e
-refused {k = k} {old = old} (inl r) =
+number_refused {k = k} {old = old} (inl r) =
     number_at-cut k (end_of old) old.bytes r.cut
     ∙ ap (λ (x : Error). Err x) (sym (r.fault ∙ ap (λ (i : Input). eof i.position) r.left))
-refused {k = k} {old = old} (inr r) =
+number_refused {k = k} {old = old} (inr r) =
     number_at-bad k (end_of old) old.bytes r.bad ∙ ap (λ (x : Error). Err x) (sym r.fault)
 
--- the function answers with the number that a reader takes, and with the bytes that it leaves
+-- the function returns the number that a reader reads, and with the bytes that remain after it
 pub number_read : {k : Kind} {old : Input} {number : Number k} {new : Input} (end : ℕ)
     → ReadsNumber k old number new → number_at k end old.bytes ≡ Ok (number, new.bytes)
 number_read {k = k} {old = old} {number = number} end r =
     number_at-has k end old.bytes number r.len r.is ∙ ap (λ (i : Input). Ok (number, i.bytes)) (sym r.left)
 
--- what is taken moves no end
+-- consumed bytes move no end
 pub end_after : (n : ℕ) (old : Input) → n ≤ length old.bytes → end_of (after n old) ≡ end_of old
 end_after n old le = omega (arith, length-drop n old.bytes)
 
--- a number that is read leaves the end of the input where it is
+-- a number that is read doesn't move the end of the input
 pub end_stays : {k : Kind} {old : Input} {number : Number k} {new : Input} → ReadsNumber k old number new
     → end_of new ≡ end_of old
 end_stays {old = old} r = ap end_of r.left ∙ end_after r.len old r.is.enough
 
 -- what a reader that reads a number says of the function that reads it
-pub ruleset number_steps = (number_read, refused, end_stays)
+pub ruleset number_steps = (number_read, number_refused, end_stays)

@@ -28,7 +28,7 @@ pub record ValueFound (form : ℕ) (bytes : List ℕ) (value : Option ℤ) (rest
   pub parts : bytes ≡ front ++ rest
   pub is_value : IsImplicit form front value
 
--- what is read as the value behind a form stands at the front of the bytes as the grammar has it
+-- what is read as the value behind a form is at the front of the bytes as the grammar has it
 value_found : (end form : ℕ) (bytes : List ℕ) (x : Option ℤ × List ℕ) → value_at end form bytes ≡ Ok x
     → ValueFound form bytes x.0 x.1
 unfolding value_at
@@ -69,7 +69,7 @@ regroup3 a b c d x y z e f g = rw (e, f, g) (simp append_assoc)
 regroup2 : (a b c x y : List ℕ) → x ≡ a ++ y → y ≡ b ++ c → x ≡ (a ++ b) ++ c
 regroup2 a b c x y e f = rw (e, f) (simp append_assoc)
 
--- a specification that is read, or the null one, stands at the front of the bytes as the grammar has it
+-- a specification that is read, or the null one, is at the front of the bytes as the grammar has it
 pub specification_found : (end : ℕ) (bytes : List ℕ) (x : Option Specification × List ℕ)
     → specification_at end bytes ≡ Ok x → SomeFound bytes x.0 x.1
 unfolding specification_at
@@ -234,9 +234,9 @@ specification_fault end front bytes d e is h =
               (eqb n 0) refl (eqb r.0.0 0) refl r.2
         ]
 
--- ---- a specification takes at least two bytes
+-- ---- a specification has at least two bytes
 
--- a specification takes at least two bytes
+-- a specification has at least two bytes
 pub specification_long : (s : Specification) (bytes : List ℕ) → IsSpecification bytes s → 2 ≤ length bytes
 specification_long s bytes is =
     let n = encoding-nonempty is.name is.is_name.encoding in
@@ -244,7 +244,7 @@ specification_long s bytes is =
     let e : length bytes ≡ length (is.name ++ is.form ++ is.value) = ap length is.parts in
     omega (arith, length-append (is.name ++ is.form) is.value, length-append is.name is.form)
 
--- the null specification takes at least two bytes
+-- the null specification has at least two bytes
 pub null_long : (bytes : List ℕ) → IsNull bytes → 2 ≤ length bytes
 null_long bytes is =
     let n = encoding-nonempty is.name is.is_name.encoding in

@@ -1,4 +1,4 @@
--- Items whose bytes stand one after the other.
+-- Items whose bytes are one after the other.
 use Rattle.std.proofs.Common.{ℕ, List, [], ◌∷◌, ◌++◌, refl, sym, ap, ◌∙◌, append_assoc}
 use Rattle.std.proofs.lemmas.List.{append-nil}
 use Rattle.dwarf_read_core.specs.Grammar.{Sequence}

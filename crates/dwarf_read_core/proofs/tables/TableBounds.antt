@@ -17,7 +17,7 @@ use Rattle.dwarf_read_core.specs.Reading.{Gives, table_in}
 use Rattle.dwarf_read_core.specs.Answer.{Answer, table, Answers}
 use Rattle.dwarf_read_core.proofs.tables.ReadingNumbers.{encoding-nonempty}
 use Rattle.dwarf_read_core.proofs.tables.ReadingSpecifications.{specification_long, null_long}
-use Rattle.dwarf_read_core.proofs.tables.ExactlyOneAnswer.{fresh_code, answered}
+use Rattle.dwarf_read_core.proofs.tables.ExactlyOneAnswer.{fresh_code, answer_returned}
 
 -- the number of attributes that a declaration has
 attributes : Declaration → ℕ
@@ -25,7 +25,7 @@ attributes d = length d.attributes
 
 -- ---- bytes
 
--- a list of specifications takes at least two bytes for each of them
+-- a list of specifications has at least two bytes for each of them
 specifications_long : (bytes : List ℕ) (ss : List Specification) → Sequence IsSpecification bytes ss
     → 2 * length ss ≤ length bytes
 specifications_long bytes [] e = omega arith
@@ -33,7 +33,7 @@ specifications_long bytes (s ∷ ss) q =
     let e : length bytes ≡ length (q.0 ++ q.1) = ap length q.2 in
     omega (arith, length-append q.0 q.1, specification_long s q.0 q.3, specifications_long q.1 ss q.4)
 
--- a declaration takes at least five bytes, and two more for each of its attributes
+-- a declaration has at least five bytes, and two more for each of its attributes
 declaration_long : (bytes : List ℕ) (d : Declaration) → IsDeclaration bytes d
     → 5 + 2 * length d.attributes ≤ length bytes
 declaration_long bytes d is =
@@ -54,7 +54,7 @@ declaration_long bytes d is =
       length-append h.first h.second,
     )
 
--- a list of declarations takes at least five bytes for each, and two more for each attribute of theirs
+-- a list of declarations has at least five bytes for each, and two more for each attribute of theirs
 declarations_long : (bytes : List ℕ) (ds : List Declaration) → Sequence IsDeclaration bytes ds
     → 5 * length ds + 2 * sum_by (λ d. length d.attributes) ds ≤ length bytes
 declarations_long bytes [] e = omega arith
@@ -127,7 +127,7 @@ answer_bound : {section : Input} {offset : ℕ} {t : Table} → Answer section o
     → 5 * len t.by_code + 2 * attribute_count t.by_code + offset ≤ length section.bytes
 answer_bound {section} {offset} (table t le is) = omega (arith, table_bound is, length-drop offset section.bytes)
 
--- a table that is answered has no more declarations and attributes than the section has room for there
+-- a table that is returned has no more declarations and attributes than the section has room for there
 bounded : (r : Result Table Error) (section : Input) (offset : ℕ) → Answers r section offset
     → IfOk r (λ t. 5 * len t.by_code + 2 * attribute_count t.by_code + offset ≤ length section.bytes)
 bounded (Ok t) section offset h = answer_bound h
@@ -137,4 +137,4 @@ bounded (Err e) section offset h = tt
 pub bounded_read : (r : Result Table Error) (section : Input) (offset : ℕ) (rest : Input)
     → Takes offset section rest → Gives (λ t. t) r (table_in (end_of rest) empty rest.bytes)
     → IfOk r (λ t. 5 * len t.by_code + 2 * attribute_count t.by_code + offset ≤ length section.bytes)
-bounded_read r section offset rest takes given = bounded r section offset (answered r section offset rest takes given)
+bounded_read r section offset rest takes given = bounded r section offset (answer_returned r section offset rest takes given)

@@ -15,7 +15,7 @@ use Rattle.std.proofs.lemmas.Bool.Decides.{nat_tests}
 use Rattle.std.proofs.lemmas.List.{nil_from_length}
 use Rattle.std.proofs.lemmas.List.Elements.{same_from_all_zip}
 use Rattle.dwarf_read_core.specs.Grammar.{Declaration}
-use Rattle.dwarf_read_core.specs.Views.{numbered, entries_of, AreKept}
+use Rattle.dwarf_read_core.specs.Views.{numbered, entries_of, AreKeyed}
 
 -- what is found among entries at a code, by the order of codes, is what a lookup of that code has
 find_is_lookup : (es : List (ℕ × Declaration)) (q : ℕ) → find nat_cmp q es ≡ lookup (is_at (nat_cmp q)) es
@@ -61,8 +61,8 @@ pub len_kept : (es : List (ℕ × Declaration)) → IsStrictlySortedBy nat_cmp (
 len_kept es h = len-entries (from_entries {R = nat_cmp} es) ∙ ap length (entries_kept es h)
 
 -- entries that were copied are the same
-pub copied : (es fs : List (ℕ × Declaration)) → AllZip (λ p q. (q.0 ≡ p.0) × (q.1 ≡ p.1)) es fs → fs ≡ es
-copied es fs h =
+pub table_copied : (es fs : List (ℕ × Declaration)) → AllZip (λ p q. (q.0 ≡ p.0) × (q.1 ≡ p.1)) es fs → fs ≡ es
+table_copied es fs h =
     same_from_all_zip (λ (p q : ℕ × Declaration). (q.0 ≡ p.0) × (q.1 ≡ p.1)) es fs h
     (λ x y e. ap (λ (k : ℕ). let p : ℕ × Declaration = (k, y.1) in p) e.0
     ∙ ap (λ (d : Declaration). let p : ℕ × Declaration = (x.0, d) in p) e.1)
@@ -72,7 +72,7 @@ copied es fs h =
 abbrev at : ℕ → List (ℕ × Declaration) → Option Declaration
 at q es = lookup (is_at (nat_cmp q)) es
 
--- a code is at another, by the order of codes, exactly where the two are equal
+-- a code is at another, by the order of codes, exactly if the two are equal
 same_code : (a b : ℕ) → is_at (nat_cmp a) b ≡ eqb a b
 same_code a b = grind (arith, nat_tests)
 
@@ -108,7 +108,7 @@ at_within k (suc i) (x ∷ ds) more d lt =
     at_first (k + suc i) k x (numbered (suc k) ds ++ more) false (ne_eqb (k + suc i) k (λ e. omega arith))
     ∙ ap (λ q. at q (numbered (suc k) ds ++ more)) next ∙ at_within (suc k) i ds more d (omega arith)
 
--- a code is at another exactly where the other is equal to it
+-- a code is at another exactly if the other is equal to it
 same_back : (c q : ℕ) → is_at (nat_cmp c) q ≡ eqb q c
 same_back c q = grind (arith, nat_tests)
 
@@ -170,10 +170,10 @@ none_at code es (inl empty) = ap (at code) (nil_from_length es empty)
 none_at code es (inr missed) = none_of_no (at code es) missed
 
 -- a push and an insert into the two are an insert into the map that they make
-pub pushed : (ds : List Declaration) (es : List (ℕ × Declaration)) (code : ℕ) (d : Declaration)
+pub table_pushed : (ds : List Declaration) (es : List (ℕ × Declaration)) (code : ℕ) (d : Declaration)
     → code ≡ 1 + length ds → from_entries {R = nat_cmp} (numbered 1 (ds ++ d ∷ []) ++ es)
     ≡ insert (from_entries (entries_of ds es)) code d
-pushed ds es code d e =
+table_pushed ds es code d e =
     inserted (entries_of ds es) (numbered 1 (ds ++ d ∷ []) ++ es) code d
     (λ q. at_push 1 q ds d es ∙ ap (λ n. cond (is_at (nat_cmp n) q) (Some d) (at q (entries_of ds es))) (sym e))
 
@@ -184,10 +184,10 @@ lacks_next ds es code e none =
     ap is_some (get_is_lookup (entries_of ds es) code ∙ at_above 1 code ds es (omega arith) ∙ none)
 
 -- an insert into the map, above the codes of the vector, is an insert into the map that the two make
-pub put_beside : (ds : List Declaration) (es fs : List (ℕ × Declaration)) (code : ℕ) (d : Declaration)
+pub table_put : (ds : List Declaration) (es fs : List (ℕ × Declaration)) (code : ℕ) (d : Declaration)
     → length ds < code → ((q : ℕ) → at q fs ≡ cond (is_at (nat_cmp code) q) (Some d) (at q es))
     → from_entries {R = nat_cmp} (entries_of ds fs) ≡ insert (from_entries (entries_of ds es)) code d
-put_beside ds es fs code d lt h =
+table_put ds es fs code d lt h =
     inserted (entries_of ds es) (entries_of ds fs) code d (λ q. at_insert 1 q code ds d es fs (omega arith) (h q))
 
 -- what is found
@@ -204,9 +204,9 @@ pub found_in_map : (ds : List Declaration) (es : List (ℕ × Declaration)) (cod
 found_in_map ds es code lt = get_is_lookup (entries_of ds es) code ∙ at_above 1 code ds es (omega arith)
 
 -- a code of value 0 is found in neither of the two
-pub not_found : (ds : List Declaration) (es : List (ℕ × Declaration)) (code : ℕ) → code ≡ 0 → AreKept ds es
+pub zero_not_found : (ds : List Declaration) (es : List (ℕ × Declaration)) (code : ℕ) → code ≡ 0 → AreKeyed ds es
     → get (from_entries {R = nat_cmp} (entries_of ds es)) code ≡ None
-not_found ds es code zero_code kept =
+zero_not_found ds es code zero_code kept =
     get_is_lookup (entries_of ds es) code ∙ at_below 1 code ds es (omega arith) ∙ kept.apart code (omega arith)
 
 -- ---- how many there are
@@ -256,7 +256,7 @@ numbered_sorted k (d ∷ ds) es n le above h = (
 )
 
 -- the entries of the vector and then of the map are in order as a whole if those of the map are
-sorted_of_both : (ds : List Declaration) (es : List (ℕ × Declaration)) → AreKept ds es
+sorted_of_both : (ds : List Declaration) (es : List (ℕ × Declaration)) → AreKeyed ds es
     → IsStrictlySortedBy nat_cmp (map (λ e. e.0) es)
     → IsStrictlySortedBy nat_cmp (map (λ e. e.0) (entries_of ds es))
 sorted_of_both ds es kept sorted =
@@ -269,10 +269,10 @@ length_numbered k [] es = omega arith
 length_numbered k (d ∷ ds) es = omega (arith, length_numbered (suc k) ds es)
 
 -- the map that the two make has as many entries as the vector and the map have together
-pub len_of_both : (ds : List Declaration) (es : List (ℕ × Declaration)) → AreKept ds es
+pub table_len : (ds : List Declaration) (es : List (ℕ × Declaration)) → AreKeyed ds es
     → IsStrictlySortedBy nat_cmp (map (λ e. e.0) es)
     → len (from_entries {R = nat_cmp} (entries_of ds es)) ≡ length ds + length es
-len_of_both ds es kept sorted = len_kept (entries_of ds es) (sorted_of_both ds es kept sorted) ∙ length_numbered 1 ds es
+table_len ds es kept sorted = len_kept (entries_of ds es) (sorted_of_both ds es kept sorted) ∙ length_numbered 1 ds es
 
 -- the declarations of a vector by its codes, and of a map behind it, are the vector's and then the map's
 values_numbered : (k : ℕ) (ds : List Declaration) (es : List (ℕ × Declaration))
@@ -281,10 +281,10 @@ values_numbered k [] es = refl
 values_numbered k (d ∷ ds) es = ap (λ rest. d ∷ rest) (values_numbered (suc k) ds es)
 
 -- the vector and then the map, in the order of their codes
-pub values_of_both : (ds : List Declaration) (es : List (ℕ × Declaration)) → AreKept ds es
+pub table_values : (ds : List Declaration) (es : List (ℕ × Declaration)) → AreKeyed ds es
     → IsStrictlySortedBy nat_cmp (map (λ e. e.0) es)
     → values (from_entries {R = nat_cmp} (entries_of ds es)) ≡ ds ++ map (λ e. e.1) es
-values_of_both ds es kept sorted =
+table_values ds es kept sorted =
     ap (map (λ (e : ℕ × Declaration). e.1)) (entries_kept (entries_of ds es) (sorted_of_both ds es kept sorted))
     ∙ values_numbered 1 ds es
 
@@ -307,7 +307,7 @@ keyed_by_update es fs code d h same above keyed q x found = go (is_at (nat_cmp c
 
 -- what is found has its code
 pub keyed_in_map : (ds : List Declaration) (es : List (ℕ × Declaration)) (code : ℕ) (d : Declaration)
-    → AreKept ds es → at code es ≡ Some d → (d.code ≡ code) × (0 < code)
+    → AreKeyed ds es → at code es ≡ Some d → (d.code ≡ code) × (0 < code)
 keyed_in_map ds es code d kept h = elim (cases_lt (length ds) code) [
   | inl lt ↦ kept.keyed code d (at_above 1 code ds es (omega arith) ∙ h)
   | inr le ↦ absurd (let none = kept.apart code le in cc)
@@ -315,15 +315,15 @@ keyed_in_map ds es code d kept h = elim (cases_lt (length ds) code) [
 
 -- a declaration in the vector has the code that is one more than its index
 pub keyed_in_vec : (ds : List Declaration) (es : List (ℕ × Declaration)) (code index : ℕ) (d : Declaration)
-    → AreKept ds es → code ≡ index + 1 → index < length ds → (get_or ds index d).code ≡ code
+    → AreKeyed ds es → code ≡ index + 1 → index < length ds → (get_or ds index d).code ≡ code
 keyed_in_vec ds es code index d kept e lt =
     let place : code ≡ 1 + index = omega arith in
     (kept.keyed code (get_or ds index d) (ap (λ q. at q (entries_of ds es)) place ∙ at_within 1 index ds es d lt)).0
 
 -- a push of a declaration whose code is the vector's next, and not in the map, leaves the two well kept
-pub kept_pushed : (ds : List Declaration) (es : List (ℕ × Declaration)) (code : ℕ) (d : Declaration)
-    → code ≡ 1 + length ds → d.code ≡ code → at code es ≡ None → AreKept ds es → AreKept (ds ++ d ∷ []) es
-kept_pushed ds es code d e same none kept = record {
+pub keyed_pushed : (ds : List Declaration) (es : List (ℕ × Declaration)) (code : ℕ) (d : Declaration)
+    → code ≡ 1 + length ds → d.code ≡ code → at code es ≡ None → AreKeyed ds es → AreKeyed (ds ++ d ∷ []) es
+keyed_pushed ds es code d e same none kept = record {
   apart = apart;
   keyed = keyed_by_update (entries_of ds es) (entries_of (ds ++ d ∷ []) es) code d
       (λ q. at_push 1 q ds d es ∙ ap (λ n. cond (is_at (nat_cmp n) q) (Some d) (at q (entries_of ds es)))
@@ -337,10 +337,10 @@ kept_pushed ds es code d e same none kept = record {
     ]
 
 -- an insert into the map of a declaration at its code, above those of the vector, leaves the two well kept
-pub kept_beside : (ds : List Declaration) (es fs : List (ℕ × Declaration)) (code : ℕ) (d : Declaration)
+pub keyed_put : (ds : List Declaration) (es fs : List (ℕ × Declaration)) (code : ℕ) (d : Declaration)
     → length ds < code → ((q : ℕ) → at q fs ≡ cond (is_at (nat_cmp code) q) (Some d) (at q es)) → d.code ≡ code
-    → AreKept ds es → AreKept ds fs
-kept_beside ds es fs code d lt h same kept = record {
+    → AreKeyed ds es → AreKeyed ds fs
+keyed_put ds es fs code d lt h same kept = record {
   apart = λ q le. h q ∙ ap (λ b. cond b (Some d) (at q es)) (same_back code q ∙ ne_eqb q code (λ e. omega arith))
       ∙ kept.apart q le;
   keyed = keyed_by_update (entries_of ds es) (entries_of ds fs) code d
@@ -348,14 +348,14 @@ kept_beside ds es fs code d lt h same kept = record {
 }
 
 -- the map that the two make has each code that is one more than an index of the vector
-pub stands_in_vec : (ds : List Declaration) (es : List (ℕ × Declaration)) (code index : ℕ) → code ≡ index + 1
+pub has_in_vec : (ds : List Declaration) (es : List (ℕ × Declaration)) (code index : ℕ) → code ≡ index + 1
     → index < length ds → contains_key (from_entries {R = nat_cmp} (entries_of ds es)) code ≡ true
-stands_in_vec ds es code index e lt =
+has_in_vec ds es code index e lt =
     ap is_some (found_in_vec ds es code index
     (record { code = 0; tag = 0; children = false; attributes = [] }) e lt)
 
 -- what an insertion makes of the vector and the map
-pub ruleset insertion = (stands_in_vec, found_in_map, pushed, put_beside, kept_beside)
+pub ruleset insertion = (has_in_vec, found_in_map, table_pushed, table_put, keyed_put)
 
 -- what the vector and the map have at a code
-pub ruleset lookup_steps = (found_in_vec, found_in_map, not_found, keyed_in_vec, keyed_in_map)
+pub ruleset lookup_steps = (found_in_vec, found_in_map, zero_not_found, keyed_in_vec, keyed_in_map)

@@ -98,7 +98,7 @@ impl<R: Reader> DebugAbbrev<R> {
     /// - `DuplicateAbbreviationCode` for a whole declaration with the code of an earlier one.
     ///
     /// `OutOfMemory` if memory for the table, or for a clone of the reader, runs out.
-    #[tactic(auto, using(crate::proofs::tables::ExactlyOneAnswer::answered, crate::proofs::tables::AppendedBytes::stays, crate::proofs::tables::TableBounds::bounded_read))]
+    #[tactic(auto, using(crate::proofs::tables::ExactlyOneAnswer::answer_returned, crate::proofs::tables::AppendedBytes::returned_stays, crate::proofs::tables::TableBounds::bounded_read))]
     pub fn abbreviations(
         &self,
         mem: Global,
@@ -246,11 +246,11 @@ impl Model for Abbreviations {
 
     ghost coded = { table_code };
 
-    ghost use Rattle.dwarf_read_core.specs.Views.{abbreviations_view, AreKept};
+    ghost use Rattle.dwarf_read_core.specs.Views.{abbreviations_view, AreKeyed};
 
     ghost view = { abbreviations_view };
 
-    ghost invariant = { λ a. AreKept a.vec.items a.map.entries };
+    ghost invariant = { λ a. AreKeyed a.vec.items a.map.entries };
 }
 
 impl Abbreviations {
@@ -271,7 +271,7 @@ impl Abbreviations {
     /// # Errors
     ///
     /// `OutOfMemory` if memory for the table runs out. A table with no abbreviations needs none.
-    #[tactic(auto, using(crate::proofs::tables::VectorAndMap::copied))]
+    #[tactic(auto, using(crate::proofs::tables::VectorAndMap::table_copied))]
     pub fn try_clone(&self) -> Result<Abbreviations>
         ensures ok { IfOk result (λ copy. copy ≡ self.now) }
         ensures free { finite.len self.now.by_code ≡ 0 → IsOk result }
@@ -341,7 +341,7 @@ impl Abbreviations {
     }
 
     /// How many abbreviations there are.
-    #[tactic(auto, using(crate::proofs::tables::VectorAndMap::len_of_both))]
+    #[tactic(auto, using(crate::proofs::tables::VectorAndMap::table_len))]
     pub fn len(&self) -> usize
         ensures { result ≡ finite.len self.now.by_code }
     {
@@ -364,7 +364,7 @@ impl Abbreviations {
     }
 
     /// The abbreviations, by rising code.
-    #[tactic(auto, using(crate::proofs::tables::VectorAndMap::values_of_both))]
+    #[tactic(auto, using(crate::proofs::tables::VectorAndMap::table_values))]
     pub fn iter(&self) -> AbbreviationsIter<'_>
         ensures { result ≡ finite.values self.now.by_code }
     {

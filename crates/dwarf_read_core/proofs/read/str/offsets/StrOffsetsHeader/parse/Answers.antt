@@ -11,24 +11,34 @@ returns-in_err-length-clause-err g c =
 
 pub returns-in_err-unit-clause-err : goal.returns-in_err-unit-clause-err
 returns-in_err-unit-clause-err g c =
-    propagated-err _ _ c.from_residual-in_err-unit.ensures.1 (⊎_elim (λ short. inl (set_part_fails string_offsets_header _ _ _ _ _ c.in_ok-length.ensures.ok c.in_ok-length.ensures.in_range _ short)) (λ want. inr want.0) c.in_err-unit.ensures.err)
+    propagated-err _ _ c.from_residual-in_err-unit.ensures.1
+    (⊎_elim (λ short. inl (set_part_fails string_offsets_header _ _ _ _ _ c.in_ok-length.ensures.ok c.in_ok-length.ensures.in_range _ short))
+    (λ want. inr want.0) c.in_err-unit.ensures.err)
 
 pub returns-in_err-version-clause-err : goal.returns-in_err-version-clause-err
 unfolding string_offsets_header
 returns-in_err-version-clause-err g c =
-    propagated-err _ _ c.from_residual-in_err-version.ensures.1 (inl (set_header_fails string_offsets_header _ _ _ _ _ c.in_ok-length.ensures.ok c.in_ok-length.ensures.in_range c.in_ok-unit.ensures.part c.in_ok-unit.ensures.ok (inl (_, c.in_err-version.ensures.err))))
+    propagated-err _ _ c.from_residual-in_err-version.ensures.1
+    (inl (set_header_fails string_offsets_header _ _ _ _ _ c.in_ok-length.ensures.ok c.in_ok-length.ensures.in_range
+    c.in_ok-unit.ensures.part c.in_ok-unit.ensures.ok
+    (inl (_, c.in_err-version.ensures.err))))
 
 pub returns-then-version-ne-VERSION-clause-err : goal.returns-then-version-ne-VERSION-clause-err
 unfolding string_offsets_header
 returns-then-version-ne-VERSION-clause-err g c =
     let other : (c.in_ok-version.version == 5) ≡ false = search rules in
-    inl (rw c.from.ensures (set_header_fails string_offsets_header _ _ _ _ _ c.in_ok-length.ensures.ok c.in_ok-length.ensures.in_range c.in_ok-unit.ensures.part c.in_ok-unit.ensures.ok (inr (_, _, c.in_ok-version.ensures.ok, inl (rw other refl)))))
+    inl (rw c.from.ensures
+    (set_header_fails string_offsets_header _ _ _ _ _ c.in_ok-length.ensures.ok c.in_ok-length.ensures.in_range
+    c.in_ok-unit.ensures.part c.in_ok-unit.ensures.ok
+    (inr (_, _, c.in_ok-version.ensures.ok, inl (rw other refl)))))
 
 pub returns-in_err-_padding-clause-err : goal.returns-in_err-_padding-clause-err
 unfolding string_offsets_header
 returns-in_err-_padding-clause-err g c =
     let known : (c.in_ok-version.version == 5) ≡ true = search rules in
-    propagated-err _ _ c.from_residual-in_err-_padding.ensures.1 (inl (set_header_fails string_offsets_header _ _ _ _ _ c.in_ok-length.ensures.ok c.in_ok-length.ensures.in_range c.in_ok-unit.ensures.part c.in_ok-unit.ensures.ok
+    propagated-err _ _ c.from_residual-in_err-_padding.ensures.1
+    (inl (set_header_fails string_offsets_header _ _ _ _ _ c.in_ok-length.ensures.ok c.in_ok-length.ensures.in_range
+    c.in_ok-unit.ensures.part c.in_ok-unit.ensures.ok
     (inr (
       _,
       _,
@@ -41,7 +51,8 @@ pub returns-clause-ok : goal.returns-clause-ok
 unfolding string_offsets_header
 returns-clause-ok g c =
     let known : (c.in_ok-version.version == 5) ≡ true = search rules in
-    set_reads string_offsets_header _ _ _ _ _ c.in_ok-length.ensures.ok c.in_ok-length.ensures.in_range c.in_ok-unit.ensures.part c.in_ok-unit.ensures.ok (
+    set_reads string_offsets_header _ _ _ _ _ c.in_ok-length.ensures.ok c.in_ok-length.ensures.in_range
+    c.in_ok-unit.ensures.part c.in_ok-unit.ensures.ok (
       _,
       _,
       c.in_ok-version.ensures.ok,
