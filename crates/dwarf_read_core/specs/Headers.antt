@@ -1,4 +1,4 @@
--- The sets that headers have.
+-- The sets that headers have, under the names that callers use; `seen_by` says the same.
 use Rattle.std.specs.Prelude.{ℕ}
 use Rattle.dwarf_reader_core.specs.Input.{Input}
 use Rattle.dwarf_read_core.specs.Sets.{Set, SetOf, seen_by}

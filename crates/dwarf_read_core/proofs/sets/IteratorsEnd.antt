@@ -16,12 +16,12 @@ makes_progress bytes old new (Ok (Some x)) entry_shorter empty some =
 makes_progress bytes old new (Err e) entry_shorter empty some =
     record { on = λ _. (tt, tt, omega (arith, ap length empty, some)); keeps = tt; rests = λ _. tt }
 
--- an item whose width isn't 0 consumes a byte
+-- an entry consumes bytes
 pub entry_shorter : {X : Type 0} (width before behind : ℕ) (result : Result (Option X) Error)
-    → IfOk result (λ item. IfSome item (λ _. (1 ≤ width) × (behind + width ≤ before)))
+    → IfOk result (λ item. IfSome item (λ _. (behind + width ≡ before) × (behind < before)))
     → IfOk result (λ item. IfSome item (λ _. behind < before))
 entry_shorter width before behind (Ok None) h = tt
-entry_shorter width before behind (Ok (Some x)) h = omega (arith, h.0, h.1)
+entry_shorter width before behind (Ok (Some x)) h = h.1
 entry_shorter width before behind (Err e) h = tt
 
 -- a set has eight bytes

@@ -1,6 +1,6 @@
 //! Addresses: the section `.debug_addr` (DWARF 5, 7.27).
 
-ghost use Rattle.std.specs.Prelude.{nat_eq, ◌≡◌, ◌+◌, ◌≤◌, ◌⊎◌, ℕ, List, [], Ok, Err, true, length, IsTrue, IfOk, IfErr, IfSome, OnOk, OnErr, IsOk};
+ghost use Rattle.std.specs.Prelude.{nat_eq, ◌≡◌, ◌+◌, ◌<◌, ◌≤◌, ◌⊎◌, ℕ, List, [], Ok, Err, true, length, IsTrue, IfOk, IfErr, IfSome, OnOk, OnErr, IsOk};
 ghost use Rattle.std.specs.Cmp.{nat_eq_equiv};
 ghost use Rattle.std.specs.Fn.{CalledAt, TakesAt};
 ghost use Rattle.dwarf_base_core.specs.declared.common.SectionId.TheVariants.{DebugAddr as debug_addr};
@@ -209,10 +209,10 @@ impl<R: Reader> AddrHeaderIter<R> {
         }
         let before = self.input.len();
         match AddrHeader::parse(&mut self.input, self.offset) {
-            Err(e) => {
+            Err(error) => {
                 // Nothing says where another set would begin.
                 self.input.empty();
-                Err(e)
+                Err(error)
             }
             Ok(header) => {
                 self.offset.0 += before - self.input.len();
@@ -432,8 +432,8 @@ impl<R: Reader> AddrEntryIter<R> {
         ensures failed { OnErr result (self.new.rest.bytes ≡ []) }
         ensures bound { IfOk result
             (λ item. IfSome item
-            (λ _. (1 ≤ self.old.width)
-            × (length self.new.rest.bytes + self.old.width ≤ length self.old.rest.bytes))) }
+            (λ _. (length self.new.rest.bytes + self.old.width ≡ length self.old.rest.bytes)
+            × (length self.new.rest.bytes < length self.old.rest.bytes))) }
         ensures some { OnErr result (1 ≤ length self.old.rest.bytes) }
     {
         if self.input.is_empty() {
@@ -441,9 +441,9 @@ impl<R: Reader> AddrEntryIter<R> {
         }
         match self.input.read_address(self.encoding.encoding.address_size) {
             Ok(entry) => Ok(Some(entry)),
-            Err(e) => {
+            Err(error) => {
                 self.input.empty();
-                Err(e)
+                Err(error)
             }
         }
     }

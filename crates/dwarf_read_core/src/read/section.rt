@@ -65,7 +65,7 @@ pub trait Section<R>: From<R> + Sized {
     {
         match f(Self::id()) {
             Ok(reader) => Ok(Self::from(reader)),
-            Err(e) => Err(e),
+            Err(error) => Err(error),
         }
     }
 

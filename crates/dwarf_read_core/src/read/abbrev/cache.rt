@@ -189,7 +189,7 @@ impl AbbreviationsCache {
     {
         match self.abbreviations.get(&Key(offset.0.into_u64())) {
             Some(Ok(table)) => Ok(table.clone()?),
-            Some(Err(e)) => Err(*e),
+            Some(Err(error)) => Err(*error),
             None => Ok(Rc::new(self.mem, debug_abbrev.abbreviations(self.mem, offset)?)?),
         }
     }
@@ -238,7 +238,7 @@ fn shared_answer<R: Reader>(
     match debug_abbrev.abbreviations(mem, offset) {
         Ok(table) => Ok(Ok(Rc::new(mem, table)?)),
         Err(Error::OutOfMemory) => Err(Error::OutOfMemory),
-        Err(e) => Ok(Err(e)),
+        Err(error) => Ok(Err(error)),
     }
 }
 

@@ -1,6 +1,6 @@
 //! Sets of string offsets: the headers and entries of `.debug_str_offsets` (DWARF 5, 7.26).
 
-ghost use Rattle.std.specs.Prelude.{◌≡◌, ◌+◌, ◌≤◌, ◌⊎◌, [], true, length, IfOk, IfErr, IfSome, OnOk, OnErr};
+ghost use Rattle.std.specs.Prelude.{◌≡◌, ◌+◌, ◌<◌, ◌≤◌, ◌⊎◌, [], true, length, IfOk, IfErr, IfSome, OnOk, OnErr};
 ghost use Rattle.std.specs.Result.{result_transpose};
 ghost use Rattle.dwarf_reader_core.specs.Faults.{WantsMemory};
 ghost use Rattle.dwarf_read_core.specs.Entries.{StandsForStringOffsets};
@@ -96,10 +96,10 @@ impl<R: Reader> StrOffsetsHeaderIter<R> {
         }
         let before = self.input.len();
         match StrOffsetsHeader::parse(&mut self.input, self.offset) {
-            Err(e) => {
+            Err(error) => {
                 // Nothing says where another set would begin.
                 self.input.empty();
-                Err(e)
+                Err(error)
             }
             Ok(header) => {
                 self.offset += before - self.input.len();
@@ -299,8 +299,8 @@ impl<R: Reader> StrOffsetsEntryIter<R> {
         ensures failed { OnErr result (self.new.rest.bytes ≡ []) }
         ensures bound { IfOk result
             (λ item. IfSome item
-            (λ _. (1 ≤ self.old.width)
-            × (length self.new.rest.bytes + self.old.width ≤ length self.old.rest.bytes))) }
+            (λ _. (length self.new.rest.bytes + self.old.width ≡ length self.old.rest.bytes)
+            × (length self.new.rest.bytes < length self.old.rest.bytes))) }
         ensures some { OnErr result (1 ≤ length self.old.rest.bytes) }
     {
         if self.input.is_empty() {
@@ -308,9 +308,9 @@ impl<R: Reader> StrOffsetsEntryIter<R> {
         }
         match self.input.read_offset(self.format) {
             Ok(entry) => Ok(Some(DebugStrOffset(entry))),
-            Err(e) => {
+            Err(error) => {
                 self.input.empty();
-                Err(e)
+                Err(error)
             }
         }
     }
