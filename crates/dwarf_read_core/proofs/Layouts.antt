@@ -420,8 +420,8 @@ then_stable {A} {B} {p} {f} first second = record {
 -- ---- what is at the front of a section
 
 -- a section has exactly one answer
-pub at_one : {A : Type 0} {f : Layout A} (section : Input) → IsDefinite f → HasOne (At f section)
-at_one {A} {f} section law = go (law.one section)
+pub At-exactly_one : {A : Type 0} {f : Layout A} (section : Input) → IsDefinite f → HasOne (At f section)
+At-exactly_one {A} {f} section law = go (law.one section)
   where
     go : HasOne (Comes f section) → HasOne (At f section)
     go (Ok (x, new), is, only) = (Ok x, value new is, other)
@@ -442,10 +442,10 @@ at_one {A} {f} section law = go (law.one section)
             λ i. Err (p i)
 
 -- more bytes change no answer, unless it is an `UnexpectedEof`
-pub at_more : {A : Type 0} {f : Layout A} {section : Input} {answer : Result A Error} → IsStable f
+pub At-more : {A : Type 0} {f : Layout A} {section : Input} {answer : Result A Error} → IsStable f
     → (more : List ℕ) → At f section answer → IfErr answer IsNoEof
     → At f (followed_by section more) answer
-at_more {section = section} law more (value {x = x} behind h) settled =
+At-more {section = section} law more (value {x = x} behind h) settled =
     value (followed_by behind more) (law.stays more section x behind h)
-at_more {section = section} law more (refused {e = e} h) settled =
+At-more {section = section} law more (refused {e = e} h) settled =
     refused (law.fault_stays more section e settled h)

@@ -1,6 +1,6 @@
 //! Laws over the definitions: each function has one as its contract, and does nothing.
 
-ghost use Rattle.std.specs.Prelude.{◌≡◌, ◌≢◌, ◌↔◌, IsTrue, Option, ℕ, ◌<◌, ◌≤◌, List, [], ◌∷◌, length, All, IfErr, Ok, Err, Result};
+ghost use Rattle.std.specs.Prelude.{◌≡◌, ◌↔◌, IsTrue, Option, ℕ, ◌<◌, ◌≤◌, List, [], ◌∷◌, length, All, IfErr, Ok, Err, Result};
 ghost use Rattle.std.specs.List.{sum_by};
 ghost use Rattle.dwarf_base_core.specs.declared.error.Error.{Error};
 ghost use Rattle.dwarf_reader_core.specs.Input.{Input, Takes};
@@ -22,14 +22,14 @@ pub use dwarf_reader_core::laws::{
 };
 
 /// Every section has exactly one answer at every offset: a table, or the first error.
-#[tactic(auto, using(crate::proofs::tables::ExactlyOneAnswer::one_answer))]
+#[tactic(auto, using(crate::proofs::tables::ExactlyOneAnswer::answer_exactly_one))]
 pub fn exactly_one_answer()
     ensures { (section : Input) (offset : ℕ) → HasOne (Answer section offset) }
 {}
 
 /// Every section has exactly one strict answer at every offset. It doesn't change when bytes are
 /// appended, unless it tells of the section's end.
-#[tactic(auto, using(crate::proofs::tables::StrictAnswers::one_strict_answer, crate::proofs::tables::StrictAnswers::strict_answer_more))]
+#[tactic(auto, using(crate::proofs::tables::StrictAnswers::strict_answer_exactly_one, crate::proofs::tables::StrictAnswers::strict_answer_more))]
 pub fn exactly_one_strict_answer()
     ensures one { (section : Input) (offset : ℕ) → HasOne (StrictAnswer section offset) }
     ensures stable { (section : Input) (more : List ℕ) (offset : ℕ) (answer : Result Table Error)
@@ -63,7 +63,7 @@ pub fn equality_is_of_declarations()
 {}
 
 /// Every section has exactly one string at every offset, or one error.
-#[tactic(auto, using(crate::proofs::lookups::Strings::one_string))]
+#[tactic(auto, using(crate::proofs::lookups::Strings::string_exactly_one))]
 pub fn exactly_one_string()
     ensures { (section : Input) (offset : ℕ) → HasOne (StringAt section offset) }
 {}
@@ -77,13 +77,13 @@ pub fn appended_bytes_change_no_string()
 {}
 
 /// Every section has exactly one string offset at every slot, or one error.
-#[tactic(auto, using(crate::proofs::lookups::Words::one_word))]
+#[tactic(auto, using(crate::proofs::lookups::Words::word_exactly_one))]
 pub fn exactly_one_word()
     ensures { (greatest : ℕ) (section : Input) (s : Slot) → HasOne (WordAt greatest section s) }
 {}
 
 /// Every section has exactly one address at every slot, or one error.
-#[tactic(auto, using(crate::proofs::lookups::Words::one_address))]
+#[tactic(auto, using(crate::proofs::lookups::Words::address_exactly_one))]
 pub fn exactly_one_address()
     ensures { (greatest : ℕ) (section : Input) (s : Slot) → HasOne (AddressAt greatest section s) }
 {}
@@ -107,7 +107,7 @@ pub fn appended_bytes_change_no_address()
 {}
 
 /// Every section has exactly one part at every offset and size, or one error.
-#[tactic(auto, using(crate::proofs::lookups::Ranges::one_range))]
+#[tactic(auto, using(crate::proofs::lookups::Ranges::range_exactly_one))]
 pub fn exactly_one_range()
     ensures { (section : Input) (offset size : ℕ) → HasOne (RangeAt section offset size) }
 {}
@@ -144,7 +144,7 @@ pub fn sets_are_fronts()
 
 /// The bytes that remain of a set have exactly one list of addresses, and then at most one error.
 /// An address has as many bytes as its size, and an error is at one byte or more.
-#[tactic(auto, using(crate::proofs::sets::Entries::addresses_one, crate::proofs::sets::Entries::addresses_bounded))]
+#[tactic(auto, using(crate::proofs::sets::Entries::addresses_exactly_one, crate::proofs::sets::Entries::addresses_bounded))]
 pub fn exactly_one_list_of_entries()
     ensures one { (entries : Entries) → 0 < entries.width → HasOne (StandsForAddresses entries) }
     ensures bound { (entries : Entries) (items : List (Result ℕ Error))
@@ -154,7 +154,7 @@ pub fn exactly_one_list_of_entries()
 
 /// The bytes that remain of a set have exactly one list of string offsets, and then at most one
 /// error. An offset has as many bytes as a word, and an error is at one byte or more.
-#[tactic(auto, using(crate::proofs::sets::Entries::string_offsets_one, crate::proofs::sets::Entries::string_offsets_bounded))]
+#[tactic(auto, using(crate::proofs::sets::Entries::string_offsets_exactly_one, crate::proofs::sets::Entries::string_offsets_bounded))]
 pub fn exactly_one_list_of_string_offsets()
     ensures one { (greatest : ℕ) (entries : Entries) → 0 < entries.width
         → HasOne (StandsForStringOffsets greatest entries) }

@@ -6,7 +6,7 @@ use Rattle.dwarf_reader_core.specs.Input.{Input}
 use Rattle.dwarf_read_core.specs.Answer.{Answer}
 use Rattle.dwarf_read_core.specs.Cache.{KeepsAnswers, occurrences}
 use Rattle.dwarf_read_core.specs.Grammar.{Table}
-use Rattle.dwarf_read_core.proofs.tables.ExactlyOneAnswer.{one_answer}
+use Rattle.dwarf_read_core.proofs.tables.ExactlyOneAnswer.{answer_exactly_one}
 
 abbrev Kept : Type 0
 Kept = Option (Result Table Error)
@@ -23,7 +23,7 @@ one_kept least section offsets key None None is_a is_b = refl
 one_kept least section offsets key None (Some y) is_a is_b = absurd (omega (arith, is_a, is_b.0))
 one_kept least section offsets key (Some x) None is_a is_b = absurd (omega (arith, is_b, is_a.0))
 one_kept least section offsets key (Some x) (Some y) is_a is_b =
-    let one = one_answer section key in
+    let one = answer_exactly_one section key in
     let same : y ≡ x = one.2 y is_b.1 ∙ sym (one.2 x is_a.1) in
     ap (λ (z : Result Table Error). Some z) same
 
@@ -33,7 +33,7 @@ kept_at : (least : ℕ) (section : Input) (offsets : List ℕ) (key : ℕ)
 kept_at least section offsets key =
     elim (cases_lt (occurrences key offsets) least) [
       | inl few ↦ (None, few)
-      | inr enough ↦ let one = one_answer section key in (Some one.0, (enough, one.1))
+      | inr enough ↦ let one = answer_exactly_one section key in (Some one.0, (enough, one.1))
     ]
 
 -- a map exists that keeps exactly the offsets that occur often enough, each with the section's answer

@@ -66,7 +66,7 @@ some_range section offset size =
     ]
 
 -- each offset and size of a section has exactly one answer
-pub one_range : (section : Input) (offset size : ℕ) → HasOne (RangeAt section offset size)
-one_range section offset size =
+pub range_exactly_one : (section : Input) (offset size : ℕ) → HasOne (RangeAt section offset size)
+range_exactly_one section offset size =
     let some = some_range section offset size in
     (some.0, some.1, λ other a. only_range some.1 a)

@@ -142,8 +142,8 @@ some_string section offset =
     ]
 
 -- every offset of a section has exactly one answer for a string there
-pub one_string : (section : Input) (offset : ℕ) → HasOne (StringAt section offset)
-one_string section offset =
+pub string_exactly_one : (section : Input) (offset : ℕ) → HasOne (StringAt section offset)
+string_exactly_one section offset =
     let some = some_string section offset in
     (some.0, some.1, λ other a. only_string some.1 a)
 

@@ -12,7 +12,7 @@ use Rattle.dwarf_read_core.specs.Entries.{string_offset}
 use Rattle.dwarf_read_core.specs.Layout.{value, refused}
 use Rattle.dwarf_read_core.specs.Lookups.{AnswersBy, StaysBy}
 use Rattle.dwarf_read_core.specs.Words.{Slot, distance, place, IsPlaced, Misplaced, to_slot, word, address, WordAt, AddressAt}
-use Rattle.dwarf_read_core.proofs.Layouts.{IsDefinite, IsStable, at_one, at_more, sized_definite, sized_stable, fixed_size, part_size, check_definite, check_stable, then_definite, then_stable, after-after, rest-length}
+use Rattle.dwarf_read_core.proofs.Layouts.{IsDefinite, IsStable, At-exactly_one, At-more, sized_definite, sized_stable, fixed_size, part_size, check_definite, check_stable, then_definite, then_stable, after-after, rest-length}
 use Rattle.dwarf_read_core.proofs.lookups.Returned.{answer-stays, propagated-answer}
 use Rattle.dwarf_read_core.proofs.sets.Entries.{string_offset-definite, string_offset-stable}
 
@@ -188,16 +188,16 @@ slot-definite greatest s =
     (λ based. then_definite (check_definite _ _) (λ counted. sized_definite (part_size (distance s))))
 
 -- a slot has exactly one word, or one error
-pub one_word : (greatest : ℕ) (section : Input) (s : Slot) → HasOne (WordAt greatest section s)
+pub word_exactly_one : (greatest : ℕ) (section : Input) (s : Slot) → HasOne (WordAt greatest section s)
 unfolding word
-one_word greatest section s =
-    at_one section (then_definite (slot-definite greatest s) (λ reached. string_offset-definite greatest s.width))
+word_exactly_one greatest section s =
+    At-exactly_one section (then_definite (slot-definite greatest s) (λ reached. string_offset-definite greatest s.width))
 
 -- a slot has exactly one address, or one error
-pub one_address : (greatest : ℕ) (section : Input) (s : Slot) → HasOne (AddressAt greatest section s)
+pub address_exactly_one : (greatest : ℕ) (section : Input) (s : Slot) → HasOne (AddressAt greatest section s)
 unfolding address
-one_address greatest section s =
-    at_one section (then_definite (slot-definite greatest s)
+address_exactly_one greatest section s =
+    At-exactly_one section (then_definite (slot-definite greatest s)
     (λ reached. then_definite (check_definite _ _) (λ sized. sized_definite (fixed_size s.width))))
 
 -- ---- more bytes
@@ -214,7 +214,7 @@ pub word_more : (greatest : ℕ) (section : Input) (s : Slot) (answer : Result �
     → WordAt greatest section s answer → IfErr answer IsNoEof → WordAt greatest (followed_by section more) s answer
 unfolding word
 word_more greatest section s answer more is settled =
-    at_more (then_stable (slot-stable greatest s)
+    At-more (then_stable (slot-stable greatest s)
     (λ reached. string_offset-stable greatest s.width)) more is settled
 
 -- nor an address
@@ -223,7 +223,7 @@ pub address_more : (greatest : ℕ) (section : Input) (s : Slot) (answer : Resul
     → AddressAt greatest (followed_by section more) s answer
 unfolding address
 address_more greatest section s answer more is settled =
-    at_more (then_stable (slot-stable greatest s)
+    At-more (then_stable (slot-stable greatest s)
     (λ reached. then_stable (check_stable _ _) (λ sized. sized_stable (fixed_size s.width)))) more is settled
 
 -- ---- what a lookup returns

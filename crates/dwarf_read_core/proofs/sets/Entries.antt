@@ -14,7 +14,7 @@ use Rattle.dwarf_read_core.specs.Entries.{Entries, StandsForAddresses, StandsFor
 use Rattle.dwarf_read_core.specs.Items.{ComesFirst, least_taken}
 use Rattle.dwarf_read_core.specs.Layout.{Layout, AreItems, none, more}
 use Rattle.dwarf_read_core.proofs.Layouts.{IsDefinite, TakesLeast, sized_definite, sized_least, fixed_size, pure_definite, check_definite, then_definite, pure_covers, check_least, then_covers, IsStable, sized_stable, pure_stable, check_stable, then_stable}
-use Rattle.dwarf_read_core.proofs.sets.ItemLists.{items-one, items-bounded, items-anywhere, fault-first}
+use Rattle.dwarf_read_core.proofs.sets.ItemLists.{items-exactly_one, items-bounded, items-anywhere, fault-first}
 
 module _ {f : Layout ℕ} {width : ℕ} (law : IsDefinite f) (least : TakesLeast width f) (positive : 1 ≤ width)
     {old new : Input} (some : old.bytes ≢ []) where
@@ -24,7 +24,7 @@ module _ {f : Layout ℕ} {width : ℕ} (law : IsDefinite f) (least : TakesLeast
       × ((others : List (Result ℕ Error)) → AreItems (λ _. f) 0 new others
       → AreItems (λ _. f) 0 old (Ok x ∷ others))
   entry-first {x} h =
-      let found = items-one (λ _. law) (λ _. least) positive 0 new in
+      let found = items-exactly_one (λ _. law) (λ _. least) positive 0 new in
       ((found.0, found.1), λ others k. more some h (items-anywhere _ k))
 
 abbrev entries_in : ℕ → Input → Entries
@@ -38,9 +38,9 @@ entries_none entry entries empty = none empty
 -- ---- addresses
 
 -- bytes have exactly one list of addresses
-pub addresses_one : (entries : Entries) → 0 < entries.width → HasOne (StandsForAddresses entries)
-addresses_one entries positive =
-    items-one (λ _. sized_definite (fixed_size entries.width)) (λ _. sized_least (fixed_size entries.width))
+pub addresses_exactly_one : (entries : Entries) → 0 < entries.width → HasOne (StandsForAddresses entries)
+addresses_exactly_one entries positive =
+    items-exactly_one (λ _. sized_definite (fixed_size entries.width)) (λ _. sized_least (fixed_size entries.width))
     (omega (arith, positive)) 0 entries.rest
 
 -- addresses take no more bytes than there are
@@ -94,9 +94,9 @@ module _ (greatest : ℕ) where
       (λ number. then_covers (check_least _ _) (λ fits. pure_covers (omega arith)))
 
   -- bytes have exactly one list of offsets
-  pub string_offsets_one : (entries : Entries) → 0 < entries.width → HasOne (StandsForStringOffsets greatest entries)
-  string_offsets_one entries positive =
-      items-one (λ _. string_offset-definite entries.width) (λ _. string_offset-least entries.width)
+  pub string_offsets_exactly_one : (entries : Entries) → 0 < entries.width → HasOne (StandsForStringOffsets greatest entries)
+  string_offsets_exactly_one entries positive =
+      items-exactly_one (λ _. string_offset-definite entries.width) (λ _. string_offset-least entries.width)
       (omega (arith, positive)) 0 entries.rest
 
   -- offsets take no more bytes than there are

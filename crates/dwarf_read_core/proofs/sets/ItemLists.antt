@@ -105,8 +105,8 @@ module _ {A : Type 0} {item : ℕ → Layout A} (law : (offset : ℕ) → IsDefi
             (Ok x ∷ others.0, more full is others.1)
 
     -- an input has exactly one list of items
-    pub items-one : (offset : ℕ) (old : Input) → HasOne (AreItems item offset old)
-    items-one offset old =
+    pub items-exactly_one : (offset : ℕ) (old : Input) → HasOne (AreItems item offset old)
+    items-exactly_one offset old =
         let found = items-some (suc (length old.bytes)) offset old (omega arith) in
         (found.0, found.1, λ others a. items-same a found.1)
 
@@ -116,7 +116,7 @@ module _ {A : Type 0} {item : ℕ → Layout A} (law : (offset : ℕ) → IsDefi
         → ((others : Items) × AreItems item behind new others)
         × ((others : Items) → AreItems item behind new others → AreItems item offset old (Ok x ∷ others))
     item-first offset behind old new x some h place =
-        let found = items-one behind new in
+        let found = items-exactly_one behind new in
         ((found.0, found.1), λ others k. more some h (subst (λ (o : ℕ). AreItems item o new others) place k))
 
     -- an error comes first, and nothing remains behind it

@@ -19,7 +19,7 @@ use Rattle.dwarf_read_core.proofs.Layouts.{IsDefinite, sized_definite, pure_defi
 use Rattle.dwarf_read_core.proofs.Layouts.{IsFront, sized_front, pure_front, refuse_front, when_front, then_front, check_front, inside_front}
 use Rattle.dwarf_read_core.proofs.Layouts.{TakesLeast, sized_least, pure_covers, refuse_covers, when_covers, then_covers, check_least, part_covers, inside_covers}
 use Rattle.dwarf_read_core.proofs.Layouts.{IsStable, sized_stable, pure_stable, refuse_stable, when_stable, then_stable, check_stable, inside_stable, fixed_size, byte_size, part_size}
-use Rattle.dwarf_read_core.proofs.sets.ItemLists.{items-one, items-bounded, item-first, fault-first, item-stays, fault-stays, bytes-still_some}
+use Rattle.dwarf_read_core.proofs.sets.ItemLists.{items-exactly_one, items-bounded, item-first, fault-first, item-stays, fault-stays, bytes-still_some}
 
 -- ---- the laws of an initial length
 
@@ -188,8 +188,8 @@ module _ {H : Type 0} {header : Layout H} (is : IsHeader header) (greatest : ℕ
   set_least = set-at_least 4 greatest is.least
 
   -- bytes have exactly one list of sets
-  pub sets_one : (headers : Headers) → HasOne (StandsForSets header greatest headers)
-  sets_one headers = items-one (set_definite greatest is.definite) set_least (omega arith) headers.offset headers.rest
+  pub sets_exactly_one : (headers : Headers) → HasOne (StandsForSets header greatest headers)
+  sets_exactly_one headers = items-exactly_one (set_definite greatest is.definite) set_least (omega arith) headers.offset headers.rest
 
   -- sets take no more bytes than there are
   pub sets_bounded : (headers : Headers) (items : List (Result (Set H) Error))

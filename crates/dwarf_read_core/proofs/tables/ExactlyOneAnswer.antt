@@ -348,8 +348,8 @@ answer_returned r section offset rest takes given = go r (subst (λ (read : Tabl
     go (Err e) h = λ memory. subst (Answer section offset) (h memory) (is_answer section offset)
 
 -- a section and an offset have exactly one answer
-pub one_answer : (section : Input) (offset : ℕ) → HasOne (Answer section offset)
-one_answer section offset = (answer_at section offset, is_answer section offset, λ s a. sym (only_answer a))
+pub answer_exactly_one : (section : Input) (offset : ℕ) → HasOne (Answer section offset)
+answer_exactly_one section offset = (answer_at section offset, is_answer section offset, λ s a. sym (only_answer a))
 
 -- an offset past the end
 pub outside_of : (section : Input) (offset : ℕ) (e : Error) (new : Input) → EndsBefore offset section e new

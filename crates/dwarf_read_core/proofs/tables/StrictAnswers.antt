@@ -9,12 +9,12 @@ use Rattle.dwarf_read_core.specs.Grammar.{Table, Close, by_null, by_end, is_by_n
 use Rattle.dwarf_read_core.specs.Appended.{followed_by}
 use Rattle.dwarf_read_core.specs.Answer.{Answer, Answers, unterminated, strictly, StrictAnswer, AnswersStrictly, IsStrictlyFinal}
 use Rattle.dwarf_read_core.proofs.tables.AppendedBytes.{answer_more}
-use Rattle.dwarf_read_core.proofs.tables.ExactlyOneAnswer.{one_answer}
+use Rattle.dwarf_read_core.proofs.tables.ExactlyOneAnswer.{answer_exactly_one}
 
 -- every section has exactly one strict answer at every offset
-pub one_strict_answer : (section : Input) (offset : ℕ) → HasOne (StrictAnswer section offset)
-one_strict_answer section offset =
-    let one = one_answer section offset in
+pub strict_answer_exactly_one : (section : Input) (offset : ℕ) → HasOne (StrictAnswer section offset)
+strict_answer_exactly_one section offset =
+    let one = answer_exactly_one section offset in
     (strictly section one.0, (one.0, one.1, refl), λ other is. is.2 ∙ ap (strictly section) (one.2 is.0 is.1))
 
 -- a strict answer, by what closes the table

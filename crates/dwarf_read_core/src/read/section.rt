@@ -1,6 +1,6 @@
 //! What the sections have in common: an identifier, names, and the reader of their bytes.
 
-ghost use Rattle.std.specs.Prelude.{◌≡◌, ◌+◌, ◌⊎◌, ◌↔◌, IfOk, IfErr, IfSome, IsSome, Ok, Err, option_map};
+ghost use Rattle.std.specs.Prelude.{◌≡◌, ◌+◌, ◌↔◌, IfOk, IfErr, IfSome, IsSome, Ok, Err, option_map};
 ghost use Rattle.dwarf_base_core.specs.declared.common.SectionId.{SectionId};
 ghost use Rattle.dwarf_base_core.specs.Section.{section_names};
 ghost use Rattle.dwarf_reader_core.specs.Input.{Covers};

@@ -1,6 +1,6 @@
 //! Strings: the sections `.debug_str`, `.debug_str_offsets` and `.debug_line_str` (DWARF 5, 7.26).
 
-ghost use Rattle.std.specs.Prelude.{◌≡◌, ◌⊎◌, ℕ, List, Ok, Err, IfOk, IfErr};
+ghost use Rattle.std.specs.Prelude.{◌≡◌, Ok, IfOk, IfErr};
 ghost use Rattle.std.specs.Fn.{CalledAt, TakesAt};
 ghost use Rattle.dwarf_base_core.specs.declared.common.SectionId.TheVariants.{DebugStr as debug_str, DebugStrOffsets as debug_str_offsets, DebugLineStr as debug_line_str};
 ghost use Rattle.dwarf_base_core.specs.Format.{word_size};

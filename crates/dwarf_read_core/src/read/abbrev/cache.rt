@@ -1,6 +1,6 @@
 //! A cache of abbreviation tables, which units share.
 
-ghost use Rattle.std.specs.Prelude.{◌≡◌, ◌≢◌, ◌⊎◌, Some, List, [], ℕ, IfOk, IfErr, OnOk, OnErr, MatchOption, Ok, Err, ◌+◌, ◌<◌, ◌^◌, ◌==◌, if◌then◌else◌, unwrap_or, map, option_map};
+ghost use Rattle.std.specs.Prelude.{◌≡◌, ◌≢◌, Some, List, [], ℕ, IfOk, IfErr, OnOk, OnErr, MatchOption, Ok, Err, ◌+◌, ◌<◌, ◌^◌, ◌==◌, if◌then◌else◌, unwrap_or, map, option_map};
 ghost use Rattle.std.specs.BTreeMap.{get};
 ghost use Rattle.std.specs.FinMap as finite;
 ghost use Rattle.std.specs.Iterator.{IsFinite};
