@@ -1,16 +1,17 @@
--- Laws of layouts: exactly one outcome, the front of the bytes, how many are taken, and that more bytes change nothing.
-use Rattle.std.proofs.Common.{◌≡◌, ◌≢◌, ℕ, ◌+◌, ◌<◌, ◌≤◌, take, drop, Bool, true, false, List, [], ◌∷◌, ◌++◌, length, Result, Ok, Err, refl, sym, ap, subst, ◌∙◌, arith, inl, inr, slice_index}
+-- Laws of layouts: exactly one outcome, the front of the bytes, how many are consumed, and appended bytes.
+use Rattle.std.proofs.Common.{◌≡◌, ℕ, ◌+◌, ◌-◌, ◌<◌, ◌≤◌, take, drop, Bool, true, false, List, [], ◌∷◌, ◌++◌, length, Result, Ok, Err, refl, sym, ap, subst, ◌∙◌, arith, inl, inr, slice_index}
 use Rattle.std.proofs.lemmas.Bool.{cases_lt}
 use Rattle.std.proofs.lemmas.List.{length-append, length-drop, length-take-le, take-append-le, drop-append-le, drop-drop}
+use Rattle.std.specs.Prelude.{IfErr}
 use Rattle.dwarf_base_core.specs.declared.error.Error.{Error}
 use Rattle.dwarf_base_core.specs.Number.{number_of}
-use Rattle.dwarf_reader_core.specs.Faults.{eof, end_fault}
+use Rattle.dwarf_reader_core.specs.Faults.{end_fault}
 use Rattle.dwarf_reader_core.specs.Input.{Input, after, first as first_of_input, Takes}
 use Rattle.dwarf_reader_core.specs.Once.{HasOne}
-use Rattle.dwarf_read_core.specs.Answer.{followed_by}
+use Rattle.dwarf_read_core.specs.Appended.{followed_by, IsNoEof}
 use Rattle.dwarf_read_core.specs.Layout.{Layout, fixed, byte, part, pure, refuse, when◌then◌else◌, check, ◌>>=◌, inside, At, value, refused}
 
--- what reading comes to: a value and what is left behind it, or a fault
+-- what reading comes to: a value and what remains behind it, or an error
 abbrev pub Comes : {A : Type 0} → Layout A → Input → Result (A × Input) Error → Type 0
 Comes f old (Ok x) = f.Reads old x.0 x.1
 Comes f old (Err e) = f.Fails old e
@@ -19,32 +20,32 @@ Comes f old (Err e) = f.Fails old e
 pub record IsDefinite {A : Type 0} (f : Layout A) : Type 0 where
   pub one : (old : Input) → HasOne (Comes f old)
 
--- what is read is the front of the bytes, and the rest is left
+-- what is read is the front of the bytes, and the rest remains
 pub record IsFront {A : Type 0} (f : Layout A) : Type 0 where
   pub takes : (old : Input) (x : A) (new : Input) → f.Reads old x new → (n : ℕ) × Takes n old new
 
--- what is taken, with a credit, covers the size of the value
+-- what is consumed, with a credit, covers the size of the value
 pub record Covers {A : Type 0} (credit : ℕ) (size : A → ℕ) (f : Layout A) : Type 0 where
   pub all : (old : Input) (x : A) (new : Input) → f.Reads old x new
       → length new.bytes + size x ≤ length old.bytes + credit
 
--- at least so many bytes are taken
+-- at least so many bytes are consumed
 abbrev pub TakesLeast : {A : Type 0} → ℕ → Layout A → Type 0
 TakesLeast n f = Covers 0 (λ _. n) f
 
--- more bytes behind change neither a value nor a fault, but that bytes are missing
+-- more bytes behind change neither a value nor an error, unless it is an `UnexpectedEof`
 pub record IsStable {A : Type 0} (f : Layout A) : Type 0 where
   pub stays : (more : List ℕ) (old : Input) (x : A) (new : Input) → f.Reads old x new
       → f.Reads (followed_by old more) x (followed_by new more)
-  pub fault_stays : (more : List ℕ) (old : Input) (e : Error) → ((position : ℕ) → e ≢ eof position) → f.Fails old e
+  pub fault_stays : (more : List ℕ) (old : Input) (e : Error) → IsNoEof e → f.Fails old e
       → f.Fails (followed_by old more) e
 
--- outcomes are the same where value and rest are
+-- outcomes are the same if value and rest are
 same_read : {A : Type 0} {x y : A} {i j : Input} → x ≡ y → i ≡ j
     → ◌≡◌ {A = Result (A × Input) Error} (Ok (x, i)) (Ok (y, j))
 same_read p q = λ k. Ok (p k, q k)
 
--- outcomes are the same where the faults are
+-- outcomes are the same if the errors are
 same_fault : {A : Type 0} {d e : Error} → d ≡ e → ◌≡◌ {A = Result (A × Input) Error} (Err d) (Err e)
 same_fault p = λ k. Err (p k)
 
@@ -54,7 +55,7 @@ same_length e = ap (λ (i : Input). length i.bytes) e
 
 -- ---- layouts of so many bytes
 
--- so many bytes have one value, and fewer are the end fault
+-- so many bytes have one value, and fewer are `UnexpectedEof`
 pub record HasSize {A : Type 0} (n : ℕ) (f : Layout A) : Type 0 where
   pub value : Input → A
   pub reads : (old : Input) → n ≤ length old.bytes → f.Reads old (value old) (after n old)
@@ -75,7 +76,7 @@ fixed_size n = record {
   same = λ old more enough. ap (λ (b : List ℕ). number_of old.is_big b) (sym (take-append-le n old.bytes more enough));
 }
 
--- the first byte stays where more follow
+-- the first byte stays when more follow
 slice_first-stays : (bytes more : List ℕ) → 1 ≤ length bytes → slice_index bytes 0 ≡ slice_index (bytes ++ more) 0
 slice_first-stays [] more some = absurd (omega arith)
 slice_first-stays (b ∷ bytes) more some = refl
@@ -103,7 +104,7 @@ part_size n = record {
       (sym (take-append-le n old.bytes more enough));
 }
 
--- more bytes stay behind what is left
+-- more bytes stay behind what remains
 after-followed : (n : ℕ) (old : Input) (more : List ℕ) → n ≤ length old.bytes
     → followed_by (after n old) more ≡ after n (followed_by old more)
 after-followed n old more le =
@@ -111,7 +112,7 @@ after-followed n old more le =
     (sym (drop-append-le n old.bytes more le))
 
 module _ {A : Type 0} {n : ℕ} {f : Layout A} (size : HasSize n f) where
-  -- fewer bytes come to the end fault alone
+  -- fewer bytes come to `UnexpectedEof` alone
   sized_short : (old : Input) → length old.bytes < n → (r : Result (A × Input) Error) → Comes f old r
       → r ≡ Err (end_fault old)
   sized_short old short (Ok x) h = absurd (let k = size.only old x.1 x.0 h in omega (arith, k.0, short))
@@ -137,7 +138,7 @@ module _ {A : Type 0} {n : ℕ} {f : Layout A} (size : HasSize n f) where
   sized_front =
       record { takes = λ old x new r. let k = size.only old new x r in (n, record { enough = k.0; left = k.2 }) }
 
-  -- it takes its size
+  -- it has its size
   pub sized_least : TakesLeast n f
   sized_least =
       record {
@@ -161,7 +162,7 @@ module _ {A : Type 0} {n : ℕ} {f : Layout A} (size : HasSize n f) where
     fault_stays = λ more old e settled h. absurd (settled old.position ((size.fault old e h).1));
   }
 
--- a part has as many bytes as are taken
+-- a part has as many bytes as are consumed
 pub part_covers : (n : ℕ) → Covers 0 (λ unit. length unit.bytes) (part n)
 part_covers n = record { all = λ old unit new r. omega (arith, same_length r.1.left, length-drop n old.bytes, r.1.enough, same_length r.0, length-take-le n old.bytes r.1.enough) }
 
@@ -175,7 +176,7 @@ pure_definite {A} a = record { one = λ old. (Ok (a, old), (refl, refl), only ol
     only old (Ok x) h = same_read h.0 h.1
     only old (Err e) h = absurd h
 
--- a fault is the one fault
+-- an error is the one error
 pub refuse_definite : {A : Type 0} (e : Error) → IsDefinite {A = A} (refuse e)
 refuse_definite {A} e = record { one = λ old. (Err e, refl, only old) }
   where
@@ -183,7 +184,7 @@ refuse_definite {A} e = record { one = λ old. (Err e, refl, only old) }
     only old (Ok x) h = absurd h
     only old (Err d) h = same_fault h
 
--- whichever of two layouts a test chooses has one outcome where both have
+-- whichever of two layouts a test chooses has one outcome if both have
 pub when_definite : {A : Type 0} {f g : Layout A} (b : Bool) → IsDefinite f → IsDefinite g
     → IsDefinite (when b then f else g)
 when_definite true f g = f
@@ -219,7 +220,7 @@ module _ {A B : Type 0} {p : Layout A} {f : A → Layout B} (first : IsDefinite 
   abbrev both : Layout B
   both = p >>= f
 
-  -- a fault of the first is a fault of both
+  -- an error of the first is an error of both
   then-faulty : (old : Input) (e : Error) → ((r : Result (A × Input) Error) → Comes p old r → r ≡ Err e)
       → (r : Result (B × Input) Error) → Comes both old r → r ≡ Err e
   then-faulty old e only (Ok y) h = absurd (let c = only (Ok (h.0, h.1)) h.2 in cc)
@@ -246,7 +247,7 @@ module _ {A B : Type 0} {p : Layout A} {f : A → Layout B} (first : IsDefinite 
   then-whole old x mid is (Ok y) h = (x, mid, is, h)
   then-whole old x mid is (Err d) h = inr (x, mid, is, h)
 
-  -- two layouts one behind the other have one outcome where each has
+  -- two layouts one behind the other have one outcome if each has
   pub then_definite : IsDefinite both
   then_definite = record { one = λ old. go old (first.one old) }
     where
@@ -258,7 +259,7 @@ module _ {A B : Type 0} {p : Layout A} {f : A → Layout B} (first : IsDefinite 
 
 -- ---- the front of the bytes
 
--- what is left after m bytes, and then after n, is left after both
+-- what remains after m bytes, and then after n, remains after both
 pub after-after : (m n : ℕ) (old : Input) → after m (after n old) ≡ after (n + m) old
 after-after m n old = λ i. record { bytes = bytes i; position = place i; is_big = old.is_big }
   where
@@ -268,7 +269,11 @@ after-after m n old = λ i. record { bytes = bytes i; position = place i; is_big
     place : (old.position + n) + m ≡ old.position + (n + m)
     place = omega arith
 
--- where nothing is taken, no bytes are
+-- what remains is as long as what was there, without what was consumed
+pub rest-length : (n : ℕ) (old new : Input) → Takes n old new → length new.bytes ≡ length old.bytes - n
+rest-length n old new takes = ap (λ (i : Input). length i.bytes) takes.left ∙ length-drop n old.bytes
+
+-- if nothing is consumed, no bytes are
 nothing-taken : (old new : Input) → new ≡ old → (n : ℕ) × Takes n old new
 nothing-taken old new e = (
   0,
@@ -283,15 +288,15 @@ nothing-taken old new e = (
   },
 )
 
--- what is read of a part takes no more bytes
+-- what is read of a part consumes no more bytes
 pub inside_front : {A : Type 0} (f : Layout A) (unit : Input) → IsFront (inside unit f)
 inside_front f unit = record { takes = λ old x new r. nothing-taken old new r.1 }
 
--- a value takes none
+-- a value consumes none
 pub pure_front : {A : Type 0} (a : A) → IsFront (pure a)
 pure_front a = record { takes = λ old x new r. nothing-taken old new r.1 }
 
--- a fault reads nothing
+-- an error reads nothing
 pub refuse_front : {A : Type 0} (e : Error) → IsFront {A = A} (refuse e)
 refuse_front e = record { takes = λ old x new r. absurd r }
 
@@ -300,7 +305,7 @@ pub when_front : {A : Type 0} {f g : Layout A} (b : Bool) → IsFront f → IsFr
 when_front true f g = f
 when_front false f g = g
 
--- a check takes none
+-- a check consumes none
 pub check_front : (b : Bool) (e : Error) → IsFront (check b e)
 check_front b e = when_front b (pure_front tt) (refuse_front e)
 
@@ -319,7 +324,7 @@ then_front first second = record {
       );
 }
 
--- ---- how many bytes are taken
+-- ---- how many bytes are consumed
 
 -- a part has at least the bytes of what is read of it
 pub inside_covers : {A B : Type 0} {credit : ℕ} {size : B → ℕ} {f : Layout A} {unit : Input}
@@ -338,7 +343,7 @@ module _ {A : Type 0} {credit : ℕ} {size : A → ℕ} where
   pub pure_covers : {a : A} → size a ≤ credit → Covers credit size (pure a)
   pure_covers le = record { all = λ old x new h. let p = ap size h.0 in omega (arith, p, same_length h.1, le) }
 
-  -- a fault reads nothing that has to be covered
+  -- an error reads nothing that has to be covered
   pub refuse_covers : {e : Error} → Covers credit size (refuse e)
   refuse_covers = record { all = λ old x new h. absurd h }
 
@@ -353,7 +358,7 @@ module _ {A : Type 0} {credit : ℕ} {size : A → ℕ} where
       → ((x : B) → Covers (credit + front x) size (f x)) → Covers credit size (p >>= f)
   then_covers a b = record { all = λ old y new h. omega (arith, a.all old h.0 h.1 h.2, (b h.0).all h.1 y new h.3) }
 
--- a check takes no bytes
+-- a check consumes no bytes
 pub check_least : (b : Bool) (e : Error) → TakesLeast 0 (check b e)
 check_least b e = when_covers b (pure_covers (omega arith)) refuse_covers
 
@@ -375,7 +380,7 @@ pure_stable a =
       fault_stays = λ more old e settled h. h;
     }
 
--- a fault without bytes stays
+-- an error without bytes stays
 pub refuse_stable : {A : Type 0} (e : Error) → IsStable {A = A} (refuse e)
 refuse_stable e = record { stays = λ more old x new h. h; fault_stays = λ more old e settled h. h }
 
@@ -388,7 +393,7 @@ when_stable false f g = g
 pub check_stable : (b : Bool) (e : Error) → IsStable (check b e)
 check_stable b e = when_stable b (pure_stable tt) (refuse_stable e)
 
--- two layouts one behind the other stay where each does
+-- two layouts one behind the other stay if each does
 pub then_stable : {A B : Type 0} {p : Layout A} {f : A → Layout B} → IsStable p → ((x : A) → IsStable (f x))
     → IsStable (p >>= f)
 then_stable {A} {B} {p} {f} first second = record {
@@ -401,7 +406,7 @@ then_stable {A} {B} {p} {f} first second = record {
   fault_stays = faulty;
 }
   where
-    faulty : (more : List ℕ) (old : Input) (e : Error) → ((position : ℕ) → e ≢ eof position)
+    faulty : (more : List ℕ) (old : Input) (e : Error) → IsNoEof e
         → (p >>= f).Fails old e → (p >>= f).Fails (followed_by old more) e
     faulty more old e settled (inl h) = inl (first.fault_stays more old e settled h)
     faulty more old e settled (inr h) =
@@ -412,7 +417,7 @@ then_stable {A} {B} {p} {f} first second = record {
           (second h.0).fault_stays more h.1 e settled h.3,
         )
 
--- ---- what stands at the front of a section
+-- ---- what is at the front of a section
 
 -- a section has exactly one answer
 pub at_one : {A : Type 0} {f : Layout A} (section : Input) → IsDefinite f → HasOne (At f section)
@@ -436,11 +441,11 @@ at_one {A} {f} section law = go (law.one section)
             let p : d ≡ e = cc in
             λ i. Err (p i)
 
--- more bytes change no answer, but that bytes are missing
+-- more bytes change no answer, unless it is an `UnexpectedEof`
 pub at_more : {A : Type 0} {f : Layout A} {section : Input} {answer : Result A Error} → IsStable f
-    → (more : List ℕ) → At f section answer → ((position : ℕ) → answer ≢ Err (eof position))
+    → (more : List ℕ) → At f section answer → IfErr answer IsNoEof
     → At f (followed_by section more) answer
 at_more {section = section} law more (value {x = x} behind h) settled =
     value (followed_by behind more) (law.stays more section x behind h)
 at_more {section = section} law more (refused {e = e} h) settled =
-    refused (law.fault_stays more section e (λ p q. settled p (λ i. Err (q i))) h)
+    refused (law.fault_stays more section e settled h)

@@ -1,10 +1,11 @@
--- The one answer to where a table is looked for: the table, or the first fault.
+-- The one answer for a section and an offset: the table there, or the first error.
 use Rattle.std.specs.Prelude.{◌≡◌, ◌≢◌, ℕ, ◌<◌, ◌≤◌, ◌⊎◌, List, [], ◌∷◌, ◌++◌, length, drop, Result, Ok, Err, ⊤, if◌then◌else◌}
 use Rattle.dwarf_base_core.specs.declared.error.Error.{Error}
 use Rattle.dwarf_base_core.specs.declared.error.Error.TheVariants.{AbbreviationTagZero, InvalidAbbreviationChildren, AttributeNameZero, AttributeFormZero, DuplicateAbbreviationCode, OutOfMemory, UnterminatedAbbreviations}
 use Rattle.dwarf_reader_core.specs.Leb128.{Kind, unsigned64, unsigned16, signed64, refusal, IsNumber, IsCut, IsBad}
 use Rattle.dwarf_reader_core.specs.Faults.{eof, end_fault}
 use Rattle.dwarf_reader_core.specs.Input.{Input, end_of}
+use Rattle.dwarf_read_core.specs.Appended.{IsNoEof}
 use Rattle.dwarf_read_core.specs.Grammar.{Declaration, implicit_const, Table, by_null, is_by_null, IsCode, IsHead, IsFront, IsDeclaration, Declares, AreDeclarations, IsTable}
 
 -- a declaration that is cut before a number of this kind
@@ -36,7 +37,7 @@ pub data IsFaulty (end : ℕ) : List ℕ → Error → Type 0 where
       → IsNumber unsigned16 name n → 0 < n → IsNumber unsigned16 form 0
       → IsFaulty end (front ++ name ++ form ++ rest) AttributeFormZero
 
--- the first fault of bytes that begin with no table
+-- the first error of bytes that begin with no table
 pub data IsFault (end : ℕ) : List ℕ → Error → Type 0 where
   in_declaration : (bytes rest : List ℕ) (ds : List Declaration) (e : Error) → AreDeclarations bytes ds → rest ≢ []
       → IsFaulty end rest e → IsFault end (bytes ++ rest) e
@@ -52,21 +53,17 @@ pub data Answer (section : Input) (offset : ℕ) : Result Table Error → Type 0
   fault : (e : Error) → offset ≤ length section.bytes → IsFault (end_of section) (drop offset section.bytes) e
       → Answer section offset (Err e)
 
--- what is answered is the answer, unless memory ran out
+-- what is returned is the answer, unless memory ran out
 abbrev pub Answers : Result Table Error → Input → ℕ → Type 0
 Answers (Ok t) section offset = Answer section offset (Ok t)
 Answers (Err e) section offset = e ≢ OutOfMemory → Answer section offset (Err e)
 
--- a section with more bytes behind it
-abbrev pub followed_by : Input → List ℕ → Input
-followed_by section more = record section { bytes = section.bytes ++ more }
-
--- an answer that does not depend on where the section ends
+-- an answer that doesn't tell where the section ends
 abbrev pub IsFinal : Result Table Error → Type 0
 IsFinal (Ok t) = t.close ≡ by_null
-IsFinal (Err e) = (position : ℕ) → e ≢ eof position
+IsFinal (Err e) = IsNoEof e
 
--- where an answer takes no memory: outside, at the end, or at a code of value 0
+-- the offsets at which an answer needs no memory: outside, at the end, or at a code of value 0
 abbrev pub TakesNoMemory : Input → ℕ → Type 0
 TakesNoMemory section offset =
     (length section.bytes ≤ offset) ⊎ ((zero_code rest : List ℕ) × (drop offset section.bytes ≡ zero_code ++ rest)
@@ -86,12 +83,12 @@ abbrev pub StrictAnswer : Input → ℕ → Result Table Error → Type 0
 StrictAnswer section offset strict =
     (answer : Result Table Error) × Answer section offset answer × (strict ≡ strictly section answer)
 
--- what is answered is the strict answer, unless memory ran out
+-- what is returned is the strict answer, unless memory ran out
 abbrev pub AnswersStrictly : Result Table Error → Input → ℕ → Type 0
 AnswersStrictly (Ok t) section offset = StrictAnswer section offset (Ok t)
 AnswersStrictly (Err e) section offset = e ≢ OutOfMemory → StrictAnswer section offset (Err e)
 
--- a strict answer that does not depend on where the section ends: every table, and every error but these two
+-- a strict answer that doesn't tell where the section ends: every table, and every error except these two
 abbrev pub IsStrictlyFinal : Result Table Error → Type 0
 IsStrictlyFinal (Ok t) = ⊤
-IsStrictlyFinal (Err e) = (position : ℕ) → (e ≢ eof position) × (e ≢ unterminated position)
+IsStrictlyFinal (Err e) = IsNoEof e × ((position : ℕ) → e ≢ unterminated position)

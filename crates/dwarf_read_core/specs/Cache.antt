@@ -9,13 +9,13 @@ use Rattle.dwarf_base_core.specs.declared.error.Error.TheVariants.{OutOfMemory, 
 use Rattle.dwarf_reader_core.specs.Input.{Input}
 use Rattle.dwarf_read_core.specs.Answer.{Answer}
 use Rattle.dwarf_read_core.specs.Grammar.{Table, is_by_null}
-use Rattle.dwarf_read_core.specs.declared.read.abbrev.AbbreviationsCacheStrategy.{AbbreviationsCacheStrategy}
-use Rattle.dwarf_read_core.specs.declared.read.abbrev.AbbreviationsCacheStrategy.TheVariants.{Duplicates, All}
+use Rattle.dwarf_read_core.specs.declared.read.abbrev.cache.AbbreviationsCacheStrategy.{AbbreviationsCacheStrategy}
+use Rattle.dwarf_read_core.specs.declared.read.abbrev.cache.AbbreviationsCacheStrategy.TheVariants.{Duplicates, All}
 
 -- an answer whose table is shared
 abbrev pub answer_of : {Z : Type 0} → Result (Rc Table Z) Error → Result Table Error
 answer_of (Ok shared) = Ok shared.value
-answer_of (Err fault) = Err fault
+answer_of (Err e) = Err e
 
 -- the entries of a cache, whose tables are shared
 abbrev pub shown_entries : {Z : Type 0} → List (ℕ × Result (Rc Table Z) Error) → List (ℕ × Result Table Error)
@@ -25,7 +25,7 @@ shown_entries entries = map (λ entry. (entry.0, answer_of entry.1)) entries
 abbrev pub Cache : Type 0
 Cache = finite.FinMap nat_cmp (Result Table Error)
 
--- no want of memory is kept
+-- no `OutOfMemory` is kept
 abbrev pub KeepsNoWant : Cache → Type 0
 KeepsNoWant cache = (key : ℕ) → finite.get cache key ≢ Some (Err OutOfMemory)
 
@@ -48,10 +48,10 @@ KeepsAnswers least section offsets kept =
 abbrev pub IsFaithful : Cache → Input → Type 0
 IsFaithful cache section = (key : ℕ) → IfSome (finite.get cache key) (Answer section key)
 
--- nothing, or an error that is not want of memory
+-- nothing, or an error that is not `OutOfMemory`
 abbrev pub EndsItems : {T : Type 0} → Option (Result T Error) → Type 0
 EndsItems None = ⊤
-EndsItems (Some item) = MatchResult item (λ _. ⊥) (λ fault. fault ≢ OutOfMemory)
+EndsItems (Some item) = MatchResult item (λ _. ⊥) (λ e. e ≢ OutOfMemory)
 
 -- calls of `next` gave these items, each as an `Ok`, and then the end or a first error
 pub record GivesBeforeError {S T : Type 0} (steps : S → Option (Result T Error) → S → Type 0) (from : S)
@@ -61,11 +61,11 @@ pub record GivesBeforeError {S T : Type 0} (steps : S → Option (Result T Error
   pub given : YieldsThen steps from (map (λ item. Ok item) items) last left
   pub ends : EndsItems last
 
--- the first call of `next` gives an item, or an error that is want of memory
+-- the first call of `next` yields an item, or `OutOfMemory`
 abbrev pub GivesSome : {S T : Type 0} → (S → Option (Result T Error) → S → Type 0) → S → Type 0
 GivesSome {S = S} {T = T} steps from =
     (first : Result T Error) × (left : S) × steps from (Some first) left
-    × MatchResult first (λ _. ⊤) (λ fault. fault ≡ OutOfMemory)
+    × MatchResult first (λ _. ⊤) (λ e. e ≡ OutOfMemory)
 
 -- the numbers of the offsets that come before the first error
 pub record NamesOffsets {S T : Type 0} (steps : S → Option (Result T Error) → S → Type 0) (number : T → ℕ)
@@ -74,14 +74,15 @@ pub record NamesOffsets {S T : Type 0} (steps : S → Option (Result T Error) �
   pub given : GivesBeforeError steps from items
   pub numbers : offsets ≡ map number items
 
--- a kept answer is handed out as it is; sharing a table may find no room
+-- a kept result is returned as it is, except that memory to share a table may run out; a kept error isn't
+-- `OutOfMemory`
 abbrev pub HandsOut : {Z : Type 0} → Result Table Error → Result (Rc Table Z) Error → Type 0
 HandsOut kept result =
-    MatchResult kept (λ table. MatchResult result (λ shared. shared.value ≡ table) (λ fault. fault ≡ OutOfMemory))
-    (λ fault. result ≡ Err fault)
+    MatchResult kept (λ table. MatchResult result (λ shared. shared.value ≡ table) (λ e. e ≡ OutOfMemory))
+    (λ e. (result ≡ Err e) × (e ≢ OutOfMemory))
 
--- whether appended bytes leave an answer as it is: a table that a code of value 0 closes, or an error but that
--- bytes are missing
+-- whether appended bytes leave an answer as it is: a table that a code of value 0 closes, or an error except
+-- `UnexpectedEof`
 abbrev pub is_final : Result Table Error → Bool
 is_final (Ok t) = is_by_null t.close
 is_final (Err (UnexpectedEof _)) = false

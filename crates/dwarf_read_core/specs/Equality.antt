@@ -1,12 +1,14 @@
--- When two abbreviations are equal.
-use Rattle.std.specs.Prelude.{◌≡◌, ◌↔◌, Bool, ◌==◌, pos, unwrap_or, IsSome}
+-- When two abbreviations, or the headers of two sets, are equal.
+use Rattle.std.specs.Prelude.{◌≡◌, refl, ◌↔◌, Bool, true, ◌==◌, pos, unwrap_or, IsSome}
 use Rattle.std.specs.Bool.{beq}
-use Rattle.std.specs.Cmp.{IsEquivalence, and_equiv, on_equiv, nat_eq_equiv, int_eq_equiv, bool_eq_equiv}
+use Rattle.std.specs.Cmp.{IsEquivalence, IsPartialEquivalence, partial_equiv_from_equiv, and_equiv, and_per, on_equiv, on_per, nat_eq_equiv, int_eq_equiv, bool_eq_equiv}
 use Rattle.std.specs.Cmp.Lexicographic.{pointwise, lists_equiv}
 use Rattle.std.specs.Ordering.{int_eq, eq_of_both, on}
+use Rattle.dwarf_base_core.specs.Format.{word_size}
 use Rattle.dwarf_read_core.specs.Grammar.{Specification, Declaration, implicit_const}
+use Rattle.dwarf_read_core.specs.Sets.{SetOf}
 
--- the same name, form and value, where none counts as 0
+-- the same name, form and value, if none counts as 0
 abbrev pub same_specification : Specification → Specification → Bool
 same_specification =
     eq_of_both (on (λ s. s.name) ◌==◌) (eq_of_both (on (λ s. s.form) ◌==◌)
@@ -35,3 +37,35 @@ same_declaration_equiv =
     (and_equiv (on_equiv (λ (d : Declaration). d.code) nat_eq_equiv)
     (and_equiv (on_equiv (λ (d : Declaration). d.tag) nat_eq_equiv)
     (on_equiv (λ (d : Declaration). d.attributes) (lists_equiv same_specification_equiv))))
+
+-- a header that says nothing is equal to any other
+abbrev pub same_unit : Unit {0} → Unit {0} → Bool
+same_unit one other = true
+
+pub same_unit_equiv : IsEquivalence same_unit
+same_unit_equiv = record { refl = λ x. refl; symm = λ x y. refl; congr = λ x y z p. refl }
+
+-- the same place, length and format, the same header, and equal entries
+abbrev pub same_set : {H E : Type 0} → (H → H → Bool) → (E → E → Bool) → SetOf H E → SetOf H E → Bool
+same_set same_header same_entries =
+    eq_of_both (on (λ s. s.offset) ◌==◌)
+    (eq_of_both (on (λ s. s.unit_length) ◌==◌) (eq_of_both (on (λ s. word_size s.format) ◌==◌)
+    (eq_of_both (on (λ s. s.header) same_header) (on (λ s. s.entries) same_entries))))
+
+pub same_set_per : {H E : Type 0} {same_header : H → H → Bool} {same_entries : E → E → Bool}
+    → IsEquivalence same_header → IsPartialEquivalence same_entries
+    → IsPartialEquivalence (same_set same_header same_entries)
+same_set_per {H} {E} header entries =
+    and_per (on_per (λ (s : SetOf H E). s.offset) (partial_equiv_from_equiv nat_eq_equiv))
+    (and_per (on_per (λ (s : SetOf H E). s.unit_length) (partial_equiv_from_equiv nat_eq_equiv))
+    (and_per (on_per (λ (s : SetOf H E). word_size s.format) (partial_equiv_from_equiv nat_eq_equiv))
+    (and_per (on_per (λ (s : SetOf H E). s.header) (partial_equiv_from_equiv header))
+    (on_per (λ (s : SetOf H E). s.entries) entries))))
+
+pub same_set_equiv : {H E : Type 0} {same_header : H → H → Bool} {same_entries : E → E → Bool}
+    → IsEquivalence same_header → IsEquivalence same_entries → IsEquivalence (same_set same_header same_entries)
+same_set_equiv {H} {E} header entries =
+    and_equiv (on_equiv (λ (s : SetOf H E). s.offset) nat_eq_equiv)
+    (and_equiv (on_equiv (λ (s : SetOf H E). s.unit_length) nat_eq_equiv)
+    (and_equiv (on_equiv (λ (s : SetOf H E). word_size s.format) nat_eq_equiv)
+    (and_equiv (on_equiv (λ (s : SetOf H E). s.header) header) (on_equiv (λ (s : SetOf H E). s.entries) entries))))

@@ -1,4 +1,4 @@
--- How many bytes a value of a form has, where the form tells it (DWARF 5, 7.5.6).
+-- How many bytes a value of a form has, if the form determines it (DWARF 5, 7.5.6).
 use Rattle.std.specs.Prelude.{ℕ, List, [], ◌∷◌, ◌==◌, Option, Some, None, if◌then◌else◌}
 use Rattle.std.specs.Map.{lookup}
 use Rattle.dwarf_base_core.specs.Format.{word_size}

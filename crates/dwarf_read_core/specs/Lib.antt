@@ -1,4 +1,5 @@
 pub mod Answer
+pub mod Appended
 pub mod Cache
 pub mod Entries
 pub mod Equality
@@ -7,6 +8,7 @@ pub mod Grammar
 pub mod Headers
 pub mod Items
 pub mod Layout
+pub mod Lookups
 pub mod Ranges
 pub mod Reading
 pub mod Sections

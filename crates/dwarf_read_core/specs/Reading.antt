@@ -1,4 +1,4 @@
--- Reading from the front, by functions: what is read and the bytes behind it, or the first fault.
+-- Reading from the front, by functions: what is read and the bytes behind it, or the first error.
 use Rattle.std.specs.Prelude.{◌≡◌, ◌≢◌, ℕ, zero, suc, ◌+◌, Bool, true, false, ℤ, List, [], ◌∷◌, ◌++◌, length, drop, Option, Some, None, Result, Ok, Err, nat_lt, ◌==◌, if◌then◌else◌}
 use Rattle.std.specs.FinMap.{contains_key, insert, empty}
 use Rattle.dwarf_base_core.specs.declared.error.Error.{Error}
@@ -96,7 +96,7 @@ declared_at end code bytes = do
   attributes ← attributes_in end children.1
   Ok (declaration_of code tag.0 children.0 attributes.0, attributes.1)
 
--- a declaration, or None where the table ends
+-- a declaration, or None if the table ends
 unfoldable pub declaration_at : ℕ → List ℕ → Result (Option Declaration × List ℕ) Error
 declaration_at end bytes =
     if length bytes == 0 then Ok (None, bytes) else

@@ -1,4 +1,4 @@
--- What is read where a declaration may begin.
+-- What is read at a place where a declaration may begin.
 use Rattle.std.specs.Prelude.{◌≡◌, ◌≢◌, ℕ, List, [], Option, Some, None, ⊤}
 use Rattle.dwarf_read_core.specs.Grammar.{Declaration}
 use Rattle.dwarf_read_core.specs.declared.read.abbrev.TableEntry.{TableEntry}

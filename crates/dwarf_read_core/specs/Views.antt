@@ -63,7 +63,7 @@ abbreviations_view a = closed (from_entries (entries_of a.vec.items a.map.entrie
 
 -- the codes of the map are above those of the vector, and each declaration has the code by which it is found, which
 -- isn't 0
-pub record AreKept (ds : List Declaration) (es : List (ℕ × Declaration)) : Type 0 where
+pub record AreKeyed (ds : List Declaration) (es : List (ℕ × Declaration)) : Type 0 where
   pub apart : (code : ℕ) → code ≤ length ds → lookup (is_at (nat_cmp code)) es ≡ None
   pub keyed : (code : ℕ) (d : Declaration) → lookup (is_at (nat_cmp code)) (entries_of ds es) ≡ Some d
       → (d.code ≡ code) × (0 < code)

@@ -1,13 +1,13 @@
 -- Numbers that are looked up by an index: offsets of strings (DWARF 5, 7.26) and addresses (7.27).
-use Rattle.std.specs.Prelude.{◌≢◌, ℕ, ◌+◌, ◌*◌, ◌≤◌, length, nat_le, Result, Err}
+use Rattle.std.specs.Prelude.{ℕ, ◌+◌, ◌*◌, ◌≤◌, length, nat_le, Result}
 use Rattle.dwarf_base_core.specs.declared.error.Error.{Error}
 use Rattle.dwarf_base_core.specs.declared.error.Error.TheVariants.{UnsupportedOffset, UnsupportedAddressSize}
-use Rattle.dwarf_reader_core.specs.Faults.{eof, is_number_size}
+use Rattle.dwarf_reader_core.specs.Faults.{is_number_size}
 use Rattle.dwarf_reader_core.specs.Input.{Input}
 use Rattle.dwarf_read_core.specs.Entries.{string_offset}
 use Rattle.dwarf_read_core.specs.Layout.{Layout, At, fixed, part, check, ◌>>=◌}
 
--- one of the numbers that stand in a row from a base on, each of `width` bytes
+-- one of the numbers that follow each other from a base on, each of `width` bytes
 pub record Slot : Type 0 where
   pub base : ℕ
   pub index : ℕ
@@ -38,7 +38,7 @@ to_slot greatest s = do
   counted ← check (nat_le (distance s) greatest) UnsupportedOffset
   part (distance s)
 
--- the section has no such place: the first fault
+-- the section has no such place: the first error
 abbrev pub Misplaced : ℕ → Input → Slot → Error → Type 0
 Misplaced greatest section s e = (to_slot greatest s).Fails section e
 
@@ -53,14 +53,10 @@ address greatest s = do
   sized ← check (is_number_size s.width) (UnsupportedAddressSize s.width)
   fixed s.width
 
--- the word of a slot of a section, or the first fault
+-- the word of a slot of a section, or the first error
 abbrev pub WordAt : ℕ → Input → Slot → Result ℕ Error → Type 0
 WordAt greatest section s answer = At (word greatest s) section answer
 
--- the address of a slot of a section, or the first fault
+-- the address of a slot of a section, or the first error
 abbrev pub AddressAt : ℕ → Input → Slot → Result ℕ Error → Type 0
 AddressAt greatest section s answer = At (address greatest s) section answer
-
--- an answer that doesn't say that bytes are missing
-abbrev pub IsSettled : Result ℕ Error → Type 0
-IsSettled answer = (position : ℕ) → answer ≢ Err (eof position)

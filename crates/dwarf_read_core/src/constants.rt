@@ -1,6 +1,6 @@
 //! The named constants of DWARF: 33 types, each with its constants.
 //!
-//! Each type is a struct round the number that stands in the bytes. `static_string` tells the name of
+//! Each type is a struct with the number that is in the bytes. `static_string` returns the name of
 //! a value, and `Display` writes it; neither takes memory.
 
 // Attributes: what a value of an entry is about.

@@ -1,12 +1,12 @@
 //! Laws over the definitions: each function has one as its contract, and does nothing.
 
-ghost use Rattle.std.specs.Prelude.{◌≡◌, ◌≢◌, ◌↔◌, IsTrue, Option, ℕ, ◌<◌, ◌≤◌, List, [], ◌∷◌, length, All, Ok, Err, Result as Outcome};
+ghost use Rattle.std.specs.Prelude.{◌≡◌, ◌≢◌, ◌↔◌, IsTrue, Option, ℕ, ◌<◌, ◌≤◌, List, [], ◌∷◌, length, All, IfErr, Ok, Err, Result};
 ghost use Rattle.std.specs.List.{sum_by};
-ghost use Rattle.dwarf_base_core.specs.declared.error.Error.{Error as Fault};
-ghost use Rattle.dwarf_reader_core.specs.Faults.{eof};
+ghost use Rattle.dwarf_base_core.specs.declared.error.Error.{Error};
 ghost use Rattle.dwarf_reader_core.specs.Input.{Input, Takes};
 ghost use Rattle.dwarf_reader_core.specs.Once.{HasOne};
-ghost use Rattle.dwarf_read_core.specs.Answer.{Answer, IsFinal, IsStrictlyFinal, StrictAnswer, followed_by};
+ghost use Rattle.dwarf_read_core.specs.Appended.{followed_by, IsNoEof};
+ghost use Rattle.dwarf_read_core.specs.Answer.{Answer, IsFinal, IsStrictlyFinal, StrictAnswer};
 ghost use Rattle.dwarf_read_core.specs.Cache.{KeepsAnswers};
 ghost use Rattle.dwarf_read_core.specs.Equality.{HasValueByForm, same_declaration};
 ghost use Rattle.dwarf_read_core.specs.Grammar.{Declaration, Table};
@@ -15,32 +15,32 @@ ghost use Rattle.dwarf_read_core.specs.Items.{least_taken};
 ghost use Rattle.dwarf_read_core.specs.Ranges.{RangeAt};
 ghost use Rattle.dwarf_read_core.specs.Sets.{Headers, Set, StandsForAddressSets, StandsForStringOffsetSets, address_header, followed_headers, set, string_offsets_header};
 ghost use Rattle.dwarf_read_core.specs.Strings.{StringAt};
-ghost use Rattle.dwarf_read_core.specs.Words.{AddressAt, IsSettled, Slot, WordAt};
+ghost use Rattle.dwarf_read_core.specs.Words.{AddressAt, Slot, WordAt};
 
 pub use dwarf_reader_core::laws::{
     exactly_one_shortest, no_encoding_begins_another, one_outcome, written_is_read,
 };
 
-/// Every section has exactly one answer at every offset: a table, or the first fault.
-#[tactic(auto, using(crate::proofs::Whole::one_answer))]
+/// Every section has exactly one answer at every offset: a table, or the first error.
+#[tactic(auto, using(crate::proofs::tables::ExactlyOneAnswer::one_answer))]
 pub fn exactly_one_answer()
     ensures { (section : Input) (offset : ℕ) → HasOne (Answer section offset) }
 {}
 
 /// Every section has exactly one strict answer at every offset. It doesn't change when bytes are
 /// appended, unless it tells of the section's end.
-#[tactic(auto, using(crate::proofs::Strict::one_strict_answer, crate::proofs::Strict::strict_answer_more))]
+#[tactic(auto, using(crate::proofs::tables::StrictAnswers::one_strict_answer, crate::proofs::tables::StrictAnswers::strict_answer_more))]
 pub fn exactly_one_strict_answer()
     ensures one { (section : Input) (offset : ℕ) → HasOne (StrictAnswer section offset) }
-    ensures stable { (section : Input) (more : List ℕ) (offset : ℕ) (answer : Outcome Table Fault)
+    ensures stable { (section : Input) (more : List ℕ) (offset : ℕ) (answer : Result Table Error)
         → StrictAnswer section offset answer → IsStrictlyFinal answer
         → StrictAnswer (followed_by section more) offset answer }
 {}
 
 /// An answer that doesn't tell of the section's end is the answer whatever bytes are appended.
-#[tactic(auto, using(crate::proofs::Stable::answer_more))]
+#[tactic(auto, using(crate::proofs::tables::AppendedBytes::answer_more))]
 pub fn appended_bytes_change_nothing()
-    ensures { (section : Input) (more : List ℕ) (offset : ℕ) (answer : Outcome Table Fault)
+    ensures { (section : Input) (more : List ℕ) (offset : ℕ) (answer : Result Table Error)
         → Answer section offset answer → IsFinal answer
         → Answer (followed_by section more) offset answer }
 {}
@@ -49,91 +49,91 @@ pub fn appended_bytes_change_nothing()
 /// nothing.
 pub fn exactly_one_cache()
     ensures some { (least : ℕ) (section : Input) (offsets : List ℕ)
-        → (kept : ℕ → Option (Outcome Table Fault)) × KeepsAnswers least section offsets kept }
+        → (kept : ℕ → Option (Result Table Error)) × KeepsAnswers least section offsets kept }
     ensures same { (least : ℕ) (section : Input) (offsets : List ℕ)
-        (kept others : ℕ → Option (Outcome Table Fault)) → KeepsAnswers least section offsets kept
+        (kept others : ℕ → Option (Result Table Error)) → KeepsAnswers least section offsets kept
         → KeepsAnswers least section offsets others → (key : ℕ) → others key ≡ kept key }
 {}
 
-/// Abbreviations are equal exactly where they are the same declaration.
-#[tactic(auto, using(crate::proofs::SameDeclaration::same_declaration_is_equality))]
+/// Two abbreviations are equal exactly if they are the same declaration.
+#[tactic(auto, using(crate::proofs::tables::EqualDeclarations::same_declaration_is_equality))]
 pub fn equality_is_of_declarations()
     ensures { (a b : Declaration) → All HasValueByForm a.attributes
         → All HasValueByForm b.attributes → IsTrue (same_declaration a b) ↔ (a ≡ b) }
 {}
 
-/// Every section has exactly one answer to where a string is looked for: the string, or a fault.
-#[tactic(auto, using(crate::proofs::StringLemmas::one_string))]
+/// Every section has exactly one string at every offset, or one error.
+#[tactic(auto, using(crate::proofs::lookups::Strings::one_string))]
 pub fn exactly_one_string()
     ensures { (section : Input) (offset : ℕ) → HasOne (StringAt section offset) }
 {}
 
-/// A string that is found is the one found there whatever bytes are appended.
-#[tactic(auto, using(crate::proofs::StringLemmas::string_stays))]
+/// Appended bytes don't change the string at an offset.
+#[tactic(auto, using(crate::proofs::lookups::Strings::string_more))]
 pub fn appended_bytes_change_no_string()
     ensures { (section : Input) (offset : ℕ) (found : Input) (more : List ℕ)
         → StringAt section offset (Ok found)
         → StringAt (followed_by section more) offset (Ok found) }
 {}
 
-/// Every section has exactly one answer to where an offset of a string is looked for by its index.
-#[tactic(auto, using(crate::proofs::Words::one_word))]
+/// Every section has exactly one string offset at every slot, or one error.
+#[tactic(auto, using(crate::proofs::lookups::Words::one_word))]
 pub fn exactly_one_word()
     ensures { (greatest : ℕ) (section : Input) (s : Slot) → HasOne (WordAt greatest section s) }
 {}
 
-/// Every section has exactly one answer to where an address is looked for by its index.
-#[tactic(auto, using(crate::proofs::Words::one_address))]
+/// Every section has exactly one address at every slot, or one error.
+#[tactic(auto, using(crate::proofs::lookups::Words::one_address))]
 pub fn exactly_one_address()
     ensures { (greatest : ℕ) (section : Input) (s : Slot) → HasOne (AddressAt greatest section s) }
 {}
 
-/// An answer to where an offset of a string is looked for, but that bytes are missing, is the
-/// answer whatever bytes are appended.
-#[tactic(auto, using(crate::proofs::Words::word_more))]
+/// Appended bytes change neither the string offset at a slot nor its error, unless that is an
+/// `UnexpectedEof`.
+#[tactic(auto, using(crate::proofs::lookups::Words::word_more))]
 pub fn appended_bytes_change_no_word()
-    ensures { (greatest : ℕ) (section : Input) (s : Slot) (answer : Outcome ℕ Fault) (more : List ℕ)
-        → WordAt greatest section s answer → IsSettled answer
+    ensures { (greatest : ℕ) (section : Input) (s : Slot) (answer : Result ℕ Error) (more : List ℕ)
+        → WordAt greatest section s answer → IfErr answer IsNoEof
         → WordAt greatest (followed_by section more) s answer }
 {}
 
-/// An answer to where an address is looked for, but that bytes are missing, is the answer whatever
-/// bytes are appended.
-#[tactic(auto, using(crate::proofs::Words::address_more))]
+/// Appended bytes change neither the address at a slot nor its error, unless that is an
+/// `UnexpectedEof`.
+#[tactic(auto, using(crate::proofs::lookups::Words::address_more))]
 pub fn appended_bytes_change_no_address()
-    ensures { (greatest : ℕ) (section : Input) (s : Slot) (answer : Outcome ℕ Fault) (more : List ℕ)
-        → AddressAt greatest section s answer → IsSettled answer
+    ensures { (greatest : ℕ) (section : Input) (s : Slot) (answer : Result ℕ Error) (more : List ℕ)
+        → AddressAt greatest section s answer → IfErr answer IsNoEof
         → AddressAt greatest (followed_by section more) s answer }
 {}
 
-/// Every section has exactly one answer to where a part of it is asked for: the part, or a fault.
-#[tactic(auto, using(crate::proofs::Ranges::one_range))]
+/// Every section has exactly one part at every offset and size, or one error.
+#[tactic(auto, using(crate::proofs::lookups::Ranges::one_range))]
 pub fn exactly_one_range()
     ensures { (section : Input) (offset size : ℕ) → HasOne (RangeAt section offset size) }
 {}
 
-/// The bytes that are left of a section stand for exactly one list of sets of addresses, an error
-/// as its last item. A set takes eight bytes at least, and an error one.
+/// The bytes that remain of a section have exactly one list of sets of addresses, and then at most
+/// one error. A set has at least eight bytes, and an error is at one byte or more.
 pub fn exactly_one_list_of_sets()
     ensures one { (greatest : ℕ) (headers : Headers)
         → HasOne (StandsForAddressSets greatest headers) }
-    ensures bound { (greatest : ℕ) (headers : Headers) (items : List (Outcome (Set ℕ) Fault))
+    ensures bound { (greatest : ℕ) (headers : Headers) (items : List (Result (Set ℕ) Error))
         → StandsForAddressSets greatest headers items
         → sum_by (least_taken 8) items ≤ length headers.rest.bytes }
 {}
 
-/// The bytes that are left of a section stand for exactly one list of sets of string offsets, an
-/// error as its last item. A set takes eight bytes at least, and an error one.
+/// The bytes that remain of a section have exactly one list of sets of string offsets, and then at
+/// most one error. A set has at least eight bytes, and an error is at one byte or more.
 pub fn exactly_one_list_of_offset_sets()
     ensures one { (greatest : ℕ) (headers : Headers)
         → HasOne (StandsForStringOffsetSets greatest headers) }
     ensures bound { (greatest : ℕ) (headers : Headers)
-        (items : List (Outcome (Set (Unit {0})) Fault))
+        (items : List (Result (Set (Unit {0})) Error))
         → StandsForStringOffsetSets greatest headers items
         → sum_by (least_taken 8) items ≤ length headers.rest.bytes }
 {}
 
-/// A set that is read is the front of the bytes, and the rest is left.
+/// A set that is read is the front of the bytes, and the rest remains.
 pub fn sets_are_fronts()
     ensures addresses { (greatest offset : ℕ) (old new : Input) (s : Set ℕ)
         → (set address_header greatest offset).Reads old s new → (count : ℕ) × Takes count old new }
@@ -142,50 +142,50 @@ pub fn sets_are_fronts()
         × Takes count old new }
 {}
 
-/// The bytes that are left of a set stand for exactly one list of addresses, an error as its last
-/// item. An address takes its size, and an error one byte at least.
-#[tactic(auto, using(crate::proofs::Entries::addresses_one, crate::proofs::Entries::addresses_bounded))]
+/// The bytes that remain of a set have exactly one list of addresses, and then at most one error.
+/// An address has as many bytes as its size, and an error is at one byte or more.
+#[tactic(auto, using(crate::proofs::sets::Entries::addresses_one, crate::proofs::sets::Entries::addresses_bounded))]
 pub fn exactly_one_list_of_entries()
     ensures one { (entries : Entries) → 0 < entries.width → HasOne (StandsForAddresses entries) }
-    ensures bound { (entries : Entries) (items : List (Outcome ℕ Fault))
+    ensures bound { (entries : Entries) (items : List (Result ℕ Error))
         → StandsForAddresses entries items
         → sum_by (least_taken entries.width) items ≤ length entries.rest.bytes }
 {}
 
-/// The bytes that are left of a set stand for exactly one list of string offsets, an error as its
-/// last item. An offset takes as many bytes as a word has, and an error one byte at least.
-#[tactic(auto, using(crate::proofs::Entries::string_offsets_one, crate::proofs::Entries::string_offsets_bounded))]
+/// The bytes that remain of a set have exactly one list of string offsets, and then at most one
+/// error. An offset has as many bytes as a word, and an error is at one byte or more.
+#[tactic(auto, using(crate::proofs::sets::Entries::string_offsets_one, crate::proofs::sets::Entries::string_offsets_bounded))]
 pub fn exactly_one_list_of_string_offsets()
     ensures one { (greatest : ℕ) (entries : Entries) → 0 < entries.width
         → HasOne (StandsForStringOffsets greatest entries) }
-    ensures bound { (greatest : ℕ) (entries : Entries) (items : List (Outcome ℕ Fault))
+    ensures bound { (greatest : ℕ) (entries : Entries) (items : List (Result ℕ Error))
         → StandsForStringOffsets greatest entries items
         → sum_by (least_taken entries.width) items ≤ length entries.rest.bytes }
 {}
 
-/// A set of addresses that comes first, or an error, but that bytes are missing, comes first
-/// whatever bytes are appended.
+/// The first set of addresses stays first when bytes are appended. So does a first error, unless it
+/// is an `UnexpectedEof`.
 pub fn appended_bytes_change_no_set()
     ensures set { (greatest : ℕ) (headers : Headers) (s : Set ℕ)
-        (items others : List (Outcome (Set ℕ) Fault)) (more : List ℕ)
+        (items others : List (Result (Set ℕ) Error)) (more : List ℕ)
         → StandsForAddressSets greatest headers (Ok s ∷ items)
         → StandsForAddressSets greatest (followed_headers more headers) others
-        → (rest : List (Outcome (Set ℕ) Fault)) × (others ≡ Ok s ∷ rest) }
-    ensures fault { (greatest : ℕ) (headers : Headers) (e : Fault) (more : List ℕ)
-        → StandsForAddressSets greatest headers (Err e ∷ []) → ((position : ℕ) → e ≢ eof position)
+        → (rest : List (Result (Set ℕ) Error)) × (others ≡ Ok s ∷ rest) }
+    ensures error { (greatest : ℕ) (headers : Headers) (e : Error) (more : List ℕ)
+        → StandsForAddressSets greatest headers (Err e ∷ []) → IsNoEof e
         → StandsForAddressSets greatest (followed_headers more headers) (Err e ∷ []) }
 {}
 
-/// A set of string offsets that comes first, or an error, but that bytes are missing, comes first
-/// whatever bytes are appended.
+/// The first set of string offsets stays first when bytes are appended. So does a first error, unless
+/// it is an `UnexpectedEof`.
 pub fn appended_bytes_change_no_offset_set()
     ensures set { (greatest : ℕ) (headers : Headers) (s : Set (Unit {0}))
-        (items others : List (Outcome (Set (Unit {0})) Fault)) (more : List ℕ)
+        (items others : List (Result (Set (Unit {0})) Error)) (more : List ℕ)
         → StandsForStringOffsetSets greatest headers (Ok s ∷ items)
         → StandsForStringOffsetSets greatest (followed_headers more headers) others
-        → (rest : List (Outcome (Set (Unit {0})) Fault)) × (others ≡ Ok s ∷ rest) }
-    ensures fault { (greatest : ℕ) (headers : Headers) (e : Fault) (more : List ℕ)
+        → (rest : List (Result (Set (Unit {0})) Error)) × (others ≡ Ok s ∷ rest) }
+    ensures error { (greatest : ℕ) (headers : Headers) (e : Error) (more : List ℕ)
         → StandsForStringOffsetSets greatest headers (Err e ∷ [])
-        → ((position : ℕ) → e ≢ eof position)
+        → IsNoEof e
         → StandsForStringOffsetSets greatest (followed_headers more headers) (Err e ∷ []) }
 {}

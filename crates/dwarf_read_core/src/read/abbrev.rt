@@ -1,7 +1,7 @@
 //! Abbreviation tables: the `.debug_abbrev` section (DWARF 5, 7.5.3).
 //!
 //! A compilation unit stores each debugging information entry as a code and the values of its
-//! attributes. The unit's table of abbreviations says what a code stands for: the tag of the entry,
+//! attributes. The unit's table of abbreviations says what a code means: the tag of the entry,
 //! whether it has children, and which attributes follow in which forms.
 
 ghost use Rattle.std.specs.Prelude.{◌≡◌, ◌≢◌, ◌↔◌, ◌==◌, ◌+◌, ◌*◌, ◌≤◌, ◌<◌, length, true, false, IsTrue, IsSome, IsOk, IsErrOf, IfOk, IfSome, OnOk, OnErr, IfErr, option_copied, ⊤, ℕ, List};
@@ -14,7 +14,8 @@ ghost use Rattle.dwarf_reader_core.specs.Input.{end_of};
 ghost use Rattle.dwarf_read_core.specs.Equality.{same_declaration, same_declaration_equiv};
 ghost use Rattle.dwarf_read_core.specs.Forms.{form_size};
 ghost use Rattle.dwarf_read_core.specs.Grammar.{implicit_const, by_end, is_by_null, attribute_count};
-ghost use Rattle.dwarf_read_core.specs.Answer.{Answers, AnswersStrictly, IsFinal, IsStrictlyFinal, TakesNoMemory, followed_by};
+ghost use Rattle.dwarf_read_core.specs.Appended.{followed_by};
+ghost use Rattle.dwarf_read_core.specs.Answer.{Answers, AnswersStrictly, IsFinal, IsStrictlyFinal, TakesNoMemory};
 ghost use Rattle.dwarf_read_core.specs.Reading.{Gives, tag_at, children_at, specification_at, attributes_in, declared_at, declaration_at, table_in};
 ghost use Rattle.dwarf_read_core.specs.TableEntries.{declared_in, ClosesAt};
 
@@ -47,7 +48,7 @@ mod cache;
 #[cfg(test)]
 mod tests;
 
-pub use cache::AbbreviationsCache;
+pub use cache::{AbbreviationsCache, AbbreviationsCacheStrategy};
 
 /// The `.debug_abbrev` section (DWARF 5, 7.5.3): tables of abbreviations, one behind the other.
 ///
@@ -76,41 +77,28 @@ impl<'input, Endian: Endianity> DebugAbbrev<EndianSlice<'input, Endian>> {
     }
 }
 
-impl<R> From<R> for DebugAbbrev<R> {
-    ghost use Rattle.dwarf_read_core.specs.Sections.{debug_abbrev_reader};
-
-    ghost from_gives = { λ reader section. debug_abbrev_reader section ≡ reader };
-
-    fn from(debug_abbrev_section: R) -> Self {
-        DebugAbbrev {
-            debug_abbrev_section,
-        }
-    }
-}
-
 impl<R: Reader> DebugAbbrev<R> {
     ghost use Rattle.dwarf_read_core.specs.Sections.{debug_abbrev_reader};
 
     /// The table of abbreviations at `offset`, in bytes from the section's start.
     ///
-    /// A table is a row of declarations with distinct codes. A code of value 0 closes it, and
-    /// so does the section's end where a declaration could begin. An offset equal to the
-    /// section's length answers an empty table.
+    /// A table is a sequence of declarations with distinct codes. A code of value 0 closes it, and
+    /// so does the section's end if a declaration could begin there. The table at an offset equal
+    /// to the section's length is empty.
     ///
     /// # Errors
     ///
-    /// Bytes that begin no table answer their first fault:
+    /// If the bytes don't begin with a table, their first error is returned:
     ///
-    /// - `UnexpectedEof`, at the section's start where `offset` is past its end, and at the
-    ///   section's end where a declaration is cut short;
+    /// - `UnexpectedEof`, at the section's start if `offset` is past its end, and at the
+    ///   section's end if a declaration is cut short;
     /// - `BadUnsignedLeb128` or `BadSignedLeb128` for a number that is too long or too large;
-    /// - `AbbreviationTagZero`, `InvalidAbbreviationChildren`, `AttributeNameZero`,
-    ///   `AttributeFormZero` for a field that no declaration has;
-    /// - `DuplicateAbbreviationCode` for a whole declaration whose code was there before.
+    /// - `AbbreviationTagZero`, `InvalidAbbreviationChildren`, `AttributeNameZero` or
+    ///   `AttributeFormZero` for a field with a value that no declaration has;
+    /// - `DuplicateAbbreviationCode` for a whole declaration with the code of an earlier one.
     ///
-    /// `OutOfMemory` is answered where memory for the table, or for a clone of the reader,
-    /// was refused.
-    #[tactic(auto, using(crate::proofs::Whole::answered, crate::proofs::Stable::stays, crate::proofs::Bound::bounded_read))]
+    /// `OutOfMemory` if memory for the table, or for a clone of the reader, runs out.
+    #[tactic(auto, using(crate::proofs::tables::ExactlyOneAnswer::answer_returned, crate::proofs::tables::AppendedBytes::returned_stays, crate::proofs::tables::TableBounds::bounded_read))]
     pub fn abbreviations(
         &self,
         mem: Global,
@@ -119,17 +107,17 @@ impl<R: Reader> DebugAbbrev<R> {
         ensures answer { let section = R.view (debug_abbrev_reader self.now) in
             Answers result section (R.Offset.value offset.0) }
 
-        // A declaration takes five bytes at least, and an attribute two.
+        // A declaration has at least five bytes, and an attribute two more.
         ensures bound { let section = R.view (debug_abbrev_reader self.now) in
             IfOk result (λ table. 5 * finite.len table.by_code + 2 * attribute_count table.by_code
             + R.Offset.value offset.0 ≤ length section.bytes) }
 
-        // Memory is wanted only by a declaration, or by a clone that takes some.
+        // Only a declaration needs memory, or a clone that allocates.
         ensures memory { let section = R.view (debug_abbrev_reader self.now) in
             R.clone_is_free ≡ true → TakesNoMemory section (R.Offset.value offset.0)
             → IsErrOf result Error.OutOfMemory → ⊥ }
 
-        // Bytes behind the section change nothing, where the answer doesn't tell of its end.
+        // Appended bytes change nothing, unless the result tells of the section's end.
         ensures stable { let section = R.view (debug_abbrev_reader self.now) in
             IsFinal result → (more : List ℕ)
             → Answers result (followed_by section more) (R.Offset.value offset.0) }
@@ -151,7 +139,7 @@ impl<R: Reader> DebugAbbrev<R> {
     /// - `UnterminatedAbbreviations`, with the identifier of the section's end, if only that end
     ///   closes the table. This includes an `offset` that equals the section's length.
     /// - All errors of [`abbreviations`](Self::abbreviations).
-    #[tactic(auto, using(crate::proofs::Strict::strictly_stays, crate::proofs::Strict::unclosed_stays))]
+    #[tactic(auto, using(crate::proofs::tables::StrictAnswers::strictly_stays, crate::proofs::tables::StrictAnswers::unclosed_stays))]
     pub fn abbreviations_strict(
         &self,
         mem: Global,
@@ -160,18 +148,18 @@ impl<R: Reader> DebugAbbrev<R> {
         ensures answer { let section = R.view (debug_abbrev_reader self.now) in
             AnswersStrictly result section (R.Offset.value offset.0) }
 
-        // A declaration takes five bytes at least, and an attribute two.
+        // A declaration has at least five bytes, and an attribute two more.
         ensures bound { let section = R.view (debug_abbrev_reader self.now) in
             IfOk result (λ table. 5 * finite.len table.by_code + 2 * attribute_count table.by_code
             + R.Offset.value offset.0 ≤ length section.bytes) }
 
-        // Memory is wanted only by a declaration, or by a clone that takes some.
+        // Only a declaration needs memory, or a clone that allocates.
         ensures memory { let section = R.view (debug_abbrev_reader self.now) in
             R.clone_is_free ≡ true → TakesNoMemory section (R.Offset.value offset.0)
             → IsErrOf result Error.OutOfMemory → ⊥ }
 
-        // Bytes behind the section change nothing, also where the result is a table, unless it
-        // tells of the section's end.
+        // Appended bytes change nothing, not even a table, unless the result tells of the
+        // section's end.
         ensures stable { let section = R.view (debug_abbrev_reader self.now) in
             IsStrictlyFinal result → (more : List ℕ)
             → AnswersStrictly result (followed_by section more) (R.Offset.value offset.0) }
@@ -193,25 +181,50 @@ impl<R: Reader> DebugAbbrev<R> {
     }
 }
 
-/// Which tables a cache of abbreviations keeps.
-#[derive(Debug, Clone, Copy, PartialEq, Eq)]
-pub enum AbbreviationsCacheStrategy {
-    /// Those that more than one unit uses.
-    Duplicates,
-    /// Those that any unit uses.
-    All,
+impl<T> DebugAbbrev<T> {
+    ghost use Rattle.dwarf_read_core.specs.Sections.{debug_abbrev_reader};
+
+    /// The section over the reader that `borrow` makes of a reference to the data of this one.
+    ///
+    /// `borrow` is called once. The caller has to make sure that it may be called with that reference.
+    pub fn borrow<'a, F, R>(&'a self, mut borrow: F) -> DebugAbbrev<R>
+    where
+        F: FnMut(&'a T) -> R + Drop,
+        requires { TakesAt F.FnMut borrow (debug_abbrev_reader self.now) }
+        ensures { (after : F)
+            × CalledAt F.FnMut borrow
+            (debug_abbrev_reader self.now) (debug_abbrev_reader result) after }
+    {
+        borrow(&self.debug_abbrev_section).into()
+    }
 }
 
-impl AbbreviationsCacheStrategy {
-    ghost use Rattle.dwarf_read_core.specs.Cache.{least_count};
+impl<R> Section<R> for DebugAbbrev<R> {
+    ghost use Rattle.dwarf_read_core.specs.Sections.{debug_abbrev_reader};
 
-    // How often an offset has to occur for its table to be kept.
-    fn least_count(self) -> usize
-        ensures { result ≡ least_count self }
-    {
-        match self {
-            AbbreviationsCacheStrategy::Duplicates => 2,
-            AbbreviationsCacheStrategy::All => 1,
+    ghost section_id = { debug_abbrev };
+
+    ghost section_reader = { debug_abbrev_reader };
+
+    fn id() -> SectionId {
+        SectionId::DebugAbbrev
+    }
+
+    fn reader(&self) -> &R {
+        &self.debug_abbrev_section
+    }
+
+    ghost holds_reader = { λ reader section h. h };
+}
+
+impl<R> From<R> for DebugAbbrev<R> {
+    ghost use Rattle.dwarf_read_core.specs.Sections.{debug_abbrev_reader};
+
+    ghost from_gives = { λ reader section. debug_abbrev_reader section ≡ reader };
+
+    fn from(debug_abbrev_section: R) -> Self {
+        DebugAbbrev {
+            debug_abbrev_section,
         }
     }
 }
@@ -219,7 +232,7 @@ impl AbbreviationsCacheStrategy {
 /// A table of abbreviations, by their codes.
 #[derive(Debug, Drop)]
 pub struct Abbreviations {
-    // Those with the codes from 1 on, in order, as compilers number them.
+    // Those with the codes from 1 on, in order, because compilers number them so.
     vec: Vec<Abbreviation>,
     // The others.
     map: BTreeMap<Key, Abbreviation>,
@@ -233,15 +246,15 @@ impl Model for Abbreviations {
 
     ghost coded = { table_code };
 
-    ghost use Rattle.dwarf_read_core.specs.Views.{abbreviations_view, AreKept};
+    ghost use Rattle.dwarf_read_core.specs.Views.{abbreviations_view, AreKeyed};
 
     ghost view = { abbreviations_view };
 
-    ghost invariant = { λ a. AreKept a.vec.items a.map.entries };
+    ghost invariant = { λ a. AreKeyed a.vec.items a.map.entries };
 }
 
 impl Abbreviations {
-    /// The table with no abbreviations. It takes memory only where one is added.
+    /// The table with no abbreviations. It allocates only when one is added.
     pub fn empty(mem: Global) -> Abbreviations
         ensures none { result.by_code ≡ finite.empty }
         ensures close { result.close ≡ by_end }
@@ -257,8 +270,8 @@ impl Abbreviations {
     ///
     /// # Errors
     ///
-    /// `OutOfMemory` if memory for the table runs out. A table with no abbreviations takes none.
-    #[tactic(auto, using(crate::proofs::Tables::copied))]
+    /// `OutOfMemory` if memory for the table runs out. A table with no abbreviations needs none.
+    #[tactic(auto, using(crate::proofs::tables::VectorAndMap::table_copied))]
     pub fn try_clone(&self) -> Result<Abbreviations>
         ensures ok { IfOk result (λ copy. copy ≡ self.now) }
         ensures free { finite.len self.now.by_code ≡ 0 → IsOk result }
@@ -278,8 +291,8 @@ impl Abbreviations {
         })
     }
 
-    // Adds an abbreviation, or answers `DuplicateAbbreviationCode` where its code is there.
-    #[tactic(auto, using(crate::proofs::Tables::stands_in_vec, crate::proofs::Tables::found_in_map, crate::proofs::Tables::pushed, crate::proofs::Tables::put_beside, crate::proofs::Tables::kept_beside))]
+    // Adds an abbreviation, or returns `DuplicateAbbreviationCode` if its code is in the table.
+    #[tactic(auto, using(crate::proofs::tables::VectorAndMap::insertion))]
     fn insert(&mut self, abbreviation: Abbreviation) -> Result<()>
         requires { 0 < abbreviation.code }
         ensures ok { OnOk result ((finite.contains_key self.old.by_code abbreviation.code ≡ false)
@@ -297,7 +310,7 @@ impl Abbreviations {
             return Err(Error::DuplicateAbbreviationCode(code));
         }
         if index == len {
-            // The code may stand in the map already, and it stays there.
+            // The code may be in the map already, where it stays.
             if !self.map.is_empty() && self.map.contains_key(&Key(code)) {
                 return Err(Error::DuplicateAbbreviationCode(code));
             }
@@ -313,7 +326,7 @@ impl Abbreviations {
 
     /// The abbreviation with this code, if the table has one. No abbreviation has code 0.
     #[inline]
-    #[tactic(auto, using(crate::proofs::Tables::found_in_vec, crate::proofs::Tables::found_in_map, crate::proofs::Tables::not_found, crate::proofs::Tables::keyed_in_vec, crate::proofs::Tables::keyed_in_map))]
+    #[tactic(auto, using(crate::proofs::tables::VectorAndMap::lookup_steps))]
     pub fn get(&self, code: u64) -> Option<&Abbreviation>
         ensures found { option_copied result ≡ finite.get self.now.by_code code }
         ensures coded { IfSome result
@@ -328,7 +341,7 @@ impl Abbreviations {
     }
 
     /// How many abbreviations there are.
-    #[tactic(auto, using(crate::proofs::Tables::len_of_both))]
+    #[tactic(auto, using(crate::proofs::tables::VectorAndMap::table_len))]
     pub fn len(&self) -> usize
         ensures { result ≡ finite.len self.now.by_code }
     {
@@ -351,7 +364,7 @@ impl Abbreviations {
     }
 
     /// The abbreviations, by rising code.
-    #[tactic(auto, using(crate::proofs::Tables::values_of_both))]
+    #[tactic(auto, using(crate::proofs::tables::VectorAndMap::table_values))]
     pub fn iter(&self) -> AbbreviationsIter<'_>
         ensures { result ≡ finite.values self.now.by_code }
     {
@@ -362,7 +375,7 @@ impl Abbreviations {
     }
 
     // Reads a table, and the code of value 0 that closes it, if there is one.
-    #[tactic(auto, using(crate::proofs::Whole::table_fails, crate::proofs::Whole::table_ends, crate::proofs::Whole::table_repeats, crate::proofs::Whole::table_goes_on, crate::proofs::Declarations::declaration_shorter))]
+    #[tactic(auto, using(crate::proofs::tables::ExactlyOneAnswer::table_steps))]
     fn parse<R: Reader>(mem: Global, input: &mut R) -> Result<Abbreviations>
         ensures ends { (rest : List ℕ)
             → declaration_at (end_of (R.view input.old)) (R.view input.old).bytes ≡ Ok (None, rest)
@@ -373,6 +386,7 @@ impl Abbreviations {
         let mut abbreviations = Abbreviations::empty(mem);
         // One list for the whole table, in which each declaration's attributes are collected.
         let mut scratch = Vec::new(mem);
+        // The label names the loop in its proof.
         'declarations: loop {
             match Abbreviation::parse(mem, input, &mut scratch)? {
                 TableEntry::Declared(abbreviation) => abbreviations.insert(abbreviation)?,
@@ -386,7 +400,7 @@ impl Abbreviations {
     }
 }
 
-// What is read where a declaration may begin.
+// What is read at a place where a declaration may begin.
 enum TableEntry {
     Declared(Abbreviation),
     // A code of value 0, which closes the table.
@@ -440,7 +454,8 @@ impl<'table> Clone for AbbreviationsIter<'table> {
     }
 }
 
-// At most five attributes take no memory of their own.
+// Most declarations have at most five attributes. These are in the abbreviation itself, and only
+// a longer list allocates.
 type Attributes = SmallVec<AttributeSpecification, 5>;
 
 /// An abbreviation: the shape of the debugging information entries that have its code.
@@ -480,7 +495,7 @@ impl Clone for Abbreviation {
     }
 }
 
-/// Two are equal where their codes, tags, children and attributes are.
+/// Two abbreviations are equal if their codes, tags, children and attributes are.
 impl PartialEq for Abbreviation {
     ghost eq = { same_declaration };
 
@@ -519,7 +534,7 @@ impl Abbreviation {
     ///
     /// # Errors
     ///
-    /// `OutOfMemory` where memory for the attributes was refused. At most five of them take none.
+    /// `OutOfMemory` if memory for the attributes runs out. Up to five of them need none.
     pub fn try_clone(&self) -> Result<Abbreviation>
         ensures ok { IfOk result (λ copy. copy ≡ self.now) }
         ensures free { length self.now.attributes ≤ 5 → IsOk result }
@@ -528,7 +543,7 @@ impl Abbreviation {
         Ok(self.clone()?)
     }
 
-    /// The code by which entries name this abbreviation. It is not 0.
+    /// The code by which entries refer to this abbreviation. It is not 0.
     pub fn code(&self) -> u64
         ensures { result ≡ self.now.code }
     {
@@ -556,11 +571,11 @@ impl Abbreviation {
         self.attributes.as_slice()
     }
 
-    #[tactic(auto, using(crate::proofs::Declarations::DeclarationFound, crate::proofs::Again::end_again, crate::proofs::Numbers::number_read, crate::proofs::Numbers::refused, crate::proofs::Numbers::end_stays), unfolding(crate::specs::Reading::tag_at))]
+    #[tactic(auto, using(crate::proofs::tables::ReadingNumbers::number_steps), unfolding(crate::specs::Reading::tag_at))]
     fn parse_tag<R: Reader>(input: &mut R) -> Result<DwTag>
         ensures read { Gives (λ t. (t.0, (R.view input.new).bytes)) result
             (tag_at (end_of (R.view input.old)) (R.view input.old).bytes) }
-        ensures stays { OnOk result (end_of (R.view input.new) ≡ end_of (R.view input.old)) }
+        ensures same_end { OnOk result (end_of (R.view input.new) ≡ end_of (R.view input.old)) }
     {
         let value = input.read_uleb128_u16()?;
         if value == 0 {
@@ -574,7 +589,7 @@ impl Abbreviation {
     fn parse_has_children<R: Reader>(input: &mut R) -> Result<DwChildren>
         ensures read { Gives (λ c. (c.0 == 1, (R.view input.new).bytes)) result
             (children_at (end_of (R.view input.old)) (R.view input.old).bytes) }
-        ensures stays { OnOk result (end_of (R.view input.new) ≡ end_of (R.view input.old)) }
+        ensures same_end { OnOk result (end_of (R.view input.new) ≡ end_of (R.view input.old)) }
     {
         let value = DwChildren(input.read_u8()?);
         if value == DW_CHILDREN_no || value == DW_CHILDREN_yes {
@@ -584,7 +599,7 @@ impl Abbreviation {
         }
     }
 
-    #[tactic(auto, using(crate::proofs::Attributes::goes_on, crate::proofs::Attributes::ends, crate::proofs::Attributes::fails, crate::proofs::Attributes::begins, crate::proofs::Specifications::specification_shorter))]
+    #[tactic(auto, using(crate::proofs::tables::ReadingAttributes::attribute_steps))]
     fn parse_attributes<R: Reader>(
         mem: Global,
         input: &mut R,
@@ -592,9 +607,10 @@ impl Abbreviation {
     ) -> Result<Attributes>
         ensures read { Gives (λ v. (v.items, (R.view input.new).bytes)) result
             (attributes_in (end_of (R.view input.old)) (R.view input.old).bytes) }
-        ensures stays { OnOk result (end_of (R.view input.new) ≡ end_of (R.view input.old)) }
+        ensures same_end { OnOk result (end_of (R.view input.new) ≡ end_of (R.view input.old)) }
     {
         scratch.clear();
+        // The label names the loop in its proof.
         'attributes: while let Some(attribute) = AttributeSpecification::parse(input)? {
             scratch.push(attribute)?;
         }
@@ -612,7 +628,7 @@ impl Abbreviation {
         ensures coded { IfOk result (λ d. d.code ≡ code) }
         ensures read { Gives (λ d. (d, (R.view input.new).bytes)) result
             (declared_at (end_of (R.view input.old)) code (R.view input.old).bytes) }
-        ensures stays { OnOk result (end_of (R.view input.new) ≡ end_of (R.view input.old)) }
+        ensures same_end { OnOk result (end_of (R.view input.new) ≡ end_of (R.view input.old)) }
     {
         let tag = Self::parse_tag(input)?;
         let has_children = Self::parse_has_children(input)?;
@@ -621,7 +637,7 @@ impl Abbreviation {
     }
 
     // Reads a declaration, or what closes the table in its place.
-    #[tactic(auto, using(crate::proofs::Numbers::number_read, crate::proofs::Numbers::refused, crate::proofs::Numbers::end_stays), unfolding(crate::specs::Reading::declaration_at))]
+    #[tactic(auto, using(crate::proofs::tables::ReadingNumbers::number_steps), unfolding(crate::specs::Reading::declaration_at))]
     fn parse<R: Reader>(
         mem: Global,
         input: &mut R,
@@ -634,7 +650,7 @@ impl Abbreviation {
             → IsOk result }
         ensures read { Gives (λ entry. (declared_in entry, (R.view input.new).bytes)) result
             (declaration_at (end_of (R.view input.old)) (R.view input.old).bytes) }
-        ensures stays { OnOk result (end_of (R.view input.new) ≡ end_of (R.view input.old)) }
+        ensures same_end { OnOk result (end_of (R.view input.new) ≡ end_of (R.view input.old)) }
     {
         if input.is_empty() {
             return Ok(TableEntry::End);
@@ -647,10 +663,10 @@ impl Abbreviation {
     }
 }
 
-/// An attribute of an abbreviation: its name, and the form in which its value stands.
+/// An attribute of an abbreviation: its name, and the form of its value.
 ///
-/// The value of an attribute in the form `DW_FORM_implicit_const` stands in the table itself,
-/// and not in the entries (DWARF 5, 7.5.3).
+/// The value of an attribute of the form `DW_FORM_implicit_const` is in the table itself, and not
+/// in the entries (DWARF 5, 7.5.3).
 #[derive(Clone, Copy, Debug, PartialEq, Eq)]
 pub struct AttributeSpecification {
     name: DwAt,
@@ -676,7 +692,7 @@ impl Model for AttributeSpecification {
     ghost inverse_ok = { fields_again };
 }
 
-// What stands in a place of a list that no attribute has taken.
+// What a place of a list holds as long as no attribute is there.
 impl MadeWith<Global> for AttributeSpecification {
     fn made_with(_mem: Global) -> Self {
         AttributeSpecification {
@@ -688,8 +704,8 @@ impl MadeWith<Global> for AttributeSpecification {
 }
 
 impl AttributeSpecification {
-    /// The attribute with this name and form. It has a value of its own exactly where the form
-    /// is `DW_FORM_implicit_const`.
+    /// The attribute with this name and form. It has a value of its own exactly if the form is
+    /// `DW_FORM_implicit_const`.
     pub fn new(
         name: DwAt,
         form: DwForm,
@@ -719,7 +735,7 @@ impl AttributeSpecification {
         self.form
     }
 
-    /// The value of an attribute in the form `DW_FORM_implicit_const`, and else `None`.
+    /// The value of the attribute if its form is `DW_FORM_implicit_const`, and `None` otherwise.
     pub fn implicit_const_value(&self) -> Option<i64>
         ensures value { result ≡ self.now.value }
         ensures some { IsSome result ↔ (self.now.form ≡ implicit_const) }
@@ -731,20 +747,20 @@ impl AttributeSpecification {
         }
     }
 
-    /// How many bytes a value of this attribute has in a unit with this encoding, where the form
-    /// tells it (DWARF 5, 7.5.6), and else `None`.
+    /// How many bytes a value of this attribute has in a unit with this encoding. `None` if the form
+    /// doesn't determine it (DWARF 5, 7.5.6).
     pub fn size(&self, encoding: Encoding) -> Option<usize>
         ensures { result ≡ form_size self.now.form encoding }
     {
         get_attribute_size(self.form, encoding).map(usize::from)
     }
 
-    // Reads an attribute, or `None` where name and form are 0, which ends the declaration.
-    #[tactic(auto, using(crate::proofs::Numbers::number_read, crate::proofs::Numbers::refused, crate::proofs::Numbers::end_stays), unfolding(crate::specs::Reading::specification_at, crate::specs::Reading::value_at))]
+    // Reads an attribute, or `None` if name and form are 0, which ends the declaration.
+    #[tactic(auto, using(crate::proofs::tables::ReadingNumbers::number_steps), unfolding(crate::specs::Reading::specification_at, crate::specs::Reading::value_at))]
     fn parse<R: Reader>(input: &mut R) -> Result<Option<AttributeSpecification>>
         ensures read { Gives (λ s. (s, (R.view input.new).bytes)) result
             (specification_at (end_of (R.view input.old)) (R.view input.old).bytes) }
-        ensures stays { OnOk result (end_of (R.view input.new) ≡ end_of (R.view input.old)) }
+        ensures same_end { OnOk result (end_of (R.view input.new) ≡ end_of (R.view input.old)) }
     {
         let name = DwAt(input.read_uleb128_u16()?);
         let form = DwForm(input.read_uleb128_u16()?);
@@ -759,42 +775,6 @@ impl AttributeSpecification {
             (_, _) => Ok(Some(AttributeSpecification::new(name, form, None))),
         }
     }
-}
-
-impl<T> DebugAbbrev<T> {
-    ghost use Rattle.dwarf_read_core.specs.Sections.{debug_abbrev_reader};
-
-    /// The section over the reader that `borrow` makes of a reference to the data of this one.
-    ///
-    /// `borrow` is called once. The caller has to make sure that it may be called with that reference.
-    pub fn borrow<'a, F, R>(&'a self, mut borrow: F) -> DebugAbbrev<R>
-    where
-        F: FnMut(&'a T) -> R + Drop,
-        requires { TakesAt F.FnMut borrow (debug_abbrev_reader self.now) }
-        ensures { (after : F)
-            × CalledAt F.FnMut borrow
-            (debug_abbrev_reader self.now) (debug_abbrev_reader result) after }
-    {
-        borrow(&self.debug_abbrev_section).into()
-    }
-}
-
-impl<R> Section<R> for DebugAbbrev<R> {
-    ghost use Rattle.dwarf_read_core.specs.Sections.{debug_abbrev_reader};
-
-    ghost section_id = { debug_abbrev };
-
-    ghost section_reader = { debug_abbrev_reader };
-
-    fn id() -> SectionId {
-        SectionId::DebugAbbrev
-    }
-
-    fn reader(&self) -> &R {
-        &self.debug_abbrev_section
-    }
-
-    ghost holds_reader = { λ reader section h. h };
 }
 
 #[inline]

@@ -1,15 +1,17 @@
 //! Addresses: the section `.debug_addr` (DWARF 5, 7.27).
 
-ghost use Rattle.std.specs.Prelude.{◌≡◌, ◌+◌, ◌≤◌, ◌⊎◌, ℕ, List, [], Ok, Err, true, length, IsTrue, IfOk, IfErr, IfSome, OnOk, OnErr, IsOk};
+ghost use Rattle.std.specs.Prelude.{nat_eq, ◌≡◌, ◌+◌, ◌≤◌, ◌⊎◌, ℕ, List, [], Ok, Err, true, length, IsTrue, IfOk, IfErr, IfSome, OnOk, OnErr, IsOk};
+ghost use Rattle.std.specs.Cmp.{nat_eq_equiv};
 ghost use Rattle.std.specs.Fn.{CalledAt, TakesAt};
 ghost use Rattle.dwarf_base_core.specs.declared.common.SectionId.TheVariants.{DebugAddr as debug_addr};
 ghost use Rattle.std.specs.Result.{result_transpose};
 ghost use Rattle.dwarf_reader_core.specs.Faults.{WantsMemory, is_number_size};
-ghost use Rattle.dwarf_read_core.specs.Answer.{followed_by};
 ghost use Rattle.dwarf_read_core.specs.Entries.{StandsForAddresses};
+ghost use Rattle.dwarf_read_core.specs.Equality.{same_set, same_set_per, same_set_equiv};
 ghost use Rattle.dwarf_read_core.specs.Items.{GivesFirst, StaysFirst};
-ghost use Rattle.dwarf_read_core.specs.Sets.{StandsForAddressSets, address_header, addresses_of, followed_headers, set};
-ghost use Rattle.dwarf_read_core.specs.Words.{AddressAt, IsSettled, slot};
+ghost use Rattle.dwarf_read_core.specs.Lookups.{AnswersBy, StaysBy};
+ghost use Rattle.dwarf_read_core.specs.Sets.{StandsForAddressSets, address_header, addresses_of, followed_headers, seen_by, set};
+ghost use Rattle.dwarf_read_core.specs.Words.{AddressAt, slot};
 
 use super::indexed::skip_to_index;
 use super::section::Section;
@@ -33,63 +35,51 @@ pub struct DebugAddr<R> {
 impl<R: Reader> DebugAddr<R> {
     ghost use Rattle.dwarf_read_core.specs.Sections.{debug_addr_reader};
 
-    /// The address at `index`, from 0, among those that stand in a row from `base` on.
+    /// The address with this `index` among those that begin at `base`. Indices begin at 0.
     ///
     /// `base` is the offset of the first address of a set, which `DW_AT_addr_base` gives, and
-    /// `index` comes from `DW_FORM_addrx`. Addresses have `address_size` bytes, as in the unit's
-    /// header; the header of the set isn't read, since older tables have none.
+    /// `index` comes from `DW_FORM_addrx`. Addresses have `address_size` bytes, as the unit's
+    /// header says. The header of the set isn't read, because older sections have none.
     ///
     /// # Errors
     ///
     /// The first of these:
     ///
-    /// - `UnexpectedEof` at the section's start where `base` is past its end;
-    /// - `UnsupportedOffset` where `index` times `address_size` is no offset;
-    /// - `UnexpectedEof` at `base` where the address would begin past the end;
-    /// - `UnsupportedAddressSize` where `address_size` isn't 1, 2, 4 or 8;
-    /// - `UnexpectedEof` at the address where it ends past the end.
+    /// - `UnexpectedEof` at the section's start if `base` is past its end;
+    /// - `UnsupportedOffset` if `index` times `address_size` doesn't fit the offset type;
+    /// - `UnexpectedEof` at `base` if the address would begin past the section's end;
+    /// - `UnsupportedAddressSize` if `address_size` isn't 1, 2, 4 or 8;
+    /// - `UnexpectedEof` at the address if it ends past the section's end.
     ///
-    /// `OutOfMemory` where a clone of the reader was refused.
-    #[tactic(auto, using(crate::proofs::Words::address_taken, crate::proofs::Words::address_refused, crate::proofs::Words::address_misplaced, crate::proofs::Words::address_stays, crate::proofs::Words::address_fault_stays))]
+    /// `OutOfMemory` if a clone of the reader runs out of memory.
+    #[tactic(auto, using(crate::proofs::lookups::Words::address_steps))]
     pub fn get_address(
         &self,
         address_size: u8,
         base: DebugAddrBase<R::Offset>,
         index: DebugAddrIndex<R::Offset>,
     ) -> Result<u64>
-        ensures ok { let section = R.view (debug_addr_reader self.now) in
-            IfOk result
-            (λ address. AddressAt R.Offset.GREATEST section
-            (slot (R.Offset.value base.0) (R.Offset.value index.0) address_size) (Ok address)) }
-        ensures err { let section = R.view (debug_addr_reader self.now) in
-            IfErr result
-            (λ e. AddressAt R.Offset.GREATEST section
-            (slot (R.Offset.value base.0) (R.Offset.value index.0) address_size) (Err e)
-            ⊎ WantsMemory R.clone_is_free e) }
+        ensures answer { let section = R.view (debug_addr_reader self.now) in
+            let s = slot (R.Offset.value base.0) (R.Offset.value index.0) address_size in
+            AnswersBy (AddressAt R.Offset.GREATEST section s)
+            (λ address. address) R.clone_is_free result }
 
-        // Bytes behind the section change no answer, but that bytes are missing.
+        // Appended bytes don't change the result, unless it is an `UnexpectedEof`.
         ensures stable { let section = R.view (debug_addr_reader self.now) in
-            IfOk result
-            (λ address. (more : List ℕ)
-            → AddressAt R.Offset.GREATEST (followed_by section more)
-            (slot (R.Offset.value base.0) (R.Offset.value index.0) address_size) (Ok address)) }
-        ensures stable_fault { let section = R.view (debug_addr_reader self.now) in
-            IfErr result
-            (λ e. IsSettled (Err e) → (more : List ℕ)
-            → AddressAt R.Offset.GREATEST (followed_by section more)
-            (slot (R.Offset.value base.0) (R.Offset.value index.0) address_size) (Err e)
-            ⊎ WantsMemory R.clone_is_free e) }
+            let s = slot (R.Offset.value base.0) (R.Offset.value index.0) address_size in
+            StaysBy (λ input. AddressAt R.Offset.GREATEST input s)
+            (λ address. address) R.clone_is_free section result }
     {
         let input = &mut self.section.try_clone()?;
         skip_to_index(input, base.0, index.0, address_size)?;
         input.read_address(address_size)
     }
 
-    /// The sets of addresses, one behind the other from the section's start.
+    /// The sets of addresses, one after the other from the section's start.
     ///
     /// # Errors
     ///
-    /// `OutOfMemory` where a clone of the reader was refused.
+    /// `OutOfMemory` if a clone of the reader runs out of memory.
     pub fn headers(&self) -> Result<AddrHeaderIter<R>>
         ensures ok { let section = R.view (debug_addr_reader self.now) in
             IfOk result (λ headers. headers ≡ record { offset = 0; rest = section }) }
@@ -148,7 +138,7 @@ impl<R> From<R> for DebugAddr<R> {
     }
 }
 
-/// The sets of addresses that are left of a section, each by its header.
+/// The sets of addresses that remain of a section, each by its header.
 ///
 /// ```
 /// for header in section.headers()? {
@@ -175,35 +165,33 @@ impl<R: Reader> Model for AddrHeaderIter<R> {
 }
 
 impl<R: Reader> AddrHeaderIter<R> {
-    ghost use Rattle.dwarf_read_core.specs.Headers.{set_of};
-
-    /// The header of the next set, or `None` where no bytes are left.
+    /// The header of the next set, or `None` if no bytes remain.
     ///
-    /// A set has eight bytes at least.
+    /// A set has at least eight bytes.
     ///
     /// # Errors
     ///
-    /// The first fault of the bytes that are left, where they don't begin with a set. Positions
-    /// are those of the section.
+    /// If the bytes that remain don't begin with a set, the first of these. Positions are those of
+    /// the section.
     ///
-    /// - `UnexpectedEof` at the set where fewer than four bytes are left;
-    /// - `UnknownReservedLength` where the first four bytes are reserved;
-    /// - `UnexpectedEof` behind the first four bytes where they are followed by a length of eight
-    ///   bytes, and fewer are left;
-    /// - `UnsupportedOffset` where the length is no offset;
-    /// - `UnexpectedEof` behind the length where fewer bytes are left, or where the set has no
-    ///   room for the version;
-    /// - `UnknownVersion` for another version than 5;
-    /// - `UnexpectedEof` where the set ends before the address size or the segment size;
-    /// - `UnsupportedAddressSize` for another size than 1, 2, 4 or 8;
-    /// - `UnsupportedSegmentSize` for another size than 0.
+    /// - `UnexpectedEof` at the set if fewer than four bytes remain;
+    /// - `UnknownReservedLength` if the first four bytes are a reserved value;
+    /// - `UnexpectedEof` after the first four bytes if they announce a length of eight bytes, and
+    ///   fewer remain;
+    /// - `UnsupportedOffset` if the length doesn't fit the offset type;
+    /// - `UnexpectedEof` after the length if fewer bytes remain, or if the set ends before the
+    ///   version;
+    /// - `UnknownVersion` if the version isn't 5;
+    /// - `UnexpectedEof` if the set ends before the address size or the segment size;
+    /// - `UnsupportedAddressSize` if the address size isn't 1, 2, 4 or 8;
+    /// - `UnsupportedSegmentSize` if the segment size isn't 0.
     ///
-    /// `OutOfMemory` where memory for a reader of the set was refused. After any error the
-    /// answer is `Ok(None)`.
-    #[tactic(auto, using(crate::proofs::Sets::sets_none))]
+    /// `OutOfMemory` if memory for a reader of the set runs out. After any error the iterator is
+    /// exhausted: `next` returns `Ok(None)`.
+    #[tactic(auto, using(crate::proofs::sets::Sets::sets_none))]
     pub fn next(&mut self) -> Result<Option<AddrHeader<R>>>
         ensures first { GivesFirst (StandsForAddressSets R.Offset.GREATEST)
-            (set_of R.view R.Offset.value) R.clone_is_free self.old
+            (seen_by R.view) R.clone_is_free self.old
             (result_transpose result) self.new }
         ensures failed { OnErr result (self.new.rest.bytes ≡ []) }
         ensures bound { IfOk result
@@ -211,9 +199,9 @@ impl<R: Reader> AddrHeaderIter<R> {
             (λ _. length self.new.rest.bytes + 8 ≤ length self.old.rest.bytes)) }
         ensures some { OnErr result (1 ≤ length self.old.rest.bytes) }
 
-        // Bytes behind those that are left change neither a set nor a fault, but that bytes are missing.
+        // Appended bytes change neither a set nor an error, unless it is an `UnexpectedEof`.
         ensures stable { StaysFirst (StandsForAddressSets R.Offset.GREATEST)
-            (set_of R.view R.Offset.value) R.clone_is_free followed_headers self.old
+            (seen_by R.view) R.clone_is_free followed_headers self.old
             (result_transpose result) self.new }
     {
         if self.input.is_empty() {
@@ -221,10 +209,10 @@ impl<R: Reader> AddrHeaderIter<R> {
         }
         let before = self.input.len();
         match AddrHeader::parse(&mut self.input, self.offset) {
-            Err(error) => {
+            Err(e) => {
                 // Nothing says where another set would begin.
                 self.input.empty();
-                Err(error)
+                Err(e)
             }
             Ok(header) => {
                 self.offset.0 += before - self.input.len();
@@ -239,11 +227,10 @@ impl<R: Reader> Iterator for AddrHeaderIter<R> {
 
     ghost use Rattle.std.specs.Prelude.{length};
     ghost use Rattle.std.specs.Iterator.{at_most};
-    ghost use Rattle.dwarf_read_core.specs.Headers.{set_of};
     ghost use Rattle.dwarf_read_core.specs.Items.{GivesFirst};
-    ghost use Rattle.dwarf_read_core.specs.Sets.{StandsForAddressSets};
+    ghost use Rattle.dwarf_read_core.specs.Sets.{StandsForAddressSets, seen_by};
 
-    ghost next_gives = { GivesFirst (StandsForAddressSets R.Offset.GREATEST) (set_of R.view R.Offset.value) R.clone_is_free };
+    ghost next_gives = { GivesFirst (StandsForAddressSets R.Offset.GREATEST) (seen_by R.view) R.clone_is_free };
 
     ghost remaining = { λ headers. at_most (length headers.rest.bytes) };
 
@@ -268,8 +255,8 @@ impl<R: Reader + Clone> Clone for AddrHeaderIter<R> {
     }
 }
 
-/// The header of a set of addresses, and the addresses behind it.
-#[derive(Debug, Drop, PartialEq, Eq)]
+/// The header of a set of addresses, and the addresses that follow it.
+#[derive(Debug, Drop)]
 pub struct AddrHeader<R: Reader> {
     offset: DebugAddrOffset<R::Offset>,
     encoding: SetEncoding,
@@ -285,10 +272,41 @@ struct SetEncoding {
     ghost known: { encoding.version ≡ 5 },
 }
 
-impl<R: Reader + Clone> Clone for AddrHeader<R> {
-    ghost use Rattle.dwarf_read_core.specs.Headers.{set_of};
+impl<R: Reader> Model for AddrHeader<R> {
+    ghost use Rattle.std.specs.Prelude.{ℕ};
+    ghost use Rattle.dwarf_read_core.specs.Sets.{SetOf};
 
-    ghost is_clone = { λ header copy. set_of R.view R.Offset.value copy ≡ set_of R.view R.Offset.value header };
+    ghost Value = { SetOf ℕ R };
+
+    ghost view = { λ a. record {
+      offset = R.Offset.value a.offset.0;
+      format = a.encoding.encoding.format;
+      unit_length = R.Offset.value a.length;
+      header = a.encoding.encoding.address_size;
+      entries = a.entries;
+    } };
+}
+
+/// Two headers are equal if their offsets, lengths, encodings and readers are.
+impl<R: Reader + PartialEq> PartialEq for AddrHeader<R> {
+    ghost eq = { same_set nat_eq R.eq };
+
+    ghost laws = { same_set_per nat_eq_equiv R.PartialEq.laws };
+
+    fn eq(&self, other: &Self) -> bool {
+        self.offset == other.offset
+            && self.length == other.length
+            && self.encoding == other.encoding
+            && self.entries == other.entries
+    }
+}
+
+impl<R: Reader + Eq> Eq for AddrHeader<R> {
+    ghost laws = { same_set_equiv nat_eq_equiv R.Eq.laws };
+}
+
+impl<R: Reader + Clone> Clone for AddrHeader<R> {
+    ghost is_clone = { λ header copy. seen_by R.view copy ≡ seen_by R.view header };
 
     ghost is_infallible = { λ _. R.clone_is_free ≡ true };
 
@@ -306,12 +324,10 @@ impl<R: Reader + Clone> Clone for AddrHeader<R> {
 }
 
 impl<R: Reader> AddrHeader<R> {
-    ghost use Rattle.dwarf_read_core.specs.Headers.{set_of};
-
     fn parse(input: &mut R, offset: DebugAddrOffset<R::Offset>) -> Result<AddrHeader<R>>
         ensures ok { IfOk result
             (λ header. (set address_header R.Offset.GREATEST (R.Offset.value offset.0)).Reads
-            (R.view input.old) (set_of R.view R.Offset.value header) (R.view input.new)) }
+            (R.view input.old) (seen_by R.view header) (R.view input.new)) }
         ensures err { IfErr result
             (λ e. (set address_header R.Offset.GREATEST (R.Offset.value offset.0)).Fails
             (R.view input.old) e ⊎ WantsMemory R.clone_is_free e) }
@@ -346,7 +362,7 @@ impl<R: Reader> AddrHeader<R> {
 
     /// Where the set begins, in bytes from the section's start.
     pub fn offset(&self) -> DebugAddrOffset<R::Offset>
-        ensures { R.Offset.value result.0 ≡ (set_of R.view R.Offset.value self.now).offset }
+        ensures { R.Offset.value result.0 ≡ self.now.offset }
     {
         self.offset
     }
@@ -354,15 +370,18 @@ impl<R: Reader> AddrHeader<R> {
     /// How many bytes of the set follow its initial length: the rest of the header, and the
     /// addresses.
     pub fn length(&self) -> R::Offset
-        ensures { R.Offset.value result ≡ (set_of R.view R.Offset.value self.now).unit_length }
+        ensures { R.Offset.value result ≡ self.now.unit_length }
     {
         self.length
     }
 
     /// The set's format and address size; the version is 5.
     pub fn encoding(&self) -> Encoding
-        ensures { let set = set_of R.view R.Offset.value self.now in
-            result ≡ record { address_size = set.header; format = set.format; version = 5 } }
+        ensures { result ≡ record {
+          address_size = self.now.header;
+          format = self.now.format;
+          version = 5;
+        } }
     {
         self.encoding.encoding
     }
@@ -371,10 +390,10 @@ impl<R: Reader> AddrHeader<R> {
     ///
     /// # Errors
     ///
-    /// `OutOfMemory` where a clone of the reader was refused.
+    /// `OutOfMemory` if a clone of the reader runs out of memory.
     pub fn entries(&self) -> Result<AddrEntryIter<R>>
         ensures ok { IfOk result
-            (λ entries. entries ≡ addresses_of (set_of R.view R.Offset.value self.now)) }
+            (λ entries. entries ≡ addresses_of (seen_by R.view self.now)) }
         ensures err { IfErr result (WantsMemory R.clone_is_free) }
     {
         Ok(AddrEntryIter {
@@ -384,7 +403,7 @@ impl<R: Reader> AddrHeader<R> {
     }
 }
 
-/// The addresses that are left of a set.
+/// The addresses that remain of a set.
 #[derive(Debug, Drop)]
 pub struct AddrEntryIter<R: Reader> {
     input: R,
@@ -400,13 +419,13 @@ impl<R: Reader> Model for AddrEntryIter<R> {
 }
 
 impl<R: Reader> AddrEntryIter<R> {
-    /// The next address, or `None` where no bytes are left.
+    /// The next address, or `None` if no bytes remain. It doesn't allocate.
     ///
     /// # Errors
     ///
-    /// `UnexpectedEof` at the bytes that are left where they are fewer than an address has. After
-    /// it the answer is `Ok(None)`. It takes no memory.
-    #[tactic(auto, using(crate::proofs::Entries::entries_none))]
+    /// `UnexpectedEof` at the bytes that remain if they are fewer than an address has. After it
+    /// `next` returns `Ok(None)`.
+    #[tactic(auto, using(crate::proofs::sets::Entries::entries_none))]
     pub fn next(&mut self) -> Result<Option<u64>>
         ensures first { GivesFirst StandsForAddresses
             (λ address. address) true self.old (result_transpose result) self.new }
@@ -422,9 +441,9 @@ impl<R: Reader> AddrEntryIter<R> {
         }
         match self.input.read_address(self.encoding.encoding.address_size) {
             Ok(entry) => Ok(Some(entry)),
-            Err(fault) => {
+            Err(e) => {
                 self.input.empty();
-                Err(fault)
+                Err(e)
             }
         }
     }

@@ -1,4 +1,4 @@
-//! Places in a section that are counted in numbers of one width from a base on.
+//! Places in a section that are counted from a base, in numbers of one width.
 
 ghost use Rattle.std.specs.Prelude.{◌+◌, ◌*◌, OnOk, IfErr};
 ghost use Rattle.dwarf_base_core.specs.Checked.{OkBelow};
@@ -8,8 +8,8 @@ ghost use Rattle.dwarf_read_core.specs.Words.{slot, place, IsPlaced, Misplaced};
 use dwarf_base_core::{Error, ReaderOffset, Result};
 use dwarf_reader_core::Reader;
 
-/// The length of `index` numbers of `width` bytes each, or `UnsupportedOffset` where it is no
-/// offset.
+/// The length of `index` numbers of `width` bytes each, or `UnsupportedOffset` if it doesn't fit the
+/// offset type.
 #[inline]
 fn length_before<Offset: ReaderOffset>(index: Offset, width: u8) -> Result<Offset>
     ensures { OkBelow (Offset.GREATEST + 1) Offset.value
@@ -22,15 +22,15 @@ fn length_before<Offset: ReaderOffset>(index: Offset, width: u8) -> Result<Offse
     Offset::from_u64(length)
 }
 
-/// Takes the bytes before the number of this index: those before `base`, then `index` numbers of
+/// Skips the bytes before the number with this index: those before `base`, then `index` numbers of
 /// `width` bytes each.
 ///
 /// # Errors
 ///
-/// `UnexpectedEof` here where `base` is past the end, and at `base` where the number is;
-/// `UnsupportedOffset` where the number lies too far from `base` for an offset.
+/// `UnexpectedEof` at the input's start if `base` is past its end, and at `base` if the number is.
+/// `UnsupportedOffset` if the distance from `base` to the number doesn't fit the offset type.
 #[inline]
-#[tactic(auto, using(crate::proofs::Words::no_base, crate::proofs::Words::too_far_off, crate::proofs::Words::past_end, crate::proofs::Words::skipped, crate::proofs::Words::placed))]
+#[tactic(auto, using(crate::proofs::lookups::Words::no_base, crate::proofs::lookups::Words::too_far_off, crate::proofs::lookups::Words::past_end, crate::proofs::lookups::Words::skipped, crate::proofs::lookups::Words::placed))]
 pub(crate) fn skip_to_index<R: Reader>(
     input: &mut R,
     base: R::Offset,

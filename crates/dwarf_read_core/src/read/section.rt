@@ -4,7 +4,7 @@ ghost use Rattle.std.specs.Prelude.{◌≡◌, ◌+◌, ◌⊎◌, ◌↔◌, If
 ghost use Rattle.dwarf_base_core.specs.declared.common.SectionId.{SectionId};
 ghost use Rattle.dwarf_base_core.specs.Section.{section_names};
 ghost use Rattle.dwarf_reader_core.specs.Input.{Covers};
-ghost use Rattle.dwarf_reader_core.specs.Faults.{WantsMemory};
+ghost use Rattle.dwarf_read_core.specs.Lookups.{AnswersBy};
 ghost use Rattle.dwarf_read_core.specs.Ranges.{RangeAt};
 
 use dwarf_base_core::{ReaderOffset, ReaderOffsetId, Result, SectionId};
@@ -33,16 +33,16 @@ pub trait Section<R>: From<R> + Sized {
         Self::id().name()
     }
 
-    /// The section's name in a split object or a package, such as `.debug_abbrev.dwo`, or `None`
-    /// where it stands in neither.
+    /// The section's name in a split object or a package, such as `.debug_abbrev.dwo`, or `None` if
+    /// it is in neither.
     fn dwo_section_name() -> Option<&'static str>
         ensures { option_map (λ name. name.now) result ≡ (section_names section_id).dwo_name }
     {
         Self::id().dwo_name()
     }
 
-    /// The section's name in an XCOFF object, such as `.dwabrev`, or `None` where XCOFF has no name
-    /// for it.
+    /// The section's name in an XCOFF object, such as `.dwabrev`, or `None` if XCOFF has no name for
+    /// it.
     fn xcoff_section_name() -> Option<&'static str>
         ensures { option_map (λ name. name.now) result ≡ (section_names section_id).xcoff_name }
     {
@@ -75,24 +75,23 @@ pub trait Section<R>: From<R> + Sized {
         R: Reader,
         ensures { result.now ≡ section_reader self.now };
 
-    /// The `size` bytes from `offset` on, as a section of their own; the first keeps its position.
+    /// The `size` bytes from `offset` on, as a section of their own. The first byte keeps its
+    /// position.
     ///
     /// The index of a package gives the offset and the size, both in bytes, of what belongs to one
     /// unit (DWARF 5, 7.3.5).
     ///
     /// # Errors
     ///
-    /// `UnexpectedEof` at the section's start where `offset` is past its end, and at the range's
-    /// start where the range ends past it. `OutOfMemory` where a clone of the reader was refused.
-    #[tactic(auto, using(crate::proofs::Ranges::range_taken, crate::proofs::Ranges::range_cut, crate::proofs::Ranges::range_outside))]
+    /// `UnexpectedEof` at the section's start if `offset` is past its end, and at the range's start
+    /// if the range ends past it. `OutOfMemory` if a clone of the reader runs out of memory.
+    #[tactic(auto, using(crate::proofs::lookups::Ranges::range_taken, crate::proofs::lookups::Ranges::range_cut, crate::proofs::lookups::Ranges::range_outside))]
     fn dwp_range(&self, offset: u32, size: u32) -> Result<Self>
     where
         R: Reader,
-        ensures ok { let section = R.view (section_reader self.now) in
-            IfOk result (λ part. RangeAt section offset size (Ok (R.view (section_reader part)))) }
-        ensures err { let section = R.view (section_reader self.now) in
-            IfErr result (λ e. RangeAt section offset size (Err e)
-            ⊎ WantsMemory R.clone_is_free e) }
+        ensures { let section = R.view (section_reader self.now) in
+            AnswersBy (RangeAt section offset size)
+            (λ part. R.view (section_reader part)) R.clone_is_free result }
     {
         let mut part = self.reader().try_clone()?;
         part.skip(R::Offset::from_u32(offset))?;
@@ -100,8 +99,8 @@ pub trait Section<R>: From<R> + Sized {
         Ok(part.into())
     }
 
-    /// The section's identifier and the offset, in bytes, of the place that `id` names, or `None` if
-    /// that is neither one of the section's bytes nor its end.
+    /// The section's identifier and the offset, in bytes, of the place that `id` identifies, or `None`
+    /// if that is neither one of the section's bytes nor its end.
     fn lookup_offset_id(&self, id: ReaderOffsetId) -> Option<(SectionId, R::Offset)>
     where
         R: Reader,

@@ -5,9 +5,9 @@ ghost use Rattle.std.specs.Fn.{CalledAt, TakesAt};
 ghost use Rattle.dwarf_base_core.specs.declared.common.SectionId.TheVariants.{DebugStr as debug_str, DebugStrOffsets as debug_str_offsets, DebugLineStr as debug_line_str};
 ghost use Rattle.dwarf_base_core.specs.Format.{word_size};
 ghost use Rattle.dwarf_reader_core.specs.Faults.{WantsMemory};
-ghost use Rattle.dwarf_read_core.specs.Answer.{followed_by};
+ghost use Rattle.dwarf_read_core.specs.Lookups.{AnswersBy, StaysBy};
 ghost use Rattle.dwarf_read_core.specs.Strings.{StringAt};
-ghost use Rattle.dwarf_read_core.specs.Words.{IsSettled, WordAt, slot};
+ghost use Rattle.dwarf_read_core.specs.Words.{WordAt, slot};
 
 mod offsets;
 
@@ -39,16 +39,6 @@ impl<'input, Endian: Endianity> DebugStr<EndianSlice<'input, Endian>> {
     }
 }
 
-impl<R> From<R> for DebugStr<R> {
-    ghost use Rattle.dwarf_read_core.specs.Sections.{debug_str_reader};
-
-    ghost from_gives = { λ reader section. debug_str_reader section ≡ reader };
-
-    fn from(debug_str_section: R) -> Self {
-        DebugStr { debug_str_section }
-    }
-}
-
 impl<R: Reader> DebugStr<R> {
     ghost use Rattle.dwarf_read_core.specs.Sections.{debug_str_reader};
 
@@ -57,23 +47,16 @@ impl<R: Reader> DebugStr<R> {
     ///
     /// # Errors
     ///
-    /// `UnexpectedEof` at the section's start where `offset` is past its end, and at the string's
-    /// start where no zero byte ends it. `OutOfMemory` where a clone of the reader was refused.
-    #[tactic(auto, using(crate::proofs::StringLemmas::string_stays))]
+    /// `UnexpectedEof` at the section's start if `offset` is past its end, and at the string's start
+    /// if no zero byte ends it. `OutOfMemory` if a clone of the reader runs out of memory.
     pub fn get_str(&self, offset: DebugStrOffset<R::Offset>) -> Result<R>
-        ensures ok { let section = R.view (debug_str_reader self.now) in
-            IfOk result
-            (λ string. StringAt section (R.Offset.value offset.0) (Ok (R.view string))) }
-        ensures err { let section = R.view (debug_str_reader self.now) in
-            IfErr result
-            (λ e. StringAt section (R.Offset.value offset.0) (Err e)
-            ⊎ WantsMemory R.clone_is_free e) }
+        ensures answer { let section = R.view (debug_str_reader self.now) in
+            AnswersBy (StringAt section (R.Offset.value offset.0)) R.view R.clone_is_free result }
 
-        // Bytes behind the section change no string.
+        // Appended bytes don't change the result, unless it is an `UnexpectedEof`.
         ensures stable { let section = R.view (debug_str_reader self.now) in
-            IfOk result
-            (λ string. (more : List ℕ)
-            → StringAt (followed_by section more) (R.Offset.value offset.0) (Ok (R.view string))) }
+            StaysBy (λ input. StringAt input (R.Offset.value offset.0))
+            R.view R.clone_is_free section result }
     {
         string_at(&self.debug_str_section, offset.0)
     }
@@ -114,6 +97,16 @@ impl<R> Section<R> for DebugStr<R> {
     ghost holds_reader = { λ reader section h. h };
 }
 
+impl<R> From<R> for DebugStr<R> {
+    ghost use Rattle.dwarf_read_core.specs.Sections.{debug_str_reader};
+
+    ghost from_gives = { λ reader section. debug_str_reader section ≡ reader };
+
+    fn from(debug_str_section: R) -> Self {
+        DebugStr { debug_str_section }
+    }
+}
+
 /// The `.debug_str_offsets` section (DWARF 5, 7.26): sets of offsets of strings, each with a header.
 #[derive(Debug, Default, Clone, Copy, Drop)]
 pub struct DebugStrOffsets<R> {
@@ -123,69 +116,55 @@ pub struct DebugStrOffsets<R> {
 impl<R: Reader> DebugStrOffsets<R> {
     ghost use Rattle.dwarf_read_core.specs.Sections.{debug_str_offsets_reader};
 
-    /// The offset at `index`, from 0, among those that stand in a row from `base` on: where a
-    /// string begins in `.debug_str`.
+    /// The string offset with this `index` among those that begin at `base`. It says where a string
+    /// begins in `.debug_str`. Indices begin at 0.
     ///
-    /// `base` is the place of a set's first entry, which `DW_AT_str_offsets_base` gives, and
-    /// `index` comes from `DW_FORM_strx`. Entries are words of the unit's `format`; the header of
-    /// the set isn't read, since older tables have none.
+    /// `base` is the offset of a set's first entry, which `DW_AT_str_offsets_base` gives, and
+    /// `index` comes from `DW_FORM_strx`. Entries are words of the unit's `format`. The header of
+    /// the set isn't read, because older sections have none.
     ///
     /// # Errors
     ///
     /// The first of these:
     ///
-    /// - `UnexpectedEof` at the section's start where `base` is past its end;
-    /// - `UnsupportedOffset` where `index` times the word size is no offset;
-    /// - `UnexpectedEof` at `base` where the entry would begin past the end;
-    /// - `UnexpectedEof` at the entry where it ends past the end;
-    /// - `UnsupportedOffset` where the entry is no offset.
+    /// - `UnexpectedEof` at the section's start if `base` is past its end;
+    /// - `UnsupportedOffset` if `index` times the word size doesn't fit the offset type;
+    /// - `UnexpectedEof` at `base` if the entry would begin past the section's end;
+    /// - `UnexpectedEof` at the entry if it ends past the section's end;
+    /// - `UnsupportedOffset` if the entry doesn't fit the offset type.
     ///
-    /// `OutOfMemory` where a clone of the reader was refused.
-    #[tactic(auto, using(crate::proofs::Words::word_taken, crate::proofs::Words::word_refused, crate::proofs::Words::word_misplaced, crate::proofs::Words::word_stays, crate::proofs::Words::word_fault_stays))]
+    /// `OutOfMemory` if a clone of the reader runs out of memory.
+    #[tactic(auto, using(crate::proofs::lookups::Words::word_steps))]
     pub fn get_str_offset(
         &self,
         format: Format,
         base: DebugStrOffsetsBase<R::Offset>,
         index: DebugStrOffsetsIndex<R::Offset>,
     ) -> Result<DebugStrOffset<R::Offset>>
-        ensures ok { let section = R.view (debug_str_offsets_reader self.now) in
-            IfOk result
-            (λ offset. WordAt R.Offset.GREATEST section
-            (slot (R.Offset.value base.0) (R.Offset.value index.0) (word_size format))
-            (Ok (R.Offset.value offset.0))) }
-        ensures err { let section = R.view (debug_str_offsets_reader self.now) in
-            IfErr result
-            (λ e. WordAt R.Offset.GREATEST section
-            (slot (R.Offset.value base.0) (R.Offset.value index.0) (word_size format)) (Err e)
-            ⊎ WantsMemory R.clone_is_free e) }
+        ensures answer { let section = R.view (debug_str_offsets_reader self.now) in
+            let s = slot (R.Offset.value base.0) (R.Offset.value index.0) (word_size format) in
+            AnswersBy (WordAt R.Offset.GREATEST section s)
+            (λ offset. R.Offset.value offset.0) R.clone_is_free result }
 
-        // Bytes behind the section change no answer, but that bytes are missing.
+        // Appended bytes don't change the result, unless it is an `UnexpectedEof`.
         ensures stable { let section = R.view (debug_str_offsets_reader self.now) in
-            IfOk result
-            (λ offset. (more : List ℕ)
-            → WordAt R.Offset.GREATEST (followed_by section more)
-            (slot (R.Offset.value base.0) (R.Offset.value index.0) (word_size format))
-            (Ok (R.Offset.value offset.0))) }
-        ensures stable_fault { let section = R.view (debug_str_offsets_reader self.now) in
-            IfErr result
-            (λ e. IsSettled (Err e) → (more : List ℕ)
-            → WordAt R.Offset.GREATEST (followed_by section more)
-            (slot (R.Offset.value base.0) (R.Offset.value index.0) (word_size format)) (Err e)
-            ⊎ WantsMemory R.clone_is_free e) }
+            let s = slot (R.Offset.value base.0) (R.Offset.value index.0) (word_size format) in
+            StaysBy (λ input. WordAt R.Offset.GREATEST input s)
+            (λ offset. R.Offset.value offset.0) R.clone_is_free section result }
     {
         let input = &mut self.section.try_clone()?;
         skip_to_index(input, base.0, index.0, format.word_size())?;
         Ok(DebugStrOffset(input.read_offset(format)?))
     }
 
-    /// The sets of string offsets, one behind the other from the section's start.
+    /// The sets of string offsets, one after the other from the section's start.
     ///
-    /// A section of an older standard has no sets: its offsets stand in one row without a header,
-    /// and [`get_str_offset`](DebugStrOffsets::get_str_offset) alone reads them.
+    /// A section of an older standard has no sets. Its offsets follow each other without a header,
+    /// and only [`get_str_offset`](DebugStrOffsets::get_str_offset) reads them.
     ///
     /// # Errors
     ///
-    /// `OutOfMemory` where a clone of the reader was refused.
+    /// `OutOfMemory` if a clone of the reader runs out of memory.
     pub fn headers(&self) -> Result<StrOffsetsHeaderIter<R>>
         ensures ok { let section = R.view (debug_str_offsets_reader self.now) in
             IfOk result (λ headers. headers ≡ record { offset = 0; rest = section }) }
@@ -269,23 +248,16 @@ impl<R: Reader> DebugLineStr<R> {
     ///
     /// # Errors
     ///
-    /// `UnexpectedEof` at the section's start where `offset` is past its end, and at the string's
-    /// start where no zero byte ends it. `OutOfMemory` where a clone of the reader was refused.
-    #[tactic(auto, using(crate::proofs::StringLemmas::string_stays))]
+    /// `UnexpectedEof` at the section's start if `offset` is past its end, and at the string's start
+    /// if no zero byte ends it. `OutOfMemory` if a clone of the reader runs out of memory.
     pub fn get_str(&self, offset: DebugLineStrOffset<R::Offset>) -> Result<R>
-        ensures ok { let section = R.view (debug_line_str_reader self.now) in
-            IfOk result
-            (λ string. StringAt section (R.Offset.value offset.0) (Ok (R.view string))) }
-        ensures err { let section = R.view (debug_line_str_reader self.now) in
-            IfErr result
-            (λ e. StringAt section (R.Offset.value offset.0) (Err e)
-            ⊎ WantsMemory R.clone_is_free e) }
+        ensures answer { let section = R.view (debug_line_str_reader self.now) in
+            AnswersBy (StringAt section (R.Offset.value offset.0)) R.view R.clone_is_free result }
 
-        // Bytes behind the section change no string.
+        // Appended bytes don't change the result, unless it is an `UnexpectedEof`.
         ensures stable { let section = R.view (debug_line_str_reader self.now) in
-            IfOk result
-            (λ string. (more : List ℕ)
-            → StringAt (followed_by section more) (R.Offset.value offset.0) (Ok (R.view string))) }
+            StaysBy (λ input. StringAt input (R.Offset.value offset.0))
+            R.view R.clone_is_free section result }
     {
         string_at(&self.section, offset.0)
     }
@@ -339,13 +311,10 @@ impl<R> From<R> for DebugLineStr<R> {
 
 // The string at an offset of a section.
 #[inline]
-#[tactic(auto, using(crate::proofs::StringLemmas::string_taken, crate::proofs::StringLemmas::string_refused, crate::proofs::StringLemmas::string_outside))]
+#[tactic(auto, using(crate::proofs::lookups::Strings::string_outside))]
 fn string_at<R: Reader>(section: &R, offset: R::Offset) -> Result<R>
-    ensures ok { IfOk result
-        (λ string. StringAt (R.view section.now) (R.Offset.value offset) (Ok (R.view string))) }
-    ensures err { IfErr result
-        (λ e. StringAt (R.view section.now) (R.Offset.value offset) (Err e)
-        ⊎ WantsMemory R.clone_is_free e) }
+    ensures { AnswersBy (StringAt (R.view section.now) (R.Offset.value offset))
+        R.view R.clone_is_free result }
 {
     let input = &mut section.try_clone()?;
     input.skip(offset)?;

@@ -1,4 +1,4 @@
-use Rattle.dwarf_read_core.proofs.KeptOnce.{some_cache, same_cache}
+use Rattle.dwarf_read_core.proofs.cache.ExactlyOneCache.{some_cache, same_cache}
 use Rattle.dwarf_read_core.proofs.laws.exactly_one_cache.Goals as goal
 
 pub returns-clause-some : goal.returns-clause-some

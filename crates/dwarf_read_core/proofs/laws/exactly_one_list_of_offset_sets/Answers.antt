@@ -1,4 +1,4 @@
-use Rattle.dwarf_read_core.proofs.Sets.{sets_bounded, sets_one, string_offsets_header-is}
+use Rattle.dwarf_read_core.proofs.sets.Sets.{sets_bounded, sets_one, string_offsets_header-is}
 use Rattle.dwarf_read_core.proofs.laws.exactly_one_list_of_offset_sets.Goals as goal
 
 pub returns-clause-one : goal.returns-clause-one

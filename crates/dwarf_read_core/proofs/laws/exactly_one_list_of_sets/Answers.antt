@@ -1,4 +1,4 @@
-use Rattle.dwarf_read_core.proofs.Sets.{address_header-is, sets_bounded, sets_one}
+use Rattle.dwarf_read_core.proofs.sets.Sets.{address_header-is, sets_bounded, sets_one}
 use Rattle.dwarf_read_core.proofs.laws.exactly_one_list_of_sets.Goals as goal
 
 pub returns-clause-one : goal.returns-clause-one

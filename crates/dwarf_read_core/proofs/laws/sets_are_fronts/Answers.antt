@@ -1,5 +1,5 @@
 use Rattle.dwarf_read_core.specs.Sets.{address_header, string_offsets_header}
-use Rattle.dwarf_read_core.proofs.Sets.{set_front}
+use Rattle.dwarf_read_core.proofs.sets.Sets.{set_front}
 use Rattle.dwarf_read_core.proofs.laws.sets_are_fronts.Goals as goal
 
 pub returns-clause-addresses : goal.returns-clause-addresses

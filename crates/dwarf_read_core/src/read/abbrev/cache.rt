@@ -6,12 +6,13 @@ ghost use Rattle.std.specs.FinMap as finite;
 ghost use Rattle.std.specs.Iterator.{IsFinite};
 ghost use Rattle.std.specs.Ordering.{nat_cmp};
 ghost use Rattle.dwarf_reader_core.specs.Input.{Input};
-ghost use Rattle.dwarf_read_core.specs.Answer.{Answer, Answers, followed_by};
+ghost use Rattle.dwarf_read_core.specs.Appended.{followed_by};
+ghost use Rattle.dwarf_read_core.specs.Answer.{Answer, Answers};
 ghost use Rattle.dwarf_read_core.specs.Cache.{answer_of, KeepsAnswers, least_count, NamesOffsets, GivesBeforeError, GivesSome, IsFaithful, HandsOut, is_final, still_kept};
 ghost use Rattle.dwarf_read_core.specs.Sections.{debug_abbrev_reader};
 
 use super::super::key::Key;
-use super::{Abbreviations, AbbreviationsCacheStrategy, DebugAbbrev};
+use super::{Abbreviations, DebugAbbrev};
 use dwarf_base_core::{DebugAbbrevOffset, Error, ReaderOffset, Result};
 use dwarf_reader_core::Reader;
 use std::alloc::Global;
@@ -19,12 +20,35 @@ use std::collections::BTreeMap;
 use std::marker::Model;
 use std::rc::Rc;
 
-type Entries = BTreeMap<Key, Result<Rc<Abbreviations>>>;
+/// Which tables a cache of abbreviations keeps.
+#[derive(Debug, Clone, Copy, PartialEq, Eq)]
+pub enum AbbreviationsCacheStrategy {
+    /// Those that more than one unit uses.
+    Duplicates,
+    /// Those that any unit uses.
+    All,
+}
 
-/// Tables of abbreviations by their offsets, kept so that units which share one read it once.
+impl AbbreviationsCacheStrategy {
+    // How often an offset has to occur for its table to be kept.
+    fn least_count(self) -> usize
+        ensures { result ≡ least_count self }
+    {
+        match self {
+            AbbreviationsCacheStrategy::Duplicates => 2,
+            AbbreviationsCacheStrategy::All => 1,
+        }
+    }
+}
+
+// Tables, or the errors in their place, by offset. The units that use a table share it.
+type TableMap = BTreeMap<Key, Result<Rc<Abbreviations>>>;
+
+/// Tables of abbreviations by their offsets, kept so that a table which several units use is read
+/// once.
 ///
-/// A cache keeps what it was populated with from one section, an error as well as a table; asked
-/// for another offset, it reads afresh and keeps nothing.
+/// A cache keeps what it was populated with from one section: tables, and the errors that were
+/// read in their place. A table at another offset is read afresh, and isn't kept.
 ///
 /// ```
 /// let mut cache = AbbreviationsCache::new(mem);
@@ -37,7 +61,7 @@ type Entries = BTreeMap<Key, Result<Rc<Abbreviations>>>;
 /// ```
 #[derive(Debug, Drop)]
 pub struct AbbreviationsCache {
-    abbreviations: BTreeMap<Key, Result<Rc<Abbreviations>>>,
+    abbreviations: TableMap,
     mem: Global,
 }
 
@@ -69,17 +93,17 @@ impl AbbreviationsCache {
         }
     }
 
-    /// Keeps, in place of all it kept before, the answers at the offsets that `strategy` chooses
-    /// among `units`: those that occur twice or more, or all of them.
+    /// Reads the tables at the offsets that `strategy` selects from `units`, and keeps them in place
+    /// of all that was kept before. It selects those that occur at least twice, or all of them.
     ///
-    /// The first error that `units` yields ends the offsets, and is not returned. A table's error is
-    /// kept as its answer. The caller has to make sure that `units` may be asked for its items, and
-    /// that they end.
+    /// The first error that `units` yields ends the offsets, and is not returned. If there is an
+    /// error in place of a table, the error is kept. The caller has to make sure that `next` may be
+    /// called on `units`, and that its items end.
     ///
     /// # Errors
     ///
     /// `OutOfMemory` if memory runs out, or if `units` yields that. The cache is then unchanged.
-    /// With no offsets it takes no memory.
+    /// With no offsets no memory is allocated.
     pub fn populate<R: Reader, I: Iterator<Item = Result<DebugAbbrevOffset<R::Offset>>>>(
         &mut self,
         strategy: AbbreviationsCacheStrategy,
@@ -94,10 +118,10 @@ impl AbbreviationsCache {
             × KeepsAnswers (least_count strategy) section offsets (finite.get self.new)) }
         ensures faithful { let section = R.view (debug_abbrev_reader debug_abbrev.now) in
             OnOk result (IsFaithful self.new section) }
-        ensures err { IfErr result (λ fault. fault ≡ Error.OutOfMemory) }
+        ensures err { IfErr result (λ e. e ≡ Error.OutOfMemory) }
         ensures unchanged { OnErr result (self.new ≡ self.old) }
 
-        // With no offsets it succeeds, unless the iterator itself runs out of memory.
+        // With no offsets the call succeeds, unless the iterator itself runs out of memory.
         ensures some { OnErr result (GivesSome I.next_gives units) }
     {
         let offsets = before_error(self.mem, units)?;
@@ -110,7 +134,7 @@ impl AbbreviationsCache {
     ///
     /// # Errors
     ///
-    /// `OutOfMemory` where memory was refused. The cache is then unchanged.
+    /// `OutOfMemory` if memory runs out. The cache is then unchanged.
     pub fn set<R: Reader>(
         &mut self,
         offset: DebugAbbrevOffset<R::Offset>,
@@ -118,7 +142,7 @@ impl AbbreviationsCache {
     ) -> Result<()>
         ensures ok { OnOk result
             (self.new ≡ finite.insert self.old (R.Offset.value offset.0) (Ok abbreviations.value)) }
-        ensures err { IfErr result (λ fault. fault ≡ Error.OutOfMemory) }
+        ensures err { IfErr result (λ e. e ≡ Error.OutOfMemory) }
         ensures unchanged { OnErr result (self.new ≡ self.old) }
     {
         self.abbreviations
@@ -129,11 +153,11 @@ impl AbbreviationsCache {
     /// Forgets each entry that may be wrong once bytes are appended to the section.
     ///
     /// A table that a code of value 0 closes is kept, and so is each error except `UnexpectedEof`:
-    /// no bytes that are appended change these. A table that the section's end closed is dropped,
-    /// and so is an `UnexpectedEof`. After this call [`get`](Self::get) reads them again.
+    /// appended bytes don't change these. A table that the section's end closed is dropped, and so
+    /// is an `UnexpectedEof`. After this call [`get`](Self::get) reads them again.
     ///
-    /// Call it each time the section has grown, before the next `get` on the longer section. The
-    /// call takes no memory.
+    /// Call this each time the section has grown, before the next `get` on the longer section. It
+    /// doesn't allocate.
     pub fn section_grew(&mut self)
         ensures kept { (key : ℕ) → finite.get self.new key ≡ still_kept (finite.get self.old key) }
         ensures faithful { (section : Input) (more : List ℕ)
@@ -142,20 +166,19 @@ impl AbbreviationsCache {
         self.abbreviations.retain(|_, answer| is_final(answer));
     }
 
-    /// What is kept at an offset, and else a fresh reading of `debug_abbrev`, which isn't kept.
+    /// The table that is kept at an offset, or one that is read from `debug_abbrev` if nothing is
+    /// kept there. The cache doesn't change.
     ///
     /// # Errors
     ///
-    /// Those of [`DebugAbbrev::abbreviations`], kept or fresh, and `OutOfMemory` where memory to
-    /// share a table was refused.
-    #[tactic(auto, using(crate::proofs::Shown::shown_gets))]
+    /// Those of [`DebugAbbrev::abbreviations`], kept or read now, and `OutOfMemory` if memory to
+    /// share a table runs out.
+    #[tactic(auto, using(crate::proofs::cache::EntriesAsMap::shown_gets))]
     pub fn get<R: Reader>(
         &self,
         debug_abbrev: &DebugAbbrev<R>,
         offset: DebugAbbrevOffset<R::Offset>,
     ) -> Result<Rc<Abbreviations>>
-        ensures never_want { finite.get self.now (R.Offset.value offset.0)
-            ≢ Some (Err Error.OutOfMemory) }
         ensures answer { let section = R.view (debug_abbrev_reader debug_abbrev.now) in
             MatchOption (finite.get self.now (R.Offset.value offset.0))
             (Answers (answer_of result) section (R.Offset.value offset.0))
@@ -166,13 +189,13 @@ impl AbbreviationsCache {
     {
         match self.abbreviations.get(&Key(offset.0.into_u64())) {
             Some(Ok(table)) => Ok(table.clone()?),
-            Some(Err(fault)) => Err(*fault),
+            Some(Err(e)) => Err(*e),
             None => Ok(Rc::new(self.mem, debug_abbrev.abbreviations(self.mem, offset)?)?),
         }
     }
 }
 
-// Whether appended bytes leave an answer as it is.
+// Whether appended bytes leave a result as it is.
 fn is_final(answer: &Result<Rc<Abbreviations>>) -> bool
     ensures { result ≡ is_final (answer_of answer.now) }
 {
@@ -188,7 +211,7 @@ fn before_error<T: Drop, I: Iterator<Item = Result<T>>>(mem: Global, items: I) -
     requires can { I.can_next items }
     requires ends { IsFinite (I.remaining items) }
     ensures ok { IfOk result (λ taken. GivesBeforeError I.next_gives items taken.items) }
-    ensures err { IfErr result (λ fault. fault ≡ Error.OutOfMemory) }
+    ensures err { IfErr result (λ e. e ≡ Error.OutOfMemory) }
     ensures some { OnErr result (GivesSome I.next_gives items) }
 {
     let mut taken = Vec::new(mem);
@@ -202,7 +225,7 @@ fn before_error<T: Drop, I: Iterator<Item = Result<T>>>(mem: Global, items: I) -
     Ok(taken)
 }
 
-// The answer at an offset, with a table that can be shared.
+// What is read at an offset, with a table that can be shared.
 fn shared_answer<R: Reader>(
     mem: Global,
     debug_abbrev: &DebugAbbrev<R>,
@@ -210,27 +233,27 @@ fn shared_answer<R: Reader>(
 ) -> Result<Result<Rc<Abbreviations>>>
     ensures ok { let section = R.view (debug_abbrev_reader debug_abbrev.now) in
         IfOk result (λ answer. Answer section (R.Offset.value offset.0) (answer_of answer)) }
-    ensures err { IfErr result (λ fault. fault ≡ Error.OutOfMemory) }
+    ensures err { IfErr result (λ e. e ≡ Error.OutOfMemory) }
 {
     match debug_abbrev.abbreviations(mem, offset) {
         Ok(table) => Ok(Ok(Rc::new(mem, table)?)),
         Err(Error::OutOfMemory) => Err(Error::OutOfMemory),
-        Err(fault) => Ok(Err(fault)),
+        Err(e) => Ok(Err(e)),
     }
 }
 
-// The answers at the offsets that occur often enough.
+// What is read at the offsets that occur often enough. Each is read as soon as it does.
 fn entries_kept<R: Reader>(
     mem: Global,
     strategy: AbbreviationsCacheStrategy,
     debug_abbrev: &DebugAbbrev<R>,
     offsets: &[DebugAbbrevOffset<R::Offset>],
-) -> Result<Entries>
+) -> Result<TableMap>
     ensures ok { let section = R.view (debug_abbrev_reader debug_abbrev.now) in
         IfOk result (λ entries. KeepsAnswers (least_count strategy) section
         (map (λ o. R.Offset.value o.0) offsets.now)
         (λ key. option_map answer_of (get nat_cmp entries key))) }
-    ensures err { IfErr result (λ fault. fault ≡ Error.OutOfMemory) }
+    ensures err { IfErr result (λ e. e ≡ Error.OutOfMemory) }
     ensures some { OnErr result (offsets.now ≢ []) }
 {
     let mut counts = BTreeMap::new(mem);
@@ -249,27 +272,27 @@ fn entries_kept<R: Reader>(
     Ok(entries)
 }
 
-// Counts a key once more, and answers how often it has been counted.
+// Counts a key once more, and returns how often it has been counted.
 fn count_once_more(counts: &mut BTreeMap<Key, usize>, key: Key) -> Result<usize>
     requires { unwrap_or (get nat_cmp counts.old key) 0 + 1 < 2 ^ 64 }
     ensures count { IfOk result (λ count. count ≡ unwrap_or (get nat_cmp counts.old key) 0 + 1) }
     ensures counted { OnOk result
         ((q : ℕ) → unwrap_or (get nat_cmp counts.new q) 0
         ≡ unwrap_or (get nat_cmp counts.old q) 0 + (if key == q then 1 else 0)) }
-    ensures err { IfErr result (λ fault. fault ≡ Error.OutOfMemory) }
+    ensures err { IfErr result (λ e. e ≡ Error.OutOfMemory) }
 {
     let count = counts.entry(key)?.or_insert(0);
     *count += 1;
     Ok(*count)
 }
 
-// Keeps an answer under a key.
-fn keep(entries: &mut Entries, key: Key, answer: Result<Rc<Abbreviations>>) -> Result<()>
+// Keeps a result under a key.
+fn keep(entries: &mut TableMap, key: Key, answer: Result<Rc<Abbreviations>>) -> Result<()>
     ensures kept { OnOk result
         ((q : ℕ) → option_map answer_of (get nat_cmp entries.new q)
         ≡ (if q == key then Some (answer_of answer)
         else option_map answer_of (get nat_cmp entries.old q))) }
-    ensures err { IfErr result (λ fault. fault ≡ Error.OutOfMemory) }
+    ensures err { IfErr result (λ e. e ≡ Error.OutOfMemory) }
 {
     entries.insert(key, answer)?;
     Ok(())

@@ -1,4 +1,4 @@
-//! Where abbreviations and their attributes stand, and which bytes the parsers leave, which no public
+//! Where abbreviations and their attributes are, and which bytes remain after the parsers, which no public
 //! call tells.
 
 ghost use Rattle.std.specs.Prelude.{◌≡◌};
@@ -30,7 +30,7 @@ fn table_of(mem: Global, codes: &[u64]) -> Result<Abbreviations> {
     Ok(table)
 }
 
-// Codes in the order in which they are added, and how many of them stand in the vector.
+// Codes in the order in which they are added, and how many of them are in the vector.
 static ORDERS: &[(&[u64], usize)] = &[
     (&[1, 2], 2),
     (&[2, 3], 0),

@@ -4,8 +4,9 @@ ghost use Rattle.std.specs.Prelude.{◌≡◌, ◌+◌, ◌≤◌, ◌⊎◌, []
 ghost use Rattle.std.specs.Result.{result_transpose};
 ghost use Rattle.dwarf_reader_core.specs.Faults.{WantsMemory};
 ghost use Rattle.dwarf_read_core.specs.Entries.{StandsForStringOffsets};
+ghost use Rattle.dwarf_read_core.specs.Equality.{same_set, same_set_per, same_set_equiv, same_unit, same_unit_equiv};
 ghost use Rattle.dwarf_read_core.specs.Items.{GivesFirst, StaysFirst};
-ghost use Rattle.dwarf_read_core.specs.Sets.{StandsForStringOffsetSets, followed_headers, set, string_offsets_header, string_offsets_of};
+ghost use Rattle.dwarf_read_core.specs.Sets.{StandsForStringOffsetSets, followed_headers, seen_by, set, string_offsets_header, string_offsets_of};
 
 use dwarf_base_core::{DebugStrOffset, Error, Format, ReaderOffset, Result};
 use dwarf_reader_core::Reader;
@@ -15,7 +16,7 @@ use std::marker::Model;
 // The version of every set: earlier standards have none.
 const VERSION: u16 = 5;
 
-/// The sets of string offsets that are left of a section, each by its header.
+/// The sets of string offsets that remain of a section, each by its header.
 ///
 /// ```
 /// for header in section.headers()? {
@@ -42,8 +43,6 @@ impl<R: Reader> Model for StrOffsetsHeaderIter<R> {
 }
 
 impl<R: Reader> StrOffsetsHeaderIter<R> {
-    ghost use Rattle.dwarf_read_core.specs.Headers.{string_offset_set_of};
-
     /// The sets of a whole section.
     pub(super) fn new(input: R) -> Self
         ensures { result ≡ record { offset = 0; rest = R.view input } }
@@ -54,32 +53,32 @@ impl<R: Reader> StrOffsetsHeaderIter<R> {
         }
     }
 
-    /// The header of the next set, or `None` where no bytes are left.
+    /// The header of the next set, or `None` if no bytes remain.
     ///
-    /// A set has eight bytes at least.
+    /// A set has at least eight bytes.
     ///
     /// # Errors
     ///
-    /// The first fault of the bytes that are left, where they don't begin with a set. Positions
-    /// are those of the section.
+    /// If the bytes that remain don't begin with a set, the first of these. Positions are those of
+    /// the section.
     ///
-    /// - `UnexpectedEof` at the set where fewer than four bytes are left;
-    /// - `UnknownReservedLength` where the first four bytes are reserved;
-    /// - `UnexpectedEof` behind the first four bytes where they are followed by a length of eight
-    ///   bytes, and fewer are left;
-    /// - `UnsupportedOffset` where the length is no offset;
-    /// - `UnexpectedEof` behind the length where fewer bytes are left, or where the set has no
-    ///   room for the version;
-    /// - `UnknownVersion` for another version than 5;
-    /// - `UnexpectedEof` behind the version where the set has no room for two bytes of padding,
-    ///   which may have any value.
+    /// - `UnexpectedEof` at the set if fewer than four bytes remain;
+    /// - `UnknownReservedLength` if the first four bytes are a reserved value;
+    /// - `UnexpectedEof` after the first four bytes if they announce a length of eight bytes, and
+    ///   fewer remain;
+    /// - `UnsupportedOffset` if the length doesn't fit the offset type;
+    /// - `UnexpectedEof` after the length if fewer bytes remain, or if the set ends before the
+    ///   version;
+    /// - `UnknownVersion` if the version isn't 5;
+    /// - `UnexpectedEof` after the version if the set ends before the two bytes of padding, which
+    ///   may have any value.
     ///
-    /// `OutOfMemory` where memory for a reader of the set was refused. After any error the
-    /// answer is `Ok(None)`.
-    #[tactic(auto, using(crate::proofs::Sets::sets_none))]
+    /// `OutOfMemory` if memory for a reader of the set runs out. After any error the iterator is
+    /// exhausted: `next` returns `Ok(None)`.
+    #[tactic(auto, using(crate::proofs::sets::Sets::sets_none))]
     pub fn next(&mut self) -> Result<Option<StrOffsetsHeader<R>>>
         ensures first { GivesFirst (StandsForStringOffsetSets R.Offset.GREATEST)
-            (string_offset_set_of R.view R.Offset.value) R.clone_is_free self.old
+            (seen_by R.view) R.clone_is_free self.old
             (result_transpose result) self.new }
         ensures failed { OnErr result (self.new.rest.bytes ≡ []) }
         ensures bound { IfOk result
@@ -87,9 +86,9 @@ impl<R: Reader> StrOffsetsHeaderIter<R> {
             (λ _. length self.new.rest.bytes + 8 ≤ length self.old.rest.bytes)) }
         ensures some { OnErr result (1 ≤ length self.old.rest.bytes) }
 
-        // Bytes behind those that are left change neither a set nor a fault, but that bytes are missing.
+        // Appended bytes change neither a set nor an error, unless it is an `UnexpectedEof`.
         ensures stable { StaysFirst (StandsForStringOffsetSets R.Offset.GREATEST)
-            (string_offset_set_of R.view R.Offset.value) R.clone_is_free followed_headers self.old
+            (seen_by R.view) R.clone_is_free followed_headers self.old
             (result_transpose result) self.new }
     {
         if self.input.is_empty() {
@@ -97,10 +96,10 @@ impl<R: Reader> StrOffsetsHeaderIter<R> {
         }
         let before = self.input.len();
         match StrOffsetsHeader::parse(&mut self.input, self.offset) {
-            Err(error) => {
+            Err(e) => {
                 // Nothing says where another set would begin.
                 self.input.empty();
-                Err(error)
+                Err(e)
             }
             Ok(header) => {
                 self.offset += before - self.input.len();
@@ -115,11 +114,10 @@ impl<R: Reader> Iterator for StrOffsetsHeaderIter<R> {
 
     ghost use Rattle.std.specs.Prelude.{length};
     ghost use Rattle.std.specs.Iterator.{at_most};
-    ghost use Rattle.dwarf_read_core.specs.Headers.{string_offset_set_of};
     ghost use Rattle.dwarf_read_core.specs.Items.{GivesFirst};
-    ghost use Rattle.dwarf_read_core.specs.Sets.{StandsForStringOffsetSets};
+    ghost use Rattle.dwarf_read_core.specs.Sets.{StandsForStringOffsetSets, seen_by};
 
-    ghost next_gives = { GivesFirst (StandsForStringOffsetSets R.Offset.GREATEST) (string_offset_set_of R.view R.Offset.value) R.clone_is_free };
+    ghost next_gives = { GivesFirst (StandsForStringOffsetSets R.Offset.GREATEST) (seen_by R.view) R.clone_is_free };
 
     ghost remaining = { λ headers. at_most (length headers.rest.bytes) };
 
@@ -144,8 +142,8 @@ impl<R: Reader + Clone> Clone for StrOffsetsHeaderIter<R> {
     }
 }
 
-/// The header of a set of string offsets, and the offsets behind it.
-#[derive(Debug, Drop, PartialEq, Eq)]
+/// The header of a set of string offsets, and the offsets that follow it.
+#[derive(Debug, Drop)]
 pub struct StrOffsetsHeader<R: Reader> {
     offset: R::Offset,
     length: R::Offset,
@@ -153,10 +151,40 @@ pub struct StrOffsetsHeader<R: Reader> {
     entries: R,
 }
 
-impl<R: Reader + Clone> Clone for StrOffsetsHeader<R> {
-    ghost use Rattle.dwarf_read_core.specs.Headers.{string_offset_set_of};
+impl<R: Reader> Model for StrOffsetsHeader<R> {
+    ghost use Rattle.dwarf_read_core.specs.Sets.{SetOf};
 
-    ghost is_clone = { λ header copy. string_offset_set_of R.view R.Offset.value copy ≡ string_offset_set_of R.view R.Offset.value header };
+    ghost Value = { SetOf (Unit {0}) R };
+
+    ghost view = { λ a. record {
+      offset = R.Offset.value a.offset;
+      format = a.format;
+      unit_length = R.Offset.value a.length;
+      header = tt;
+      entries = a.entries;
+    } };
+}
+
+/// Two headers are equal if their offsets, lengths, formats and readers are.
+impl<R: Reader + PartialEq> PartialEq for StrOffsetsHeader<R> {
+    ghost eq = { same_set same_unit R.eq };
+
+    ghost laws = { same_set_per same_unit_equiv R.PartialEq.laws };
+
+    fn eq(&self, other: &Self) -> bool {
+        self.offset == other.offset
+            && self.length == other.length
+            && self.format == other.format
+            && self.entries == other.entries
+    }
+}
+
+impl<R: Reader + Eq> Eq for StrOffsetsHeader<R> {
+    ghost laws = { same_set_equiv same_unit_equiv R.Eq.laws };
+}
+
+impl<R: Reader + Clone> Clone for StrOffsetsHeader<R> {
+    ghost is_clone = { λ header copy. seen_by R.view copy ≡ seen_by R.view header };
 
     ghost is_infallible = { λ _. R.clone_is_free ≡ true };
 
@@ -174,12 +202,10 @@ impl<R: Reader + Clone> Clone for StrOffsetsHeader<R> {
 }
 
 impl<R: Reader> StrOffsetsHeader<R> {
-    ghost use Rattle.dwarf_read_core.specs.Headers.{string_offset_set_of};
-
     fn parse(input: &mut R, offset: R::Offset) -> Result<StrOffsetsHeader<R>>
         ensures ok { IfOk result
             (λ header. (set string_offsets_header R.Offset.GREATEST (R.Offset.value offset)).Reads
-            (R.view input.old) (string_offset_set_of R.view R.Offset.value header)
+            (R.view input.old) (seen_by R.view header)
             (R.view input.new)) }
         ensures err { IfErr result
             (λ e. (set string_offsets_header R.Offset.GREATEST (R.Offset.value offset)).Fails
@@ -204,8 +230,7 @@ impl<R: Reader> StrOffsetsHeader<R> {
 
     /// Where the set begins, in bytes from the section's start.
     pub fn offset(&self) -> R::Offset
-        ensures { R.Offset.value result
-            ≡ (string_offset_set_of R.view R.Offset.value self.now).offset }
+        ensures { R.Offset.value result ≡ self.now.offset }
     {
         self.offset
     }
@@ -213,15 +238,14 @@ impl<R: Reader> StrOffsetsHeader<R> {
     /// How many bytes of the set follow its initial length: the rest of the header, and the
     /// offsets.
     pub fn length(&self) -> R::Offset
-        ensures { R.Offset.value result
-            ≡ (string_offset_set_of R.view R.Offset.value self.now).unit_length }
+        ensures { R.Offset.value result ≡ self.now.unit_length }
     {
         self.length
     }
 
-    /// The set's format, whose words the offsets are.
+    /// The set's format. The offsets are words of it.
     pub fn format(&self) -> Format
-        ensures { result ≡ (string_offset_set_of R.view R.Offset.value self.now).format }
+        ensures { result ≡ self.now.format }
     {
         self.format
     }
@@ -230,11 +254,10 @@ impl<R: Reader> StrOffsetsHeader<R> {
     ///
     /// # Errors
     ///
-    /// `OutOfMemory` where a clone of the reader was refused.
+    /// `OutOfMemory` if a clone of the reader runs out of memory.
     pub fn entries(&self) -> Result<StrOffsetsEntryIter<R>>
         ensures ok { IfOk result
-            (λ entries. entries
-            ≡ string_offsets_of (string_offset_set_of R.view R.Offset.value self.now)) }
+            (λ entries. entries ≡ string_offsets_of (seen_by R.view self.now)) }
         ensures err { IfErr result (WantsMemory R.clone_is_free) }
     {
         Ok(StrOffsetsEntryIter {
@@ -244,7 +267,7 @@ impl<R: Reader> StrOffsetsHeader<R> {
     }
 }
 
-/// The string offsets that are left of a set.
+/// The string offsets that remain of a set.
 #[derive(Debug, Drop)]
 pub struct StrOffsetsEntryIter<R: Reader> {
     input: R,
@@ -261,14 +284,15 @@ impl<R: Reader> Model for StrOffsetsEntryIter<R> {
 }
 
 impl<R: Reader> StrOffsetsEntryIter<R> {
-    /// The next offset of a string in `.debug_str`, or `None` where no bytes are left.
+    /// The next offset of a string in `.debug_str`, or `None` if no bytes remain. It doesn't
+    /// allocate.
     ///
     /// # Errors
     ///
-    /// `UnexpectedEof` at the bytes that are left where they are fewer than a word has, and
-    /// `UnsupportedOffset` where the next word is no offset. After either the answer is `Ok(None)`.
-    /// It takes no memory.
-    #[tactic(auto, using(crate::proofs::Entries::entries_none))]
+    /// `UnexpectedEof` at the bytes that remain if they are fewer than a word has, and
+    /// `UnsupportedOffset` if the next word doesn't fit the offset type. After either `next` returns
+    /// `Ok(None)`.
+    #[tactic(auto, using(crate::proofs::sets::Entries::entries_none))]
     pub fn next(&mut self) -> Result<Option<DebugStrOffset<R::Offset>>>
         ensures first { GivesFirst (StandsForStringOffsets R.Offset.GREATEST)
             (λ offset. R.Offset.value offset.0) true self.old (result_transpose result) self.new }
@@ -284,9 +308,9 @@ impl<R: Reader> StrOffsetsEntryIter<R> {
         }
         match self.input.read_offset(self.format) {
             Ok(entry) => Ok(Some(DebugStrOffset(entry))),
-            Err(fault) => {
+            Err(e) => {
                 self.input.empty();
-                Err(fault)
+                Err(e)
             }
         }
     }

@@ -1,11 +1,11 @@
 use Rattle.std.proofs.Common.{arith}
-use Rattle.dwarf_read_core.proofs.Ranges.{handed_on}
-use Rattle.dwarf_read_core.proofs.Words.{past_end_found, too_far_off}
+use Rattle.dwarf_read_core.proofs.ResultLemmas.{propagated-err}
+use Rattle.dwarf_read_core.proofs.lookups.Words.{past_end_found, too_far_off}
 use Rattle.dwarf_read_core.proofs.read.indexed.skip_to_index.Goals as goal
 
 pub returns-in_err-length_before-clause-err : goal.returns-in_err-length_before-clause-err
 returns-in_err-length_before-clause-err g c =
-    handed_on _ _ c.from_residual-in_err-length_before.ensures.1
+    propagated-err _ _ c.from_residual-in_err-length_before.ensures.1
     (rw c.in_err-length_before.ensures.0
     (too_far_off _ _ _ _ c.in_ok-skip.ensures.ok (omega (arith, c.in_err-length_before.ensures.1))))
 

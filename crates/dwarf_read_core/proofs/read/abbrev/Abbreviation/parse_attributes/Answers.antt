@@ -1,13 +1,13 @@
 use Rattle.std.proofs.Common.{◌∙◌}
-use Rattle.dwarf_read_core.proofs.Steps.{gives_err}
-use Rattle.dwarf_read_core.proofs.Attributes.{ends, fails, goes_on}
+use Rattle.dwarf_read_core.proofs.ResultLemmas.{gives_err}
+use Rattle.dwarf_read_core.proofs.tables.ReadingAttributes.{front-ends, front-fails, front-goes_on}
 use Rattle.dwarf_read_core.proofs.read.abbrev.Abbreviation.parse_attributes.Goals as goal
 
 pub returns-in_err-attribute-clause-read : goal.returns-in_err-attribute-clause-read
 returns-in_err-attribute-clause-read g c =
     let loop = c.attributes in
     gives_err _ _ c.from_residual.ensures.1
-    (λ memory. fails _ _ _ _ _ (rw loop.invariant.stays at
+    (λ memory. front-fails _ _ _ _ _ (rw loop.invariant.same_end at
     (c.in_err-attribute.ensures.read memory)) loop.invariant.told)
 
 pub attributes-preserved : goal.attributes-preserved
@@ -15,14 +15,14 @@ attributes-preserved g c =
     let loop = c.attributes in
     record {
       told = rw c.in_ok-push.ensures.items
-          (goes_on _ _ _ c.in-Some.attribute _ _
-          (rw (loop.invariant.stays, c.in-Some.is) at c.in_ok-attribute.ensures.read) loop.invariant.told);
-      stays = c.in_ok-attribute.ensures.stays ∙ loop.invariant.stays;
+          (front-goes_on _ _ _ c.in-Some.attribute _ _
+          (rw (loop.invariant.same_end, c.in-Some.is) at c.in_ok-attribute.ensures.read) loop.invariant.told);
+      same_end = c.in_ok-attribute.ensures.same_end ∙ loop.invariant.same_end;
     }
 
 pub returns-clause-read : goal.returns-clause-read
 returns-clause-read g c =
     let loop = c.attributes in
     rw (c.in_ok-from_slice.ensures.ok, c.as_slice.ensures.value)
-    (ends _ _ _ _ _ _
-    (rw loop.invariant.stays at c.in_ok-attribute.ensures.read) c.in_default.is loop.invariant.told)
+    (front-ends _ _ _ _ _ _
+    (rw loop.invariant.same_end at c.in_ok-attribute.ensures.read) c.in_default.is loop.invariant.told)

@@ -3,7 +3,7 @@ use Rattle.dwarf_reader_core.specs.Input.{end_of}
 use Rattle.dwarf_read_core.specs.Reading.{attributes_in, with_front}
 use Rattle.dwarf_read_core.proofs.read.abbrev.Abbreviation.parse_attributes.Given as goal
 
--- the specifications so far and those that are left are all of them
+-- the specifications so far and those that remain are all of them
 abbrev pub invariant-attributes : goal.invariant-attributes
 invariant-attributes g l =
     let view = g.R.Reader.view in
@@ -11,7 +11,7 @@ invariant-attributes g l =
     record {
       told : with_front l.scratch.items (attributes_in end (view l.input).bytes)
           ≡ attributes_in end (view l.initial.input).bytes;
-      stays : end_of (view l.input) ≡ end;
+      same_end : end_of (view l.input) ≡ end;
     }
 
 abbrev pub decreases-attributes : goal.decreases-attributes

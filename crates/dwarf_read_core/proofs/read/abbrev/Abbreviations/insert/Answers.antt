@@ -5,7 +5,7 @@ use Rattle.std.specs.Map.{lookup}
 use Rattle.std.specs.Ordering.{nat_cmp}
 use Rattle.dwarf_base_core.specs.declared.error.Error.TheVariants.{DuplicateAbbreviationCode}
 use Rattle.dwarf_read_core.specs.Grammar.{Table}
-use Rattle.dwarf_read_core.proofs.Tables.{stands_in_vec, none_at, pushed, lacks_next, kept_pushed, kept_beside}
+use Rattle.dwarf_read_core.proofs.tables.VectorAndMap.{has_in_vec, none_at, table_pushed, lacks_next, keyed_pushed, keyed_put}
 use Rattle.dwarf_read_core.proofs.read.abbrev.Abbreviations.insert.Goals as goal
 use Rattle.dwarf_read_core.proofs.read.abbrev.Abbreviations.insert.Goals.{else-not-is_empty-via-then-not-is_empty+else-contains_key, else-not-is_empty-via-else-not-is_empty}
 
@@ -19,7 +19,7 @@ returns-then-index-len-clause-repeated c =
     let place : code ≡ (code - 1) + 1 = omega (arith, c.requires) in
     λ memory. (
       ap (λ (t : Table). contains_key t.by_code code) (sym c.self.view_is)
-          ∙ stands_in_vec inside.vec.items inside.map.entries code
+          ∙ has_in_vec inside.vec.items inside.map.entries code
           (code - 1) place within,
       ap DuplicateAbbreviationCode same,
     )
@@ -30,10 +30,10 @@ invariant_of-self-2 c =
     let inside = c.self.inside in
     let fits = inside.vec.ok.0 in
     let above : length inside.vec.items < c.code-code.result = omega arith in
-    kept_beside inside.vec.items inside.map.entries _ c.code-code.result c.args.abbreviation above (search rules)
+    keyed_put inside.vec.items inside.map.entries _ c.code-code.result c.args.abbreviation above (search rules)
     (sym same) c.self.invariant
 
--- the next code of the vector doesn't stand in the map
+-- the next code of the vector isn't in the map
 absent : (c : goal.In_ok-push) → lookup (is_at (nat_cmp c.args.abbreviation.code)) c.self.inside.map.entries ≡ None
 absent c =
     let es = c.self.inside.map.entries in
@@ -52,7 +52,7 @@ next c =
 pub invariant_of-self-then-index-len-2 : goal.invariant_of-self-then-index-len-2
 invariant_of-self-then-index-len-2 c =
     rw c.in_ok-push.ensures.items
-    (kept_pushed c.self.inside.vec.items c.self.inside.map.entries c.args.abbreviation.code c.args.abbreviation
+    (keyed_pushed c.self.inside.vec.items c.self.inside.map.entries c.args.abbreviation.code c.args.abbreviation
     (next c) refl (absent c) c.self.invariant)
 
 pub returns-then-index-len-2-clause-ok : goal.returns-then-index-len-2-clause-ok
@@ -61,4 +61,4 @@ returns-then-index-len-2-clause-ok c =
     let es = c.self.inside.map.entries in
     let code = c.args.abbreviation.code in
     rw (c.in_ok-push.ensures.items, ← c.self.view_is)
-    (lacks_next ds es code (next c) (absent c), pushed ds es code c.args.abbreviation (next c))
+    (lacks_next ds es code (next c) (absent c), table_pushed ds es code c.args.abbreviation (next c))

@@ -16,7 +16,7 @@ invariant-declarations g l =
       unclosed : l.abbreviations.close ≡ by_end;
       first : (rest : List ℕ) → declaration_at end (view l.initial.input).bytes ≡ Ok (None, rest)
           → (view l.input).bytes ≡ (view l.initial.input).bytes;
-      stays : end_of (view l.input) ≡ end;
+      same_end : end_of (view l.input) ≡ end;
     }
 
 abbrev pub decreases-declarations : goal.decreases-declarations

@@ -3,8 +3,8 @@ use Rattle.std.proofs.lemmas.Result.{err_from_is_err_and}
 use Rattle.dwarf_base_core.specs.declared.error.Error.TheVariants.{OutOfMemory}
 use Rattle.dwarf_reader_core.specs.Input.{Input, end_of}
 use Rattle.dwarf_read_core.specs.Sections.{debug_abbrev_reader}
-use Rattle.dwarf_read_core.proofs.Whole.{outside_of, nothing_declared, ok_is_no_error}
-use Rattle.dwarf_read_core.proofs.Bound.{bounded_read}
+use Rattle.dwarf_read_core.proofs.tables.ExactlyOneAnswer.{outside_of, nothing_declared, ok_is_no_error}
+use Rattle.dwarf_read_core.proofs.tables.TableBounds.{bounded_read}
 use Rattle.dwarf_read_core.proofs.read.abbrev.DebugAbbrev.abbreviations.Goals as goal
 
 pub returns-in_err-skip-clause-answer : goal.returns-in_err-skip-clause-answer

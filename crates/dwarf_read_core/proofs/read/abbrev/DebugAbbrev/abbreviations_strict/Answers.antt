@@ -1,6 +1,6 @@
 use Rattle.std.proofs.Common.{Err}
 use Rattle.std.proofs.lemmas.Result.{err_from_is_err_and}
-use Rattle.dwarf_read_core.proofs.Strict.{err_strictly, strictly_stays}
+use Rattle.dwarf_read_core.proofs.tables.StrictAnswers.{err_strictly, strictly_stays}
 use Rattle.dwarf_read_core.proofs.read.abbrev.DebugAbbrev.abbreviations_strict.Goals as goal
 
 pub returns-in_err-abbreviations-clause-stable : goal.returns-in_err-abbreviations-clause-stable

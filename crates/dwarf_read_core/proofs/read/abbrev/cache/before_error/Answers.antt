@@ -1,5 +1,5 @@
 use Rattle.std.proofs.Common.{rules}
-use Rattle.dwarf_read_core.proofs.FirstItem.{first_item-of_want}
+use Rattle.dwarf_read_core.proofs.cache.FirstItem.{first_item-of_want}
 use Rattle.dwarf_read_core.proofs.read.abbrev.cache.before_error.Goals as goal
 
 pub returns-in-Err-OutOfMemory-clause-some : goal.returns-in-Err-OutOfMemory-clause-some

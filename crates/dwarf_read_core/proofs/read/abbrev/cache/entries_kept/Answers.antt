@@ -1,6 +1,6 @@
 use Rattle.std.proofs.Common.{rules, ◌≡◌, ◌≢◌, ◌+◌, ◌++◌, ◌∷◌, [], map, take, ap, sym, ◌∙◌, cond, eqb}
 use Rattle.dwarf_read_core.specs.Cache.{occurrences, least_count}
-use Rattle.dwarf_read_core.proofs.Kept.{occurrences-push, seen_more, kept_same, kept_more}
+use Rattle.dwarf_read_core.proofs.cache.CountingOffsets.{occurrences-push, seen_more, kept_same, kept_more}
 use Rattle.dwarf_read_core.proofs.read.abbrev.cache.entries_kept.Goals as goal
 use Rattle.dwarf_read_core.proofs.read.abbrev.cache.entries_kept.Goals.{then-count-least_count+in_ok-shared_answer+in_ok-keep, else-count-least_count}
 

@@ -1,6 +1,6 @@
 use Rattle.std.proofs.Common.{ap, inl, rules}
 use Rattle.dwarf_reader_core.specs.Input.{Input}
-use Rattle.dwarf_read_core.proofs.Entries.{address_fault, address_first}
+use Rattle.dwarf_read_core.proofs.sets.Entries.{address_fault, address_first}
 use Rattle.dwarf_read_core.proofs.read.addr.AddrEntryIter.next.Goals as goal
 
 pub returns-in-Ok-clause-first : goal.returns-in-Ok-clause-first

@@ -2,8 +2,8 @@ use Rattle.std.proofs.Common.{arith, Ok, Err, Global}
 use Rattle.std.proofs.lemmas.Grind.{common_steps}
 use Rattle.std.specs.FinMap as finite
 use Rattle.dwarf_read_core.specs.Sections.{debug_abbrev_reader}
-use Rattle.dwarf_read_core.proofs.FaithfulCache.{faithful_answer}
-use Rattle.dwarf_read_core.proofs.Shown.{shown_gets}
+use Rattle.dwarf_read_core.proofs.cache.FaithfulToSection.{faithful_answer}
+use Rattle.dwarf_read_core.proofs.cache.EntriesAsMap.{shown_gets}
 use Rattle.dwarf_read_core.proofs.read.abbrev.cache.AbbreviationsCache.get.Goals as goal
 
 pub returns-in_ok-clone-in-Some-Ok-clause-faithful : goal.returns-in_ok-clone-in-Some-Ok-clause-faithful

@@ -1,10 +1,10 @@
 use Rattle.std.proofs.Common.{map, ap, ◌∙◌}
 use Rattle.dwarf_read_core.specs.Cache.{least_count}
 use Rattle.dwarf_read_core.specs.Sections.{debug_abbrev_reader}
-use Rattle.dwarf_read_core.proofs.FaithfulCache.{faithful_of_kept}
-use Rattle.dwarf_read_core.proofs.FirstItem.{first_item-of_items}
-use Rattle.dwarf_read_core.proofs.NoWant.{no_want_answers}
-use Rattle.dwarf_read_core.proofs.Shown.{get-shown, shown}
+use Rattle.dwarf_read_core.proofs.cache.FaithfulToSection.{faithful_of_kept}
+use Rattle.dwarf_read_core.proofs.cache.FirstItem.{first_item-of_items}
+use Rattle.dwarf_read_core.proofs.cache.NoMemoryError.{no_want_answers}
+use Rattle.dwarf_read_core.proofs.cache.EntriesAsMap.{get-shown, shown}
 use Rattle.dwarf_read_core.proofs.read.abbrev.cache.AbbreviationsCache.populate.Goals as goal
 
 pub returns-clause-ok : goal.returns-clause-ok

@@ -2,9 +2,9 @@ use Rattle.std.proofs.Common.{ap, rules, ◌∙◌}
 use Rattle.std.specs.FinMap.{get}
 use Rattle.std.proofs.lemmas.Map.Made.{filter_same_pairs}
 use Rattle.dwarf_read_core.specs.Cache.{Cache, answer_of, is_final, still_kept}
-use Rattle.dwarf_read_core.proofs.FaithfulCache.{faithful_of_final}
-use Rattle.dwarf_read_core.proofs.NoWant.{no_want_final}
-use Rattle.dwarf_read_core.proofs.Shown.{shown, get-shown-final}
+use Rattle.dwarf_read_core.proofs.cache.FaithfulToSection.{faithful_of_final}
+use Rattle.dwarf_read_core.proofs.cache.NoMemoryError.{no_want_final}
+use Rattle.dwarf_read_core.proofs.cache.EntriesAsMap.{shown, get-shown-final}
 use Rattle.dwarf_read_core.proofs.read.abbrev.cache.AbbreviationsCache.section_grew.Goals as goal
 
 pub returns-clause-kept : goal.returns-clause-kept

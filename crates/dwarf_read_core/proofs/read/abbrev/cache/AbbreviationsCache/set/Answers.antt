@@ -1,7 +1,7 @@
 use Rattle.std.proofs.Common.{Ok, subst, sym}
 use Rattle.dwarf_read_core.specs.Cache.{KeepsNoWant}
-use Rattle.dwarf_read_core.proofs.NoWant.{no_want_insert}
-use Rattle.dwarf_read_core.proofs.Shown.{shown, shown-insert}
+use Rattle.dwarf_read_core.proofs.cache.NoMemoryError.{no_want_insert}
+use Rattle.dwarf_read_core.proofs.cache.EntriesAsMap.{shown, shown-insert}
 use Rattle.dwarf_read_core.proofs.read.abbrev.cache.AbbreviationsCache.set.Goals as goal
 
 pub invariant_of-self-2 : goal.invariant_of-self-2

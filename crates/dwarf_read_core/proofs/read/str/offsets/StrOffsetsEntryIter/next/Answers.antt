@@ -1,6 +1,6 @@
 use Rattle.std.proofs.Common.{ap, inl, rules}
 use Rattle.dwarf_reader_core.specs.Input.{Input}
-use Rattle.dwarf_read_core.proofs.Entries.{string_offset_fault, string_offset_first}
+use Rattle.dwarf_read_core.proofs.sets.Entries.{string_offset_fault, string_offset_first}
 use Rattle.dwarf_read_core.proofs.read.str.offsets.StrOffsetsEntryIter.next.Goals as goal
 
 pub returns-in-Ok-clause-first : goal.returns-in-Ok-clause-first

@@ -1,34 +1,44 @@
 use Rattle.std.proofs.Common.{rules, ◌≡◌, ◌==◌, false, true, inl, inr, ⊎_elim, refl, arith}
 use Rattle.dwarf_read_core.specs.Sets.{string_offsets_header}
-use Rattle.dwarf_read_core.proofs.Ranges.{handed_on}
-use Rattle.dwarf_read_core.proofs.Sets.{set_header_fails, set_least, set_length_fails, set_part_fails, set_reads, string_offsets_header-is}
+use Rattle.dwarf_read_core.proofs.ResultLemmas.{propagated-err}
+use Rattle.dwarf_read_core.proofs.sets.Sets.{set_header_fails, set_least, set_length_fails, set_part_fails, set_reads, string_offsets_header-is}
 use Rattle.dwarf_read_core.proofs.read.str.offsets.StrOffsetsHeader.parse.Goals as goal
 
 pub returns-in_err-length-clause-err : goal.returns-in_err-length-clause-err
 returns-in_err-length-clause-err g c =
-    handed_on _ _ c.from_residual.ensures.1
+    propagated-err _ _ c.from_residual.ensures.1
     (inl (set_length_fails string_offsets_header _ _ _ _ c.in_err-length.ensures.err))
 
 pub returns-in_err-unit-clause-err : goal.returns-in_err-unit-clause-err
 returns-in_err-unit-clause-err g c =
-    handed_on _ _ c.from_residual-in_err-unit.ensures.1 (⊎_elim (λ short. inl (set_part_fails string_offsets_header _ _ _ _ _ c.in_ok-length.ensures.ok c.in_ok-length.ensures.in_range _ short)) (λ want. inr want.0) c.in_err-unit.ensures.err)
+    propagated-err _ _ c.from_residual-in_err-unit.ensures.1
+    (⊎_elim (λ short. inl (set_part_fails string_offsets_header _ _ _ _ _ c.in_ok-length.ensures.ok c.in_ok-length.ensures.in_range _ short))
+    (λ want. inr want.0) c.in_err-unit.ensures.err)
 
 pub returns-in_err-version-clause-err : goal.returns-in_err-version-clause-err
 unfolding string_offsets_header
 returns-in_err-version-clause-err g c =
-    handed_on _ _ c.from_residual-in_err-version.ensures.1 (inl (set_header_fails string_offsets_header _ _ _ _ _ c.in_ok-length.ensures.ok c.in_ok-length.ensures.in_range c.in_ok-unit.ensures.part c.in_ok-unit.ensures.ok (inl (_, c.in_err-version.ensures.err))))
+    propagated-err _ _ c.from_residual-in_err-version.ensures.1
+    (inl (set_header_fails string_offsets_header _ _ _ _ _ c.in_ok-length.ensures.ok c.in_ok-length.ensures.in_range
+    c.in_ok-unit.ensures.part c.in_ok-unit.ensures.ok
+    (inl (_, c.in_err-version.ensures.err))))
 
 pub returns-then-version-ne-VERSION-clause-err : goal.returns-then-version-ne-VERSION-clause-err
 unfolding string_offsets_header
 returns-then-version-ne-VERSION-clause-err g c =
     let other : (c.in_ok-version.version == 5) ≡ false = search rules in
-    inl (rw c.from.ensures (set_header_fails string_offsets_header _ _ _ _ _ c.in_ok-length.ensures.ok c.in_ok-length.ensures.in_range c.in_ok-unit.ensures.part c.in_ok-unit.ensures.ok (inr (_, _, c.in_ok-version.ensures.ok, inl (rw other refl)))))
+    inl (rw c.from.ensures
+    (set_header_fails string_offsets_header _ _ _ _ _ c.in_ok-length.ensures.ok c.in_ok-length.ensures.in_range
+    c.in_ok-unit.ensures.part c.in_ok-unit.ensures.ok
+    (inr (_, _, c.in_ok-version.ensures.ok, inl (rw other refl)))))
 
 pub returns-in_err-_padding-clause-err : goal.returns-in_err-_padding-clause-err
 unfolding string_offsets_header
 returns-in_err-_padding-clause-err g c =
     let known : (c.in_ok-version.version == 5) ≡ true = search rules in
-    handed_on _ _ c.from_residual-in_err-_padding.ensures.1 (inl (set_header_fails string_offsets_header _ _ _ _ _ c.in_ok-length.ensures.ok c.in_ok-length.ensures.in_range c.in_ok-unit.ensures.part c.in_ok-unit.ensures.ok
+    propagated-err _ _ c.from_residual-in_err-_padding.ensures.1
+    (inl (set_header_fails string_offsets_header _ _ _ _ _ c.in_ok-length.ensures.ok c.in_ok-length.ensures.in_range
+    c.in_ok-unit.ensures.part c.in_ok-unit.ensures.ok
     (inr (
       _,
       _,
@@ -41,7 +51,8 @@ pub returns-clause-ok : goal.returns-clause-ok
 unfolding string_offsets_header
 returns-clause-ok g c =
     let known : (c.in_ok-version.version == 5) ≡ true = search rules in
-    set_reads string_offsets_header _ _ _ _ _ c.in_ok-length.ensures.ok c.in_ok-length.ensures.in_range c.in_ok-unit.ensures.part c.in_ok-unit.ensures.ok (
+    set_reads string_offsets_header _ _ _ _ _ c.in_ok-length.ensures.ok c.in_ok-length.ensures.in_range
+    c.in_ok-unit.ensures.part c.in_ok-unit.ensures.ok (
       _,
       _,
       c.in_ok-version.ensures.ok,

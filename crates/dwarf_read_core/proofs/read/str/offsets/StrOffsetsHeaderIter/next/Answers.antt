@@ -1,7 +1,7 @@
-use Rattle.std.proofs.Common.{rules, inl, inr, ap, ⊎_elim}
+use Rattle.std.proofs.Common.{rules, ap}
 use Rattle.dwarf_reader_core.specs.Input.{Input}
 use Rattle.dwarf_read_core.specs.Sets.{string_offsets_header}
-use Rattle.dwarf_read_core.proofs.Sets.{string_offsets_header-is, set_fault, set_fault_stays, set_first, set_stays, sets_none}
+use Rattle.dwarf_read_core.proofs.sets.Sets.{string_offsets_header-is, set_first, set_refused, set_refused_stays, set_stays}
 use Rattle.dwarf_read_core.proofs.read.str.offsets.StrOffsetsHeaderIter.next.Goals as goal
 
 pub returns-in-Ok-clause-first : goal.returns-in-Ok-clause-first
@@ -28,25 +28,14 @@ returns-in-Ok-clause-stable g c =
 
 pub returns-in-Err-clause-first : goal.returns-in-Err-clause-first
 returns-in-Err-clause-first g c =
-    let none = ap (λ (i : Input). i.bytes) c.empty.ensures in
     rw (← c.self.view_is)
-    (⊎_elim
-    (λ fault. inl (set_fault string_offsets_header-is _
-    (record {
-      offset = g.R.Offset.ReaderOffset.value c.self.inside.offset;
-      rest = g.R.Reader.view c.self.inside.input;
-    }) _ (search rules) fault none))
-    (λ want. inr (want, sets_none string_offsets_header _ _ none))
-    c.in-Err.ensures.err)
+    (set_refused string_offsets_header-is _
+    (record { offset = g.R.Offset.ReaderOffset.value c.self.inside.offset; rest = g.R.Reader.view c.self.inside.input })
+    _ _ (search rules) c.in-Err.ensures.err (ap (λ (i : Input). i.bytes) c.empty.ensures))
 
 pub returns-in-Err-clause-stable : goal.returns-in-Err-clause-stable
 returns-in-Err-clause-stable g c = λ settled more.
     rw (← c.self.view_is)
-    (⊎_elim
-    (λ fault. inl (set_fault_stays string_offsets_header _
-    (record {
-      offset = g.R.Offset.ReaderOffset.value c.self.inside.offset;
-      rest = g.R.Reader.view c.self.inside.input;
-    }) (search rules) fault settled more))
-    inr
-    c.in-Err.ensures.err)
+    (set_refused_stays string_offsets_header _
+    (record { offset = g.R.Offset.ReaderOffset.value c.self.inside.offset; rest = g.R.Reader.view c.self.inside.input })
+    _ (search rules) c.in-Err.ensures.err settled more)

@@ -1,0 +1,7 @@
+-- Proofs about the cache of tables.
+pub mod EntriesAsMap
+pub mod CountingOffsets
+pub mod ExactlyOneCache
+pub mod NoMemoryError
+pub mod FaithfulToSection
+pub mod FirstItem

@@ -1,0 +1,80 @@
+-- One more offset, and what a cache keeps of those so far.
+use Rattle.std.proofs.Common.{◌≡◌, ◌≢◌, ℕ, ◌+◌, ◌<◌, ◌≤◌, Bool, true, false, cond, eqb, List, [], ◌∷◌, ◌++◌, length, take, get_or, map, Option, Some, None, Result, MatchOption, refl, sym, ap, subst, ◌∙◌, arith}
+use Rattle.std.proofs.lemmas.Bool.{eqb-true, eqb-false, eq-eqb, ne_eqb}
+use Rattle.std.proofs.lemmas.List.{take_more, map_push}
+use Rattle.std.proofs.lemmas.List.Sums.{sum_by_push}
+use Rattle.dwarf_base_core.specs.declared.error.Error.{Error}
+use Rattle.dwarf_reader_core.specs.Input.{Input}
+use Rattle.dwarf_read_core.specs.Answer.{Answer}
+use Rattle.dwarf_read_core.specs.Cache.{KeepsAnswers, occurrences}
+use Rattle.dwarf_read_core.specs.Grammar.{Table}
+
+-- an offset occurs once more if it is the new one
+pub occurrences-push : (q key : ℕ) (seen : List ℕ)
+    → occurrences q (seen ++ key ∷ []) ≡ occurrences q seen + cond (eqb key q) 1 0
+occurrences-push q key seen = sum_by_push (λ o. cond (eqb o q) 1 0) seen key
+
+-- one more of the offsets
+pub seen_more : {O : Type 0} (number : O → ℕ) (offsets : List O) (i : ℕ) (offset : O) (key : ℕ)
+    → i < length offsets → get_or offsets i offset ≡ offset → key ≡ number offset
+    → map number (take (i + 1) offsets) ≡ map number (take i offsets) ++ key ∷ []
+seen_more number offsets i offset key within is named =
+    ap (map number) (take_more offsets i offset within)
+    ∙ map_push number (take i offsets) (get_or offsets i offset)
+    ∙ ap (λ (k : ℕ). map number (take i offsets) ++ k ∷ []) (ap number is ∙ sym named)
+
+abbrev Keeps : ℕ → Input → ℕ → ℕ → Option (Result Table Error) → Type 0
+Keeps least section key count kept =
+    MatchOption kept (count < least) (λ answer. (least ≤ count) × Answer section key answer)
+
+-- as often as before, or more often but not just often enough
+stays_kept : (least : ℕ) (section : Input) (key before now : ℕ) (kept : Option (Result Table Error)) → before ≤ now
+    → (before < least → now < least) → Keeps least section key before kept → Keeps least section key now kept
+stays_kept least section key before now None more short h = short h
+stays_kept least section key before now (Some answer) more short h = (omega (arith, h.0, more), h.1)
+
+-- the offset doesn't occur just often enough
+pub kept_same : (least : ℕ) (section : Input) (seen : List ℕ) (key : ℕ) (kept : ℕ → Option (Result Table Error))
+    → KeepsAnswers least section seen kept → occurrences key seen + 1 ≢ least
+    → KeepsAnswers least section (seen ++ key ∷ []) kept
+kept_same least section seen key kept h other q = go (eqb q key) refl
+  where
+    below : (n : ℕ) → n < least → n + 1 ≢ least → n + 1 < least
+    below n lt other = omega arith
+
+    go : (b : Bool) → eqb q key ≡ b → Keeps least section q (occurrences q (seen ++ key ∷ [])) (kept q)
+    go true e =
+        let same : key ≡ q = sym (eqb-true q key e) in
+        let count : occurrences q (seen ++ key ∷ []) ≡ occurrences q seen + 1 = occurrences-push q key seen
+        ∙ rw (eq-eqb key q same) refl in
+        let other' : occurrences q seen + 1 ≢ least = subst (λ (k : ℕ). occurrences k seen + 1 ≢ least) same other in
+        rw count (stays_kept least section q (occurrences q seen) (occurrences q seen + 1) (kept q) (omega arith)
+        (λ lt. below (occurrences q seen) lt other') (h q))
+    go false e =
+        let count : occurrences q (seen ++ key ∷ []) ≡ occurrences q seen + 0 = occurrences-push q key seen
+        ∙ rw (ne_eqb key q (λ same. eqb-false q key e (sym same))) refl in
+        rw count (stays_kept least section q (occurrences q seen) (occurrences q seen + 0) (kept q) (omega arith)
+        (λ lt. omega arith) (h q))
+
+-- it does, and its answer is kept
+pub kept_more : (least : ℕ) (section : Input) (seen : List ℕ) (key : ℕ) (answer : Result Table Error)
+    (kept new : ℕ → Option (Result Table Error)) → KeepsAnswers least section seen kept
+    → occurrences key seen + 1 ≡ least → Answer section key answer
+    → ((q : ℕ) → new q ≡ cond (eqb q key) (Some answer) (kept q))
+    → KeepsAnswers least section (seen ++ key ∷ []) new
+kept_more least section seen key answer kept new h enough is put q = go (eqb q key) refl
+  where
+    go : (b : Bool) → eqb q key ≡ b → Keeps least section q (occurrences q (seen ++ key ∷ [])) (new q)
+    go true e =
+        let same : key ≡ q = sym (eqb-true q key e) in
+        let count : occurrences q (seen ++ key ∷ []) ≡ occurrences q seen + 1 = occurrences-push q key seen
+        ∙ rw (eq-eqb key q same) refl in
+        let enough' : occurrences q seen + 1 ≡ least = subst (λ (k : ℕ). occurrences k seen + 1 ≡ least) same enough in
+        let found : new q ≡ Some answer = put q ∙ rw e refl in
+        rw (count, found) (omega (arith, enough'), subst (λ (k : ℕ). Answer section k answer) same is)
+    go false e =
+        let count : occurrences q (seen ++ key ∷ []) ≡ occurrences q seen + 0 = occurrences-push q key seen
+        ∙ rw (ne_eqb key q (λ same. eqb-false q key e (sym same))) refl in
+        let found : new q ≡ kept q = put q ∙ rw e refl in
+        rw (count, found) (stays_kept least section q (occurrences q seen) (occurrences q seen + 0) (kept q)
+        (omega arith) (λ lt. omega arith) (h q))

@@ -1,0 +1,74 @@
+-- A cache's entries against the finite map that they show.
+use Rattle.std.proofs.Common.{◌≡◌, ℕ, List, [], ◌∷◌, Bool, true, false, cond, Option, Some, None, Result, option_map, refl, sym, ap, ◌∙◌}
+use Rattle.std.specs.BTreeMap.{is_at}
+use Rattle.std.specs.Cmp.{nat_cmp_total, eq_by_cmp_equiv}
+use Rattle.std.specs.FinMap.{find, get, insert, from_entries, get-from_entries, get-insert, same_map, nat_cmp-IsAntisymmetric}
+use Rattle.std.specs.List.{filter}
+use Rattle.std.specs.List.Sorted.{IsStrictlySortedBy}
+use Rattle.std.specs.Map.{lookup, keys_of}
+use Rattle.std.specs.Ordering.{nat_cmp}
+use Rattle.std.specs.declared.rc.Rc.{Rc}
+use Rattle.std.proofs.lemmas.Map.Entries.{option_filter, lookup-filter-values}
+use Rattle.std.proofs.lemmas.Map.Keys.{IsDistinct-from_sorted}
+use Rattle.dwarf_base_core.specs.declared.error.Error.{Error}
+use Rattle.dwarf_read_core.specs.Grammar.{Table}
+use Rattle.dwarf_read_core.specs.Cache.{Cache, answer_of, shown_entries, is_final, still_kept}
+
+-- a choice between a value and an option may be made before or after a function is applied to both
+mapped_choice : {X Y : Type 0} (f : X → Y) (b : Bool) (x : X) (o : Option X)
+    → cond b (Some (f x)) (option_map f o) ≡ option_map f (cond b (Some x) o)
+mapped_choice f true x o = refl
+mapped_choice f false x o = refl
+
+-- a test of the answers chooses as it does of the shared tables
+mapped_filter : {X : Type 0} (f : X → Result Table Error) (o : Option X)
+    → option_map f (option_filter (λ x. is_final (f x)) o) ≡ still_kept (option_map f o)
+mapped_filter f None = refl
+mapped_filter f (Some x) =
+    elim (is_final (f x)) as (λ b. option_map f (cond b (Some x) None)
+    ≡ cond b (Some (f x)) None) [ true ↦ refl | false ↦ refl ]
+
+-- the entries of a cache, with their tables shared
+abbrev pub SharedEntries : Type 0 → Type 0
+SharedEntries Z = List (ℕ × Result (Rc Table Z) Error)
+
+module _ {Z : Type 0} where
+  abbrev pub shown : SharedEntries Z → Cache
+  shown entries = from_entries (shown_entries entries)
+
+  find-shown : (entries : SharedEntries Z) (key : ℕ)
+      → find nat_cmp key (shown_entries entries) ≡ option_map answer_of (lookup (is_at (nat_cmp key)) entries)
+  find-shown [] key = refl
+  find-shown (e ∷ es) key =
+      ap (cond (is_at (nat_cmp key) e.0) (Some (answer_of e.1))) (find-shown es key)
+      ∙ mapped_choice answer_of (is_at (nat_cmp key) e.0) e.1 _
+
+  -- what the map has at a key
+  pub get-shown : (entries : SharedEntries Z) (key : ℕ)
+      → get (shown entries) key ≡ option_map answer_of (lookup (is_at (nat_cmp key)) entries)
+  get-shown entries key = get-from_entries nat_cmp_total (shown_entries entries) key ∙ find-shown entries key
+
+  -- entries that differ at one key show maps that differ there
+  pub shown-insert : (es fs : SharedEntries Z) (key : ℕ) (v : Result (Rc Table Z) Error)
+      → ((q : ℕ) → lookup (is_at (nat_cmp q)) fs
+      ≡ cond (is_at (nat_cmp key) q) (Some v) (lookup (is_at (nat_cmp q)) es))
+      → shown fs ≡ insert (shown es) key (answer_of v)
+  shown-insert es fs key v h = same_map nat_cmp_total nat_cmp-IsAntisymmetric _ _ (λ q.
+      get-shown fs q ∙ ap (option_map answer_of) (h q) ∙ sym (mapped_choice answer_of (is_at (nat_cmp key) q) v _)
+      ∙ ap (λ b. cond b (Some (answer_of v)) (option_map answer_of (lookup (is_at (nat_cmp q)) es)))
+      ((eq_by_cmp_equiv nat_cmp_total).symm key q)
+      ∙ sym (get-insert nat_cmp_total (shown es) key (answer_of v) q
+      ∙ ap (cond (is_at (nat_cmp q) key) (Some (answer_of v))) (get-shown es q)))
+
+  -- entries of which those that are final were retained
+  pub get-shown-final : (es fs : SharedEntries Z) → fs ≡ filter (λ entry. is_final (answer_of entry.1)) es
+      → IsStrictlySortedBy nat_cmp (keys_of es) → (key : ℕ) → get (shown fs) key ≡ still_kept (get (shown es) key)
+  get-shown-final es fs retained sorted key =
+      ap (λ (entries : SharedEntries Z). get (shown entries) key) retained
+      ∙ get-shown (filter (λ entry. is_final (answer_of entry.1)) es) key
+      ∙ ap (option_map answer_of) (lookup-filter-values (eq_by_cmp_equiv nat_cmp_total)
+      (λ v. is_final (answer_of v)) key es (IsDistinct-from_sorted nat_cmp _ sorted))
+      ∙ mapped_filter answer_of _
+      ∙ ap still_kept (sym (get-shown es key))
+
+pub ruleset shown_gets = (get-shown)

@@ -1,0 +1,267 @@
+-- A number that is looked up is a layout, and has the laws of layouts; what a reader reads of it.
+use Rattle.std.proofs.Common.{◌≡◌, ℕ, ◌<◌, ◌≤◌, List, Bool, Result, Ok, Err, refl, sym, ap, subst, ◌∙◌, arith, ◌⊎◌, inl, inr}
+use Rattle.std.proofs.lemmas.Bool.{le-leb, lt-leb}
+use Rattle.std.specs.Prelude.{IsTrue, IfOk, IfErr, IsErrAnd}
+use Rattle.dwarf_base_core.specs.declared.error.Error.{Error}
+use Rattle.dwarf_base_core.specs.declared.error.Error.TheVariants.{UnsupportedOffset}
+use Rattle.dwarf_reader_core.specs.Faults.{EndsBefore, IsNoOffset, RefusesAddress, is_number_size}
+use Rattle.dwarf_reader_core.specs.Input.{Input, after, first, Takes, TakesNumber}
+use Rattle.dwarf_reader_core.specs.Once.{HasOne}
+use Rattle.dwarf_read_core.specs.Appended.{followed_by, IsNoEof}
+use Rattle.dwarf_read_core.specs.Entries.{string_offset}
+use Rattle.dwarf_read_core.specs.Layout.{value, refused}
+use Rattle.dwarf_read_core.specs.Lookups.{AnswersBy, StaysBy}
+use Rattle.dwarf_read_core.specs.Words.{Slot, distance, place, IsPlaced, Misplaced, to_slot, word, address, WordAt, AddressAt}
+use Rattle.dwarf_read_core.proofs.Layouts.{IsDefinite, IsStable, at_one, at_more, sized_definite, sized_stable, fixed_size, part_size, check_definite, check_stable, then_definite, then_stable, after-after, rest-length}
+use Rattle.dwarf_read_core.proofs.lookups.Returned.{answer-stays, propagated-answer}
+use Rattle.dwarf_read_core.proofs.sets.Entries.{string_offset-definite, string_offset-stable}
+
+-- ---- going to the place
+
+-- a base past the end is the first error
+pub no_base : (greatest : ℕ) (section : Input) (s : Slot) (e : Error) (new : Input)
+    → EndsBefore s.base section e new → Misplaced greatest section s e
+unfolding to_slot
+no_base greatest section s e new short = inl (new, short)
+
+-- then a distance that is no offset
+pub too_far_off : (greatest : ℕ) (section : Input) (s : Slot) (rest : Input) → Takes s.base section rest
+    → greatest < distance s → Misplaced greatest section s UnsupportedOffset
+unfolding to_slot
+too_far_off greatest section s rest takes over =
+    inr (first s.base section, rest, (refl, takes), inl (rw (lt-leb (distance s) greatest over) refl))
+
+-- then a place past the end
+pub past_end : (greatest : ℕ) (section : Input) (s : Slot) (rest : Input) (e : Error) (new : Input)
+    → Takes s.base section rest → distance s ≤ greatest → EndsBefore (distance s) rest e new
+    → Misplaced greatest section s e
+unfolding to_slot
+past_end greatest section s rest e new takes counted short =
+    inr (
+      first s.base section,
+      rest,
+      (refl, takes),
+      inr
+          (tt, rest, rw (le-leb (distance s) greatest counted) (refl, refl), (new, short)),
+    )
+
+-- the same, if the distance was counted by the code
+pub past_end_found : {A : Type 0} (greatest : ℕ) (section : Input) (s : Slot) (rest new : Input) (far : ℕ)
+    (r : Result A Error) → Takes s.base section rest → far ≡ distance s → far ≤ greatest
+    → IfErr r (λ e. EndsBefore far rest e new) → IfErr r (Misplaced greatest section s)
+past_end_found greatest section s rest new far (Ok x) takes is counted h = tt
+past_end_found greatest section s rest new far (Err e) takes is counted h =
+    past_end greatest section s rest e new takes (subst (λ (n : ℕ). n ≤ greatest) is counted)
+    (subst (λ (n : ℕ). EndsBefore n rest e new) is h)
+
+-- if both steps go, the place lies in the section
+pub placed : (greatest : ℕ) (section : Input) (s : Slot) (rest new : Input) → Takes s.base section rest
+    → distance s ≤ greatest → Takes (distance s) rest new → IsPlaced greatest section s
+placed greatest section s rest new takes counted further = record {
+  based = takes.enough;
+  counted = counted;
+  within = omega (arith, takes.enough, further.enough, rest-length s.base section rest takes);
+}
+
+-- and its bytes are consumed in all
+pub skipped : (section : Input) (s : Slot) (rest new : Input) → Takes s.base section rest
+    → Takes (distance s) rest new → Takes (place s) section new
+skipped section s rest new takes further = record {
+  enough = omega (arith, takes.enough, further.enough, rest-length s.base section rest takes);
+  left = further.left ∙ ap (after (distance s)) takes.left ∙ after-after (distance s) s.base section;
+}
+
+-- the bytes before a place in the section are those in front of the slot
+slot_reached : (greatest : ℕ) (section : Input) (s : Slot) (rest : Input) → IsPlaced greatest section s
+    → Takes (place s) section rest → (to_slot greatest s).Reads section
+    (first (distance s) (after s.base section)) rest
+unfolding to_slot
+slot_reached greatest section s rest is_placed takes =
+    let based : Takes s.base section (after s.base section) = record { enough = is_placed.based; left = refl } in
+    let further : Takes (distance s) (after s.base section) rest = record {
+      enough = omega
+          (arith, is_placed.within, rest-length s.base section (after s.base section) based);
+      left =
+          takes.left ∙ sym (after-after (distance s) s.base section);
+    } in (
+      first s.base section,
+      after s.base section,
+      (refl, based),
+      (
+        tt,
+        after s.base section,
+        rw (le-leb (distance s) greatest is_placed.counted) (refl, refl),
+        (refl, further),
+      ),
+    )
+
+-- ---- the number there
+
+-- an offset that is read at the place is the word
+pub word_taken : (greatest : ℕ) (section : Input) (s : Slot) (rest : Input) (x : ℕ) (new : Input)
+    → IsPlaced greatest section s → Takes (place s) section rest → TakesNumber s.width rest x new → x ≤ greatest
+    → WordAt greatest section s (Ok x)
+unfolding word string_offset
+word_taken greatest section s rest x new is_placed takes number fits =
+    value new (
+      _,
+      rest,
+      slot_reached greatest section s rest is_placed takes,
+      (x, new, number, (tt, new, rw (le-leb x greatest fits) (refl, refl), (refl, refl))),
+    )
+
+-- one that isn't there, or is no offset, is the error
+pub word_refused : (greatest : ℕ) (section : Input) (s : Slot) (rest : Input) (e : Error) (new : Input)
+    → IsPlaced greatest section s → Takes (place s) section rest
+    → (EndsBefore s.width rest e new ⊎ IsNoOffset greatest s.width rest e new) → WordAt greatest section s (Err e)
+unfolding word string_offset
+word_refused greatest section s rest e new is_placed takes (inl short) =
+    refused (inr (_, rest, slot_reached greatest section s rest is_placed takes, inl (new, short)))
+word_refused greatest section s rest e new is_placed takes (inr unfit) =
+    refused (inr (
+      _,
+      rest,
+      slot_reached greatest section s rest is_placed takes,
+      inr
+          (unfit.number, new, unfit.taken, inl (rw (lt-leb unfit.number greatest unfit.over) unfit.fault)),
+    ))
+
+-- so is a place that isn't there
+pub word_misplaced : (greatest : ℕ) (section : Input) (s : Slot) (e : Error) → Misplaced greatest section s e
+    → WordAt greatest section s (Err e)
+unfolding word
+word_misplaced greatest section s e misplaced = refused (inl misplaced)
+
+-- a number that is read at the place is the address
+pub address_taken : (greatest : ℕ) (section : Input) (s : Slot) (rest : Input) (x : ℕ) (new : Input)
+    → IsPlaced greatest section s → Takes (place s) section rest → TakesNumber s.width rest x new
+    → IsTrue (is_number_size s.width) → AddressAt greatest section s (Ok x)
+unfolding address
+address_taken greatest section s rest x new is_placed takes number size =
+    value new (
+      _,
+      rest,
+      slot_reached greatest section s rest is_placed takes,
+      (tt, rest, rw size (refl, refl), number),
+    )
+
+-- a width that is no size, or bytes that aren't there, are the error
+pub address_refused : (greatest : ℕ) (section : Input) (s : Slot) (rest : Input) (e : Error) (new : Input)
+    → IsPlaced greatest section s → Takes (place s) section rest → RefusesAddress s.width rest e new
+    → AddressAt greatest section s (Err e)
+unfolding address
+address_refused greatest section s rest e new is_placed takes (inl other) =
+    refused (inr (_, rest, slot_reached greatest section s rest is_placed takes, inl (rw other.none other.fault)))
+address_refused greatest section s rest e new is_placed takes (inr (size, short)) =
+    refused (inr (
+      _,
+      rest,
+      slot_reached greatest section s rest is_placed takes,
+      inr
+          (tt, rest, rw size (refl, refl), (new, short)),
+    ))
+
+-- so is a place that isn't there
+pub address_misplaced : (greatest : ℕ) (section : Input) (s : Slot) (e : Error) → Misplaced greatest section s e
+    → AddressAt greatest section s (Err e)
+unfolding address
+address_misplaced greatest section s e misplaced = refused (inl misplaced)
+
+-- what a reader returns that reads an address at the place is the section's answer there
+pub address-read : (greatest : ℕ) (section : Input) (s : Slot) (rest new : Input) (clone_is_free : Bool)
+    (r : Result ℕ Error) → IsPlaced greatest section s → Takes (place s) section rest
+    → IfOk r (λ x. TakesNumber s.width rest x new × IsTrue (is_number_size s.width))
+    → IfErr r (λ e. RefusesAddress s.width rest e new)
+    → AnswersBy (AddressAt greatest section s) (λ x. x) clone_is_free r
+address-read greatest section s rest new clone_is_free (Ok x) is_placed takes (number, size) h =
+    address_taken greatest section s rest x new is_placed takes number size
+address-read greatest section s rest new clone_is_free (Err e) is_placed takes read h =
+    inl (address_refused greatest section s rest e new is_placed takes h)
+
+-- ---- one answer
+
+-- the bytes in front of a slot have exactly one outcome
+slot-definite : (greatest : ℕ) (s : Slot) → IsDefinite (to_slot greatest s)
+unfolding to_slot
+slot-definite greatest s =
+    then_definite (sized_definite (part_size s.base))
+    (λ based. then_definite (check_definite _ _) (λ counted. sized_definite (part_size (distance s))))
+
+-- a slot has exactly one word, or one error
+pub one_word : (greatest : ℕ) (section : Input) (s : Slot) → HasOne (WordAt greatest section s)
+unfolding word
+one_word greatest section s =
+    at_one section (then_definite (slot-definite greatest s) (λ reached. string_offset-definite greatest s.width))
+
+-- a slot has exactly one address, or one error
+pub one_address : (greatest : ℕ) (section : Input) (s : Slot) → HasOne (AddressAt greatest section s)
+unfolding address
+one_address greatest section s =
+    at_one section (then_definite (slot-definite greatest s)
+    (λ reached. then_definite (check_definite _ _) (λ sized. sized_definite (fixed_size s.width))))
+
+-- ---- more bytes
+
+-- more bytes don't change what is in front of a slot
+slot-stable : (greatest : ℕ) (s : Slot) → IsStable (to_slot greatest s)
+unfolding to_slot
+slot-stable greatest s =
+    then_stable (sized_stable (part_size s.base))
+    (λ based. then_stable (check_stable _ _) (λ counted. sized_stable (part_size (distance s))))
+
+-- more bytes change no word, and no error but that bytes are missing
+pub word_more : (greatest : ℕ) (section : Input) (s : Slot) (answer : Result ℕ Error) (more : List ℕ)
+    → WordAt greatest section s answer → IfErr answer IsNoEof → WordAt greatest (followed_by section more) s answer
+unfolding word
+word_more greatest section s answer more is settled =
+    at_more (then_stable (slot-stable greatest s)
+    (λ reached. string_offset-stable greatest s.width)) more is settled
+
+-- nor an address
+pub address_more : (greatest : ℕ) (section : Input) (s : Slot) (answer : Result ℕ Error) (more : List ℕ)
+    → AddressAt greatest section s answer → IfErr answer IsNoEof
+    → AddressAt greatest (followed_by section more) s answer
+unfolding address
+address_more greatest section s answer more is settled =
+    at_more (then_stable (slot-stable greatest s)
+    (λ reached. then_stable (check_stable _ _) (λ sized. sized_stable (fixed_size s.width)))) more is settled
+
+-- ---- what a lookup returns
+
+-- the word that a lookup returned stays
+pub word-stays : {X : Type 0} (greatest : ℕ) (section : Input) (s : Slot) (view : X → ℕ) (clone_is_free : Bool)
+    (r : Result X Error) → AnswersBy (WordAt greatest section s) view clone_is_free r
+    → StaysBy (λ input. WordAt greatest input s) view clone_is_free section r
+word-stays greatest section s view clone_is_free r =
+    answer-stays (λ input. WordAt greatest input s) view clone_is_free section r (word_more greatest section s)
+
+-- the error that a lookup of a word propagates is its answer
+pub word-propagated : {X : Type 0} (greatest : ℕ) (section : Input) (s : Slot) (view : X → ℕ) (clone_is_free : Bool)
+    {e : Error} (r : Result X Error) → IsErrAnd r (λ x. x ≡ e) → WordAt greatest section s (Err e)
+    → AnswersBy (WordAt greatest section s) view clone_is_free r
+word-propagated greatest section s view clone_is_free r h is =
+    propagated-answer (WordAt greatest section s) view clone_is_free r h (inl is)
+
+-- the address that a lookup returned stays
+pub address-stays : (greatest : ℕ) (section : Input) (s : Slot) (clone_is_free : Bool) (r : Result ℕ Error)
+    → AnswersBy (AddressAt greatest section s) (λ x. x) clone_is_free r
+    → StaysBy (λ input. AddressAt greatest input s) (λ x. x) clone_is_free section r
+address-stays greatest section s clone_is_free r =
+    answer-stays (λ input. AddressAt greatest input s) (λ x. x) clone_is_free section r
+    (address_more greatest section s)
+
+-- the error that a lookup of an address propagates is its answer
+pub address-propagated : (greatest : ℕ) (section : Input) (s : Slot) (clone_is_free : Bool) {e : Error}
+    (r : Result ℕ Error) → IsErrAnd r (λ x. x ≡ e) → AddressAt greatest section s (Err e)
+    → AnswersBy (AddressAt greatest section s) (λ x. x) clone_is_free r
+address-propagated greatest section s clone_is_free r h is =
+    propagated-answer (AddressAt greatest section s) (λ x. x) clone_is_free r h (inl is)
+
+-- the ways to the place of a slot, and how they fail
+pub ruleset slot_steps = (no_base, too_far_off, past_end, skipped, placed)
+
+-- a word at a slot, or its error
+pub ruleset word_steps = (word_taken, word_refused, word_misplaced)
+
+-- an address at a slot, or its error
+pub ruleset address_steps = (address_taken, address_refused, address_misplaced)

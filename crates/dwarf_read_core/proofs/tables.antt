@@ -1,0 +1,14 @@
+-- Proofs about abbreviation tables.
+pub mod ReadingNumbers
+pub mod ReadingSpecifications
+pub mod ReadingAttributes
+pub mod ReadingIsSound
+pub mod ReadingIsComplete
+pub mod DeclarationSteps
+pub mod ExactlyOneAnswer
+pub mod AppendedBytes
+pub mod StrictAnswers
+pub mod TableBounds
+pub mod VectorAndMap
+pub mod EqualDeclarations
+pub mod Sequences

@@ -1,0 +1,55 @@
+-- A declaration read part by part: what each part's outcome makes of the whole.
+use Rattle.std.proofs.Common.{◌≡◌, ◌≢◌, ℕ, List, [], length, Option, Some, None, Result, Ok, Err, refl, ap, ◌∙◌, sym}
+use Rattle.std.proofs.lemmas.Bool.{ne_eqb}
+use Rattle.std.proofs.lemmas.List.{nil_from_length}
+use Rattle.dwarf_base_core.specs.declared.error.Error.{Error}
+use Rattle.dwarf_reader_core.specs.Leb128.{unsigned64}
+use Rattle.dwarf_read_core.specs.Grammar.{Declaration}
+use Rattle.dwarf_read_core.specs.Reading.{◌>>=◌, number_at, declared_at, declaration_at}
+use Rattle.dwarf_read_core.proofs.ResultLemmas.{bind_ok}
+
+abbrev ReadEntry : Type 0
+ReadEntry = Result (Option Declaration × List ℕ) Error
+
+-- the code can't be read
+pub code_fails : (end : ℕ) (bytes : List ℕ) (e : Error) → bytes ≢ [] → number_at unsigned64 end bytes ≡ Err e
+    → declaration_at end bytes ≡ Err e
+unfolding declaration_at
+code_fails end bytes e some q = rw (ne_eqb (length bytes) 0 (λ h. some (nil_from_length bytes h)), q) refl
+
+-- the code is not 0, so that a declaration is there
+pub record IsCoded (end : ℕ) (bytes : List ℕ) (code : ℕ) (after : List ℕ) : Type 0 where
+  pub read : declaration_at end bytes ≡ (declared_at end code after >>= λ d. Ok (Some d.0, d.1))
+
+-- bytes whose code is read and isn't 0 are read as what is behind that code
+pub declaration-coded : (end : ℕ) (bytes : List ℕ) (code : ℕ) (after : List ℕ) → bytes ≢ []
+    → number_at unsigned64 end bytes ≡ Ok (code, after) → code ≢ 0 → IsCoded end bytes code after
+unfolding declaration_at
+declaration-coded end bytes code after some q nonzero =
+    record {
+      read = rw (
+        ne_eqb (length bytes) 0
+            (λ h. some (nil_from_length bytes h)),
+        q,
+        ne_eqb code 0 nonzero,
+      ) refl;
+    }
+
+-- so a declaration is read, or an error
+pub declaration-some : {end : ℕ} {bytes : List ℕ} {code : ℕ} {after : List ℕ} → IsCoded end bytes code after
+    → (rest : List ℕ) → declaration_at end bytes ≢ Ok (None, rest)
+declaration-some {end} {bytes} {code} {after} h rest e =
+    let b = bind_ok (declared_at end code after) (λ d. Ok (Some d.0, d.1)) (None, rest) (sym h.read ∙ e) in
+    ok_some b.0.0 b.0.1 rest b.2
+  where
+    ok_some : (d : Declaration) (x y : List ℕ) → let one : ReadEntry = Ok (Some d, x) in
+        let two : ReadEntry = Ok (None, y) in one ≢ two
+    ok_some d x y q =
+        let p : ◌≡◌ {A = Option Declaration × List ℕ} (Some d, x) (None, y) = cc in
+        let none : ◌≡◌ {A = Option Declaration} (Some d) None = ap (λ (z : Option Declaration × List ℕ). z.0) p in
+        cc
+
+-- what is behind the code can't be read
+pub declared_fails : {end : ℕ} {bytes : List ℕ} {code : ℕ} {after : List ℕ} {e : Error}
+    → IsCoded end bytes code after → declared_at end code after ≡ Err e → declaration_at end bytes ≡ Err e
+declared_fails h q = h.read ∙ rw q refl

@@ -1,0 +1,179 @@
+-- What the grammar has at the front is read, and so is each error.
+use Rattle.std.proofs.Common.{◌≡◌, ◌≢◌, ℕ, ◌<◌, Bool, true, false, eqb, List, [], ◌∷◌, ◌++◌, length, Option, Some, None, Result, Ok, Err, refl, sym, ap, ◌∙◌, append_assoc, arith}
+use Rattle.std.proofs.lemmas.Bool.{ne_eqb}
+use Rattle.std.proofs.lemmas.List.{length-append, append-nil, nil_from_length}
+use Rattle.dwarf_base_core.specs.declared.error.Error.{Error}
+use Rattle.dwarf_base_core.specs.declared.error.Error.TheVariants.{AttributeNameZero, AttributeFormZero}
+use Rattle.dwarf_reader_core.specs.Leb128.{Kind, unsigned64, unsigned16, signed64, refusal, IsNumber}
+use Rattle.dwarf_reader_core.specs.Faults.{eof}
+use Rattle.dwarf_read_core.specs.Grammar.{Declaration, implicit_const, children_byte, IsCode, IsHead, IsFront, IsDeclaration}
+use Rattle.dwarf_read_core.specs.Answer.{IsBeginning, before_code, before_tag, before_name, before_form, before_value, IsFaulty, number_cut, number_bad, children_cut, tag_zero, children_bad, name_zero, form_zero}
+use Rattle.dwarf_read_core.specs.Reading.{◌>>=◌, number_at, value_at, specification_at, attributes_in, with_front, tag_at, children_at, declaration_of, declared_at, declaration_at}
+use Rattle.dwarf_read_core.proofs.tables.ReadingNumbers.{encoding-nonempty, number_at-string, number_at-cut, number_at-bad}
+use Rattle.dwarf_read_core.proofs.tables.ReadingAttributes.{AttributesRead, attributes_fail, attributes_again, attributes_end}
+
+abbrev EntryRead : Type 0
+EntryRead = Result (Option Declaration × List ℕ) Error
+
+abbrev found : Result (Declaration × List ℕ) Error → EntryRead
+found read = read >>= λ d. Ok (Some d.0, d.1)
+
+abbrev after_tag : ℕ → ℕ → ℕ → List ℕ → EntryRead
+after_tag end code tag bytes =
+    found (children_at end bytes >>= λ children. attributes_in end children.1 >>= λ attributes. Ok
+    (declaration_of code tag children.0 attributes.0, attributes.1))
+
+abbrev after_attributes : ℕ → ℕ → Bool → AttributesRead → EntryRead
+after_attributes code tag children read =
+    found (read >>= λ attributes. Ok (declaration_of code tag children attributes.0, attributes.1))
+
+-- a number above 0 isn't equal to 0 when it is tested
+nonzero : (n : ℕ) → 0 < n → eqb n 0 ≡ false
+nonzero n lt = ne_eqb n 0 (λ e. omega arith)
+
+-- ---- field by field
+
+-- a declaration that begins with a code above 0 is read as that code and what is declared behind it
+code_again : (end : ℕ) (front rest : List ℕ) (code : ℕ) → IsCode front code
+    → declaration_at end (front ++ rest) ≡ found (declared_at end code rest)
+unfolding declaration_at
+code_again end front rest code is =
+    let some : eqb (length (front ++ rest)) 0
+    ≡ false = nonzero (length (front ++ rest))
+    (omega (arith, length-append front rest, encoding-nonempty front is.is_code.encoding)) in
+    rw (some, number_at-string unsigned64 end front rest code is.is_code, nonzero code is.nonzero) refl
+
+-- a tag above 0 at the front is read as that tag, and the rest remains
+tag_again : (end : ℕ) (front rest : List ℕ) (tag : ℕ) → IsNumber unsigned16 front tag → 0 < tag
+    → tag_at end (front ++ rest) ≡ Ok (tag, rest)
+unfolding tag_at
+tag_again end front rest tag is lt = rw (number_at-string unsigned16 end front rest tag is, nonzero tag lt) refl
+
+-- a declaration that begins with a code and a tag is read as these two and what is behind the tag
+head_again : (end : ℕ) (front rest : List ℕ) (code tag : ℕ) → IsHead front code tag
+    → declaration_at end (front ++ rest) ≡ after_tag end code tag rest
+unfolding declared_at
+head_again end front rest code tag is =
+    let same : front ++ rest ≡ is.first ++ (is.second ++ rest) = ap (λ (b : List ℕ). b ++ rest) is.parts
+    ∙ append_assoc is.first is.second rest in
+    ap (declaration_at end) same ∙ code_again end is.first (is.second ++ rest) code is.is_code
+    ∙ rw (tag_again end is.second rest tag is.is_tag is.tagged) refl
+
+-- the byte that says whether there are children is read as what it says, and the rest remains
+children_again : (end : ℕ) (children : Bool) (rest : List ℕ)
+    → children_at end (children_byte children ∷ rest) ≡ Ok (children, rest)
+unfolding children_at
+children_again end true rest = refl
+children_again end false rest = refl
+
+-- a declaration that begins with a front is read as that front and the attributes that are behind it
+front_again : (end : ℕ) (front rest : List ℕ) (d : Declaration) → IsFront front d
+    → declaration_at end (front ++ rest)
+    ≡ after_attributes d.code d.tag d.children (with_front d.attributes (attributes_in end rest))
+front_again end front rest d is =
+    let same : front ++ rest ≡ is.head ++ (children_byte d.children ∷ (is.specifications ++ rest)) = ap
+    (λ (b : List ℕ). b ++ rest) is.parts
+    ∙ append_assoc is.head (children_byte d.children ∷ is.specifications) rest in
+    ap (declaration_at end) same
+    ∙ head_again end is.head (children_byte d.children ∷ (is.specifications ++ rest)) d.code d.tag is.is_head
+    ∙ rw (
+      children_again end d.children (is.specifications
+          ++ rest),
+      attributes_again end is.specifications rest d.attributes is.are_attributes,
+    ) refl
+
+-- a whole declaration
+pub declaration_again : (end : ℕ) (bytes rest : List ℕ) (d : Declaration) → IsDeclaration bytes d
+    → declaration_at end (bytes ++ rest) ≡ Ok (Some d, rest)
+declaration_again end bytes rest d is =
+    let same : bytes ++ rest ≡ is.front ++ (is.null ++ rest) = ap (λ (b : List ℕ). b ++ rest) is.parts
+    ∙ append_assoc is.front is.null rest in
+    ap (declaration_at end) same
+    ∙ front_again end is.front (is.null ++ rest) d is.is_front
+    ∙ rw (attributes_end end is.null rest is.is_null, append-nil d.attributes) refl
+
+-- a code of value 0 at the front is read as no declaration, and the rest remains
+pub zero_again : (end : ℕ) (bytes rest : List ℕ) → IsNumber unsigned64 bytes 0
+    → declaration_at end (bytes ++ rest) ≡ Ok (None, rest)
+unfolding declaration_at
+zero_again end bytes rest is =
+    let some : eqb (length (bytes ++ rest)) 0
+    ≡ false = nonzero (length (bytes ++ rest))
+    (omega (arith, length-append bytes rest, encoding-nonempty bytes is.encoding)) in
+    rw (some, number_at-string unsigned64 end bytes rest 0 is) refl
+
+-- the end of the bytes is read as no declaration, and nothing remains
+pub end_again : (end : ℕ) → declaration_at end [] ≡ Ok (None, [])
+unfolding declaration_at
+end_again end = refl
+
+-- ---- errors
+
+-- a specification that is refused behind a front
+front_fails : (end : ℕ) (front bytes : List ℕ) (d : Declaration) (e : Error) → IsFront front d
+    → specification_at end bytes ≡ Err e → declaration_at end (front ++ bytes) ≡ Err e
+front_fails end front bytes d e is q = front_again end front bytes d is ∙ rw (attributes_fail end bytes e q) refl
+
+-- a specification whose form is refused behind a name is refused with the same error
+form_fails : (end : ℕ) (name bytes : List ℕ) (n : ℕ) (e : Error) → IsNumber unsigned16 name n
+    → number_at unsigned16 end bytes ≡ Err e → specification_at end (name ++ bytes) ≡ Err e
+unfolding specification_at
+form_fails end name bytes n e is q = rw (number_at-string unsigned16 end name bytes n is, q) refl
+
+-- a specification whose value is refused, behind a name and the form that has one, is refused with that error
+value_fails : (end : ℕ) (name form bytes : List ℕ) (n : ℕ) (e : Error) → IsNumber unsigned16 name n → 0 < n
+    → IsNumber unsigned16 form implicit_const → number_at signed64 end bytes ≡ Err e
+    → specification_at end (name ++ (form ++ bytes)) ≡ Err e
+unfolding specification_at value_at
+value_fails end name form bytes n e is_name named is_form q =
+    rw (number_at-string unsigned16 end name (form ++ bytes) n is_name, number_at-string unsigned16 end form bytes implicit_const is_form, nonzero n named, q) refl
+
+-- a number that is refused behind a beginning
+stops : {k : Kind} {front : List ℕ} (end : ℕ) (bytes : List ℕ) (e : Error) → IsBeginning front k
+    → front ++ bytes ≢ [] → number_at k end bytes ≡ Err e → declaration_at end (front ++ bytes) ≡ Err e
+unfolding declaration_at declared_at tag_at specification_at
+stops end bytes e before_code some q =
+    let n : eqb (length bytes) 0 ≡ false = ne_eqb (length bytes) 0 (λ h. some (nil_from_length bytes h)) in
+    rw (n, q) refl
+stops end bytes e (before_tag front code is) some q = code_again end front bytes code is ∙ rw q refl
+stops end bytes e (before_name front d is) some q = front_fails end front bytes d e is (rw q refl)
+stops end bytes e (before_form front name d n is is_name) some q =
+    ap (declaration_at end) (append_assoc front name bytes)
+    ∙ front_fails end front (name ++ bytes) d e is (form_fails end name bytes n e is_name q)
+stops end bytes e (before_value front name form d n is is_name named is_form) some q =
+    let same : front ++ name ++ form ++ bytes ≡ front ++ (name ++ (form ++ bytes)) = simp append_assoc in
+    ap (declaration_at end) same ∙ front_fails end front (name ++ (form ++ bytes)) d e is
+    (value_fails end name form bytes n e is_name named is_form q)
+
+-- bytes that begin as a declaration and do not go on as one are read as their error, unless there are none
+pub fault_again : {bytes : List ℕ} {e : Error} (end : ℕ) → IsFaulty end bytes e → bytes ≢ []
+    → declaration_at end bytes ≡ Err e
+unfolding tag_at children_at declared_at specification_at
+fault_again end (number_cut front bytes k b c) some = stops end bytes (eof end) b some (number_at-cut k end bytes c)
+fault_again end (number_bad front bytes k b c) some = stops end bytes (refusal k) b some (number_at-bad k end bytes c)
+fault_again end (children_cut front code tag is) some =
+    ap (declaration_at end) (sym (append-nil front)) ∙ head_again end front [] code tag is
+fault_again end (tag_zero front tag rest code is zero_tag) some =
+    ap (declaration_at end) (append_assoc front tag rest) ∙ code_again end front (tag ++ rest) code is
+    ∙ rw (number_at-string unsigned16 end tag rest 0 zero_tag) refl
+fault_again end (children_bad front rest code tag byte is lt) some =
+    head_again end front (byte ∷ rest) code tag is
+    ∙ rw (nonzero byte (omega arith), ne_eqb byte 1 (λ e. omega arith)) refl
+fault_again end (name_zero front name form rest d f is is_name is_form formed) some =
+    let same : front ++ name ++ form ++ rest ≡ front ++ (name ++ (form ++ rest)) = simp append_assoc in
+    ap (declaration_at end) same ∙ front_fails end front (name ++ (form ++ rest)) d AttributeNameZero is
+    (rw (
+      number_at-string unsigned16 end name
+          (form ++ rest) 0 is_name,
+      number_at-string unsigned16 end form rest f is_form,
+      nonzero f formed,
+    ) refl)
+fault_again end (form_zero front name form rest d n is is_name named is_form) some =
+    let same : front ++ name ++ form ++ rest ≡ front ++ (name ++ (form ++ rest)) = simp append_assoc in
+    ap (declaration_at end) same ∙ front_fails end front (name ++ (form ++ rest)) d AttributeFormZero is
+    (rw (
+      number_at-string unsigned16 end name
+          (form ++ rest) n is_name,
+      number_at-string unsigned16 end form rest 0 is_form,
+      nonzero n named,
+    ) refl)

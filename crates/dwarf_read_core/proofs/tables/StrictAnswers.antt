@@ -1,0 +1,69 @@
+-- The strict answer follows from the answer.
+use Rattle.std.proofs.Common.{◌≡◌, ℕ, cond, List, Result, Ok, Err, refl, sym, ap, subst, ◌∙◌}
+use Rattle.dwarf_base_core.specs.declared.error.Error.{Error}
+use Rattle.dwarf_base_core.specs.declared.error.Error.TheVariants.{UnterminatedAbbreviations}
+use Rattle.dwarf_base_core.specs.declared.reader_offset.ReaderOffsetId.{ReaderOffsetId}
+use Rattle.dwarf_reader_core.specs.Input.{Input, end_of}
+use Rattle.dwarf_reader_core.specs.Once.{HasOne}
+use Rattle.dwarf_read_core.specs.Grammar.{Table, Close, by_null, by_end, is_by_null}
+use Rattle.dwarf_read_core.specs.Appended.{followed_by}
+use Rattle.dwarf_read_core.specs.Answer.{Answer, Answers, unterminated, strictly, StrictAnswer, AnswersStrictly, IsStrictlyFinal}
+use Rattle.dwarf_read_core.proofs.tables.AppendedBytes.{answer_more}
+use Rattle.dwarf_read_core.proofs.tables.ExactlyOneAnswer.{one_answer}
+
+-- every section has exactly one strict answer at every offset
+pub one_strict_answer : (section : Input) (offset : ℕ) → HasOne (StrictAnswer section offset)
+one_strict_answer section offset =
+    let one = one_answer section offset in
+    (strictly section one.0, (one.0, one.1, refl), λ other is. is.2 ∙ ap (strictly section) (one.2 is.0 is.1))
+
+-- a strict answer, by what closes the table
+abbrev strict_by : Input → Table → Close → Result Table Error
+strict_by section t close = cond (is_by_null close) (Ok t) (Err (unterminated (end_of section)))
+
+-- a table that a code of value 0 closes is the strict answer
+pub closed_strictly : (section : Input) (offset : ℕ) (t : Table) → Answer section offset (Ok t) → t.close ≡ by_null
+    → StrictAnswer section offset (Ok t)
+closed_strictly section offset t is e = (Ok t, is, sym (ap (strict_by section t) e))
+
+-- a table that the section's end closes is an error in a strict reading
+pub unclosed_strictly : (section : Input) (offset : ℕ) (t : Table) → Answer section offset (Ok t)
+    → t.close ≡ by_end → StrictAnswer section offset (Err (unterminated (end_of section)))
+unclosed_strictly section offset t is e = (Ok t, is, sym (ap (strict_by section t) e))
+
+-- an error remains the error
+pub err_strictly : (section : Input) (offset : ℕ) (e : Error) → Answers (Err e) section offset
+    → AnswersStrictly (Err e) section offset
+err_strictly section offset e h = λ memory. (Err e, h memory, refl)
+
+-- appended bytes leave a strict answer that is final
+pub strict_answer_more : (section : Input) (more : List ℕ) (offset : ℕ) (strict : Result Table Error)
+    → StrictAnswer section offset strict → IsStrictlyFinal strict
+    → StrictAnswer (followed_by section more) offset strict
+strict_answer_more section more offset strict is final =
+    subst (StrictAnswer (followed_by section more) offset) (sym is.2) (go is.0 is.1 (subst IsStrictlyFinal is.2 final))
+  where
+    by_close : (t : Table) → Answer section offset (Ok t) → (close : Close) → t.close ≡ close
+        → IsStrictlyFinal (strict_by section t close)
+        → StrictAnswer (followed_by section more) offset (strict_by section t close)
+    by_close t is by_null e final = closed_strictly (followed_by section more) offset t (answer_more more is e) e
+    by_close t is by_end e final = absurd (final.1 (end_of section) refl)
+
+    go : (answer : Result Table Error) → Answer section offset answer → IsStrictlyFinal (strictly section answer)
+        → StrictAnswer (followed_by section more) offset (strictly section answer)
+    go (Ok t) is final = by_close t is t.close refl final
+    go (Err e) is final = (Err e, answer_more more is final.0, refl)
+
+-- the same of what the code answers
+pub strictly_stays : (strict : Result Table Error) (section : Input) (offset : ℕ)
+    → AnswersStrictly strict section offset → IsStrictlyFinal strict → (more : List ℕ)
+    → AnswersStrictly strict (followed_by section more) offset
+strictly_stays (Ok t) section offset h final more = strict_answer_more section more offset (Ok t) h final
+strictly_stays (Err e) section offset h final more =
+    λ memory. strict_answer_more section more offset (Err e) (h memory) final
+
+-- the error of an unclosed table is not final, whatever its position
+pub unclosed_stays : (id : ReaderOffsetId) (section : Input) (offset : ℕ)
+    → IsStrictlyFinal (Err (UnterminatedAbbreviations id)) → (more : List ℕ)
+    → AnswersStrictly (Err (UnterminatedAbbreviations id)) (followed_by section more) offset
+unclosed_stays id section offset final more = absurd (final.1 id.0 refl)

@@ -1,0 +1,361 @@
+-- A vector of the first abbreviations and a tree map of the others, seen as one finite map.
+use Rattle.std.proofs.Common.{◌≡◌, ℕ, zero, suc, ◌+◌, ◌<◌, ◌≤◌, eqb, get_or, ◌++◌, arith, Bool, true, false, cond, List, [], ◌∷◌, length, map, Option, Some, None, refl, sym, ap, ◌∙◌, inl, inr, ◌⊎◌, length-append}
+use Rattle.std.specs.Prelude.{is_some}
+use Rattle.std.specs.Ordering.{nat_cmp}
+use Rattle.std.specs.Cmp.{nat_cmp_total, eq_by_cmp_equiv}
+use Rattle.std.specs.Map.{lookup}
+use Rattle.std.specs.BTreeMap.{is_at}
+use Rattle.std.specs.FinMap.{find, get, insert, contains_key, values, from_entries, get-from_entries, get-insert, same_map, nat_cmp-IsAntisymmetric, len, len-empty, len-entries, entries, entries-insert}
+use Rattle.std.specs.FinMap.Entries.{put, by_order}
+use Rattle.std.specs.List.{AllByRecursion, AllZip}
+use Rattle.std.specs.List.Sorted.{IsStrictlySortedBy}
+use Rattle.std.specs.declared.cmp.Ordering.TheVariants.{Less}
+use Rattle.std.proofs.lemmas.Bool.{eqb-true, eq-eqb, ne_eqb, cases_lt}
+use Rattle.std.proofs.lemmas.Bool.Decides.{nat_tests}
+use Rattle.std.proofs.lemmas.List.{nil_from_length}
+use Rattle.std.proofs.lemmas.List.Elements.{same_from_all_zip}
+use Rattle.dwarf_read_core.specs.Grammar.{Declaration}
+use Rattle.dwarf_read_core.specs.Views.{numbered, entries_of, AreKeyed}
+
+-- what is found among entries at a code, by the order of codes, is what a lookup of that code has
+find_is_lookup : (es : List (ℕ × Declaration)) (q : ℕ) → find nat_cmp q es ≡ lookup (is_at (nat_cmp q)) es
+find_is_lookup [] q = refl
+find_is_lookup (e ∷ es) q = ap (cond (is_at (nat_cmp q) e.0) (Some e.1)) (find_is_lookup es q)
+
+-- what the map that the entries make has at a code
+pub get_is_lookup : (es : List (ℕ × Declaration)) (q : ℕ)
+    → get (from_entries {R = nat_cmp} es) q ≡ lookup (is_at (nat_cmp q)) es
+get_is_lookup es q = get-from_entries nat_cmp_total es q ∙ find_is_lookup es q
+
+-- entries that differ at one code make maps that differ there
+pub inserted : (es fs : List (ℕ × Declaration)) (k : ℕ) (d : Declaration)
+    → ((q : ℕ) → lookup (is_at (nat_cmp q)) fs
+    ≡ cond (is_at (nat_cmp k) q) (Some d) (lookup (is_at (nat_cmp q)) es)) → from_entries {R =
+    nat_cmp} fs ≡ insert (from_entries es) k d
+inserted es fs k d h = same_map nat_cmp_total nat_cmp-IsAntisymmetric _ _ (λ q.
+    get_is_lookup fs q ∙ h q ∙ ap (λ b. cond b (Some d) (lookup (is_at (nat_cmp q)) es))
+    ((eq_by_cmp_equiv nat_cmp_total).symm k q)
+    ∙ sym (get-insert nat_cmp_total (from_entries es) k d q
+    ∙ ap (cond (is_at (nat_cmp q) k) (Some d)) (get_is_lookup es q)))
+
+-- an entry whose code is below those of all the others is put in front of them
+put_first : (k : ℕ) (d : Declaration) (es : List (ℕ × Declaration))
+    → AllByRecursion (λ y. nat_cmp k y ≡ Less) (map (λ e. e.0) es) → put nat_cmp k d es ≡ (k, d) ∷ es
+put_first k d [] h = refl
+put_first k d (e ∷ es) h = ap (λ r. by_order r ((k, d) ∷ e ∷ es) ((e.0, d) ∷ es) (e ∷ put nat_cmp k d es)) h.0
+
+-- entries in order are those of the map that they make
+pub entries_kept : (es : List (ℕ × Declaration)) → IsStrictlySortedBy nat_cmp (map (λ e. e.0) es)
+    → entries (from_entries {R = nat_cmp} es) ≡ es
+unfolding IsStrictlySortedBy
+entries_kept [] h =
+    nil_from_length (entries (from_entries {R = nat_cmp} []))
+    (sym (len-entries (from_entries {R = nat_cmp} [])) ∙ len-empty nat_cmp Declaration)
+entries_kept (e ∷ es) h =
+    entries-insert nat_cmp_total (from_entries es) e.0 e.1 ∙ ap (put nat_cmp e.0 e.1) (entries_kept es h.1)
+    ∙ put_first e.0 e.1 es h.0
+
+-- the map that entries in order make has as many entries as there are of them
+pub len_kept : (es : List (ℕ × Declaration)) → IsStrictlySortedBy nat_cmp (map (λ e. e.0) es)
+    → len (from_entries {R = nat_cmp} es) ≡ length es
+len_kept es h = len-entries (from_entries {R = nat_cmp} es) ∙ ap length (entries_kept es h)
+
+-- entries that were copied are the same
+pub table_copied : (es fs : List (ℕ × Declaration)) → AllZip (λ p q. (q.0 ≡ p.0) × (q.1 ≡ p.1)) es fs → fs ≡ es
+table_copied es fs h =
+    same_from_all_zip (λ (p q : ℕ × Declaration). (q.0 ≡ p.0) × (q.1 ≡ p.1)) es fs h
+    (λ x y e. ap (λ (k : ℕ). let p : ℕ × Declaration = (k, y.1) in p) e.0
+    ∙ ap (λ (d : Declaration). let p : ℕ × Declaration = (x.0, d) in p) e.1)
+
+-- ---- a vector of the first codes, and a map of the others
+
+abbrev at : ℕ → List (ℕ × Declaration) → Option Declaration
+at q es = lookup (is_at (nat_cmp q)) es
+
+-- a code is at another, by the order of codes, exactly if the two are equal
+same_code : (a b : ℕ) → is_at (nat_cmp a) b ≡ eqb a b
+same_code a b = grind (arith, nat_tests)
+
+-- a list of entries has the first one's declaration at its code, and at other codes what the others have
+at_first : (q k : ℕ) (d : Declaration) (es : List (ℕ × Declaration)) (t : Bool) → eqb q k ≡ t
+    → at q ((k, d) ∷ es) ≡ cond t (Some d) (at q es)
+at_first q k d es t e = ap (λ b. cond b (Some d) (at q es)) (same_code q k ∙ e)
+
+-- codes that are not in the vector
+at_below : (k q : ℕ) (ds : List Declaration) (more : List (ℕ × Declaration)) → q < k
+    → at q (numbered k ds ++ more) ≡ at q more
+at_below k q [] more lt = refl
+at_below k q (d ∷ ds) more lt =
+    at_first q k d (numbered (suc k) ds ++ more) false (ne_eqb q k (λ e. omega arith))
+    ∙ at_below (suc k) q ds more (omega arith)
+
+-- a code above those of the vector has what the entries behind the vector have there
+at_above : (k q : ℕ) (ds : List Declaration) (more : List (ℕ × Declaration)) → k + length ds ≤ q
+    → at q (numbered k ds ++ more) ≡ at q more
+at_above k q [] more le = refl
+at_above k q (d ∷ ds) more le =
+    at_first q k d (numbered (suc k) ds ++ more) false (ne_eqb q k (λ e. omega arith))
+    ∙ at_above (suc k) q ds more (omega arith)
+
+-- a code that is
+at_within : (k i : ℕ) (ds : List Declaration) (more : List (ℕ × Declaration)) (d : Declaration) → i < length ds
+    → at (k + i) (numbered k ds ++ more) ≡ Some (get_or ds i d)
+at_within k i [] more d lt = absurd (omega arith)
+at_within k zero (x ∷ ds) more d lt =
+    at_first (k + 0) k x (numbered (suc k) ds ++ more) true (eq-eqb (k + 0) k (omega arith))
+at_within k (suc i) (x ∷ ds) more d lt =
+    let next : k + suc i ≡ suc k + i = omega arith in
+    at_first (k + suc i) k x (numbered (suc k) ds ++ more) false (ne_eqb (k + suc i) k (λ e. omega arith))
+    ∙ ap (λ q. at q (numbered (suc k) ds ++ more)) next ∙ at_within (suc k) i ds more d (omega arith)
+
+-- a code is at another exactly if the other is equal to it
+same_back : (c q : ℕ) → is_at (nat_cmp c) q ≡ eqb q c
+same_back c q = grind (arith, nat_tests)
+
+-- one more in the vector
+at_push : (k q : ℕ) (ds : List Declaration) (d : Declaration) (more : List (ℕ × Declaration))
+    → at q (numbered k (ds ++ d ∷ []) ++ more)
+    ≡ cond (is_at (nat_cmp (k + length ds)) q) (Some d) (at q (numbered k ds ++ more))
+at_push k q [] d more =
+    let none : k + 0 ≡ k = omega arith in
+    ap (λ b. cond b (Some d) (at q more)) (same_code q k ∙ sym (same_back (k + 0) q ∙ ap (eqb q) none))
+at_push k q (x ∷ ds) d more = go (eqb q k) refl (at_push (suc k) q ds d more)
+  where
+    go : (t : Bool) → eqb q k ≡ t → at q (numbered (suc k) (ds ++ d ∷ []) ++ more)
+        ≡ cond (is_at (nat_cmp (suc k + length ds)) q) (Some d) (at q (numbered (suc k) ds ++ more))
+        → at q (numbered k ((x ∷ ds) ++ d ∷ []) ++ more)
+        ≡ cond (is_at (nat_cmp (k + length (x ∷ ds))) q) (Some d) (at q (numbered k (x ∷ ds) ++ more))
+    go true e later =
+        let same = eqb-true q k e in
+        let other : is_at (nat_cmp (k + length (x ∷ ds))) q ≡ false = same_back (k + length (x ∷ ds)) q
+        ∙ ne_eqb q (k + length (x ∷ ds)) (λ w. omega arith) in
+        at_first q k x (numbered (suc k) (ds ++ d ∷ []) ++ more) true e
+        ∙ sym (rw other (at_first q k x (numbered (suc k) ds ++ more) true e))
+    go false e later =
+        let next : suc k + length ds ≡ k + length (x ∷ ds) = omega arith in
+        at_first q k x (numbered (suc k) (ds ++ d ∷ []) ++ more) false e
+        ∙ later
+        ∙ ap (λ n. cond (is_at (nat_cmp n) q) (Some d) (at q (numbered (suc k) ds ++ more))) next
+        ∙ ap (cond (is_at (nat_cmp (k + length (x ∷ ds))) q) (Some d))
+        (sym (at_first q k x (numbered (suc k) ds ++ more) false e))
+
+-- one more in the map
+at_insert : (k q c : ℕ) (ds : List Declaration) (d : Declaration) (es fs : List (ℕ × Declaration))
+    → k + length ds ≤ c → at q fs ≡ cond (is_at (nat_cmp c) q) (Some d) (at q es)
+    → at q (numbered k ds ++ fs) ≡ cond (is_at (nat_cmp c) q) (Some d) (at q (numbered k ds ++ es))
+at_insert k q c [] d es fs le h = h
+at_insert k q c (x ∷ ds) d es fs le h = go (eqb q k) refl (at_insert (suc k) q c ds d es fs (omega arith) h)
+  where
+    go : (t : Bool) → eqb q k ≡ t → at q (numbered (suc k) ds ++ fs)
+        ≡ cond (is_at (nat_cmp c) q) (Some d) (at q (numbered (suc k) ds ++ es))
+        → at q (numbered k (x ∷ ds) ++ fs) ≡ cond (is_at (nat_cmp c) q) (Some d) (at q (numbered k (x ∷ ds) ++ es))
+    go true e later =
+        let same = eqb-true q k e in
+        let other : is_at (nat_cmp c) q ≡ false = same_back c q ∙ ne_eqb q c (λ w. omega arith) in
+        at_first q k x (numbered (suc k) ds ++ fs) true e
+        ∙ sym (rw other (at_first q k x (numbered (suc k) ds ++ es) true e))
+    go false e later =
+        at_first q k x (numbered (suc k) ds ++ fs) false e ∙ later
+        ∙ ap (cond (is_at (nat_cmp c) q) (Some d)) (sym (at_first q k x (numbered (suc k) ds ++ es) false e))
+
+-- a code that the map doesn't have
+none_of_no : (o : Option Declaration) → is_some o ≡ false → o ≡ None
+none_of_no None e = refl
+none_of_no (Some d) e = absurd (cc)
+
+-- a map that is empty, or that doesn't have a code, has no declaration at that code
+pub none_at : (code : ℕ) (es : List (ℕ × Declaration)) → (length es ≡ 0) ⊎ (is_some (at code es) ≡ false)
+    → at code es ≡ None
+none_at code es (inl empty) = ap (at code) (nil_from_length es empty)
+none_at code es (inr missed) = none_of_no (at code es) missed
+
+-- a push and an insert into the two are an insert into the map that they make
+pub table_pushed : (ds : List Declaration) (es : List (ℕ × Declaration)) (code : ℕ) (d : Declaration)
+    → code ≡ 1 + length ds → from_entries {R = nat_cmp} (numbered 1 (ds ++ d ∷ []) ++ es)
+    ≡ insert (from_entries (entries_of ds es)) code d
+table_pushed ds es code d e =
+    inserted (entries_of ds es) (numbered 1 (ds ++ d ∷ []) ++ es) code d
+    (λ q. at_push 1 q ds d es ∙ ap (λ n. cond (is_at (nat_cmp n) q) (Some d) (at q (entries_of ds es))) (sym e))
+
+-- the map that the two make lacks the code right above those of the vector if the map behind it does
+pub lacks_next : (ds : List Declaration) (es : List (ℕ × Declaration)) (code : ℕ) → code ≡ 1 + length ds
+    → at code es ≡ None → contains_key (from_entries {R = nat_cmp} (entries_of ds es)) code ≡ false
+lacks_next ds es code e none =
+    ap is_some (get_is_lookup (entries_of ds es) code ∙ at_above 1 code ds es (omega arith) ∙ none)
+
+-- an insert into the map, above the codes of the vector, is an insert into the map that the two make
+pub table_put : (ds : List Declaration) (es fs : List (ℕ × Declaration)) (code : ℕ) (d : Declaration)
+    → length ds < code → ((q : ℕ) → at q fs ≡ cond (is_at (nat_cmp code) q) (Some d) (at q es))
+    → from_entries {R = nat_cmp} (entries_of ds fs) ≡ insert (from_entries (entries_of ds es)) code d
+table_put ds es fs code d lt h =
+    inserted (entries_of ds es) (entries_of ds fs) code d (λ q. at_insert 1 q code ds d es fs (omega arith) (h q))
+
+-- what is found
+pub found_in_vec : (ds : List Declaration) (es : List (ℕ × Declaration)) (code index : ℕ) (d : Declaration)
+    → code ≡ index + 1 → index < length ds
+    → get (from_entries {R = nat_cmp} (entries_of ds es)) code ≡ Some (get_or ds index d)
+found_in_vec ds es code index d e lt =
+    let place : code ≡ 1 + index = omega arith in
+    get_is_lookup (entries_of ds es) code ∙ ap (λ q. at q (entries_of ds es)) place ∙ at_within 1 index ds es d lt
+
+-- what is found at a code above those of the vector is what the map has there
+pub found_in_map : (ds : List Declaration) (es : List (ℕ × Declaration)) (code : ℕ) → length ds < code
+    → get (from_entries {R = nat_cmp} (entries_of ds es)) code ≡ at code es
+found_in_map ds es code lt = get_is_lookup (entries_of ds es) code ∙ at_above 1 code ds es (omega arith)
+
+-- a code of value 0 is found in neither of the two
+pub zero_not_found : (ds : List Declaration) (es : List (ℕ × Declaration)) (code : ℕ) → code ≡ 0 → AreKeyed ds es
+    → get (from_entries {R = nat_cmp} (entries_of ds es)) code ≡ None
+zero_not_found ds es code zero_code kept =
+    get_is_lookup (entries_of ds es) code ∙ at_below 1 code ds es (omega arith) ∙ kept.apart code (omega arith)
+
+-- ---- how many there are
+
+-- a number that is below another compares as less
+less : (a b : ℕ) → a < b → nat_cmp a b ≡ Less
+less a b lt = grind (arith, nat_tests)
+
+-- the keys of the map are above those of the vector
+keys_above : (n : ℕ) (es : List (ℕ × Declaration)) → ((q : ℕ) → q ≤ n → at q es ≡ None)
+    → AllByRecursion (λ y. n < y) (map (λ e. e.0) es)
+keys_above n [] h = tt
+keys_above n (e ∷ es) h = (
+  above,
+  keys_above n es (λ q le. sym
+      (at_first q e.0 e.1 es false (ne_eqb q e.0 (λ w. let a = above in omega arith))) ∙ h q le),
+)
+  where
+    above : n < e.0
+    above = elim (cases_lt n e.0) [
+      | inl lt ↦ lt
+      | inr le ↦ absurd (let w = sym (at_first e.0 e.0 e.1 es true (eq-eqb e.0 e.0 refl)) ∙ h e.0 le in cc)
+    ]
+
+-- keys that are all above a bound compare as greater than each number up to that bound
+weaker : (k n : ℕ) (ks : List ℕ) → k ≤ n → AllByRecursion (λ y. n < y) ks → AllByRecursion (λ y. nat_cmp k y ≡ Less) ks
+weaker k n [] le h = tt
+weaker k n (y ∷ ks) le h = (less k y (let w = h.0 in omega arith), weaker k n ks le h.1)
+
+-- a code below those of a vector and below the keys of a map is below all keys of the two
+numbered_above : (k j : ℕ) (ds : List Declaration) (es : List (ℕ × Declaration)) → k < j
+    → AllByRecursion (λ y. nat_cmp k y ≡ Less) (map (λ e. e.0) es)
+    → AllByRecursion (λ y. nat_cmp k y ≡ Less) (map (λ e. e.0) (numbered j ds ++ es))
+numbered_above k j [] es lt h = h
+numbered_above k j (d ∷ ds) es lt h = (less k j lt, numbered_above k (suc j) ds es (omega arith) h)
+
+-- a vector by its codes, and a map in order with keys above them, are in order one behind the other
+numbered_sorted : (k : ℕ) (ds : List Declaration) (es : List (ℕ × Declaration)) (n : ℕ) → k + length ds ≤ n + 1
+    → AllByRecursion (λ y. n < y) (map (λ e. e.0) es) → IsStrictlySortedBy nat_cmp (map (λ e. e.0) es)
+    → IsStrictlySortedBy nat_cmp (map (λ e. e.0) (numbered k ds ++ es))
+unfolding IsStrictlySortedBy
+numbered_sorted k [] es n le above h = h
+numbered_sorted k (d ∷ ds) es n le above h = (
+  numbered_above k (suc k) ds es (omega arith)
+      (weaker k n (map (λ e. e.0) es) (omega arith) above),
+  numbered_sorted (suc k) ds es n (omega arith) above h,
+)
+
+-- the entries of the vector and then of the map are in order as a whole if those of the map are
+sorted_of_both : (ds : List Declaration) (es : List (ℕ × Declaration)) → AreKeyed ds es
+    → IsStrictlySortedBy nat_cmp (map (λ e. e.0) es)
+    → IsStrictlySortedBy nat_cmp (map (λ e. e.0) (entries_of ds es))
+sorted_of_both ds es kept sorted =
+    numbered_sorted 1 ds es (length ds) (omega arith) (keys_above (length ds) es kept.apart) sorted
+
+-- a vector by its codes and a map behind it have as many entries as both have together
+length_numbered : (k : ℕ) (ds : List Declaration) (es : List (ℕ × Declaration))
+    → length (numbered k ds ++ es) ≡ length ds + length es
+length_numbered k [] es = omega arith
+length_numbered k (d ∷ ds) es = omega (arith, length_numbered (suc k) ds es)
+
+-- the map that the two make has as many entries as the vector and the map have together
+pub table_len : (ds : List Declaration) (es : List (ℕ × Declaration)) → AreKeyed ds es
+    → IsStrictlySortedBy nat_cmp (map (λ e. e.0) es)
+    → len (from_entries {R = nat_cmp} (entries_of ds es)) ≡ length ds + length es
+table_len ds es kept sorted = len_kept (entries_of ds es) (sorted_of_both ds es kept sorted) ∙ length_numbered 1 ds es
+
+-- the declarations of a vector by its codes, and of a map behind it, are the vector's and then the map's
+values_numbered : (k : ℕ) (ds : List Declaration) (es : List (ℕ × Declaration))
+    → map (λ e. e.1) (numbered k ds ++ es) ≡ ds ++ map (λ e. e.1) es
+values_numbered k [] es = refl
+values_numbered k (d ∷ ds) es = ap (λ rest. d ∷ rest) (values_numbered (suc k) ds es)
+
+-- the vector and then the map, in the order of their codes
+pub table_values : (ds : List Declaration) (es : List (ℕ × Declaration)) → AreKeyed ds es
+    → IsStrictlySortedBy nat_cmp (map (λ e. e.0) es)
+    → values (from_entries {R = nat_cmp} (entries_of ds es)) ≡ ds ++ map (λ e. e.1) es
+table_values ds es kept sorted =
+    ap (map (λ (e : ℕ × Declaration). e.1)) (entries_kept (entries_of ds es) (sorted_of_both ds es kept sorted))
+    ∙ values_numbered 1 ds es
+
+-- ---- what stays true of the two
+
+-- declarations that differ at one code, which the new one has
+keyed_by_update : (es fs : List (ℕ × Declaration)) (code : ℕ) (d : Declaration)
+    → ((q : ℕ) → at q fs ≡ cond (is_at (nat_cmp code) q) (Some d) (at q es)) → d.code ≡ code → 0 < code
+    → ((q : ℕ) (x : Declaration) → at q es ≡ Some x → (x.code ≡ q) × (0 < q)) → (q : ℕ) (x : Declaration)
+    → at q fs ≡ Some x → (x.code ≡ q) × (0 < q)
+keyed_by_update es fs code d h same above keyed q x found = go (is_at (nat_cmp code) q) refl
+  where
+    go : (t : Bool) → is_at (nat_cmp code) q ≡ t → (x.code ≡ q) × (0 < q)
+    go true e =
+        let is : q ≡ code = eqb-true q code (sym (same_back code q) ∙ e) in
+        let new : Some d ≡ Some x = sym (h q ∙ ap (λ b. cond b (Some d) (at q es)) e) ∙ found in
+        let one : d ≡ x = cc in
+        (sym (ap (λ (y : Declaration). y.code) one) ∙ same ∙ sym is, omega arith)
+    go false e = keyed q x (sym (h q ∙ ap (λ b. cond b (Some d) (at q es)) e) ∙ found)
+
+-- what is found has its code
+pub keyed_in_map : (ds : List Declaration) (es : List (ℕ × Declaration)) (code : ℕ) (d : Declaration)
+    → AreKeyed ds es → at code es ≡ Some d → (d.code ≡ code) × (0 < code)
+keyed_in_map ds es code d kept h = elim (cases_lt (length ds) code) [
+  | inl lt ↦ kept.keyed code d (at_above 1 code ds es (omega arith) ∙ h)
+  | inr le ↦ absurd (let none = kept.apart code le in cc)
+]
+
+-- a declaration in the vector has the code that is one more than its index
+pub keyed_in_vec : (ds : List Declaration) (es : List (ℕ × Declaration)) (code index : ℕ) (d : Declaration)
+    → AreKeyed ds es → code ≡ index + 1 → index < length ds → (get_or ds index d).code ≡ code
+keyed_in_vec ds es code index d kept e lt =
+    let place : code ≡ 1 + index = omega arith in
+    (kept.keyed code (get_or ds index d) (ap (λ q. at q (entries_of ds es)) place ∙ at_within 1 index ds es d lt)).0
+
+-- a push of a declaration whose code is the vector's next, and not in the map, leaves the two well kept
+pub keyed_pushed : (ds : List Declaration) (es : List (ℕ × Declaration)) (code : ℕ) (d : Declaration)
+    → code ≡ 1 + length ds → d.code ≡ code → at code es ≡ None → AreKeyed ds es → AreKeyed (ds ++ d ∷ []) es
+keyed_pushed ds es code d e same none kept = record {
+  apart = apart;
+  keyed = keyed_by_update (entries_of ds es) (entries_of (ds ++ d ∷ []) es) code d
+      (λ q. at_push 1 q ds d es ∙ ap (λ n. cond (is_at (nat_cmp n) q) (Some d) (at q (entries_of ds es)))
+      (sym e)) same (omega arith) kept.keyed;
+}
+  where
+    apart : (q : ℕ) → q ≤ length (ds ++ d ∷ []) → at q es ≡ None
+    apart q le = elim (cases_lt (length ds) q) [
+      | inl lt ↦ (let is : q ≡ code = omega (arith, length-append {A = Declaration}) in rw is none)
+      | inr low ↦ kept.apart q low
+    ]
+
+-- an insert into the map of a declaration at its code, above those of the vector, leaves the two well kept
+pub keyed_put : (ds : List Declaration) (es fs : List (ℕ × Declaration)) (code : ℕ) (d : Declaration)
+    → length ds < code → ((q : ℕ) → at q fs ≡ cond (is_at (nat_cmp code) q) (Some d) (at q es)) → d.code ≡ code
+    → AreKeyed ds es → AreKeyed ds fs
+keyed_put ds es fs code d lt h same kept = record {
+  apart = λ q le. h q ∙ ap (λ b. cond b (Some d) (at q es)) (same_back code q ∙ ne_eqb q code (λ e. omega arith))
+      ∙ kept.apart q le;
+  keyed = keyed_by_update (entries_of ds es) (entries_of ds fs) code d
+      (λ q. at_insert 1 q code ds d es fs (omega arith) (h q)) same (omega arith) kept.keyed;
+}
+
+-- the map that the two make has each code that is one more than an index of the vector
+pub has_in_vec : (ds : List Declaration) (es : List (ℕ × Declaration)) (code index : ℕ) → code ≡ index + 1
+    → index < length ds → contains_key (from_entries {R = nat_cmp} (entries_of ds es)) code ≡ true
+has_in_vec ds es code index e lt =
+    ap is_some (found_in_vec ds es code index
+    (record { code = 0; tag = 0; children = false; attributes = [] }) e lt)
+
+-- what an insertion makes of the vector and the map
+pub ruleset insertion = (has_in_vec, found_in_map, table_pushed, table_put, keyed_put)
+
+-- what the vector and the map have at a code
+pub ruleset lookup_steps = (found_in_vec, found_in_map, zero_not_found, keyed_in_vec, keyed_in_map)
