@@ -1,14 +1,14 @@
 /*
  * The lowest layer of DWARF reading, proved, for C, C++ and Rust: LEB128 numbers, strings, lookups by
- * an index, abbreviation tables, sets of addresses, names of constants, and texts of errors. The
- * section numbers are those of DWARF 5.
+ * an index, sets of addresses and of string offsets, abbreviation tables, names of constants, and texts
+ * of errors. The section numbers are those of DWARF 5.
  *
  * Link libdwarf_read_c.a, and dwarf_read_heap.c or three functions of your own (see there).
  *
  * WHAT A CALL DOES. It returns DWARF_OK, and then its outputs are written, or another status. A status
  * from 1 to 19 is the number of an error: the call has written it to the fault, with the position or
- * the value that the error carries, and to nothing else. A status from 100 on is told of beside each
- * call. All offsets and positions are in bytes from the first byte that is given.
+ * the value that the error carries, and to nothing else. A status from 100 on is described at the calls
+ * that return it. All offsets and positions are in bytes from the first byte that is given.
  *
  * A call keeps no pointer and has no state of its own, so any number of threads may call at once.
  *
@@ -61,10 +61,10 @@ enum {
 
     DWARF_NO_ROOM = 100, /* fewer places than items */
     DWARF_NO_NAME = 101, /* no constant has the value, or no error the number */
-    DWARF_END = 102      /* nothing stands there, since it is the section's end */
+    DWARF_END = 102      /* there is nothing to read at the section's end */
 };
 
-/* The error that a call was refused with. */
+/* The error of a call. */
 struct dwarf_fault {
     uint32_t kind;  /* its number, from 1 to 19 */
     uint64_t value; /* the position or the value that it carries, or 0 */
@@ -75,14 +75,14 @@ struct dwarf_fault {
  */
 
 /* Reads the number of at most 64 bits, in at most ten bytes, that the bytes begin with. Other bytes
-   may follow. `taken` is how many bytes the number has. */
-uint32_t dwarf_uleb128(const uint8_t *bytes, size_t len, uint64_t *value, size_t *taken,
+   may follow. `number_len` is how many bytes the number has. */
+uint32_t dwarf_uleb128(const uint8_t *bytes, size_t len, uint64_t *value, size_t *number_len,
                        struct dwarf_fault *fault);
-uint32_t dwarf_sleb128(const uint8_t *bytes, size_t len, int64_t *value, size_t *taken,
+uint32_t dwarf_sleb128(const uint8_t *bytes, size_t len, int64_t *value, size_t *number_len,
                        struct dwarf_fault *fault);
 
 /* Writes the shortest bytes of a number. `len` is how many they are, at most ten. Returns DWARF_OK, or
-   DWARF_NO_ROOM, and then only `len` is written. */
+   DWARF_NO_ROOM if there are fewer places; then only `len` is written. */
 uint32_t dwarf_uleb128_write(uint64_t value, uint8_t *bytes, size_t room, size_t *len);
 uint32_t dwarf_sleb128_write(int64_t value, uint8_t *bytes, size_t room, size_t *len);
 
@@ -95,41 +95,53 @@ uint32_t dwarf_sleb128_write(int64_t value, uint8_t *bytes, size_t room, size_t 
 uint32_t dwarf_string(const uint8_t *section, size_t len, size_t offset, size_t *string_len,
                       struct dwarf_fault *fault);
 
-/* Reads the offset at an index, from 0, among those that stand in a row from `base` on in
-   .debug_str_offsets. They have eight bytes each if `is_64` is set, and else four. */
+/* Reads the string offset at an index, from 0, of those that follow one another from `base` on in
+   .debug_str_offsets. Each has eight bytes if `is_64` is set, and else four. */
 uint32_t dwarf_str_offset(const uint8_t *section, size_t len, bool is_big, bool is_64, size_t base,
                           size_t index, size_t *offset, struct dwarf_fault *fault);
 
-/* Reads the address at an index, from 0, among those that stand in a row from `base` on in
-   .debug_addr. They have `size` bytes each: 1, 2, 4 or 8. */
+/* Reads the address at an index, from 0, of those that follow one another from `base` on in
+   .debug_addr. Each has `size` bytes: 1, 2, 4 or 8. */
 uint32_t dwarf_address(const uint8_t *section, size_t len, bool is_big, uint8_t size, size_t base,
                        size_t index, uint64_t *address, struct dwarf_fault *fault);
 
 /*
- * SETS OF ADDRESSES (7.27).
+ * SETS OF ADDRESSES (7.27) AND OF STRING OFFSETS (7.26).
  */
 
-/* A set of addresses in .debug_addr. */
+/* A set of addresses in .debug_addr, or of string offsets in .debug_str_offsets. Its entries are the
+   numbers from `first_entry` up to `next`. */
 struct dwarf_set {
-    size_t next;          /* the end of the set, where the next one may begin */
-    size_t unit_length;   /* how many bytes of the set follow its initial length */
-    size_t first_address; /* where its first address stands; they go up to `next` */
-    uint8_t word_size;    /* 4 in the 32-bit format, 8 in the 64-bit format */
-    uint8_t address_size; /* 1, 2, 4 or 8 */
+    size_t next;        /* the end of the set, where the next one may begin */
+    size_t unit_length; /* how many bytes of the set follow its initial length */
+    size_t first_entry; /* the offset of its first entry */
+    uint8_t word_size;  /* 4 in the 32-bit format, 8 in the 64-bit format */
+    uint8_t entry_size; /* 1, 2, 4 or 8 for an address; a string offset has `word_size` bytes */
 };
 
 /* Reads the header of the set at an offset of .debug_addr. Returns DWARF_END, and writes nothing, if the
-   offset is the section's end. The set's addresses are those that dwarf_address reads with
-   `address_size` and `first_address`, in the section's first `next` bytes alone: then an address that
-   the set's end cuts is DWARF_UNEXPECTED_EOF there. */
+   offset is the section's end.
+
+   To read an address of the set, call dwarf_address with `entry_size` as its size and `first_entry` as
+   its base, and pass `next` as the length of the section. Then nothing behind the set is read, and an
+   address that the set's end cuts is DWARF_UNEXPECTED_EOF. */
 uint32_t dwarf_address_set(const uint8_t *section, size_t len, bool is_big, size_t offset,
                            struct dwarf_set *set, struct dwarf_fault *fault);
+
+/* Reads the header of the set at an offset of .debug_str_offsets. Returns DWARF_END, and writes nothing,
+   if the offset is the section's end.
+
+   To read a string offset of the set, call dwarf_str_offset with `first_entry` as its base, and with
+   `is_64` set if `word_size` is 8. Pass `next` as the length of the section: then nothing behind the set
+   is read, and a string offset that the set's end cuts is DWARF_UNEXPECTED_EOF. */
+uint32_t dwarf_str_offset_set(const uint8_t *section, size_t len, bool is_big, size_t offset,
+                              struct dwarf_set *set, struct dwarf_fault *fault);
 
 /*
  * ABBREVIATION TABLES (7.5.3).
  *
- * These two calls take memory for the table while they run, and are DWARF_OUT_OF_MEMORY where there is
- * none. They may not be called in a signal handler.
+ * These two calls allocate memory for the table, and free it before they return. They return
+ * DWARF_OUT_OF_MEMORY if there is none. They may not be called in a signal handler.
  */
 
 /* How large a table is. */
@@ -152,7 +164,7 @@ struct dwarf_abbreviation {
 struct dwarf_attribute {
     uint16_t name;
     uint16_t form;
-    int64_t implicit_const; /* the value that stands in the table at DW_FORM_implicit_const, else 0 */
+    int64_t implicit_const; /* the value in the table itself for DW_FORM_implicit_const, else 0 */
 };
 
 /* Measures the table at an offset of .debug_abbrev. */
@@ -160,8 +172,8 @@ uint32_t dwarf_table_measure(const uint8_t *section, size_t len, size_t offset,
                              struct dwarf_measure *measure, struct dwarf_fault *fault);
 
 /* Reads the table at an offset of .debug_abbrev: its abbreviations by rising code, and the attributes
-   of all of them, in the same order. The places behind them are left as they are. Returns
-   DWARF_NO_ROOM if there are fewer places for either; then only `measure` is written. */
+   of all of them, in the same order. The places behind them are not changed. Returns DWARF_NO_ROOM if
+   there are fewer places for either; then only `measure` is written. */
 uint32_t dwarf_table_read(const uint8_t *section, size_t len, size_t offset,
                           struct dwarf_abbreviation *abbreviations, size_t abbreviation_room,
                           struct dwarf_attribute *attributes, size_t attribute_room,
@@ -171,16 +183,16 @@ uint32_t dwarf_table_read(const uint8_t *section, size_t len, size_t offset,
  * NAMES AND TEXTS.
  *
  * Each call writes a name, as DW_TAG_label, or a text, with no zero byte behind it. `len` is how many
- * bytes it has. They return DWARF_OK; DWARF_NO_ROOM, and then only `len` is written; or DWARF_NO_NAME,
- * and then nothing is.
+ * bytes it has. They return DWARF_OK; DWARF_NO_ROOM if there are fewer places, and then only `len` is
+ * written; or DWARF_NO_NAME if there is no name or text, and then nothing is written.
  */
 
 uint32_t dwarf_tag_name(uint16_t tag, char *name, size_t room, size_t *len);
 uint32_t dwarf_attribute_name(uint16_t attribute, char *name, size_t room, size_t *len);
 uint32_t dwarf_form_name(uint16_t form, char *name, size_t room, size_t *len);
 
-/* The text of the error that a call was refused with. 64 places are enough for every name and text.
-   The call takes memory while it runs, and is DWARF_OUT_OF_MEMORY where there is none; then nothing is
+/* Writes the text of an error. 64 places are enough for every name and text. The call allocates memory,
+   and frees it before it returns. It returns DWARF_OUT_OF_MEMORY if there is none; then nothing is
    written. It may not be called in a signal handler. */
 uint32_t dwarf_fault_text(const struct dwarf_fault *fault, char *text, size_t room, size_t *len);
 

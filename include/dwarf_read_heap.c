@@ -1,6 +1,6 @@
 /*
- * The three functions through which the library asks for memory, over malloc, realloc and free. A
- * program may define them over another allocator in their place. Then they have to be one allocator's,
+ * The three functions through which the library requests memory, over malloc, realloc and free. A
+ * program may define them over another allocator instead. Then they have to be one allocator's,
  * and a block has to be aligned to each power of two up to 16 that divides its size.
  */
 #include <stdbool.h>
@@ -19,11 +19,11 @@ void rattle_dealloc(void *block);
 
 static struct tried tried(void *block) {
     static char none;
-    struct tried answer = {block != NULL, block != NULL ? block : &none};
-    return answer;
+    struct tried result = {block != NULL, block != NULL ? block : &none};
+    return result;
 }
 
-/* A block of no bytes has as many as its alignment, so that malloc's answer tells of refused memory. */
+/* A block of no bytes has as many as its alignment, so that null means that there is no memory. */
 static size_t size_of(size_t size, size_t align) {
     return size != 0 ? size : align;
 }

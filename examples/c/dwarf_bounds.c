@@ -1,7 +1,6 @@
 /*
- * Calls with bad input: null with a length of 0, no room, offsets past the end,
-     and huge counts. Each
- * has to be refused with the right fault, and to leave its outputs as they were.
+ * Calls with bad input: null with a length of 0, no room, offsets past the end, and huge counts. Each
+ * has to return the right error, and to leave its outputs as they were.
  *
  * It compiles as C and as C++, prints a line for each check that fails, and returns how many do.
  */
@@ -38,13 +37,31 @@ static void check_no_bytes(void) {
     check(status == DWARF_UNEXPECTED_EOF && is_fault(fault, 1, 0), "no address");
     status = dwarf_str_offset(NULL, 0, true, false, 0, 0, &len, &fault);
     check(status == DWARF_UNEXPECTED_EOF && is_fault(fault, 1, 0), "no offset");
-    struct dwarf_set set = {7, 7, 7, 7, 7};
-    fault.kind = 7;
-    status = dwarf_address_set(NULL, 0, true, 0, &set, &fault);
-    check(status == DWARF_END && set.next == 7 && fault.kind == 7, "no set");
-    status = dwarf_address_set(NULL, 0, true, 1, &set, &fault);
-    check(status == DWARF_UNEXPECTED_EOF && is_fault(fault, 1, 0), "a set past the end");
     check(value == 7 && signed_value == 7 && len == 7, "outputs of refused calls");
+}
+
+typedef uint32_t set_call(const uint8_t *section, size_t len, bool is_big, size_t offset,
+                          struct dwarf_set *set, struct dwarf_fault *fault);
+
+static void check_sets(set_call *call) {
+    static const uint8_t reserved[] = {0xf0, 0xff, 0xff, 0xff};
+    uint8_t huge[12];
+    memset(huge, 0xff, sizeof huge);
+    struct dwarf_set set = {7, 7, 7, 7, 7};
+    struct dwarf_fault fault = {7, 7};
+    uint32_t status = call(NULL, 0, true, 0, &set, &fault);
+    check(status == DWARF_END && is_fault(fault, 7, 7), "no set");
+    status = call(NULL, 0, true, 1, &set, &fault);
+    check(status == DWARF_UNEXPECTED_EOF && is_fault(fault, 1, 0), "a set past the end");
+    status = call(reserved, sizeof reserved, false, SIZE_MAX, &set, &fault);
+    check(status == DWARF_UNEXPECTED_EOF && is_fault(fault, 1, 0), "a set far past the end");
+    status = call(reserved, sizeof reserved, false, 0, &set, &fault);
+    check(status == DWARF_UNKNOWN_RESERVED_LENGTH && is_fault(fault, 9, 0xfffffff0), "a length");
+    status = call(huge, sizeof huge, false, 0, &set, &fault);
+    check(status == DWARF_UNEXPECTED_EOF && is_fault(fault, 1, 12), "a huge set");
+    check(set.next == 7 && set.unit_length == 7 && set.first_entry == 7 && set.word_size == 7 &&
+              set.entry_size == 7,
+          "outputs of refused sets");
 }
 
 static void check_no_room(void) {
@@ -116,6 +133,8 @@ static void check_offsets(void) {
 
 int main(void) {
     check_no_bytes();
+    check_sets(dwarf_address_set);
+    check_sets(dwarf_str_offset_set);
     check_no_room();
     check_texts();
     check_tables();

@@ -1,11 +1,11 @@
 /*
  * Reads a section from standard input and writes a part of it, as the program dwarf_list does.
  *
- *     dwarf_show abbrev OFFSET    the abbreviation table at an offset of .debug_abbrev
- *     dwarf_show str OFFSET       the string at an offset of .debug_str
- *     dwarf_show addr le          the sets of addresses of a whole .debug_addr, in little byte order
- *     dwarf_show addr be          the same in big byte order
- *     dwarf_show uleb N           the LEB128 encoding of a number, read again
+ *     dwarf_show abbrev OFFSET       the abbreviation table at an offset of .debug_abbrev
+ *     dwarf_show str OFFSET          the string at an offset of .debug_str
+ *     dwarf_show addr le|be          the sets of addresses of a whole .debug_addr
+ *     dwarf_show str-offsets le|be   the sets of string offsets of a whole .debug_str_offsets
+ *     dwarf_show uleb N              the LEB128 encoding of a number, read again
  *
  * It compiles as C and as C++.
  */
@@ -58,7 +58,7 @@ static int failed(const struct dwarf_fault *fault) {
     return 1;
 }
 
-/* Prints the name of a constant, or what stands for one that has none. */
+/* Prints the name of a constant, or its number if it has none. */
 static void print_name(name_call *call, const char *type, uint16_t value) {
     char name[64];
     size_t len;
@@ -122,39 +122,77 @@ static int show_string(struct bytes section, size_t offset) {
     return 0;
 }
 
-/* Prints the addresses of a set, or only looks for a fault. Behind the set's end nothing is read. */
-static int go_over_set(struct bytes section, bool is_big, struct dwarf_set set, bool is_printed) {
-    size_t count = (set.next - set.first_address + set.address_size - 1) / set.address_size;
+/* A section of sets: of addresses, or of string offsets. */
+struct set_section {
+    struct bytes bytes;
+    bool is_big;
+    bool has_addresses;
+};
+
+static uint32_t read_set(const struct set_section *section, size_t offset, struct dwarf_set *set,
+                         struct dwarf_fault *fault) {
+    struct bytes bytes = section->bytes;
+    if (section->has_addresses) {
+        return dwarf_address_set(bytes.items, bytes.len, section->is_big, offset, set, fault);
+    }
+    return dwarf_str_offset_set(bytes.items, bytes.len, section->is_big, offset, set, fault);
+}
+
+/* Reads the entry at an index of a set. No byte behind the set's end is read. */
+static uint32_t read_entry(const struct set_section *section, const struct dwarf_set *set,
+                           size_t index, uint64_t *entry, struct dwarf_fault *fault) {
+    const uint8_t *items = section->bytes.items;
+    if (section->has_addresses) {
+        return dwarf_address(items, set->next, section->is_big, set->entry_size, set->first_entry,
+                             index, entry, fault);
+    }
+    size_t offset = 0;
+    uint32_t status = dwarf_str_offset(items, set->next, section->is_big, set->word_size == 8,
+                                       set->first_entry, index, &offset, fault);
+    *entry = offset;
+    return status;
+}
+
+static void print_header(const struct set_section *section, size_t offset,
+                         const struct dwarf_set *set) {
+    printf("set %zu: length %zu, %u-bit", offset, set->unit_length, set->word_size * 8u);
+    if (section->has_addresses) {
+        printf(", address size %u", (unsigned)set->entry_size);
+    }
+    putchar('\n');
+}
+
+/* Prints the entries of a set, or only looks for an error. */
+static int go_over_set(const struct set_section *section, const struct dwarf_set *set,
+                       bool is_printed) {
+    size_t count = (set->next - set->first_entry + set->entry_size - 1) / set->entry_size;
     for (size_t i = 0; i < count; i++) {
-        uint64_t address;
+        uint64_t entry;
         struct dwarf_fault fault;
-        if (dwarf_address(section.items, set.next, is_big, set.address_size, set.first_address, i,
-                          &address, &fault) != DWARF_OK) {
+        if (read_entry(section, set, i, &entry, &fault) != DWARF_OK) {
             return failed(&fault);
         }
         if (is_printed) {
-            printf("  0x%" PRIx64 "\n", address);
+            printf(section->has_addresses ? "  0x%" PRIx64 "\n" : "  %" PRIu64 "\n", entry);
         }
     }
     return 0;
 }
 
-/* Prints all sets, or only looks for a fault. */
-static int go_over_sets(struct bytes section, bool is_big, bool is_printed) {
+/* Prints all sets, or only looks for an error. */
+static int go_over_sets(const struct set_section *section, bool is_printed) {
     size_t offset = 0;
     for (;;) {
         struct dwarf_set set;
         struct dwarf_fault fault;
-        uint32_t status =
-            dwarf_address_set(section.items, section.len, is_big, offset, &set, &fault);
+        uint32_t status = read_set(section, offset, &set, &fault);
         if (status != DWARF_OK) {
             return status == DWARF_END ? 0 : failed(&fault);
         }
         if (is_printed) {
-            printf("set %zu: length %zu, %u-bit, address size %u\n", offset, set.unit_length,
-                   set.word_size * 8u, (unsigned)set.address_size);
+            print_header(section, offset, &set);
         }
-        int failure = go_over_set(section, is_big, set, is_printed);
+        int failure = go_over_set(section, &set, is_printed);
         if (failure != 0) {
             return failure;
         }
@@ -162,30 +200,32 @@ static int go_over_sets(struct bytes section, bool is_big, bool is_printed) {
     }
 }
 
-/* Nothing is printed before it is known that there is no fault. */
-static int show_sets(struct bytes section, bool is_big) {
-    int failure = go_over_sets(section, is_big, false);
-    return failure != 0 ? failure : go_over_sets(section, is_big, true);
+/* Nothing is printed before it is known that there is no error. */
+static int show_sets(struct bytes bytes, bool is_big, bool has_addresses) {
+    struct set_section section = {bytes, is_big, has_addresses};
+    int failure = go_over_sets(&section, false);
+    return failure != 0 ? failure : go_over_sets(&section, true);
 }
 
 static int show_number(uint64_t number) {
     uint8_t bytes[10];
-    size_t len, taken;
+    size_t len, number_len;
     struct dwarf_fault fault;
     uint64_t again = 0;
     dwarf_uleb128_write(number, bytes, sizeof bytes, &len);
-    if (dwarf_uleb128(bytes, len, &again, &taken, &fault) != DWARF_OK) {
+    if (dwarf_uleb128(bytes, len, &again, &number_len, &fault) != DWARF_OK) {
         return failed(&fault);
     }
     for (size_t i = 0; i < len; i++) {
         printf(i + 1 < len ? "%02x " : "%02x\n", (unsigned)bytes[i]);
     }
-    return again == number && taken == len ? 0 : 1;
+    return again == number && number_len == len ? 0 : 1;
 }
 
 int main(int argc, char **argv) {
     if (argc != 3) {
-        fputs("usage: dwarf_show abbrev OFFSET | str OFFSET | addr le|be | uleb N\n", stderr);
+        fputs("usage: dwarf_show abbrev OFFSET | str OFFSET | addr le|be | str-offsets le|be | uleb N\n",
+              stderr);
         return 2;
     }
     uint64_t number = strtoull(argv[2], NULL, 10);
@@ -196,8 +236,8 @@ int main(int argc, char **argv) {
     int status;
     if (strcmp(argv[1], "abbrev") == 0) {
         status = show_table(section, (size_t)number);
-    } else if (strcmp(argv[1], "addr") == 0) {
-        status = show_sets(section, strcmp(argv[2], "be") == 0);
+    } else if (strcmp(argv[1], "addr") == 0 || strcmp(argv[1], "str-offsets") == 0) {
+        status = show_sets(section, strcmp(argv[2], "be") == 0, strcmp(argv[1], "addr") == 0);
     } else {
         status = show_string(section, (size_t)number);
     }

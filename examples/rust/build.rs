@@ -9,9 +9,6 @@ fn main() {
     let folder = env::var("DWARF_READ_LIB").map_or(built, PathBuf::from);
     println!("cargo:rustc-link-search=native={}", folder.display());
     println!("cargo:rustc-link-lib=static=dwarf_read_c");
-    println!(
-        "cargo:rerun-if-changed={}",
-        folder.join("libdwarf_read_c.a").display()
-    );
+    println!("cargo:rerun-if-changed={}", folder.join("libdwarf_read_c.a").display());
     println!("cargo:rerun-if-env-changed=DWARF_READ_LIB");
 }

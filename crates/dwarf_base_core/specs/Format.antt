@@ -10,7 +10,7 @@ abbrev pub word_size : Format → ℕ
 word_size Dwarf32 = 4
 word_size Dwarf64 = 8
 
--- how many bytes an initial length has: in the 64-bit format the mark 0xffffffff stands before the word
+-- how many bytes an initial length has: in the 64-bit format the mark 0xffffffff precedes the word
 abbrev pub initial_length_size : Format → ℕ
 initial_length_size Dwarf32 = 4
 initial_length_size Dwarf64 = 12

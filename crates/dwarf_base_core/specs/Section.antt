@@ -40,6 +40,6 @@ section_names DebugStrOffsets = names (codes ".debug_str_offsets") (Some (codes 
 section_names DebugTuIndex = names (codes ".debug_tu_index") (Some (codes ".debug_tu_index")) None
 section_names DebugTypes = names (codes ".debug_types") (Some (codes ".debug_types.dwo")) None
 
--- a name tells its section
+-- a name determines its section
 abbrev pub NamesAreDistinct : Type 0
 NamesAreDistinct = (x y : SectionId) → (section_names x).name ≡ (section_names y).name → x ≡ y

@@ -13,7 +13,7 @@ use crate::reader_offset::ReaderOffset;
 
 /// Whether a unit's lengths and offsets have 4 bytes or 8 (DWARF 5, 7.4).
 ///
-/// The initial length of a unit says which: 0xffffffff stands before a length of 8 bytes.
+/// The initial length of a unit says which: 0xffffffff precedes a length of 8 bytes.
 /// As a number, a format is the number of bytes in a word.
 #[derive(Debug, Clone, Copy, PartialEq, Eq, Hash)]
 pub enum Format {
@@ -26,7 +26,7 @@ pub enum Format {
 impl Format {
     ghost use Rattle.dwarf_base_core.specs.Format.{initial_length_size, word_size};
 
-    /// The number of bytes of an initial length: 4, or 12 in the 64-bit format.
+    /// Returns the number of bytes of an initial length: 4, or 12 in the 64-bit format.
     #[inline]
     pub fn initial_length_size(self) -> u8
         ensures { result ≡ initial_length_size self }
@@ -37,7 +37,7 @@ impl Format {
         }
     }
 
-    /// The number of bytes of a word, which is a length or an offset: 4 or 8.
+    /// Returns the number of bytes of a word, which is a length or an offset: 4 or 8.
     #[inline]
     pub fn word_size(self) -> u8
         ensures { result ≡ word_size self }
@@ -49,7 +49,7 @@ impl Format {
     }
 }
 
-/// Which vendor's meaning constants have that several vendors use for different things.
+/// The vendor whose meaning a constant has, if several vendors use its value for different things.
 #[derive(Debug, Clone, Copy, PartialEq, Eq)]
 pub enum Vendor {
     /// No vendor in particular.
@@ -74,9 +74,9 @@ pub struct Encoding {
 pub struct LineEncoding {
     /// The number of bytes of the target's smallest instruction.
     pub minimum_instruction_length: u8,
-    /// The greatest number of operations in one instruction, 1 where the target isn't VLIW.
+    /// The greatest number of operations in one instruction, 1 if the target isn't VLIW.
     pub maximum_operations_per_instruction: u8,
-    /// Whether a row begins a statement where the program says nothing else.
+    /// Whether a row begins a statement unless the program says otherwise.
     pub default_is_stmt: bool,
     /// The least number of lines that a special opcode advances.
     pub line_base: i8,
@@ -111,10 +111,11 @@ impl Default for LineEncoding {
 pub struct Register(pub u16);
 
 impl Register {
-    /// The register of this number, as a LEB128 number or an operand gives it.
+    /// Returns the register of this number, which a LEB128 number or an operand has.
     ///
-    /// The error is [`Error::UnsupportedRegister`] with the number, exactly where it doesn't
-    /// fit 16 bits.
+    /// # Errors
+    ///
+    /// [`Error::UnsupportedRegister`] with the number, exactly if it doesn't fit 16 bits.
     pub fn from_u64(x: u64) -> Result<Register>
         ensures { OkBelow (2 ^ 16) (λ register. register.0) x (Error.UnsupportedRegister x) result }
     {
@@ -133,7 +134,7 @@ pub struct DebugAbbrevOffset<T>(pub T);
 #[derive(Debug, Clone, Copy, PartialEq, Eq)]
 pub struct DebugAddrOffset<T>(pub T);
 
-/// An offset in bytes from the start of `.debug_addr`, where the first address of a set stands.
+/// An offset in bytes from the start of `.debug_addr`, where the first address of a set is.
 #[derive(Debug, Clone, Copy, PartialEq, Eq)]
 pub struct DebugAddrBase<T>(pub T);
 
@@ -205,14 +206,14 @@ pub struct DebugRngListsIndex<T>(pub T);
 #[derive(Debug, Clone, Copy, PartialEq, Eq)]
 pub struct DebugStrOffset<T>(pub T);
 
-/// An offset in bytes from the start of `.debug_str_offsets`, where the first entry of a set stands.
+/// An offset in bytes from the start of `.debug_str_offsets`, where the first entry of a set is.
 #[derive(Debug, Clone, Copy, PartialEq, Eq)]
 pub struct DebugStrOffsetsBase<T>(pub T);
 
 impl<Offset: ReaderOffset> DebugStrOffsetsBase<Offset> {
     ghost use Rattle.dwarf_base_core.specs.Format.{default_str_offsets_base};
 
-    /// The base of a unit that has no `DW_AT_str_offsets_base`.
+    /// Returns the base of a unit that has no `DW_AT_str_offsets_base`.
     ///
     /// A split object of version 5 has one set of entries and no such attribute, so the base is
     /// the length of that set's header (DWARF 5, 7.26): 8 bytes, or 16 in the 64-bit format.
@@ -249,7 +250,7 @@ pub struct DebugTypeSignature(pub u64);
 #[derive(Debug, Clone, Copy, PartialEq, Eq, Hash)]
 pub struct DebugFrameOffset<T>(pub T);
 
-/// The offset of this number.
+/// Returns the offset of this number.
 impl<T> From<T> for DebugFrameOffset<T> {
     ghost from_gives = { λ number offset. offset.0 ≡ number };
 
@@ -263,7 +264,7 @@ impl<T> From<T> for DebugFrameOffset<T> {
 #[derive(Debug, Clone, Copy, PartialEq, Eq, Hash)]
 pub struct EhFrameOffset<T>(pub T);
 
-/// The offset of this number.
+/// Returns the offset of this number.
 impl<T> From<T> for EhFrameOffset<T> {
     ghost from_gives = { λ number offset. offset.0 ≡ number };
 
@@ -336,7 +337,7 @@ impl SectionId {
     ghost use Rattle.dwarf_base_core.specs.declared.common.SectionId.TheVariants.{DebugStr, DebugLineStr};
     ghost use Rattle.dwarf_base_core.specs.Section.{section_names};
 
-    /// The section's name in an ELF object, such as `.debug_abbrev`.
+    /// Returns the section's name in an ELF object, such as `.debug_abbrev`.
     pub fn name(self) -> &'static str
         ensures { result.now ≡ (section_names self).name }
     {
@@ -369,8 +370,8 @@ impl SectionId {
         }
     }
 
-    /// The section's name in a split object or a package, such as `.debug_abbrev.dwo`, or
-    /// `None` where it stands in neither.
+    /// Returns the section's name in a split object or a package, such as `.debug_abbrev.dwo`, or
+    /// `None` if neither has it.
     pub fn dwo_name(self) -> Option<&'static str>
         ensures { option_map (λ name. name.now) result ≡ (section_names self).dwo_name }
     {
@@ -392,7 +393,7 @@ impl SectionId {
         }
     }
 
-    /// The section's name in an XCOFF object, such as `.dwabrev`, or `None` where XCOFF has no
+    /// Returns the section's name in an XCOFF object, such as `.dwabrev`, or `None` if XCOFF has no
     /// name for it.
     pub fn xcoff_name(self) -> Option<&'static str>
         ensures { option_map (λ name. name.now) result ≡ (section_names self).xcoff_name }
@@ -413,7 +414,7 @@ impl SectionId {
         }
     }
 
-    /// Whether the section holds strings alone: `.debug_str` and `.debug_line_str`.
+    /// Returns whether the section holds only strings: `.debug_str` and `.debug_line_str` do.
     pub fn is_string(self) -> bool
         ensures { IsTrue result ↔ ((self ≡ DebugStr) ⊎ (self ≡ DebugLineStr)) }
     {

@@ -7,9 +7,9 @@ use std::fmt::Debug;
 
 /// A byte order: which end of a number its first byte is.
 ///
-/// The reads take their bytes from the front of a buffer, which has to have that many, and the
-/// writes leave the rest of it as it was. Take [`LittleEndian`] or [`BigEndian`] where the order is
-/// known as the program is written, and [`RunTimeEndian`] where the input says it.
+/// The reads use the bytes at the front of a buffer, which has to have that many. The writes don't
+/// change the rest of it. Use [`LittleEndian`] or [`BigEndian`] if the order is known when the
+/// program is written, and [`RunTimeEndian`] if the input says it.
 ///
 /// ```
 /// let bytes = [0x78, 0x56, 0x34, 0x12];
@@ -20,11 +20,11 @@ pub trait Endianity: Debug + Default + Clone + Copy + PartialEq + Eq {
     // Whether the highest byte comes first.
     ghost is_big: { Self → Bool };
 
-    /// Whether a number's highest byte comes first.
+    /// Returns whether a number's highest byte comes first.
     fn is_big_endian(self) -> bool
         ensures { result ≡ is_big self };
 
-    /// Whether a number's lowest byte comes first.
+    /// Returns whether a number's lowest byte comes first.
     #[inline]
     fn is_little_endian(self) -> bool
         ensures { result ≡ not (is_big self) }
@@ -32,7 +32,7 @@ pub trait Endianity: Debug + Default + Clone + Copy + PartialEq + Eq {
         !self.is_big_endian()
     }
 
-    /// The unsigned number of the first 2 bytes.
+    /// Returns the unsigned number of the first 2 bytes.
     #[inline]
     fn read_u16(self, buf: &[u8]) -> u16
         requires { 2 ≤ length buf.now }
@@ -46,7 +46,7 @@ pub trait Endianity: Debug + Default + Clone + Copy + PartialEq + Eq {
         }
     }
 
-    /// The unsigned number of the first 4 bytes.
+    /// Returns the unsigned number of the first 4 bytes.
     #[inline]
     fn read_u32(self, buf: &[u8]) -> u32
         requires { 4 ≤ length buf.now }
@@ -60,7 +60,7 @@ pub trait Endianity: Debug + Default + Clone + Copy + PartialEq + Eq {
         }
     }
 
-    /// The unsigned number of the first 8 bytes.
+    /// Returns the unsigned number of the first 8 bytes.
     #[inline]
     fn read_u64(self, buf: &[u8]) -> u64
         requires { 8 ≤ length buf.now }
@@ -74,7 +74,7 @@ pub trait Endianity: Debug + Default + Clone + Copy + PartialEq + Eq {
         }
     }
 
-    /// The unsigned number of the first 16 bytes.
+    /// Returns the unsigned number of the first 16 bytes.
     #[inline]
     fn read_u128(self, buf: &[u8]) -> u128
         requires { 16 ≤ length buf.now }
@@ -88,9 +88,8 @@ pub trait Endianity: Debug + Default + Clone + Copy + PartialEq + Eq {
         }
     }
 
-    /// The unsigned number of all bytes of the buffer, which has at most 8. Of no bytes it is 0.
-    ///
-    /// The order itself stays as it is.
+    /// Returns the unsigned number of all bytes of the buffer, which has at most 8. Of no bytes it
+    /// is 0. The order itself isn't changed.
     #[inline]
     fn read_uint(&mut self, buf: &[u8]) -> u64
         requires { length buf.now ≤ 8 }
@@ -106,7 +105,7 @@ pub trait Endianity: Debug + Default + Clone + Copy + PartialEq + Eq {
         self.read_u64(&bytes)
     }
 
-    /// The signed number of the first 2 bytes, in two's complement.
+    /// Returns the signed number of the first 2 bytes, in two's complement.
     #[inline]
     fn read_i16(self, buf: &[u8]) -> i16
         requires { 2 ≤ length buf.now }
@@ -115,7 +114,7 @@ pub trait Endianity: Debug + Default + Clone + Copy + PartialEq + Eq {
         self.read_u16(buf).cast_signed()
     }
 
-    /// The signed number of the first 4 bytes, in two's complement.
+    /// Returns the signed number of the first 4 bytes, in two's complement.
     #[inline]
     fn read_i32(self, buf: &[u8]) -> i32
         requires { 4 ≤ length buf.now }
@@ -124,7 +123,7 @@ pub trait Endianity: Debug + Default + Clone + Copy + PartialEq + Eq {
         self.read_u32(buf).cast_signed()
     }
 
-    /// The signed number of the first 8 bytes, in two's complement.
+    /// Returns the signed number of the first 8 bytes, in two's complement.
     #[inline]
     fn read_i64(self, buf: &[u8]) -> i64
         requires { 8 ≤ length buf.now }

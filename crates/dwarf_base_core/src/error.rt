@@ -16,11 +16,11 @@ use dwarf_const_core::form::DwForm;
 use std::alloc::{AllocError, AllocFailed};
 use std::fmt;
 
-/// Why a read was refused.
+/// Why a read failed.
 ///
-/// Each error has the text that its `Display` writes, whatever width, fill and alignment are asked
-/// for. A value in an error is the one that was read, save for a [`ReaderOffsetId`], which says
-/// where.
+/// Each error has one text, which its `Display` writes whatever width, fill and alignment are
+/// requested. A value in an error is the one that was read, except for a [`ReaderOffsetId`], which
+/// is a place.
 #[derive(Debug, Clone, Copy, PartialEq, Eq)]
 pub enum Error {
     /// An input couldn't be read. Nothing in this crate makes it; loaders of sections do.
@@ -31,7 +31,7 @@ pub enum Error {
     TextRelativePointerButTextBaseIsUndefined,
     /// A pointer counts from the data (`DW_EH_PE_datarel`), whose address isn't known.
     DataRelativePointerButDataBaseIsUndefined,
-    /// A pointer counts from a function (`DW_EH_PE_funcrel`) where no function is at hand.
+    /// A pointer counts from a function (`DW_EH_PE_funcrel`), and no function is at hand.
     FuncRelativePointerInBadContext,
     /// A pointer is needed, and its encoding says that it is left out (`DW_EH_PE_omit`).
     CannotParseOmitPointerEncoding,
@@ -93,7 +93,7 @@ pub enum Error {
     InvalidExpression(DwOp),
     /// An expression has an operation that can't be evaluated.
     UnsupportedEvaluation,
-    /// A piece of a location is followed by an operation that may not stand there.
+    /// A piece of a location is followed by an operation that may not follow it.
     InvalidPiece,
     /// Something follows an operation that has to be an expression's last.
     InvalidExpressionTerminator(u64),
@@ -113,11 +113,11 @@ pub enum Error {
     InvalidPieceSize(u64),
     /// A call frame instruction is unknown.
     UnknownCallFrameInstruction(DwCfa),
-    /// A `DW_CFA_set_loc` leads to this address, which lies before the last.
+    /// A `DW_CFA_set_loc` leads to this address, which is before the last.
     InvalidCfiSetLoc(u64),
     /// The sum of an address and a length is no address of the unit's size.
     AddressOverflow,
-    /// A call frame instruction stands where it may not.
+    /// A call frame instruction is where it may not be.
     CfiInstructionInInvalidContext,
     /// A `DW_CFA_restore_state` has no state to restore.
     PopWithEmptyStack,
@@ -129,13 +129,13 @@ pub enum Error {
     UnknownPointerEncoding(DwEhPe),
     /// No entry begins at this offset.
     NoEntryAtGivenOffset(u64),
-    /// An offset lies outside of what it points into.
+    /// An offset is outside of what it points into.
     OffsetOutOfBounds(u64),
     /// The augmentation of a common information entry is unknown.
     UnknownAugmentation,
-    /// The encoding of a pointer is known, and can't be read where it stands.
+    /// The encoding of a pointer is known, and can't be read here.
     UnsupportedPointerEncoding(DwEhPe),
-    /// A pointer leads to the address of its value, where that can't be followed.
+    /// A pointer leads to the address of its value, which can't be followed here.
     UnsupportedIndirectPointer,
     /// The number of a register is above 16 bits.
     UnsupportedRegister(u64),
@@ -151,13 +151,13 @@ pub enum Error {
     MissingUnitDie,
     /// A split object has no compilation unit.
     MissingSplitUnit,
-    /// An attribute has a form that isn't read where it stands.
+    /// An attribute has a form that isn't read there.
     UnsupportedAttributeForm(DwForm),
     /// A line number program doesn't say how the paths of its files are written.
     MissingFileEntryFormatPath,
     /// An attribute that has to be a string is something else.
     ExpectedStringAttributeValue,
-    /// An entry gives the form `DW_FORM_implicit_const` itself, where no value can stand beside it.
+    /// An entry itself has the form `DW_FORM_implicit_const`, and no value can follow it there.
     InvalidImplicitConst,
     /// The index of a package has more columns than there are kinds of sections.
     UnsupportedIndexSectionCount(u32),
@@ -177,14 +177,14 @@ pub enum Error {
     UnsupportedOpcodeOperandsTable,
     /// An abbreviation of `.debug_names` has an attribute that can't be read.
     InvalidNameAttributeIndex(u64),
-    /// Memory was refused.
+    /// Memory ran out.
     OutOfMemory,
-    /// A strict reading found a table of abbreviations that no code of value 0 closes. The section
-    /// ends here.
+    /// A strict read found a table of abbreviations that no null code closes. The section ends
+    /// here.
     UnterminatedAbbreviations(ReaderOffsetId),
 }
 
-/// What a read answers.
+/// The result of a read.
 pub type Result<T> = std::result::Result<T, Error>;
 
 // The text of an error: a number is written behind its first part.
@@ -425,7 +425,7 @@ impl fmt::Display for Error {
 /// An error without a source.
 impl std::error::Error for Error {}
 
-/// [`Error::OutOfMemory`], so that `?` hands on an allocation that was refused.
+/// [`Error::OutOfMemory`], so that `?` propagates a failed allocation.
 impl From<AllocError> for Error {
     ghost use Rattle.std.specs.Prelude.{◌≡◌};
     ghost use Rattle.dwarf_base_core.specs.declared.error.Error.TheVariants.{OutOfMemory};
@@ -437,7 +437,7 @@ impl From<AllocError> for Error {
     }
 }
 
-/// [`Error::OutOfMemory`], so that `?` hands on a value that found no room, which is dropped.
+/// [`Error::OutOfMemory`], so that `?` propagates a value that found no room, which is dropped.
 impl<T: Drop> From<AllocFailed<T>> for Error {
     ghost use Rattle.std.specs.Prelude.{◌≡◌};
     ghost use Rattle.dwarf_base_core.specs.declared.error.Error.TheVariants.{OutOfMemory};

@@ -4,6 +4,6 @@
 #[derive(Debug, Clone, Copy, PartialEq, Eq, PartialOrd, Ord, Hash)]
 pub struct UnitOffset<T>(pub T);
 
-/// Says that a reader's storage lies on the heap and grows as it is needed.
+/// Marks a reader's storage as one on the heap that grows as it is needed.
 #[derive(Debug, Clone, Copy, PartialEq, Eq)]
 pub struct StoreOnHeap;

@@ -20,36 +20,39 @@ pub trait ReaderAddress: Sized {
     // The number that an address is.
     ghost value: { Self → ℕ };
 
-    /// The sum of the address and a length in bytes.
+    /// Returns the sum of the address and a length in bytes.
     ///
-    /// The error is [`Error::AddressOverflow`], exactly where the sum is no address of the size.
+    /// # Errors
+    ///
+    /// [`Error::AddressOverflow`] exactly if the sum is no address of the size.
     fn add_sized(self, length: u64, size: u8) -> Result<Self>
         requires low { 1 ≤ size }
         requires high { size ≤ 8 }
         ensures { OkBelow (address_count size) value
             (value self + length) Error.AddressOverflow result };
 
-    /// The sum of the address and a length in bytes, modulo the number of addresses of the size.
+    /// Returns the sum of the address and a length in bytes, modulo the number of addresses of the
+    /// size.
     fn wrapping_add_sized(self, length: u64, size: u8) -> Self
         requires low { 1 ≤ size }
         requires high { size ≤ 8 }
         ensures { value result ≡ (value self + length) % address_count size };
 
-    /// The address 0.
+    /// Returns the address 0.
     fn zeros() -> Self
         ensures { value result ≡ 0 };
 
-    /// The greatest address of the size, all of whose bits are ones.
+    /// Returns the greatest address of the size, all of whose bits are ones.
     fn ones_sized(size: u8) -> Self
         requires low { 1 ≤ size }
         requires high { size ≤ 8 }
         ensures { value result ≡ address_count size - 1 };
 
-    /// The least address that can mark code which was removed: the greatest of the size but one.
+    /// Returns the least address that can mark removed code: the second greatest of the size.
     ///
-    /// Linkers put the greatest address where a unit describes code that they dropped, or the one
-    /// below it where the greatest already means something else. So every address from this one
-    /// on is such a mark.
+    /// Linkers write the greatest address if a unit describes code that they dropped, or the one
+    /// below it if the greatest already means something else. So each address from this one on is
+    /// such a mark.
     fn min_tombstone(size: u8) -> Self
         requires low { 1 ≤ size }
         requires high { size ≤ 8 }

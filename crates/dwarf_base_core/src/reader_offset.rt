@@ -12,7 +12,7 @@ use std::fmt::Debug;
 use std::hash::Hash;
 use std::ops::{Add, AddAssign, Sub};
 
-/// A place in the input that an error names.
+/// A place in the input, as errors have it.
 ///
 /// It is the position of a reader, counted in bytes. Sections whose first positions lie apart
 /// have different identifiers, and then an identifier says which section it belongs to.
@@ -21,12 +21,12 @@ pub struct ReaderOffsetId(pub u64);
 
 /// The type of a reader's offsets and lengths, such as `usize`.
 ///
-/// An offset stands for a number from 0 to [`GREATEST`](ReaderOffset::GREATEST), which is at
+/// An offset represents a number from 0 to [`GREATEST`](ReaderOffset::GREATEST), which is at
 /// least 2^32 - 1. Equality, order and hash are those of the numbers, and so are `+`, `+=` and
 /// `-`: a sum has to be at most `GREATEST`, and a difference may not be negative.
 ///
 /// A section of more than `GREATEST` bytes has no reader with such offsets, so a smaller type
-/// saves room where sections are known to be small.
+/// saves room if sections are known to be small.
 ///
 /// ```
 /// // The end of a part, at any type of offsets.
@@ -54,40 +54,42 @@ pub trait ReaderOffset: Debug
     // The number that an offset is.
     ghost value: { Self → ℕ };
 
-    /// The offset of this number.
+    /// Returns the offset of this number.
     fn from_u8(offset: u8) -> Self
         ensures { value result ≡ offset };
 
-    /// The offset of this number.
+    /// Returns the offset of this number.
     fn from_u16(offset: u16) -> Self
         ensures { value result ≡ offset };
 
-    /// The offset of this number, or for a negative one of `GREATEST + 1` plus it.
+    /// Returns the offset of this number, or for a negative one of `GREATEST + 1` plus it.
     ///
     /// So the [`wrapping_add`](ReaderOffset::wrapping_add) of it goes back by that much.
     fn from_i16(offset: i16) -> Self
         ensures { value result ≡ offset_from_signed GREATEST offset };
 
-    /// The offset of this number.
+    /// Returns the offset of this number.
     fn from_u32(offset: u32) -> Self
         ensures { value result ≡ offset };
 
-    /// The offset of this number.
+    /// Returns the offset of this number.
     ///
-    /// The error is [`Error::UnsupportedOffset`], exactly where the number is above `GREATEST`.
+    /// # Errors
+    ///
+    /// [`Error::UnsupportedOffset`] exactly if the number is above `GREATEST`.
     fn from_u64(offset: u64) -> Result<Self>
         ensures { OkBelow (GREATEST + 1) value offset Error.UnsupportedOffset result };
 
-    /// The number that the offset stands for.
+    /// Returns the number that the offset represents.
     fn into_u64(self) -> u64
         ensures number { result ≡ value self }
         ensures in_range { result ≤ GREATEST };
 
-    /// The sum modulo `GREATEST + 1`.
+    /// Returns the sum modulo `GREATEST + 1`.
     fn wrapping_add(self, other: Self) -> Self
         ensures { value result ≡ (value self + value other) % (GREATEST + 1) };
 
-    /// The difference, or `None` exactly where it is negative.
+    /// Returns the difference, or `None` exactly if it is negative.
     fn checked_sub(self, other: Self) -> Option<Self>
         ensures { DiffersBy value self other result };
 
@@ -105,12 +107,12 @@ pub trait ReaderOffset: Debug
 
     ghost partial_cmp_law: { (x y : Self) → Self.partial_cmp x y ≡ Some (nat_cmp (value x) (value y)) };
 
-    // What is hashed is the number: two offsets feed a hasher the same exactly where their numbers
-    // are equal.
+    // The number is hashed: two offsets feed a hasher the same bytes exactly if their numbers are
+    // equal.
     ghost hash_law: { (x y : Self) → value x ≤ GREATEST → value y ≤ GREATEST
         → (Self.hash_input x ≡ Self.hash_input y) ↔ (value x ≡ value y) };
 
-    // `+`, `+=` and `-` are the numbers' own, where the answer is an offset.
+    // `+`, `+=` and `-` are the numbers' own, if the result is an offset.
     ghost can_add_law: { (x y : Self) → value x + value y ≤ GREATEST → Self.can_add x y };
 
     ghost add_law: { (x y z : Self) → Self.add_gives x y z → value z ≡ value x + value y };

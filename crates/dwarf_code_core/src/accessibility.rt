@@ -26,7 +26,7 @@ pub const DW_ACCESS_private: DwAccess = DwAccess(0x03);
 const NAMES: Names = names![DW_ACCESS_public, DW_ACCESS_protected, DW_ACCESS_private,];
 
 impl DwAccess {
-    /// The name of this value, as `DW_ACCESS_public`, or `None` if no constant of the type has the value.
+    /// Returns the name of this value, such as `DW_ACCESS_public`, or `None` if it has none.
     #[tactic(auto, unfolding(crate::specs::DwAccess::accessibility_names))]
     pub fn static_string(&self) -> Option<&'static str>
         ensures { option_map (λ s. s.now) result ≡ name_of accessibility_names self.now.0 }

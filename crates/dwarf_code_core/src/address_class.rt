@@ -23,7 +23,7 @@ pub const DW_ADDR_none: DwAddr = DwAddr(0x00);
 const NAMES: Names = names![DW_ADDR_none,];
 
 impl DwAddr {
-    /// The name of this value, as `DW_ADDR_none`, or `None` if no constant of the type has the value.
+    /// Returns the name of this value, such as `DW_ADDR_none`, or `None` if it has none.
     #[tactic(auto, unfolding(crate::specs::DwAddr::address_class_names))]
     pub fn static_string(&self) -> Option<&'static str>
         ensures { option_map (λ s. s.now) result ≡ name_of address_class_names self.now.0 }

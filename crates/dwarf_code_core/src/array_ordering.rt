@@ -24,7 +24,7 @@ pub const DW_ORD_col_major: DwOrd = DwOrd(0x01);
 const NAMES: Names = names![DW_ORD_row_major, DW_ORD_col_major,];
 
 impl DwOrd {
-    /// The name of this value, as `DW_ORD_row_major`, or `None` if no constant of the type has the value.
+    /// Returns the name of this value, such as `DW_ORD_row_major`, or `None` if it has none.
     #[tactic(auto, unfolding(crate::specs::DwOrd::array_ordering_names))]
     pub fn static_string(&self) -> Option<&'static str>
         ensures { option_map (λ s. s.now) result ≡ name_of array_ordering_names self.now.0 }

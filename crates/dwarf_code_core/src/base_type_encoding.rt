@@ -93,7 +93,7 @@ const NAMES: Names = names![
 ];
 
 impl DwAte {
-    /// The name of this value, as `DW_ATE_address`, or `None` if no constant of the type has the value.
+    /// Returns the name of this value, such as `DW_ATE_address`, or `None` if it has none.
     #[tactic(auto, unfolding(crate::specs::DwAte::base_type_encoding_names))]
     pub fn static_string(&self) -> Option<&'static str>
         ensures { option_map (λ s. s.now) result ≡ name_of base_type_encoding_names self.now.0 }

@@ -134,7 +134,7 @@ const NAMES: Names = names![
 ];
 
 impl DwCfa {
-    /// The name of this value, as `DW_CFA_def_cfa`, or `None` if no constant of the type has the value.
+    /// Returns the name of this value, such as `DW_CFA_def_cfa`, or `None` if it has none.
     #[tactic(auto, unfolding(crate::specs::DwCfa::call_frame_names))]
     pub fn static_string(&self) -> Option<&'static str>
         ensures { option_map (λ s. s.now) result ≡ name_of call_frame_names self.now.0 }

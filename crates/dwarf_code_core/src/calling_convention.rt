@@ -48,7 +48,7 @@ const NAMES: Names = names![
 ];
 
 impl DwCc {
-    /// The name of this value, as `DW_CC_normal`, or `None` if no constant of the type has the value.
+    /// Returns the name of this value, such as `DW_CC_normal`, or `None` if it has none.
     #[tactic(auto, unfolding(crate::specs::DwCc::calling_convention_names))]
     pub fn static_string(&self) -> Option<&'static str>
         ensures { option_map (λ s. s.now) result ≡ name_of calling_convention_names self.now.0 }

@@ -24,7 +24,7 @@ pub const DW_CHILDREN_yes: DwChildren = DwChildren(1);
 const NAMES: Names = names![DW_CHILDREN_no, DW_CHILDREN_yes,];
 
 impl DwChildren {
-    /// The name of this value, as `DW_CHILDREN_no`, or `None` if no constant of the type has the value.
+    /// Returns the name of this value, such as `DW_CHILDREN_no`, or `None` if it has none.
     #[tactic(auto, unfolding(crate::specs::DwChildren::children_names))]
     pub fn static_string(&self) -> Option<&'static str>
         ensures { option_map (λ s. s.now) result ≡ name_of children_names self.now.0 }

@@ -36,7 +36,7 @@ const NAMES: Names = names![
 ];
 
 impl DwDs {
-    /// The name of this value, as `DW_DS_unsigned`, or `None` if no constant of the type has the value.
+    /// Returns the name of this value, such as `DW_DS_unsigned`, or `None` if it has none.
     #[tactic(auto, unfolding(crate::specs::DwDs::decimal_sign_names))]
     pub fn static_string(&self) -> Option<&'static str>
         ensures { option_map (λ s. s.now) result ≡ name_of decimal_sign_names self.now.0 }

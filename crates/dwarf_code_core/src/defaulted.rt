@@ -30,7 +30,7 @@ const NAMES: Names = names![
 ];
 
 impl DwDefaulted {
-    /// The name of this value, as `DW_DEFAULTED_no`, or `None` if no constant of the type has the value.
+    /// Returns the name of this value, such as `DW_DEFAULTED_no`, or `None` if it has none.
     #[tactic(auto, unfolding(crate::specs::DwDefaulted::defaulted_names))]
     pub fn static_string(&self) -> Option<&'static str>
         ensures { option_map (λ s. s.now) result ≡ name_of defaulted_names self.now.0 }

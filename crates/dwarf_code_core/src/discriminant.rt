@@ -9,7 +9,7 @@ use dwarf_const_core::names;
 use dwarf_const_core::names::{Names, pad_name};
 use std::fmt;
 
-/// What stands next in a list of discriminant values (DWARF 5, section 7.18).
+/// What comes next in a list of discriminant values (DWARF 5, section 7.18).
 ///
 /// It prints as its name; a value without one, as 99, prints as `Unknown DwDsc: 99`. Either is
 /// padded as a text is.
@@ -24,7 +24,7 @@ pub const DW_DSC_range: DwDsc = DwDsc(0x01);
 const NAMES: Names = names![DW_DSC_label, DW_DSC_range,];
 
 impl DwDsc {
-    /// The name of this value, as `DW_DSC_label`, or `None` if no constant of the type has the value.
+    /// Returns the name of this value, such as `DW_DSC_label`, or `None` if it has none.
     #[tactic(auto, unfolding(crate::specs::DwDsc::discriminant_names))]
     pub fn static_string(&self) -> Option<&'static str>
         ensures { option_map (λ s. s.now) result ≡ name_of discriminant_names self.now.0 }

@@ -45,7 +45,7 @@ const NAMES: Names = names![
 ];
 
 impl GdbIndexSymbolKind {
-    /// The name of this value, as `GDB_INDEX_SYMBOL_KIND_NONE`, or `None` if no constant of the type has the value.
+    /// Returns the name of this value, such as `GDB_INDEX_SYMBOL_KIND_NONE`, or `None` if it has none.
     #[tactic(auto, unfolding(crate::specs::GdbIndexSymbolKind::gdb_index_symbol_kind_names))]
     pub fn static_string(&self) -> Option<&'static str>
         ensures { option_map (λ s. s.now) result ≡ name_of gdb_index_symbol_kind_names self.now.0 }

@@ -33,7 +33,7 @@ const NAMES: Names = names![
 ];
 
 impl DwId {
-    /// The name of this value, as `DW_ID_case_sensitive`, or `None` if no constant of the type has the value.
+    /// Returns the name of this value, such as `DW_ID_case_sensitive`, or `None` if it has none.
     #[tactic(auto, unfolding(crate::specs::DwId::identifier_case_names))]
     pub fn static_string(&self) -> Option<&'static str>
         ensures { option_map (λ s. s.now) result ≡ name_of identifier_case_names self.now.0 }

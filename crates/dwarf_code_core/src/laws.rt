@@ -32,7 +32,7 @@ ghost use Rattle.dwarf_code_core.specs.GdbIndexSymbolKind.{gdb_index_symbol_kind
 
 use crate::call_frame::{DW_CFA_AARCH64_negate_ra_state, DW_CFA_GNU_window_save};
 
-/// In each list of names no value stands twice, so a value has one name at most.
+/// In each list of names no value is listed twice, so a value has at most one name.
 pub fn names_are_distinct()
     ensures accessibility { HasDistinctValues accessibility_names }
     ensures address_class { HasDistinctValues address_class_names }

@@ -45,7 +45,7 @@ const NAMES: Names = names![
 ];
 
 impl DwLne {
-    /// The name of this value, as `DW_LNE_end_sequence`, or `None` if no constant of the type has the value.
+    /// Returns the name of this value, such as `DW_LNE_end_sequence`, or `None` if it has none.
     #[tactic(auto, unfolding(crate::specs::DwLne::line_extended_names))]
     pub fn static_string(&self) -> Option<&'static str>
         ensures { option_map (λ s. s.now) result ≡ name_of line_extended_names self.now.0 }

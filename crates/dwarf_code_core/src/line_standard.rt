@@ -60,7 +60,7 @@ const NAMES: Names = names![
 ];
 
 impl DwLns {
-    /// The name of this value, as `DW_LNS_copy`, or `None` if no constant of the type has the value.
+    /// Returns the name of this value, such as `DW_LNS_copy`, or `None` if it has none.
     #[tactic(auto, unfolding(crate::specs::DwLns::line_standard_names))]
     pub fn static_string(&self) -> Option<&'static str>
         ensures { option_map (λ s. s.now) result ≡ name_of line_standard_names self.now.0 }

@@ -37,7 +37,7 @@ const NAMES: Names = names![
 ];
 
 impl DwMacinfo {
-    /// The name of this value, as `DW_MACINFO_define`, or `None` if no constant of the type has the value.
+    /// Returns the name of this value, such as `DW_MACINFO_define`, or `None` if it has none.
     #[tactic(auto, unfolding(crate::specs::DwMacinfo::macinfo_names))]
     pub fn static_string(&self) -> Option<&'static str>
         ensures { option_map (λ s. s.now) result ≡ name_of macinfo_names self.now.0 }

@@ -16,9 +16,9 @@ use std::fmt;
 #[derive(Debug, Clone, Copy, PartialEq, Eq, Hash, PartialOrd, Ord)]
 pub struct DwMacro(pub u8);
 
-/// A macro is defined, by a string that stands here.
+/// A macro is defined, by a string that follows.
 pub const DW_MACRO_define: DwMacro = DwMacro(0x01);
-/// A macro is no longer defined, by a string that stands here.
+/// A macro is no longer defined, by a string that follows.
 pub const DW_MACRO_undef: DwMacro = DwMacro(0x02);
 /// An included file begins.
 pub const DW_MACRO_start_file: DwMacro = DwMacro(0x03);
@@ -63,7 +63,7 @@ const NAMES: Names = names![
 ];
 
 impl DwMacro {
-    /// The name of this value, as `DW_MACRO_define`, or `None` if no constant of the type has the value.
+    /// Returns the name of this value, such as `DW_MACRO_define`, or `None` if it has none.
     #[tactic(auto, unfolding(crate::specs::DwMacro::macro_entry_names))]
     pub fn static_string(&self) -> Option<&'static str>
         ensures { option_map (λ s. s.now) result ≡ name_of macro_entry_names self.now.0 }

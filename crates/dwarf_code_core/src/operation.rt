@@ -23,7 +23,7 @@ pub struct DwOp(pub u8);
 
 /// Pushes the address that follows.
 pub const DW_OP_addr: DwOp = DwOp(0x03);
-/// Replaces an address by what stands there.
+/// Replaces an address by what is stored there.
 pub const DW_OP_deref: DwOp = DwOp(0x06);
 /// Pushes an unsigned number of one byte.
 pub const DW_OP_const1u: DwOp = DwOp(0x08);
@@ -57,7 +57,7 @@ pub const DW_OP_pick: DwOp = DwOp(0x15);
 pub const DW_OP_swap: DwOp = DwOp(0x16);
 /// Moves the top below the next two.
 pub const DW_OP_rot: DwOp = DwOp(0x17);
-/// Replaces an address and an address space by what stands there.
+/// Replaces an address and an address space by what is stored there.
 pub const DW_OP_xderef: DwOp = DwOp(0x18);
 
 // Arithmetic and logic on the top of the stack.
@@ -148,7 +148,7 @@ pub const DW_OP_bit_piece: DwOp = DwOp(0x9d);
 
 // DWARF 4.
 
-/// The object's bytes stand here.
+/// The object's bytes follow.
 pub const DW_OP_implicit_value: DwOp = DwOp(0x9e);
 /// The object's value is the top; it has no location.
 pub const DW_OP_stack_value: DwOp = DwOp(0x9f);
@@ -395,7 +395,7 @@ const NAMES: Names = names![
 ];
 
 impl DwOp {
-    /// The name of this value, as `DW_OP_plus`, or `None` if no constant of the type has the value.
+    /// Returns the name of this value, such as `DW_OP_plus`, or `None` if it has none.
     #[tactic(auto, unfolding(crate::specs::DwOp::operation_names))]
     pub fn static_string(&self) -> Option<&'static str>
         ensures { option_map (λ s. s.now) result ≡ name_of operation_names self.now.0 }

@@ -10,7 +10,7 @@ use dwarf_const_core::names::{Names, pad_name};
 use std::{fmt, ops};
 
 /// How a pointer of `.eh_frame` is encoded: the format of a number in the low four bits, what it is
-/// relative to in bits 4 to 6, and in bit 7 whether the pointer stands elsewhere (Linux Standard
+/// relative to in bits 4 to 6, and in bit 7 whether the pointer is elsewhere (Linux Standard
 /// Base Core 5.0, section 10.5.1).
 ///
 /// It prints as its name; a value without one, as 99, prints as `Unknown DwEhPe: 99`. Either is
@@ -39,7 +39,7 @@ pub const DW_EH_PE_sdata8: DwEhPe = DwEhPe(0x0c);
 
 // The ways to apply the number: bits 4 to 6.
 
-/// Relative to the place where the number stands.
+/// Relative to the place of the number.
 pub const DW_EH_PE_pcrel: DwEhPe = DwEhPe(0x10);
 /// Relative to the code.
 pub const DW_EH_PE_textrel: DwEhPe = DwEhPe(0x20);
@@ -52,7 +52,7 @@ pub const DW_EH_PE_aligned: DwEhPe = DwEhPe(0x50);
 
 // Bit 7.
 
-/// The number is the address where the pointer stands.
+/// The number is the address of the pointer.
 pub const DW_EH_PE_indirect: DwEhPe = DwEhPe(0x80);
 
 // Whole values.
@@ -82,7 +82,7 @@ const NAMES: Names = names![
 ];
 
 impl DwEhPe {
-    /// The name of this value, as `DW_EH_PE_uleb128`, or `None` if no constant of the type has the value.
+    /// Returns the name of this value, such as `DW_EH_PE_uleb128`, or `None` if it has none.
     #[tactic(auto, unfolding(crate::specs::DwEhPe::pointer_encoding_names))]
     pub fn static_string(&self) -> Option<&'static str>
         ensures { option_map (λ s. s.now) result ≡ name_of pointer_encoding_names self.now.0 }
@@ -124,7 +124,7 @@ impl DwEhPe {
         DwEhPe(self.0 & DW_EH_PE_FORMAT_MASK)
     }
 
-    /// What the number is relative to: bits 4 to 6, where they stand, as `DW_EH_PE_pcrel` of 0x11.
+    /// What the number is relative to: bits 4 to 6 in their place, such as `DW_EH_PE_pcrel` of 0x11.
     pub fn application(self) -> DwEhPe
         ensures { result.0 ≡ bit_and self.0 0x70 }
     {
@@ -138,7 +138,7 @@ impl DwEhPe {
         self == DW_EH_PE_omit
     }
 
-    /// Whether bit 7 is set: the number is the address where the pointer stands. It is set in
+    /// Whether bit 7 is set: the number is the address of the pointer. It is set in
     /// `DW_EH_PE_omit` too.
     pub fn is_indirect(self) -> bool
         ensures { IsTrue result ↔ IsBitSet self.0 7 }

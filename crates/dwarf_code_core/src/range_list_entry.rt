@@ -45,7 +45,7 @@ const NAMES: Names = names![
 ];
 
 impl DwRle {
-    /// The name of this value, as `DW_RLE_end_of_list`, or `None` if no constant of the type has the value.
+    /// Returns the name of this value, such as `DW_RLE_end_of_list`, or `None` if it has none.
     #[tactic(auto, unfolding(crate::specs::DwRle::range_list_entry_names))]
     pub fn static_string(&self) -> Option<&'static str>
         ensures { option_map (λ s. s.now) result ≡ name_of range_list_entry_names self.now.0 }

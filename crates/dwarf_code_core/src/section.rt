@@ -42,7 +42,7 @@ const NAMES: Names = names![
 ];
 
 impl DwSect {
-    /// The name of this value, as `DW_SECT_INFO`, or `None` if no constant of the type has the value.
+    /// Returns the name of this value, such as `DW_SECT_INFO`, or `None` if it has none.
     #[tactic(auto, unfolding(crate::specs::DwSect::section_names))]
     pub fn static_string(&self) -> Option<&'static str>
         ensures { option_map (λ s. s.now) result ≡ name_of section_names self.now.0 }

@@ -46,7 +46,7 @@ const NAMES: Names = names![
 ];
 
 impl DwSectV2 {
-    /// The name of this value, as `DW_SECT_V2_INFO`, or `None` if no constant of the type has the value.
+    /// Returns the name of this value, such as `DW_SECT_V2_INFO`, or `None` if it has none.
     #[tactic(auto, unfolding(crate::specs::DwSectV2::section_v2_names))]
     pub fn static_string(&self) -> Option<&'static str>
         ensures { option_map (λ s. s.now) result ≡ name_of section_v2_names self.now.0 }

@@ -45,7 +45,7 @@ const NAMES: Names = names![
 ];
 
 impl DwUt {
-    /// The name of this value, as `DW_UT_compile`, or `None` if no constant of the type has the value.
+    /// Returns the name of this value, such as `DW_UT_compile`, or `None` if it has none.
     #[tactic(auto, unfolding(crate::specs::DwUt::unit_type_names))]
     pub fn static_string(&self) -> Option<&'static str>
         ensures { option_map (λ s. s.now) result ≡ name_of unit_type_names self.now.0 }

@@ -30,7 +30,7 @@ const NAMES: Names = names![
 ];
 
 impl DwVirtuality {
-    /// The name of this value, as `DW_VIRTUALITY_none`, or `None` if no constant of the type has the value.
+    /// Returns the name of this value, such as `DW_VIRTUALITY_none`, or `None` if it has none.
     #[tactic(auto, unfolding(crate::specs::DwVirtuality::virtuality_names))]
     pub fn static_string(&self) -> Option<&'static str>
         ensures { option_map (λ s. s.now) result ≡ name_of virtuality_names self.now.0 }

@@ -26,7 +26,7 @@ pub const DW_VIS_qualified: DwVis = DwVis(0x03);
 const NAMES: Names = names![DW_VIS_local, DW_VIS_exported, DW_VIS_qualified,];
 
 impl DwVis {
-    /// The name of this value, as `DW_VIS_local`, or `None` if no constant of the type has the value.
+    /// Returns the name of this value, such as `DW_VIS_local`, or `None` if it has none.
     #[tactic(auto, unfolding(crate::specs::DwVis::visibility_names))]
     pub fn static_string(&self) -> Option<&'static str>
         ensures { option_map (λ s. s.now) result ≡ name_of visibility_names self.now.0 }

@@ -473,7 +473,7 @@ const NAMES: Names = names![
 ];
 
 impl DwAt {
-    /// The name of this value, as `DW_AT_name`, or `None` if no constant of the type has the value.
+    /// Returns the name of this value, such as `DW_AT_name`, or `None` if it has none.
     #[tactic(auto, unfolding(crate::specs::DwAt::attribute_names))]
     pub fn static_string(&self) -> Option<&'static str>
         ensures { option_map (λ s. s.now) result ≡ name_of attribute_names self.now.0 }

@@ -17,7 +17,7 @@ pub struct DwForm(pub u16);
 
 // No form: the pair that closes a declaration's attributes.
 
-/// Stands where an attribute has no form.
+/// The form of an attribute that has none.
 pub const DW_FORM_null: DwForm = DwForm(0x00);
 
 // DWARF 1, withdrawn since.
@@ -39,7 +39,7 @@ pub const DW_FORM_data2: DwForm = DwForm(0x05);
 pub const DW_FORM_data4: DwForm = DwForm(0x06);
 /// A constant of eight bytes.
 pub const DW_FORM_data8: DwForm = DwForm(0x07);
-/// A string that stands in the entry, up to a zero byte.
+/// A string in the entry itself, up to a zero byte.
 pub const DW_FORM_string: DwForm = DwForm(0x08);
 /// A block, after its length as an unsigned LEB128 number.
 pub const DW_FORM_block: DwForm = DwForm(0x09);
@@ -67,7 +67,7 @@ pub const DW_FORM_ref4: DwForm = DwForm(0x13);
 pub const DW_FORM_ref8: DwForm = DwForm(0x14);
 /// An offset from the unit's start, as an unsigned LEB128 number.
 pub const DW_FORM_ref_udata: DwForm = DwForm(0x15);
-/// The form itself stands in the entry, before the value.
+/// The form itself is in the entry, before the value.
 pub const DW_FORM_indirect: DwForm = DwForm(0x16);
 
 // DWARF 4.
@@ -95,7 +95,7 @@ pub const DW_FORM_strp_sup: DwForm = DwForm(0x1d);
 pub const DW_FORM_data16: DwForm = DwForm(0x1e);
 /// An offset into `.debug_line_str`.
 pub const DW_FORM_line_strp: DwForm = DwForm(0x1f);
-/// A constant that stands in the abbreviation; the entry has no bytes of it.
+/// A constant in the abbreviation; the entry has no bytes of it.
 pub const DW_FORM_implicit_const: DwForm = DwForm(0x21);
 /// An index of a location list, as an unsigned LEB128 number.
 pub const DW_FORM_loclistx: DwForm = DwForm(0x22);
@@ -187,7 +187,7 @@ const NAMES: Names = names![
 ];
 
 impl DwForm {
-    /// The name of this value, as `DW_FORM_data4`, or `None` if no constant of the type has the value.
+    /// Returns the name of this value, such as `DW_FORM_data4`, or `None` if it has none.
     #[tactic(auto, unfolding(crate::specs::DwForm::form_names))]
     pub fn static_string(&self) -> Option<&'static str>
         ensures { option_map (λ s. s.now) result ≡ name_of form_names self.now.0 }

@@ -41,7 +41,7 @@ const NAMES: Names = names![
 ];
 
 impl DwIdx {
-    /// The name of this value, as `DW_IDX_compile_unit`, or `None` if no constant of the type has the value.
+    /// Returns the name of this value, such as `DW_IDX_compile_unit`, or `None` if it has none.
     #[tactic(auto, unfolding(crate::specs::DwIdx::index_attribute_names))]
     pub fn static_string(&self) -> Option<&'static str>
         ensures { option_map (λ s. s.now) result ≡ name_of index_attribute_names self.now.0 }

@@ -199,7 +199,7 @@ const NAMES: Names = names![
 ];
 
 impl DwLang {
-    /// The name of this value, as `DW_LANG_C89`, or `None` if no constant of the type has the value.
+    /// Returns the name of this value, such as `DW_LANG_C89`, or `None` if it has none.
     #[tactic(auto, unfolding(crate::specs::DwLang::language_names))]
     pub fn static_string(&self) -> Option<&'static str>
         ensures { option_map (λ s. s.now) result ≡ name_of language_names self.now.0 }

@@ -8,7 +8,7 @@ ghost use Rattle.dwarf_const_core.specs.DwLnct.{line_content_names};
 ghost use Rattle.dwarf_const_core.specs.DwTag.{tag_names};
 ghost use Rattle.dwarf_const_core.specs.Names.{HasDistinctValues};
 
-/// In each list of names no value stands twice, so a value has one name at most.
+/// In each list of names no value is listed twice, so a value has at most one name.
 pub fn names_are_distinct()
     ensures attribute { HasDistinctValues attribute_names }
     ensures form { HasDistinctValues form_names }

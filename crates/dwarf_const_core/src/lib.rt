@@ -2,7 +2,7 @@
 //! index attributes and the content types of line number programs.
 //!
 //! Each family is a module with one type, a struct round the value, and its constants. The type
-//! tells the name of a value (`static_string`) and prints it; neither takes memory. A value that no
+//! returns the name of a value (`static_string`) and prints it; neither allocates memory. A value that no
 //! constant has is as good as any other: vendors add their own.
 //!
 //! The module `names` has the table that all these types search, for further families.

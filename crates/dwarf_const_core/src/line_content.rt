@@ -44,7 +44,7 @@ const NAMES: Names = names![
 ];
 
 impl DwLnct {
-    /// The name of this value, as `DW_LNCT_path`, or `None` if no constant of the type has the value.
+    /// Returns the name of this value, such as `DW_LNCT_path`, or `None` if it has none.
     #[tactic(auto, unfolding(crate::specs::DwLnct::line_content_names))]
     pub fn static_string(&self) -> Option<&'static str>
         ensures { option_map (λ s. s.now) result ≡ name_of line_content_names self.now.0 }

@@ -7,7 +7,7 @@ ghost use Rattle.dwarf_const_core.specs.Names.{is_rising, unknown_text};
 use std::fmt;
 use std::fmt::{InlineText, Write};
 
-/// The longest name of a type that `pad_name` takes, in bytes.
+/// The longest name of a type that `pad_name` accepts, in bytes.
 pub const MAX_TYPE_NAME_LEN: usize = 32;
 
 // Room for the name of a type, twenty digits, and the words between.
@@ -28,7 +28,7 @@ impl Names {
     ghost use Rattle.dwarf_const_core.specs.Names.{name_of};
     ghost use Rattle.dwarf_const_core.specs.Table.{entries};
 
-    /// The name of `value`, or `None` if the table doesn't have the value. The search halves the
+    /// Returns the name of `value`, or `None` if the table doesn't have the value. The search halves the
     /// table at each step.
     pub fn find(&self, value: u64) -> Option<&'static str>
         ensures { option_map (λ s. s.now) result ≡ name_of (entries self.now) value }
@@ -40,9 +40,12 @@ impl Names {
     }
 }
 
-/// Writes `name`, or `Unknown TYPE: VALUE` where there is none, with the value in decimal and with
-/// the width, fill and alignment that `f` asks for. It takes no memory, and fails only where `f`
-/// does.
+/// Writes `name`, or `Unknown TYPE: VALUE` if there is none, with the value in decimal and with the
+/// width, fill and alignment that `f` has. It allocates no memory.
+///
+/// # Errors
+///
+/// Only an error of `f` itself.
 pub fn pad_name<W: fmt::Write>(
     f: &mut fmt::Formatter<W>,
     name: Option<&'static str>,

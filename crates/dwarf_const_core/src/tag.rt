@@ -20,7 +20,7 @@ pub struct DwTag(pub u16);
 
 // No tag: the abbreviation that closes a list of children.
 
-/// Stands where an entry has no tag.
+/// The tag of an entry that has none.
 pub const DW_TAG_null: DwTag = DwTag(0x00);
 
 // DWARF 1, withdrawn since.
@@ -310,7 +310,7 @@ const NAMES: Names = names![
 ];
 
 impl DwTag {
-    /// The name of this value, as `DW_TAG_label`, or `None` if no constant of the type has the value.
+    /// Returns the name of this value, such as `DW_TAG_label`, or `None` if it has none.
     #[tactic(auto, unfolding(crate::specs::DwTag::tag_names))]
     pub fn static_string(&self) -> Option<&'static str>
         ensures { option_map (λ s. s.now) result ≡ name_of tag_names self.now.0 }

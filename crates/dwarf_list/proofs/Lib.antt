@@ -1,6 +1,3 @@
-pub mod SetLines
-pub mod SetTexts
 pub mod Commands
-pub mod Hexadecimal
 pub mod Numbers
 pub mod Texts

@@ -1,5 +1,5 @@
 -- The errors of the definitions have numbers of their own.
-use Rattle.std.proofs.Common.{◌≡◌, ◌≢◌, ℕ, ◌<◌, ◌≤◌, List, Bool, true, false, Result, Ok, Err, ap, sym, subst, arith, inl, inr}
+use Rattle.std.proofs.Common.{◌≡◌, ◌≢◌, ℕ, ◌<◌, ◌≤◌, List, Bool, true, false, Result, Err, ap, sym, subst, arith, inl, inr}
 use Rattle.std.proofs.lemmas.Bool.{cases_lt}
 use Rattle.std.specs.Prelude.{IfErr}
 use Rattle.dwarf_read_core.specs.declared.Error.{Error}
@@ -11,12 +11,12 @@ use Rattle.dwarf_read_core.specs.Faults.{EndsBefore, end_fault}
 use Rattle.dwarf_read_core.specs.Input.{Input}
 use Rattle.dwarf_read_core.specs.Layout.{Layout, value, refused, fixed, byte, part, pure, refuse, when◌then◌else◌, check, ◌>>=◌, inside}
 use Rattle.dwarf_read_core.specs.Leb128.{Kind, unsigned64, unsigned16, signed64, refusal}
-use Rattle.dwarf_read_core.specs.Sets.{address_header, initial_length, set}
+use Rattle.dwarf_read_core.specs.Sets.{address_header, initial_length, set, string_offsets_header}
 use Rattle.dwarf_read_core.specs.Strings.{StringAt, outside as string_outside, string, unended}
 use Rattle.dwarf_read_core.specs.Words.{Slot, WordAt, AddressAt, to_slot, word, address}
 use Rattle.dwarf_read_c.specs.Fault.{IsKnown, kind_of}
 use Rattle.dwarf_read_c.specs.Numbers.{LacksNumber, cut, bad}
-use Rattle.dwarf_read_c.specs.Sets.{LacksSet, address_set, outside as set_outside, faulty as set_faulty}
+use Rattle.dwarf_read_c.specs.Sets.{LacksSet, set_at, outside as set_outside, faulty as set_faulty}
 
 -- the error that refuses a number of a kind has a number of its own
 known_refusal : (k : Kind) → IsKnown (refusal k)
@@ -141,17 +141,35 @@ address_header_known =
     then_known byte_known (λ size. then_known (check_known _ _ (omega arith)) (λ _.
     then_known byte_known (λ segment. then_known (check_known _ _ (omega arith)) (λ _. pure_known size))))))
 
--- of a set of addresses
-address_set_known : (offset : ℕ) → FailsKnown (address_set offset)
-unfolding set
-address_set_known offset =
-    then_known initial_length_known (λ initial. then_known (check_known _ _ (omega arith)) (λ _.
-    then_known (part_known _) (λ unit. then_known (inside_known unit address_header_known) (λ said. pure_known _))))
+-- of the header of a set of string offsets
+string_offsets_header_known : FailsKnown string_offsets_header
+unfolding string_offsets_header
+string_offsets_header_known =
+    then_known (fixed_known 2) (λ version. then_known (check_known _ _ (omega arith)) (λ _.
+    then_known (fixed_known 2) (λ padding. pure_known tt)))
 
--- the error where no set of addresses is there has a number of its own
-pub known_set : {section : Input} {offset : ℕ} {e : Error} → LacksSet section offset e → IsKnown e
-known_set (set_outside past) = omega arith
-known_set {offset = offset} (set_faulty e some fails) = (address_set_known offset).known _ e fails
+-- each fault of a set has a number of its own, where those of its header have
+set_known : {H : Type 0} {header : Layout H} (offset : ℕ) → FailsKnown header → FailsKnown (set_at header offset)
+unfolding set
+set_known offset law =
+    then_known initial_length_known (λ initial. then_known (check_known _ _ (omega arith)) (λ _.
+    then_known (part_known _) (λ unit. then_known (inside_known unit law) (λ said. pure_known _))))
+
+-- the error where no set is there has a number of its own, where those of its header have
+lacked_set_known : {H : Type 0} {header : Layout H} {section : Input} {offset : ℕ} {e : Error} → FailsKnown header
+    → LacksSet header section offset e → IsKnown e
+lacked_set_known law (set_outside past) = omega arith
+lacked_set_known {offset = offset} law (set_faulty e some fails) = (set_known offset law).known _ e fails
+
+-- where no set of addresses is there
+pub known_address_set :
+    {section : Input} {offset : ℕ} {e : Error} → LacksSet address_header section offset e → IsKnown e
+known_address_set lacks = lacked_set_known address_header_known lacks
+
+-- where no set of string offsets is there
+pub known_str_offset_set :
+    {section : Input} {offset : ℕ} {e : Error} → LacksSet string_offsets_header section offset e → IsKnown e
+known_str_offset_set lacks = lacked_set_known string_offsets_header_known lacks
 
 -- ---- tables
 

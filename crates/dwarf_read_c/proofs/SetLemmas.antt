@@ -8,15 +8,16 @@ use Rattle.dwarf_read_core.specs.declared.Error.{Error}
 use Rattle.dwarf_read_core.specs.declared.Error.TheVariants.{UnknownReservedLength}
 use Rattle.dwarf_read_core.specs.declared.Format.{Format}
 use Rattle.dwarf_read_core.specs.declared.Format.TheVariants.{Dwarf32, Dwarf64}
+use Rattle.dwarf_read_core.specs.Entries.{Entries}
 use Rattle.dwarf_read_core.specs.Faults.{EndsBefore, WantsMemory}
 use Rattle.dwarf_read_core.specs.Format.{initial_length_size}
 use Rattle.dwarf_read_core.specs.Input.{Input, after, TakesNumber}
 use Rattle.dwarf_read_core.specs.Items.{ComesFirst}
 use Rattle.dwarf_read_core.specs.Layout.{Layout, AreItems, none, more, fault, fixed, pure, refuse, check, when◌then◌else◌, ◌>>=◌}
-use Rattle.dwarf_read_core.specs.Sets.{Headers, Set, StandsForAddressSets, address_header, initial_length, set}
+use Rattle.dwarf_read_core.specs.Sets.{Headers, Set, StandsForSets, address_header, initial_length, set, string_offsets_header}
 use Rattle.dwarf_read_c.specs.Sections.{section_of}
 use Rattle.dwarf_read_c.specs.declared.sets.DwarfSet.{DwarfSet}
-use Rattle.dwarf_read_c.specs.Sets.{HasSet, LacksSet, address_set, shown, outside, faulty}
+use Rattle.dwarf_read_c.specs.Sets.{HasSet, LacksSet, TellsSet, set_at, set_from, shown, outside, faulty}
 
 -- ---- how many bytes a set takes
 
@@ -78,10 +79,15 @@ unfolding initial_length
 initial_takes old i new (short, mid, four, h) =
     length_takes (nat_lt short 0xffff_fff0) (nat_lt short 0xffff_ffff) old mid short i new four h
 
+-- a header of four bytes
+pub record TakesFour {H : Type 0} (header : Layout H) : Type 0 where
+  pub takes : (unit : Input) (said : H) (rest : Input) → header.Reads unit said rest → Moves 4 unit rest
+
 -- a header of addresses takes four bytes
-header_takes : (unit : Input) (size : ℕ) (rest : Input) → address_header.Reads unit size rest → Moves 4 unit rest
+address_header-takes :
+    (unit : Input) (size : ℕ) (rest : Input) → address_header.Reads unit size rest → Moves 4 unit rest
 unfolding address_header
-header_takes unit size rest (
+address_header-takes unit size rest (
   version,
   m1,
   two,
@@ -99,25 +105,77 @@ header_takes unit size rest (
       moved = omega (arith, a.moved, b.moved, c.moved, d.moved, e.moved, f.moved, g.moved);
     }
 
+-- it is a header of four bytes
+pub address_header-four : TakesFour address_header
+address_header-four = record { takes = address_header-takes }
+
+-- so does a header of string offsets
+string_offsets_header-takes :
+    (unit : Input) (said : Unit {0}) (rest : Input) → string_offsets_header.Reads unit said rest → Moves 4 unit rest
+unfolding string_offsets_header
+string_offsets_header-takes unit said rest (version, m1, two, (t1, m2, known, (padding, m3, last, (is, left)))) =
+    let a = moves_after 2 unit m1 two.enough two.left in
+    let b = check_takes _ _ m1 t1 m2 known in
+    let c = moves_after 2 m2 m3 last.enough last.left in
+    let d = moves_none m3 rest left in
+    record {
+      counted = omega (arith, a.counted, b.counted, c.counted, d.counted);
+      moved = omega (arith, a.moved, b.moved, c.moved, d.moved);
+    }
+
+-- it is one too
+pub string_offsets_header-four : TakesFour string_offsets_header
+string_offsets_header-four = record { takes = string_offsets_header-takes }
+
 -- ---- the set at an offset
 
 -- what is known of a set that is found at an offset
-pub record FoundSet (section : Input) (offset : ℕ) (s : Set ℕ) : Type 0 where
-  pub has : HasSet section offset (offset + initial_length_size s.format + s.unit_length) (record s { offset = offset })
+pub record FoundSet {H : Type 0} (header : Layout H) (section : Input) (offset : ℕ) (s : Set H) : Type 0 where
+  pub has : HasSet header section offset (offset + initial_length_size s.format + s.unit_length)
+      (record s { offset = offset })
   pub within : offset + initial_length_size s.format + s.unit_length ≤ length section.bytes
-  pub header : 4 ≤ s.unit_length
+  pub four : 4 ≤ s.unit_length
   pub first : s.entries.position ≡ offset + initial_length_size s.format + 4
 
 -- the sets from an offset on
 abbrev pub sets_from : ℕ → Input → Headers
 sets_from offset section = record { offset = 0; rest = after offset section }
 
+-- bytes are left behind an offset below the length
+some_left : (bytes : List ℕ) (offset : ℕ) → drop offset bytes ≢ [] → offset < length bytes
+some_left bytes offset some =
+    elim (cases_lt offset (length bytes)) [
+      | inl below ↦ below
+      | inr past ↦ absurd
+          (some (drop_of_length-le bytes past))
+    ]
+
+-- an offset past the end
+pub set_outside : {H : Type 0} {header : Layout H} {section : Input} {offset : ℕ} {e : Error} {new : Input}
+    → EndsBefore offset section e new → LacksSet header section offset e
+set_outside {header = header} {section} {offset} short =
+    subst (LacksSet header section offset) (sym short.fault) (outside short.short)
+
+module _ {H : Type 0} (header : Layout H) where
+  -- what the bytes from an offset on begin with, by the first of their items
+  abbrev FirstOf : Input → List (Result (Set H) Error) → Type 0
+  FirstOf old [] = old.bytes ≡ []
+  FirstOf old (Ok s ∷ items) = (old.bytes ≢ []) × (new : Input) × (set_at header 0).Reads old s new
+  FirstOf old (Err e ∷ items) = (old.bytes ≢ []) × (set_at header 0).Fails old e
+
+  -- the items of an input say what its bytes begin with: nothing, a set or a fault
+  first_of : {old : Input} {items : List (Result (Set H) Error)} → AreItems (set_at header) 0 old items
+      → FirstOf old items
+  first_of (none is) = is
+  first_of (more {new = new} some reads others) = (some, new, reads)
+  first_of (fault some fails) = (some, fails)
+
 -- a set that begins the bytes from an offset on is one of the section
-set_there : (section : Input) (offset : ℕ) (s : Set ℕ) (behind : Input) → section.position ≡ 0
-    → offset ≤ length section.bytes
-    → (address_set 0).Reads (after offset section) s behind → FoundSet section offset s
+set_there : {H : Type 0} {header : Layout H} (section : Input) (offset : ℕ) (s : Set H) (behind : Input)
+    → TakesFour header → section.position ≡ 0 → offset ≤ length section.bytes
+    → (set_at header 0).Reads (after offset section) s behind → FoundSet header section offset s
 unfolding set
-set_there section offset s behind starts within
+set_there {H} {header} section offset s behind four starts within
     (initial, m1, first, (t, m2, fits, (unit, m3, parted, (said, m4, inner, (is, left))))) =
     let whole = length-drop offset section.bytes in
     let a = initial_takes _ initial m1 first in
@@ -125,11 +183,11 @@ set_there section offset s behind starts within
     let c = moves_after initial.1 m2 m3 (parted.1).enough (parted.1).left in
     let d = moves_none m3 m4 inner.1 in
     let e = moves_none m4 behind left in
-    let h = header_takes unit said.0 said.1 inner.0 in
+    let h = four.takes unit said.0 said.1 inner.0 in
     let size : length unit.bytes ≡ initial.1 = ap (λ (i : Input). length i.bytes) parted.0
     ∙ length-take-le initial.1 m2.bytes (parted.1).enough in
     let place : unit.position ≡ m2.position = ap (λ (i : Input). i.position) parted.0 in
-    let found : FoundSet section offset (record {
+    let found : FoundSet header section offset (record {
       offset = 0;
       format = initial.0;
       unit_length = initial.1;
@@ -143,73 +201,57 @@ set_there section offset s behind starts within
         ends = omega (arith, whole, a.counted, b.counted, c.counted, d.counted, e.counted, within);
       };
       within = omega (arith, whole, a.counted, b.counted, c.counted, within);
-      header = omega (arith, h.counted, size);
+      four = omega (arith, h.counted, size);
       first = omega (arith, starts, a.moved, b.moved, place, h.moved);
     } in
-    subst (λ (x : Set ℕ). FoundSet section offset x) (sym is) found
-
--- bytes are left behind an offset below the length
-some_left : (bytes : List ℕ) (offset : ℕ) → drop offset bytes ≢ [] → offset < length bytes
-some_left bytes offset some =
-    elim (cases_lt offset (length bytes)) [
-      | inl below ↦ below
-      | inr past ↦ absurd
-          (some (drop_of_length-le bytes past))
-    ]
-
--- what the bytes from an offset on begin with, by the first of their items
-abbrev pub FirstOf : Input → List (Result (Set ℕ) Error) → Type 0
-FirstOf old [] = old.bytes ≡ []
-FirstOf old (Ok s ∷ items) = (old.bytes ≢ []) × (new : Input) × (address_set 0).Reads old s new
-FirstOf old (Err e ∷ items) = (old.bytes ≢ []) × (address_set 0).Fails old e
-
--- the items of an input say what its bytes begin with: nothing, a set or a fault
-first_of : {old : Input} {items : List (Result (Set ℕ) Error)} → AreItems address_set 0 old items → FirstOf old items
-first_of (none is) = is
-first_of (more {new = new} some reads others) = (some, new, reads)
-first_of (fault some fails) = (some, fails)
+    subst (λ (x : Set H). FoundSet header section offset x) (sym is) found
 
 -- what a walk from an offset gives first, where it is a set
-pub set_found : (bytes : List ℕ) (is_big : Bool) (offset : ℕ) (old new : Headers) (s : Set ℕ)
-    → old ≡ sets_from offset (section_of bytes is_big) → ComesFirst (StandsForAddressSets (2 ^ 64 - 1)) old (Ok s) new
-    → FoundSet (section_of bytes is_big) offset s
-set_found bytes is_big offset old new s start given =
+pub set_found : {H : Type 0} {header : Layout H} {bytes : List ℕ} {is_big : Bool} {offset : ℕ} {old new : Headers}
+    {s : Set H}
+    → TakesFour header → old ≡ sets_from offset (section_of bytes is_big)
+    → ComesFirst (StandsForSets header (2 ^ 64 - 1)) old (Ok s) new
+    → FoundSet header (section_of bytes is_big) offset s
+set_found {H} {header} {bytes} {is_big} {offset} {old} {new} {s} four start given =
     let items = given.1 given.0.0 given.0.1 in
-    let there = subst (λ (h : Headers). StandsForAddressSets (2 ^ 64 - 1) h (Ok s ∷ given.0.0)) start items in
-    let begins = first_of there in
+    let there = subst (λ (h : Headers). StandsForSets header (2 ^ 64 - 1) h (Ok s ∷ given.0.0)) start items in
+    let begins = first_of header there in
     let below = some_left bytes offset begins.0 in
-    set_there (section_of bytes is_big) offset s begins.1 refl (omega (arith, below)) begins.2
+    set_there (section_of bytes is_big) offset s begins.1 four refl (omega (arith, below)) begins.2
 
 -- the first fault is the same at each offset
-fails_there : (offset : ℕ) (old : Input) (e : Error) → (address_set 0).Fails old e → (address_set offset).Fails old e
+fails_there : {H : Type 0} (header : Layout H) (offset : ℕ) (old : Input) (e : Error)
+    → (set_at header 0).Fails old e → (set_at header offset).Fails old e
 unfolding set
-fails_there offset old e h = h
+fails_there header offset old e h = h
 
 -- where it is a fault, no set begins there
-pub set_refused : {P : Type 0} (bytes : List ℕ) (is_big : Bool) (offset : ℕ) (old new : Headers) (e : Error)
-    → old ≡ sets_from offset (section_of bytes is_big)
-    → ComesFirst (StandsForAddressSets (2 ^ 64 - 1)) old (Err e) new ⊎ (WantsMemory true e × P)
-    → LacksSet (section_of bytes is_big) offset e
-set_refused bytes is_big offset old new e start (inl given) =
+pub set_refused : {H P : Type 0} {header : Layout H} {bytes : List ℕ} {is_big : Bool} {offset : ℕ} {old new : Headers}
+    {e : Error} → old ≡ sets_from offset (section_of bytes is_big)
+    → ComesFirst (StandsForSets header (2 ^ 64 - 1)) old (Err e) new ⊎ (WantsMemory true e × P)
+    → LacksSet header (section_of bytes is_big) offset e
+set_refused {header = header} {bytes} {is_big} {offset} {old} {new} {e} start (inl given) =
     let items = given.1 given.0.0 given.0.1 in
-    let there = subst (λ (h : Headers). StandsForAddressSets (2 ^ 64 - 1) h (Err e ∷ given.0.0)) start items in
-    let begins = first_of there in
-    faulty e (some_left bytes offset begins.0) (fails_there offset _ e begins.1)
-set_refused bytes is_big offset old new e start (inr want) = let costs = want.0.costs in absurd (cc)
+    let there = subst (λ (h : Headers). StandsForSets header (2 ^ 64 - 1) h (Err e ∷ given.0.0)) start items in
+    let begins = first_of header there in
+    faulty e (some_left bytes offset begins.0) (fails_there header offset _ e begins.1)
+set_refused start (inr want) = let costs = want.0.costs in absurd (cc)
 
--- an offset past the end
-pub set_outside : (section : Input) (offset : ℕ) (e : Error) (new : Input) → EndsBefore offset section e new
-    → LacksSet section offset e
-set_outside section offset e new short = subst (LacksSet section offset) (sym short.fault) (outside short.short)
-
--- a set that is found, as C sees it
-pub set_shown : (section : Input) (offset : ℕ) (s : Set ℕ) (to_c : DwarfSet) → FoundSet section offset s
-    → to_c ≡ shown s (offset + initial_length_size s.format + s.unit_length)
-    → (x : Set ℕ) × HasSet section offset to_c.next x × (to_c ≡ shown x to_c.next)
-set_shown section offset s to_c found is =
-    let next : to_c.next ≡ offset + initial_length_size s.format + s.unit_length = ap (λ (d : DwarfSet). d.next) is in (
-      record s { offset = offset },
-      subst (λ (n : ℕ). HasSet section offset n (record s { offset = offset }))
-          (sym next) found.has,
-      is ∙ ap (λ (n : ℕ). shown s n) (sym next),
-    )
+-- C is told of a set that is found
+pub set_told : {H : Type 0} {header : Layout H} {section : Input} {offset : ℕ} {s : Set H} {told : DwarfSet}
+    (entries_of : Set H → Entries) (width : ℕ)
+    → entries_of (record s { offset = offset }) ≡ record { width = width; rest = s.entries }
+    → FoundSet header section offset s → told ≡ set_from offset s.format s.unit_length width
+    → TellsSet header entries_of section offset told
+set_told {H} {header} {section} {offset} {s} {told} entries_of width entries found is =
+    let here : Set H = record s { offset = offset } in
+    let next = ap (λ (d : DwarfSet). d.next) is in
+    let c = set_from offset s.format s.unit_length width in
+    let first = ap (λ (n : ℕ). record c { first_entry = n }) (sym found.first) in
+    record {
+      s = here;
+      has = subst (λ (n : ℕ). HasSet header section offset n here) (sym next) found.has;
+      is = is ∙ first
+          ∙ ap (λ (n : ℕ). shown here (record { width = width; rest = s.entries }) n) (sym next)
+          ∙ ap (λ (x : Entries). shown here x told.next) (sym entries);
+    }

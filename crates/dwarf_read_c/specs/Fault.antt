@@ -1,4 +1,4 @@
--- How C is told of an error: by its number, and the position or the value that it carries.
+-- How C sees an error: by its number, and the position or the value that it carries.
 use Rattle.std.specs.Prelude.{◌≡◌, ◌==◌, ◌^◌, ◌≤◌, ℕ, List, [], ◌∷◌, Option, Some, None, nat_lt, option_and_then, if◌then◌else◌}
 use Rattle.std.specs.Map.{lookup}
 use Rattle.dwarf_read_core.specs.declared.Error.{Error}
@@ -49,7 +49,7 @@ fault_of error = record { kind = kind_of error; value = value_of error }
 abbrev pub IsKnown : Error → Type 0
 IsKnown error = kind_of error ≤ 19
 
--- a call is refused with an error of which this holds: the status is its number, and the fault tells of it
+-- a call returns an error of which this holds: the status is its number, and the fault has its number and value
 pub record Refuses (Is : Error → Type 0) (status : ℕ) (fault : DwarfFault) : Type 0 where
   pub error : Error
   pub is : Is error
@@ -61,7 +61,7 @@ pub record Refuses (Is : Error → Type 0) (status : ℕ) (fault : DwarfFault) :
 abbrev pub with_value_below : ℕ → (ℕ → Error) → ℕ → Option Error
 with_value_below bound error value = if nat_lt value bound then Some (error value) else None
 
--- each number, and the error that it stands for with a value
+-- each number, and the error that it means with a value
 unfoldable pub numbered_errors : List (ℕ × (ℕ → Option Error))
 numbered_errors =
     (1, λ value. Some (UnexpectedEof (record { 0 = value }))) ∷
@@ -85,6 +85,6 @@ numbered_errors =
     (19, λ value. Some (UnterminatedAbbreviations (record { 0 = value }))) ∷
     []
 
--- the error that a number and a value tell of, if there is one
+-- the error with a number and a value, if there is one
 abbrev pub error_from : ℕ → ℕ → Option Error
 error_from kind value = option_and_then (λ error. error value) (lookup (λ number. number == kind) numbered_errors)

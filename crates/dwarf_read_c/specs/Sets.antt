@@ -1,36 +1,55 @@
--- A set of addresses at an offset of a section, as C sees it.
+-- A set of addresses or of string offsets at an offset of a section, as C sees it.
 use Rattle.std.specs.Prelude.{◌≡◌, ℕ, ◌+◌, ◌-◌, ◌<◌, ◌≤◌, ◌^◌, length}
 use Rattle.dwarf_read_core.specs.declared.Error.{Error}
+use Rattle.dwarf_read_core.specs.declared.Format.{Format}
+use Rattle.dwarf_read_core.specs.Entries.{Entries}
 use Rattle.dwarf_read_core.specs.Faults.{end_fault}
-use Rattle.dwarf_read_core.specs.Format.{word_size}
+use Rattle.dwarf_read_core.specs.Format.{initial_length_size, word_size}
 use Rattle.dwarf_read_core.specs.Input.{Input, after}
 use Rattle.dwarf_read_core.specs.Layout.{Layout}
-use Rattle.dwarf_read_core.specs.Sets.{Set, address_header, set}
+use Rattle.dwarf_read_core.specs.Sets.{Set, set}
 use Rattle.dwarf_read_c.specs.declared.sets.DwarfSet.{DwarfSet}
 
--- the layout of a set of addresses at an offset, where offsets have 64 bits
-abbrev pub address_set : ℕ → Layout (Set ℕ)
-address_set offset = set address_header (2 ^ 64 - 1) offset
+-- the layout of a set at an offset, where offsets have 64 bits
+abbrev pub set_at : {H : Type 0} → Layout H → ℕ → Layout (Set H)
+set_at header offset = set header (2 ^ 64 - 1) offset
 
--- a set of addresses begins at an offset, and the next one may begin where it ends
-pub record HasSet (section : Input) (offset next : ℕ) (s : Set ℕ) : Type 0 where
+-- a set begins at an offset, and the next one may begin where it ends
+pub record HasSet {H : Type 0} (header : Layout H) (section : Input) (offset next : ℕ) (s : Set H) : Type 0 where
   pub within : offset ≤ length section.bytes
   pub behind : Input
-  pub reads : (address_set offset).Reads (after offset section) s behind
+  pub reads : (set_at header offset).Reads (after offset section) s behind
   pub ends : next + length behind.bytes ≡ length section.bytes
 
 -- no set is there: the offset is past the end, or the bytes from there on begin with no set
-pub data LacksSet (section : Input) (offset : ℕ) : Error → Type 0 where
-  outside : length section.bytes < offset → LacksSet section offset (end_fault section)
-  faulty : (e : Error) → offset < length section.bytes → (address_set offset).Fails (after offset section) e
-      → LacksSet section offset e
+pub data LacksSet {H : Type 0} (header : Layout H) (section : Input) (offset : ℕ) : Error → Type 0 where
+  outside : length section.bytes < offset → LacksSet header section offset (end_fault section)
+  faulty : (e : Error) → offset < length section.bytes → (set_at header offset).Fails (after offset section) e
+      → LacksSet header section offset e
 
--- a set, and where the next one may begin
-abbrev pub shown : Set ℕ → ℕ → DwarfSet
-shown s next = record {
+-- a set with its entries, and where the next one may begin
+abbrev pub shown : {H : Type 0} → Set H → Entries → ℕ → DwarfSet
+shown s entries next = record {
   next = next;
   unit_length = s.unit_length;
-  first_address = s.entries.position;
+  first_entry = entries.rest.position;
   word_size = word_size s.format;
-  address_size = s.header;
+  entry_size = entries.width;
+}
+
+-- C is told of a set that begins at an offset, and of its entries
+pub record TellsSet {H : Type 0} (header : Layout H) (entries_of : Set H → Entries) (section : Input) (offset : ℕ)
+    (told : DwarfSet) : Type 0 where
+  pub s : Set H
+  pub has : HasSet header section offset told.next s
+  pub is : told ≡ shown s (entries_of s) told.next
+
+-- a set whose header has four bytes, by its offset, its format, its length, and the size of its entries
+abbrev pub set_from : ℕ → Format → ℕ → ℕ → DwarfSet
+set_from offset format unit_length entry_size = record {
+  next = offset + initial_length_size format + unit_length;
+  unit_length = unit_length;
+  first_entry = offset + initial_length_size format + 4;
+  word_size = word_size format;
+  entry_size = entry_size;
 }

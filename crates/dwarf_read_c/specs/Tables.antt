@@ -34,7 +34,7 @@ abbreviation_of first d = record {
   attribute_count = length d.attributes;
 }
 
--- declarations, the attributes of which stand one after the other from this index on
+-- declarations, whose attributes follow one another from this index on
 abbrev pub laid_from : ℕ → List Declaration → List DwarfAbbreviation
 laid_from first [] = []
 laid_from first (d ∷ ds) = abbreviation_of first d ∷ laid_from (first + length d.attributes) ds

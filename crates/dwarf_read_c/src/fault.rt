@@ -5,9 +5,9 @@ ghost use Rattle.dwarf_read_c.specs.Fault.{fault_of, kind_of};
 
 use dwarf_read_core::{DwChildren, Error, ReaderOffsetId};
 
-/// The error that a call was refused with.
+/// The error of a call.
 ///
-/// `kind` is the number of the error, which the call returns too, and `value` is the position or the
+/// `kind` is the number of the error, which the call also returns. `value` is the position or the
 /// value that the error carries, or 0.
 #[repr(C)]
 #[derive(Clone, Copy)]
@@ -46,7 +46,7 @@ fn fault_of(error: Error) -> DwarfFault
     DwarfFault { kind, value }
 }
 
-// Tells of the error that a call is refused with, and returns its number.
+// Writes the error of a call, and returns its number.
 pub(crate) fn refuse(error: Error, fault: &mut DwarfFault) -> u32
     ensures told { fault.new ≡ fault_of error }
     ensures status { result ≡ kind_of error }

@@ -12,9 +12,8 @@ use crate::status::DWARF_NO_NAME;
 use dwarf_read_core::{DwAt, DwForm, DwTag};
 
 /// Writes the name of a tag, as `DW_TAG_label`, to the front of `name`, with no zero byte behind it.
-/// `len` is how many bytes it has, also where `name` has no room for them; then nothing else is
-/// written, and the call returns `DWARF_NO_ROOM`. It returns `DWARF_NO_NAME` if no constant has this
-/// value.
+/// `len` is how many bytes the name has. If `name` has no room for them, only `len` is written, and the
+/// call returns `DWARF_NO_ROOM`. It returns `DWARF_NO_NAME` if no constant has this value.
 #[unsafe(no_mangle)]
 pub extern "C" fn dwarf_tag_name(tag: u16, name: &mut [u8], len: &mut usize) -> u32
     ensures named { PutsName (name_of tag_names tag) name.old name.new len.old len.new result }

@@ -12,7 +12,7 @@ use dwarf_read_core::leb128::write::Leb128;
 use dwarf_read_core::{EndianSlice, LittleEndian, Reader};
 
 /// Reads the unsigned number of at most 64 bits, in at most ten bytes, that `bytes` begin with.
-/// Bytes may follow it; `taken` is how many the number has.
+/// Bytes may follow it. `len` is how many the number has.
 ///
 /// # Errors
 ///
@@ -22,20 +22,20 @@ use dwarf_read_core::{EndianSlice, LittleEndian, Reader};
 pub extern "C" fn dwarf_uleb128(
     bytes: &[u8],
     value: &mut u64,
-    taken: &mut usize,
+    len: &mut usize,
     fault: &mut DwarfFault,
 ) -> u32
-    ensures read { result ≡ DWARF_OK → HasNumber unsigned64 bytes.now value.new taken.new }
+    ensures read { result ≡ DWARF_OK → HasNumber unsigned64 bytes.now value.new len.new }
     ensures refused { result ≢ DWARF_OK
         → Refuses (LacksNumber unsigned64 bytes.now) result fault.new }
-    ensures no_value { result ≢ DWARF_OK → (value.new ≡ value.old) × (taken.new ≡ taken.old) }
+    ensures no_value { result ≢ DWARF_OK → (value.new ≡ value.old) × (len.new ≡ len.old) }
     ensures no_fault { result ≡ DWARF_OK → fault.new ≡ fault.old }
 {
     let mut input = EndianSlice::new(bytes, LittleEndian);
     match input.read_uleb128() {
         Ok(number) => {
             *value = number;
-            *taken = bytes.len() - input.len();
+            *len = bytes.len() - input.len();
             DWARF_OK
         }
         Err(error) => refuse(error, fault),
@@ -43,7 +43,7 @@ pub extern "C" fn dwarf_uleb128(
 }
 
 /// Reads the signed number of at most 64 bits, in at most ten bytes, that `bytes` begin with. Bytes
-/// may follow it; `taken` is how many the number has.
+/// may follow it. `len` is how many the number has.
 ///
 /// # Errors
 ///
@@ -54,20 +54,20 @@ pub extern "C" fn dwarf_uleb128(
 pub extern "C" fn dwarf_sleb128(
     bytes: &[u8],
     value: &mut i64,
-    taken: &mut usize,
+    len: &mut usize,
     fault: &mut DwarfFault,
 ) -> u32
-    ensures read { result ≡ DWARF_OK → HasNumber signed64 bytes.now value.new taken.new }
+    ensures read { result ≡ DWARF_OK → HasNumber signed64 bytes.now value.new len.new }
     ensures refused { result ≢ DWARF_OK
         → Refuses (LacksNumber signed64 bytes.now) result fault.new }
-    ensures no_value { result ≢ DWARF_OK → (value.new ≡ value.old) × (taken.new ≡ taken.old) }
+    ensures no_value { result ≢ DWARF_OK → (value.new ≡ value.old) × (len.new ≡ len.old) }
     ensures no_fault { result ≡ DWARF_OK → fault.new ≡ fault.old }
 {
     let mut input = EndianSlice::new(bytes, LittleEndian);
     match input.read_sleb128() {
         Ok(number) => {
             *value = number;
-            *taken = bytes.len() - input.len();
+            *len = bytes.len() - input.len();
             DWARF_OK
         }
         Err(error) => refuse(error, fault),
@@ -75,8 +75,8 @@ pub extern "C" fn dwarf_sleb128(
 }
 
 /// Writes the shortest bytes of an unsigned number to the front of `bytes`. `len` is how many they
-/// are, from 1 to 10, also where `bytes` has no room for them; then nothing else is written, and the
-/// call returns `DWARF_NO_ROOM`.
+/// are, from 1 to 10. If `bytes` has no room for them, only `len` is written, and the call returns
+/// `DWARF_NO_ROOM`.
 #[unsafe(no_mangle)]
 pub extern "C" fn dwarf_uleb128_write(value: u64, bytes: &mut [u8], len: &mut usize) -> u32
     ensures written { PutsShortest unsigned64 value bytes.old bytes.new len.new result }
@@ -87,8 +87,8 @@ pub extern "C" fn dwarf_uleb128_write(value: u64, bytes: &mut [u8], len: &mut us
 }
 
 /// Writes the shortest bytes of a signed number to the front of `bytes`. `len` is how many they are,
-/// from 1 to 10, also where `bytes` has no room for them; then nothing else is written, and the call
-/// returns `DWARF_NO_ROOM`.
+/// from 1 to 10. If `bytes` has no room for them, only `len` is written, and the call returns
+/// `DWARF_NO_ROOM`.
 #[unsafe(no_mangle)]
 pub extern "C" fn dwarf_sleb128_write(value: i64, bytes: &mut [u8], len: &mut usize) -> u32
     ensures written { PutsShortest signed64 value bytes.old bytes.new len.new result }

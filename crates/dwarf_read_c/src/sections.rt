@@ -1,4 +1,4 @@
-//! Strings, and what is looked up by an index (DWARF 5, 7.5.5, 7.26 and 7.27).
+//! Strings, and lookups by an index (DWARF 5, 7.5.5, 7.26 and 7.27).
 
 ghost use Rattle.std.specs.Prelude.{◌≡◌, ◌≢◌, ◌^◌, ◌-◌, false, Ok, Err};
 ghost use Rattle.dwarf_read_core.specs.Endian.{is_big_at_run_time};
@@ -45,8 +45,8 @@ pub extern "C" fn dwarf_string(
     }
 }
 
-/// Reads the offset at `index`, from 0, among those that stand in a row from `base` on in
-/// `.debug_str_offsets`. Offsets have eight bytes if `is_64` is set, and else four.
+/// Reads the string offset at `index`, from 0, of those that follow one another from `base` on in
+/// `.debug_str_offsets`. Each has eight bytes if `is_64` is set, and else four.
 ///
 /// # Errors
 ///
@@ -92,8 +92,8 @@ pub extern "C" fn dwarf_str_offset(
     }
 }
 
-/// Reads the address at `index`, from 0, among those that stand in a row from `base` on in
-/// `.debug_addr`. An address has `size` bytes.
+/// Reads the address at `index`, from 0, of those that follow one another from `base` on in
+/// `.debug_addr`. Each has `size` bytes.
 ///
 /// # Errors
 ///

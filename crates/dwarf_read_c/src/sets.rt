@@ -1,19 +1,23 @@
-//! Sets of addresses (DWARF 5, 7.27).
+//! Sets of addresses (DWARF 5, 7.27) and of string offsets (7.26).
 
-ghost use Rattle.std.specs.Prelude.{◌≡◌, ◌≢◌, ◌+◌, ◌<◌, ◌≤◌, ◌^◌, ℕ, length, IfOk, IfErr, IfSome, IfNone};
+ghost use Rattle.std.specs.Prelude.{◌≡◌, ◌≢◌, ◌+◌, ◌<◌, ◌≤◌, ◌^◌, length, IfOk, IfErr, IfSome, IfNone};
+ghost use Rattle.dwarf_read_core.specs.Faults.{EndsBefore};
 ghost use Rattle.dwarf_read_core.specs.Format.{initial_length_size};
-ghost use Rattle.dwarf_read_core.specs.Headers.{set_of};
-ghost use Rattle.dwarf_read_core.specs.Sets.{Set};
+ghost use Rattle.dwarf_read_core.specs.Input.{Takes};
+ghost use Rattle.dwarf_read_core.specs.Sets.{address_header, addresses_of, string_offsets_header, string_offsets_of};
 ghost use Rattle.dwarf_read_c.specs.Fault.{Refuses};
 ghost use Rattle.dwarf_read_c.specs.Sections.{section_of};
-ghost use Rattle.dwarf_read_c.specs.Sets.{HasSet, LacksSet, shown};
+ghost use Rattle.dwarf_read_c.specs.Sets.{LacksSet, TellsSet, set_from};
 
 use crate::fault::{DwarfFault, refuse};
 use crate::sections::order;
 use crate::status::{DWARF_END, DWARF_OK};
-use dwarf_read_core::{AddrHeader, DebugAddr, EndianSlice, Error, Reader, ReaderOffset};
+use dwarf_read_core::{
+    DebugAddr, DebugStrOffsets, EndianSlice, Error, Format, Reader, RunTimeEndian,
+};
 
-/// A set of addresses.
+/// A set of addresses or of string offsets. Its entries are the numbers from `first_entry` up to
+/// `next`.
 #[repr(C)]
 #[derive(Clone, Copy)]
 pub struct DwarfSet {
@@ -21,17 +25,17 @@ pub struct DwarfSet {
     pub next: usize,
     /// How many bytes of the set follow its initial length.
     pub unit_length: usize,
-    /// Where its first address stands. The addresses go up to `next`.
-    pub first_address: usize,
-    /// 4 or 8: how many bytes a word of the set's format has.
+    /// The offset of its first entry.
+    pub first_entry: usize,
+    /// How many bytes a word of the set's format has: 4 or 8.
     pub word_size: u8,
-    /// How many bytes an address has: 1, 2, 4 or 8.
-    pub address_size: u8,
+    /// How many bytes an entry has: 1, 2, 4 or 8. A string offset has those of a word.
+    pub entry_size: u8,
 }
 
 /// Reads the header of the set of addresses at `offset` of `.debug_addr`. Its addresses are those
-/// that [`dwarf_address`](crate::sections::dwarf_address) reads from `first_address` on; where `next`
-/// is reached in the midst of one, that address is cut.
+/// that [`dwarf_address`](crate::sections::dwarf_address) reads from `first_entry` on. If `next` is
+/// in the middle of an address, that address is cut.
 ///
 /// Returns `DWARF_END`, and writes nothing, if `offset` is the section's end.
 ///
@@ -49,7 +53,7 @@ pub struct DwarfSet {
 /// - 12 (`UnsupportedAddressSize`) for another size than 1, 2, 4 or 8;
 /// - 13 (`UnsupportedSegmentSize`) for another size than 0.
 #[unsafe(no_mangle)]
-#[tactic(auto, using(crate::proofs::KnownErrors::known_set))]
+#[tactic(auto, using(crate::proofs::KnownErrors::known_address_set))]
 pub extern "C" fn dwarf_address_set(
     section: &[u8],
     is_big: bool,
@@ -57,15 +61,15 @@ pub extern "C" fn dwarf_address_set(
     set: &mut DwarfSet,
     fault: &mut DwarfFault,
 ) -> u32
-    ensures found { let section = section_of section.now is_big in result ≡ DWARF_OK
-        → (s : Set ℕ) × HasSet section offset set.new.next s × (set.new ≡ shown s set.new.next) }
+    ensures found { let s = section_of section.now is_big in
+        result ≡ DWARF_OK → TellsSet address_header addresses_of s offset set.new }
     ensures end { result ≡ DWARF_END → (offset ≡ length section.now) × (fault.new ≡ fault.old) }
-    ensures refused { result ≢ DWARF_OK → result ≢ DWARF_END
-        → Refuses (LacksSet (section_of section.now is_big) offset) result fault.new }
+    ensures refused { let s = section_of section.now is_big in result ≢ DWARF_OK
+        → result ≢ DWARF_END → Refuses (LacksSet address_header s offset) result fault.new }
     ensures no_set { result ≢ DWARF_OK → set.new ≡ set.old }
     ensures no_fault { result ≡ DWARF_OK → fault.new ≡ fault.old }
 {
-    match set_at(section, is_big, offset) {
+    match address_set_at(section, is_big, offset) {
         Ok(Some(found)) => {
             *set = found;
             DWARF_OK
@@ -75,40 +79,114 @@ pub extern "C" fn dwarf_address_set(
     }
 }
 
-// The set at an offset, or none at the section's end.
-fn set_at(section: &[u8], is_big: bool, offset: usize) -> Result<Option<DwarfSet>, Error>
-    ensures found { IfOk result (λ found. IfSome found (λ set. (s : Set ℕ)
-        × HasSet (section_of section.now is_big) offset set.next s × (set ≡ shown s set.next))) }
-    ensures end { IfOk result (λ found. IfNone found (offset ≡ length section.now)) }
-    ensures err { IfErr result (LacksSet (section_of section.now is_big) offset) }
+/// Reads the header of the set of string offsets at `offset` of `.debug_str_offsets`. Its string
+/// offsets are those that [`dwarf_str_offset`](crate::sections::dwarf_str_offset) reads from
+/// `first_entry` on, in the format that `word_size` says. If `next` is in the middle of a string
+/// offset, that one is cut.
+///
+/// Returns `DWARF_END`, and writes nothing, if `offset` is the section's end.
+///
+/// # Errors
+///
+/// The first of these:
+///
+/// - 1 (`UnexpectedEof`) at 0 if `offset` is past the end;
+/// - 1 at `offset` if fewer than four bytes follow;
+/// - 9 (`UnknownReservedLength`) if those four are reserved;
+/// - 1 behind them if they are followed by a length of eight bytes, and fewer follow;
+/// - 1 behind the length if fewer bytes follow, or the set has no room for the version;
+/// - 11 (`UnknownVersion`) for another version than 5;
+/// - 1 behind the version if the set has no room for two bytes of padding.
+#[unsafe(no_mangle)]
+#[tactic(auto, using(crate::proofs::KnownErrors::known_str_offset_set))]
+pub extern "C" fn dwarf_str_offset_set(
+    section: &[u8],
+    is_big: bool,
+    offset: usize,
+    set: &mut DwarfSet,
+    fault: &mut DwarfFault,
+) -> u32
+    ensures found { let s = section_of section.now is_big in
+        result ≡ DWARF_OK → TellsSet string_offsets_header string_offsets_of s offset set.new }
+    ensures end { result ≡ DWARF_END → (offset ≡ length section.now) × (fault.new ≡ fault.old) }
+    ensures refused { let s = section_of section.now is_big in result ≢ DWARF_OK
+        → result ≢ DWARF_END → Refuses (LacksSet string_offsets_header s offset) result fault.new }
+    ensures no_set { result ≢ DWARF_OK → set.new ≡ set.old }
+    ensures no_fault { result ≡ DWARF_OK → fault.new ≡ fault.old }
 {
-    let mut input = EndianSlice::new(section, order(is_big));
-    input.skip(offset)?;
-    let mut headers = DebugAddr::from(input).headers()?;
-    match headers.next()? {
-        Some(header) => Ok(Some(shown(&header, offset))),
+    match str_offset_set_at(section, is_big, offset) {
+        Ok(Some(found)) => {
+            *set = found;
+            DWARF_OK
+        }
+        Ok(None) => DWARF_END,
+        Err(error) => refuse(error, fault),
+    }
+}
+
+// The set of addresses at an offset, or none at the section's end.
+fn address_set_at(section: &[u8], is_big: bool, offset: usize) -> Result<Option<DwarfSet>, Error>
+    ensures found { let s = section_of section.now is_big in
+        IfOk result (λ found. IfSome found (TellsSet address_header addresses_of s offset)) }
+    ensures end { IfOk result (λ found. IfNone found (offset ≡ length section.now)) }
+    ensures err { IfErr result (LacksSet address_header (section_of section.now is_big) offset) }
+{
+    let addresses = DebugAddr::from(bytes_from(section, is_big, offset)?);
+    match addresses.headers()?.next()? {
+        Some(header) => {
+            let (length, encoding) = (header.length(), header.encoding());
+            Ok(Some(set_from(offset, encoding.format, length, encoding.address_size)))
+        }
         None => Ok(None),
     }
 }
 
-// A set that begins at an offset, as C sees it.
-fn shown<R: Reader>(header: &AddrHeader<R>, offset: usize) -> DwarfSet
-    requires within { let s = set_of R.view R.Offset.value header.now in
-        offset + initial_length_size s.format + s.unit_length < 2 ^ 64 }
-    requires header { let s = set_of R.view R.Offset.value header.now in 4 ≤ s.unit_length }
-    requires placed { let s = set_of R.view R.Offset.value header.now in
-        s.entries.position ≡ offset + initial_length_size s.format + 4 }
-    ensures { let s = set_of R.view R.Offset.value header.now in
-        result ≡ shown s (offset + initial_length_size s.format + s.unit_length) }
+// The set of string offsets at an offset, or none at the section's end.
+fn str_offset_set_at(section: &[u8], is_big: bool, offset: usize) -> Result<Option<DwarfSet>, Error>
+    ensures found { let s = section_of section.now is_big in IfOk result
+        (λ found. IfSome found (TellsSet string_offsets_header string_offsets_of s offset)) }
+    ensures end { IfOk result (λ found. IfNone found (offset ≡ length section.now)) }
+    ensures err { IfErr result
+        (LacksSet string_offsets_header (section_of section.now is_big) offset) }
 {
-    let encoding = header.encoding();
-    let unit = offset + usize::from(encoding.format.initial_length_size());
-    let unit_length = header.length().into_u64() as usize;
+    let offsets = DebugStrOffsets::from(bytes_from(section, is_big, offset)?);
+    match offsets.headers()?.next()? {
+        Some(header) => {
+            let (length, format) = (header.length(), header.format());
+            Ok(Some(set_from(offset, format, length, format.word_size())))
+        }
+        None => Ok(None),
+    }
+}
+
+// The bytes of a section from an offset on.
+fn bytes_from<'input>(
+    section: &'input [u8],
+    is_big: bool,
+    offset: usize,
+) -> Result<EndianSlice<'input, RunTimeEndian>, Error>
+    ensures ok { let reader = ⟦<EndianSlice<'input, RunTimeEndian> as Reader>⟧ in IfOk result
+        (λ rest. Takes offset (section_of section.now is_big) (reader.view rest)) }
+    ensures err { let s = section_of section.now is_big in
+        IfErr result (λ e. EndsBefore offset s e s) }
+{
+    let mut bytes = EndianSlice::new(section, order(is_big));
+    bytes.skip(offset)?;
+    Ok(bytes)
+}
+
+// A set whose header has four bytes, as C sees it.
+fn set_from(offset: usize, format: Format, unit_length: usize, entry_size: u8) -> DwarfSet
+    requires within { offset + initial_length_size format + unit_length < 2 ^ 64 }
+    requires header { 4 ≤ unit_length }
+    ensures { result ≡ set_from offset format unit_length entry_size }
+{
+    let unit = offset + usize::from(format.initial_length_size());
     DwarfSet {
         next: unit + unit_length,
         unit_length,
-        first_address: unit + 4,
-        word_size: encoding.format.word_size(),
-        address_size: encoding.address_size,
+        first_entry: unit + 4,
+        word_size: format.word_size(),
+        entry_size,
     }
 }

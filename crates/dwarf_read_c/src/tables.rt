@@ -50,7 +50,8 @@ pub struct DwarfAbbreviation {
 pub struct DwarfAttribute {
     pub name: u16,
     pub form: u16,
-    /// The value that the table itself has for the form `DW_FORM_implicit_const`, and else 0.
+    /// The value that the table itself has for the form `DW_FORM_implicit_const`. It is 0 for
+    /// another form.
     pub implicit_const: i64,
 }
 
@@ -59,7 +60,7 @@ pub struct DwarfAttribute {
 ///
 /// # Errors
 ///
-/// Bytes that begin no table answer their first fault:
+/// If the bytes from `offset` on begin with no table, the first error of them:
 ///
 /// - 1 (`UnexpectedEof`) at 0 if `offset` is past the end, and at the section's end if a declaration
 ///   is cut short;
@@ -95,10 +96,10 @@ pub extern "C" fn dwarf_table_measure(
 }
 
 /// Reads the table at `offset` of `.debug_abbrev`: its abbreviations by rising code, and their
-/// attributes, one abbreviation's behind the other's. `measure` tells how many of each there are;
-/// the places behind them are left as they are.
+/// attributes, one abbreviation's behind the other's. `measure` is how many of each there are. The
+/// call doesn't change the places behind them.
 ///
-/// If there are fewer places than abbreviations or attributes, only the measure is told, and the call
+/// If there are fewer places than abbreviations or attributes, only `measure` is written, and the call
 /// returns `DWARF_NO_ROOM`.
 ///
 /// # Errors

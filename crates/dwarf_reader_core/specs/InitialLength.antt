@@ -12,12 +12,12 @@ use Rattle.dwarf_reader_core.specs.Faults.{EndsBefore, IsNoOffset}
 abbrev pub BeginsDwarf64 : Input → Type 0
 BeginsDwarf64 old = TakesNumber 4 old 0xffff_ffff (after 4 old)
 
--- the length is taken, in this format
+-- the length is consumed, in this format
 abbrev pub TakesLength : ℕ → Input → ℕ → Format → Input → Type 0
 TakesLength greatest old len Dwarf32 new = TakesNumber 4 old len new × (len < 0xffff_fff0)
 TakesLength greatest old len Dwarf64 new = BeginsDwarf64 old × TakesNumber 8 (after 4 old) len new × (len ≤ greatest)
 
--- the four bytes are taken, and are reserved
+-- the four bytes are consumed, and are reserved
 pub record IsReservedLength (old : Input) (e : Error) (new : Input) : Type 0 where
   pub number : ℕ
   pub taken : TakesNumber 4 old number new
@@ -25,17 +25,17 @@ pub record IsReservedLength (old : Input) (e : Error) (new : Input) : Type 0 whe
   pub high : number < 0xffff_ffff
   pub fault : e ≡ UnknownReservedLength number
 
--- the four bytes are taken, and of the eight behind them some are missing
+-- the four bytes are consumed, and some of the eight behind them are missing
 pub record EndsInLength (old : Input) (e : Error) (new : Input) : Type 0 where
   pub begins : BeginsDwarf64 old
   pub rest : EndsBefore 8 (after 4 old) e new
 
--- all twelve bytes are taken, and the length is no offset
+-- all twelve bytes are consumed, and the length is no offset
 pub record IsNoLength (greatest : ℕ) (old : Input) (e : Error) (new : Input) : Type 0 where
   pub begins : BeginsDwarf64 old
   pub rest : IsNoOffset greatest 8 (after 4 old) e new
 
--- no length is read
+-- no length is read, which is one of four errors
 abbrev pub RefusesLength : ℕ → Input → Error → Input → Type 0
 RefusesLength greatest old e new =
     EndsBefore 4 old e new ⊎ (IsReservedLength old e new ⊎ (EndsInLength old e new ⊎ IsNoLength greatest old e new))

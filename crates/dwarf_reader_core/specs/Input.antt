@@ -1,8 +1,8 @@
--- What a reader stands for, and what a call takes from it.
+-- What represents a reader, and what a call consumes of it.
 use Rattle.std.specs.Prelude.{◌≡◌, ◌≢◌, ℕ, ◌+◌, ◌<◌, ◌≤◌, ◌^◌, Bool, List, length, take, drop, All, slice_index, ℤ}
 use Rattle.dwarf_base_core.specs.Number.{number_of, signed_number}
 
--- the bytes that are left, the position of the first of them, and whether the highest byte of a number comes first
+-- the bytes that remain, the position of the first of them, and whether the highest byte of a number comes first
 pub record Input : Type 0 where
   pub bytes : List ℕ
   pub position : ℕ
@@ -18,7 +18,7 @@ pub record IsBounded (greatest : ℕ) (input : Input) : Type 0 where
 abbrev pub end_of : Input → ℕ
 end_of input = input.position + length input.bytes
 
--- what is left once n bytes are taken
+-- what remains after n bytes are consumed
 abbrev pub after : ℕ → Input → Input
 after n input = record input { bytes = drop n input.bytes; position = input.position + n }
 
@@ -26,24 +26,24 @@ after n input = record input { bytes = drop n input.bytes; position = input.posi
 abbrev pub first : ℕ → Input → Input
 first n input = record input { bytes = take n input.bytes }
 
--- n bytes are taken
+-- n bytes are consumed
 pub record Takes (n : ℕ) (old new : Input) : Type 0 where
   pub enough : n ≤ length old.bytes
   pub left : new ≡ after n old
 
--- a byte is taken
+-- a byte is consumed
 pub record TakesByte (old : Input) (byte : ℕ) (new : Input) : Type 0 where
   pub enough : 1 ≤ length old.bytes
   pub is : byte ≡ slice_index old.bytes 0
   pub left : new ≡ after 1 old
 
--- the number that n bytes are is taken
+-- the number that n bytes encode is consumed
 pub record TakesNumber (n : ℕ) (old : Input) (x : ℕ) (new : Input) : Type 0 where
   pub enough : n ≤ length old.bytes
   pub is : x ≡ number_of old.is_big (take n old.bytes)
   pub left : new ≡ after n old
 
--- the signed number that n bytes are is taken
+-- the signed number that n bytes encode is consumed
 pub record TakesSigned (n : ℕ) (old : Input) (x : ℤ) (new : Input) : Type 0 where
   pub enough : n ≤ length old.bytes
   pub is : x ≡ signed_number n (number_of old.is_big (take n old.bytes))
@@ -55,7 +55,7 @@ pub record IsFirst (byte : ℕ) (bytes : List ℕ) (index : ℕ) : Type 0 where
   pub here : slice_index bytes index ≡ byte
   pub before : All (λ b. b ≢ byte) (take index bytes)
 
--- the string up to the first zero byte is taken, with that byte
+-- the string up to the first zero byte is consumed, with that byte
 pub record TakesString (old string new : Input) : Type 0 where
   pub len : ℕ
   pub ends : IsFirst 0 old.bytes len

@@ -27,7 +27,7 @@ is_negative [] = false
 is_negative (b ∷ []) = nat_le 64 (b % 128)
 is_negative (b ∷ c ∷ bytes) = is_negative (c ∷ bytes)
 
--- n bytes are worth their digits, less 128 ^ n where they are negative
+-- n bytes are worth their digits, less 128 ^ n if they are negative
 abbrev pub signed_value : List ℕ → ℤ
 signed_value bytes = pos (unsigned_value bytes) -ℤ pos (if is_negative bytes then 128 ^ length bytes else 0)
 
@@ -59,7 +59,7 @@ is_in_range unsigned64 n = nat_lt n (2 ^ 64)
 is_in_range unsigned16 n = nat_lt n (2 ^ 16)
 is_in_range signed64 n = int_le (negsuc (2 ^ 63 - 1)) n && int_le n (pos (2 ^ 63 - 1))
 
--- what bytes that are no number of the kind are refused with
+-- the error of bytes that are no number of the kind
 abbrev pub refusal : Kind → Error
 refusal unsigned64 = BadUnsignedLeb128
 refusal unsigned16 = BadUnsignedLeb128
@@ -101,42 +101,42 @@ HasOutcome k bytes (Value number n) = HasNumber k bytes number n
 HasOutcome k bytes End = IsCut k bytes
 HasOutcome k bytes Bad = IsBad k bytes
 
--- the number is taken, with its bytes
+-- the number is read, and its bytes are consumed
 pub record ReadsNumber (k : Kind) (old : Input) (number : Number k) (new : Input) : Type 0 where
   pub len : ℕ
   pub is : HasNumber k old.bytes number len
   pub left : new ≡ after len old
 
--- the bytes end before the number does, and all were taken
+-- the bytes end before the number does, and all are consumed
 pub record EndsInNumber (k : Kind) (old : Input) (e : Error) (new : Input) : Type 0 where
   pub cut : IsCut k old.bytes
   pub left : new ≡ after (length old.bytes) old
   pub fault : e ≡ end_fault new
 
--- the bytes are bad, and as many as the limit were taken
+-- the bytes are bad, and as many as the limit are consumed
 pub record IsNoNumber (k : Kind) (old : Input) (e : Error) (new : Input) : Type 0 where
   pub bad : IsBad k old.bytes
   pub left : new ≡ after (limit k) old
   pub fault : e ≡ refusal k
 
--- no number is read
+-- no number is read, which is one of two errors
 abbrev pub RefusesNumber : Kind → Input → Error → Input → Type 0
 RefusesNumber k old e new = EndsInNumber k old e new ⊎ IsNoNumber k old e new
 
--- an encoding is taken, of whatever length
+-- an encoding is consumed, of any length
 pub record TakesEncoding (old new : Input) : Type 0 where
   pub len : ℕ
   pub enough : len ≤ length old.bytes
   pub is : IsEncoding (take len old.bytes)
   pub left : new ≡ after len old
 
--- no encoding begins the bytes: all were taken, and the end fault is there
+-- no encoding begins the bytes: all are consumed, which is the error of the end
 pub record LacksEncoding (old : Input) (e : Error) (new : Input) : Type 0 where
   pub none : NoneIsLast old.bytes
   pub left : new ≡ after (length old.bytes) old
   pub fault : e ≡ end_fault new
 
--- a number was taken that is from bound on
+-- a number is read that is the bound or more
 pub record IsOver (bound : ℕ) (old : Input) (e : Error) (new : Input) : Type 0 where
   pub number : ℕ
   pub taken : ReadsNumber unsigned64 old number new

@@ -26,14 +26,14 @@ use std::ops::{Range, RangeFrom, RangeTo};
 
 /// A [`Reader`] of borrowed bytes.
 ///
-/// It copies no bytes, and cloning or splitting it takes no memory. Two are equal where their bytes
-/// and byte orders are, whatever their positions.
+/// It copies no bytes, and cloning or splitting it allocates no memory. Two are equal if their
+/// bytes and byte orders are, whatever their positions.
 #[derive(Debug)]
 pub struct EndianSlice<'input, Endian: Endianity> {
     slice: &'input [u8],
     endian: Endian,
-    // The position after the last byte. It stays as bytes are taken, so that a byte costs no second
-    // store.
+    // The position after the last byte. It is the same after bytes are consumed, so that consuming
+    // a byte costs no second store.
     end: u64,
     ghost starts: { length slice.now ≤ end },
     ghost ends: { end < 2 ^ 64 },
@@ -57,7 +57,7 @@ impl<'input, Endian: Endianity> Clone for EndianSlice<'input, Endian> {
 
 impl<'input, Endian: Endianity> Copy for EndianSlice<'input, Endian> {}
 
-/// Two are equal exactly where their bytes and their byte orders are, whatever their positions.
+/// Two are equal exactly if their bytes and their byte orders are, whatever their positions.
 impl<'input, Endian: Endianity> PartialEq for EndianSlice<'input, Endian> {
     ghost eq = { eq_of_both (on (λ s. s.slice.now) (pointwise nat_eq)) (on (λ s. s.endian) Endian.eq) };
 
@@ -72,7 +72,7 @@ impl<'input, Endian: Endianity> Eq for EndianSlice<'input, Endian> {
     ghost laws = { and_equiv (on_equiv (λ s. s.slice.now) nat_list_eq_equiv) (on_equiv (λ s. s.endian) Endian.Eq.laws) };
 }
 
-/// What is hashed are the bytes and the byte order.
+/// The bytes and the byte order are hashed.
 impl<'input, Endian: Endianity + Hash> Hash for EndianSlice<'input, Endian> {
     ghost hash_input = { λ s. fed.slice fed.u8 s.slice.now ++ Endian.hash_input s.endian };
 
@@ -97,7 +97,7 @@ impl<'input, Endian: Endianity> Default for EndianSlice<'input, Endian> {
 }
 
 impl<'input, Endian: Endianity> EndianSlice<'input, Endian> {
-    /// A reader of these bytes, at position 0.
+    /// Returns a reader of these bytes, at position 0.
     #[inline]
     pub fn new(slice: &'input [u8], endian: Endian) -> EndianSlice<'input, Endian>
         ensures { let reader = ⟦<EndianSlice<'input, Endian> as Reader>⟧ in
@@ -111,8 +111,8 @@ impl<'input, Endian: Endianity> EndianSlice<'input, Endian> {
         }
     }
 
-    /// A reader of these bytes, at the position that `first` names, so that sections read side by
-    /// side have identifiers of their own.
+    /// Returns a reader of these bytes, at the position `first`, so that sections read side by side
+    /// have identifiers of their own.
     ///
     /// The caller has to make sure that the position after the last byte is below 2^64.
     #[inline]
@@ -133,7 +133,7 @@ impl<'input, Endian: Endianity> EndianSlice<'input, Endian> {
         }
     }
 
-    /// The bytes that are left.
+    /// Returns the bytes that remain.
     #[inline]
     pub fn slice(&self) -> &'input [u8]
         ensures { result.now ≡ (⟦<EndianSlice<'input, Endian> as Reader>⟧.view self.now).bytes }
@@ -141,7 +141,7 @@ impl<'input, Endian: Endianity> EndianSlice<'input, Endian> {
         self.slice
     }
 
-    /// The bytes that are left, borrowed from the reader.
+    /// Returns the bytes that remain, borrowed from the reader.
     #[inline]
     pub fn as_slice(&self) -> &[u8]
         ensures { result.now ≡ (⟦<EndianSlice<'input, Endian> as Reader>⟧.view self.now).bytes }
@@ -149,9 +149,9 @@ impl<'input, Endian: Endianity> EndianSlice<'input, Endian> {
         self.slice()
     }
 
-    /// The first `idx` bytes that are left, and those behind them.
+    /// Returns a reader of the first `idx` bytes that remain, and one of those behind them.
     ///
-    /// The caller has to make sure that at least `idx` bytes are left.
+    /// The caller has to make sure that at least `idx` bytes remain.
     #[inline]
     pub fn split_at(&self, idx: usize) -> (EndianSlice<'input, Endian>, EndianSlice<'input, Endian>)
         requires { idx ≤ length (⟦<EndianSlice<'input, Endian> as Reader>⟧.view self.now).bytes }
@@ -163,7 +163,7 @@ impl<'input, Endian: Endianity> EndianSlice<'input, Endian> {
         (self.range_to(..idx), self.range_from(idx..))
     }
 
-    /// The offset, from the position, of the first byte of this value, or `None`.
+    /// Returns the offset, in bytes from the position, of the first byte of this value, or `None`.
     #[inline]
     pub fn find(&self, byte: u8) -> Option<usize>
         ensures found { let reader = ⟦<EndianSlice<'input, Endian> as Reader>⟧ in
@@ -174,9 +174,10 @@ impl<'input, Endian: Endianity> EndianSlice<'input, Endian> {
         find_byte(self.slice, byte)
     }
 
-    /// How many bytes the position lies behind that of `base`.
+    /// Returns how many bytes the position is behind that of `base`.
     ///
-    /// The caller has to make sure that what is left here is a part of what is left of `base`.
+    /// The caller has to make sure that the bytes that remain here are a part of those that remain
+    /// in `base`.
     #[inline]
     pub fn offset_from(&self, base: EndianSlice<'input, Endian>) -> usize
         requires { let reader = ⟦<EndianSlice<'input, Endian> as Reader>⟧ in
@@ -187,9 +188,11 @@ impl<'input, Endian: Endianity> EndianSlice<'input, Endian> {
         Reader::offset_from(self, &base)
     }
 
-    /// The bytes that are left, as text.
+    /// Returns the bytes that remain, as text.
     ///
-    /// Answers [`Error::BadUtf8`] exactly where they aren't UTF-8.
+    /// # Errors
+    ///
+    /// [`Error::BadUtf8`] exactly if they aren't UTF-8.
     #[inline]
     pub fn to_string(&self) -> Result<&'input str>
         ensures ok { let reader = ⟦<EndianSlice<'input, Endian> as Reader>⟧ in
@@ -201,10 +204,13 @@ impl<'input, Endian: Endianity> EndianSlice<'input, Endian> {
         str::from_utf8(self.slice).map_err(|_| Error::BadUtf8)
     }
 
-    /// The bytes that are left, as text, with one U+FFFD for each incomplete beginning of a
-    /// sequence, taken as long as it can be, and else for each bad byte.
+    /// Returns the bytes that remain, as text. Each incomplete beginning of a sequence, as long as
+    /// it can be, becomes one U+FFFD, and so does each other bad byte.
     ///
-    /// Takes memory, and can answer [`Error::OutOfMemory`], only where they aren't UTF-8.
+    /// # Errors
+    ///
+    /// [`Error::OutOfMemory`] if memory runs out. Memory is allocated only if the bytes aren't
+    /// UTF-8.
     #[inline]
     pub fn to_string_lossy(&self, mem: Global) -> Result<CowStr<'input>>
         ensures ok { let reader = ⟦<EndianSlice<'input, Endian> as Reader>⟧ in
@@ -219,10 +225,11 @@ impl<'input, Endian: Endianity> EndianSlice<'input, Endian> {
         }
     }
 
-    /// The bytes from `range.start` up to `range.end`, counted from the position.
+    /// Returns a reader of the bytes from `range.start` up to `range.end`, counted from the
+    /// position.
     ///
     /// The caller has to make sure that `range.start` is at most `range.end`, and that at least
-    /// `range.end` bytes are left.
+    /// `range.end` bytes remain.
     #[inline]
     pub fn range(&self, range: Range<usize>) -> EndianSlice<'input, Endian>
         requires ordered { range.start ≤ range.end }
@@ -239,9 +246,9 @@ impl<'input, Endian: Endianity> EndianSlice<'input, Endian> {
         }
     }
 
-    /// The bytes from `range.start` on, counted from the position.
+    /// Returns a reader of the bytes from `range.start` on, counted from the position.
     ///
-    /// The caller has to make sure that at least `range.start` bytes are left.
+    /// The caller has to make sure that at least `range.start` bytes remain.
     #[inline]
     pub fn range_from(&self, range: RangeFrom<usize>) -> EndianSlice<'input, Endian>
         requires { let reader = ⟦<EndianSlice<'input, Endian> as Reader>⟧ in
@@ -252,9 +259,9 @@ impl<'input, Endian: Endianity> EndianSlice<'input, Endian> {
         self.range(range.start..self.slice.len())
     }
 
-    /// The bytes up to `range.end`, counted from the position.
+    /// Returns a reader of the bytes up to `range.end`, counted from the position.
     ///
-    /// The caller has to make sure that at least `range.end` bytes are left.
+    /// The caller has to make sure that at least `range.end` bytes remain.
     #[inline]
     pub fn range_to(&self, range: RangeTo<usize>) -> EndianSlice<'input, Endian>
         requires { let reader = ⟦<EndianSlice<'input, Endian> as Reader>⟧ in
@@ -381,7 +388,7 @@ impl<'input, Endian: Endianity> Reader for EndianSlice<'input, Endian> {
         Ok(part)
     }
 
-    /// All bytes that are left, borrowed, so that it takes no memory.
+    /// Returns all bytes that remain, borrowed, so that no memory is allocated.
     #[inline]
     fn to_slice(&self) -> Result<CowSlice<'_, u8>>
         ensures ok { let reader = ⟦<EndianSlice<'input, Endian> as Reader>⟧ in
@@ -392,9 +399,11 @@ impl<'input, Endian: Endianity> Reader for EndianSlice<'input, Endian> {
         Ok(CowSlice::Borrowed(self.slice))
     }
 
-    /// All bytes that are left, as borrowed text, so that it takes no memory.
+    /// Returns all bytes that remain as borrowed text, so that no memory is allocated.
     ///
-    /// Answers [`Error::BadUtf8`] exactly where they aren't UTF-8.
+    /// # Errors
+    ///
+    /// [`Error::BadUtf8`] exactly if they aren't UTF-8.
     #[inline]
     fn to_string(&self) -> Result<CowStr<'_>>
         ensures ok { let reader = ⟦<EndianSlice<'input, Endian> as Reader>⟧ in
@@ -409,7 +418,7 @@ impl<'input, Endian: Endianity> Reader for EndianSlice<'input, Endian> {
         Ok(CowStr::Borrowed(self.to_string()?))
     }
 
-    /// As the trait's call; takes memory only where the bytes aren't UTF-8.
+    /// As the trait's call. Memory is allocated only if the bytes aren't UTF-8.
     #[inline]
     fn to_string_lossy(&self, mem: Global) -> Result<CowStr<'_>>
         ensures ok { let reader = ⟦<EndianSlice<'input, Endian> as Reader>⟧ in

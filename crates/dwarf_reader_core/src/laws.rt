@@ -1,4 +1,4 @@
-//! What holds of the definitions that the contracts cite.
+//! Laws of the definitions that the contracts cite.
 
 ghost use Rattle.std.specs.Prelude.{◌≡◌, ◌≤◌, ◌++◌, ℕ, List, length, IsTrue};
 ghost use Rattle.dwarf_base_core.specs.declared.common.Format.{Format};
@@ -10,8 +10,8 @@ ghost use Rattle.dwarf_reader_core.specs.Leb128.{unsigned64, unsigned16, signed6
 ghost use Rattle.dwarf_reader_core.specs.Once.{HasOne};
 ghost use Rattle.dwarf_reader_core.specs.Shortest.{Encodes, IsShortest};
 
-/// Bytes begin with one number of each kind, or end before one does, or are bad, and only one of
-/// these.
+/// Bytes begin with one number of each kind, or end before one does, or are bad, and exactly one of
+/// these holds.
 pub fn one_outcome()
     ensures unsigned { (bytes : List ℕ) → HasOne (HasOutcome unsigned64 bytes) }
     ensures short { (bytes : List ℕ) → HasOne (HasOutcome unsigned16 bytes) }
@@ -30,7 +30,7 @@ pub fn exactly_one_shortest()
     ensures { (k : Kind) (number : Number k) → HasOne (IsShortest k number) }
 {}
 
-/// What encodes a number, within the limit of its kind, is read as the number, whatever follows.
+/// Bytes that encode a number, within the limit of its kind, are read as the number, whatever follows.
 pub fn written_is_read()
     ensures { (k : Kind) (number : Number k) (bytes rest : List ℕ) → Encodes k bytes number
         → length bytes ≤ limit k → IsTrue (is_in_range k number)
@@ -44,7 +44,7 @@ pub fn one_string()
     ensures either { (old s x : Input) (e : Error) → TakesString old s x → Lacks 0 old e → ⊥ }
 {}
 
-/// Bytes begin with one initial length, or are refused for one reason.
+/// Bytes begin with one initial length, or have one error.
 pub fn one_length()
     ensures taken { (greatest m n : ℕ) (old x y : Input) (f g : Format)
         → TakesLength greatest old m f x → TakesLength greatest old n g y

@@ -22,15 +22,16 @@ use std::alloc::Global;
 use std::borrow::{CowSlice, CowStr};
 use std::fmt::Debug;
 
-/// Bytes that are left to read, the position of the first of them, and a byte order.
+/// The bytes of a section that remain to be read, the position of the first of them, and a byte
+/// order.
 ///
-/// A call that takes bytes takes them from the front, and the position grows by as many; nothing
-/// changes the byte order, and each part that is handed out has it. Positions are below 2^64, and
-/// the number of bytes left is an offset. [`Error::UnexpectedEof`] names the position at which
-/// bytes are missing.
+/// A call that consumes bytes consumes them from the front, and the position grows by as many. No
+/// call changes the byte order, and each reader that a call returns has it too. Positions are below
+/// 2^64, and the number of remaining bytes is an offset. [`Error::UnexpectedEof`] has the position
+/// at which bytes are missing.
 ///
 /// An implementation writes the calls up to [`read_slice`](Reader::read_slice). The others have
-/// bodies, and an implementation that writes one anew owes the same contract.
+/// bodies, and an implementation that overrides one has to meet the same contract.
 ///
 /// ```
 /// let mut input = EndianSlice::new(&[0x81, 0x01, 0x00], LittleEndian);
@@ -44,8 +45,9 @@ pub trait Reader: Debug + Drop + Sized {
     /// The type of lengths, and of offsets within the bytes.
     type Offset: ReaderOffset;
 
-    /// Whether `try_clone`, `split` and `read_null_terminated_slice` take no memory, and so never
-    /// return [`Error::OutOfMemory`]. It is what [`is_clone_free`](Reader::is_clone_free) returns.
+    /// Whether `try_clone`, `split` and `read_null_terminated_slice` allocate no memory, and so
+    /// never return [`Error::OutOfMemory`]. It is what [`is_clone_free`](Reader::is_clone_free)
+    /// returns.
     const CLONE_IS_FREE: bool;
 
     // what `is_clone_free` returns, for contracts
@@ -53,79 +55,92 @@ pub trait Reader: Debug + Drop + Sized {
 
     ghost view: { Self → Input };
 
-    /// Returns whether clones take no memory, as [`CLONE_IS_FREE`](Reader::CLONE_IS_FREE) says.
+    /// Returns whether clones allocate no memory, as [`CLONE_IS_FREE`](Reader::CLONE_IS_FREE) says.
     ///
-    /// The checker holds this call to the truth, and a constant it does not; so a program that has to
-    /// know asks this call.
+    /// The checker proves what this call returns. It proves nothing of a constant, so a program
+    /// that has to know calls this.
     fn is_clone_free(&self) -> bool
         ensures { result ≡ clone_is_free };
 
-    /// Another reader of the same bytes, at the same position.
+    /// Returns another reader of the same bytes, at the same position.
     ///
-    /// Answers [`Error::OutOfMemory`] where there is no memory for it.
+    /// # Errors
+    ///
+    /// [`Error::OutOfMemory`] if memory runs out.
     fn try_clone(&self) -> Result<Self>
         ensures ok { IfOk result (λ clone. view clone ≡ view self.now) }
         ensures err { IfErr result (WantsMemory clone_is_free) };
 
-    /// The byte order.
+    /// Returns the byte order.
     fn endian(&self) -> Self::Endian
         ensures { Self.Endian.is_big result ≡ (view self.now).is_big };
 
-    /// The number of bytes that are left.
+    /// Returns the number of bytes that remain.
     fn len(&self) -> Self::Offset
         ensures { Self.Offset.value result ≡ length (view self.now).bytes };
 
-    /// Lets go of all bytes that are left; the position stays.
+    /// Drops all bytes that remain. The position is unchanged.
     fn empty(&mut self)
         ensures { view self.new ≡ first 0 (view self.old) };
 
-    /// Keeps the first `len` bytes alone.
+    /// Keeps only the first `len` bytes.
     ///
-    /// Answers [`Error::UnexpectedEof`] where fewer are left, and then changes nothing.
+    /// # Errors
+    ///
+    /// [`Error::UnexpectedEof`] if fewer bytes remain. Nothing is changed then.
     fn truncate(&mut self, len: Self::Offset) -> Result<()>
         ensures ok { OnOk result (view self.new ≡ first (Self.Offset.value len) (view self.old)) }
         ensures enough { OnOk result (Self.Offset.value len ≤ length (view self.old).bytes) }
         ensures err { IfErr result
             (λ e. EndsBefore (Self.Offset.value len) (view self.old) e (view self.new)) };
 
-    /// How many bytes the position lies behind that of `base`.
+    /// Returns how many bytes the position is behind that of `base`.
     ///
-    /// The caller has to make sure that what is left here is a part of what is left of `base`.
+    /// The caller has to make sure that the bytes that remain here are a part of those that remain
+    /// in `base`.
     fn offset_from(&self, base: &Self) -> Self::Offset
         requires { IsPartOf (view self.now) (view base.now) }
         ensures { Self.Offset.value result + (view base.now).position ≡ (view self.now).position };
 
-    /// The position, as an identifier of the place in the section.
+    /// Returns the position, as an identifier of the place in the section.
     fn offset_id(&self) -> ReaderOffsetId
         ensures { result.0 ≡ (view self.now).position };
 
-    /// The offset, in bytes from the position, of the place that the identifier names, or `None` if
-    /// it is neither one of the bytes that are left nor their end.
+    /// Returns the offset, in bytes from the position, of the place with this identifier, or `None`
+    /// if it is neither one of the bytes that remain nor their end.
     fn lookup_offset_id(&self, id: ReaderOffsetId) -> Option<Self::Offset>
         ensures found { IfSome result
             (λ offset. (view self.now).position + Self.Offset.value offset ≡ id.0) }
         ensures covered { IsSome result ↔ Covers (view self.now) id.0 };
 
-    /// The offset, in bytes from the position, of the first byte of this value.
+    /// Returns the offset, in bytes from the position, of the first byte of this value.
     ///
-    /// Answers [`Error::UnexpectedEof`] where there is none.
+    /// # Errors
+    ///
+    /// [`Error::UnexpectedEof`] at the position if no byte has this value.
     fn find(&self, byte: u8) -> Result<Self::Offset>
         ensures ok { IfOk result
             (λ index. IsFirst byte (view self.now).bytes (Self.Offset.value index)) }
         ensures err { IfErr result (Lacks byte (view self.now)) };
 
-    /// Takes `len` bytes.
+    /// Consumes `len` bytes.
     ///
-    /// Answers [`Error::UnexpectedEof`] where fewer are left, and then takes none.
+    /// # Errors
+    ///
+    /// [`Error::UnexpectedEof`] if fewer bytes remain. None is consumed then.
     fn skip(&mut self, len: Self::Offset) -> Result<()>
         ensures ok { OnOk result (Takes (Self.Offset.value len) (view self.old) (view self.new)) }
         ensures err { IfErr result
             (λ e. EndsBefore (Self.Offset.value len) (view self.old) e (view self.new)) };
 
-    /// Takes `len` bytes, and gives a reader of them that begins at their position.
+    /// Consumes `len` bytes, and returns a reader of them that begins at their position.
     ///
-    /// Answers [`Error::UnexpectedEof`] where fewer are left, and [`Error::OutOfMemory`] where there
-    /// is no memory for the reader; then it takes none.
+    /// # Errors
+    ///
+    /// - [`Error::UnexpectedEof`] if fewer bytes remain.
+    /// - [`Error::OutOfMemory`] if memory for the new reader runs out.
+    ///
+    /// No byte is consumed then.
     fn split(&mut self, len: Self::Offset) -> Result<Self>
         ensures part { IfOk result
             (λ part. view part ≡ first (Self.Offset.value len) (view self.old)) }
@@ -134,36 +149,45 @@ pub trait Reader: Debug + Drop + Sized {
             (λ e. EndsBefore (Self.Offset.value len) (view self.old) e (view self.new)
             ⊎ (WantsMemory clone_is_free e × (view self.new ≡ view self.old))) };
 
-    /// All bytes that are left; none is taken.
+    /// Returns all bytes that remain, and consumes none.
     ///
-    /// Answers [`Error::OutOfMemory`] where they had to be copied and there is no memory.
+    /// # Errors
+    ///
+    /// [`Error::OutOfMemory`] if the bytes have to be copied and memory runs out.
     fn to_slice(&self) -> Result<CowSlice<'_, u8>>
         ensures ok { IfOk result (λ bytes. cow_slice_items bytes ≡ (view self.now).bytes) }
         ensures err { IfErr result (λ e. e ≡ OutOfMemory) };
 
-    /// All bytes that are left, as text; none is taken.
+    /// Returns all bytes that remain as text, and consumes none.
     ///
-    /// Answers [`Error::BadUtf8`] where they aren't UTF-8, and [`Error::OutOfMemory`] where they
-    /// had to be copied and there is no memory.
+    /// # Errors
+    ///
+    /// - [`Error::BadUtf8`] if they aren't UTF-8.
+    /// - [`Error::OutOfMemory`] if they have to be copied and memory runs out.
     fn to_string(&self) -> Result<CowStr<'_>>
         ensures ok { IfOk result (λ text. cow_str_bytes text ≡ (view self.now).bytes) }
         ensures utf8 { OnOk result (IsUtf8 (view self.now).bytes) }
         ensures err { IfErr result
             (λ e. (¬ (IsUtf8 (view self.now).bytes) × (e ≡ BadUtf8)) ⊎ (e ≡ OutOfMemory)) };
 
-    /// All bytes that are left, as text; none is taken.
+    /// Returns all bytes that remain as text, and consumes none.
     ///
-    /// Where they aren't UTF-8, each incomplete beginning of a sequence, taken as long as it can be,
-    /// and else each bad byte, becomes one U+FFFD. Answers [`Error::OutOfMemory`] where there is no
-    /// memory for the text.
+    /// If they aren't UTF-8, each incomplete beginning of a sequence, as long as it can be, becomes
+    /// one U+FFFD, and so does each other bad byte.
+    ///
+    /// # Errors
+    ///
+    /// [`Error::OutOfMemory`] if memory for the text runs out.
     fn to_string_lossy(&self, mem: Global) -> Result<CowStr<'_>>
         ensures ok { IfOk result (λ text. cow_str_bytes text ≡ utf8_lossy (view self.now).bytes) }
         ensures err { IfErr result (λ e. e ≡ OutOfMemory) };
 
-    /// Takes as many bytes as the buffer has, and copies them there.
+    /// Consumes as many bytes as the buffer has, and copies them there.
     ///
-    /// Answers [`Error::UnexpectedEof`] where fewer are left; then it takes none, and the buffer is
-    /// as it was.
+    /// # Errors
+    ///
+    /// [`Error::UnexpectedEof`] if fewer bytes remain. None is consumed then, and the buffer is
+    /// unchanged.
     fn read_slice(&mut self, buf: &mut [u8]) -> Result<()>
         ensures filled { OnOk result (buf.new ≡ take (length buf.old) (view self.old).bytes) }
         ensures ok { OnOk result (Takes (length buf.old) (view self.old) (view self.new)) }
@@ -171,7 +195,7 @@ pub trait Reader: Debug + Drop + Sized {
             (λ e. EndsBefore (length buf.old) (view self.old) e (view self.new)) }
         ensures kept { OnErr result (buf.new ≡ buf.old) };
 
-    /// Whether no bytes are left.
+    /// Returns whether no bytes remain.
     #[inline]
     fn is_empty(&self) -> bool
         ensures { IsTrue result ↔ ((view self.now).bytes ≡ []) }
@@ -179,10 +203,12 @@ pub trait Reader: Debug + Drop + Sized {
         self.len().into_u64() == 0
     }
 
-    /// Takes one byte.
+    /// Reads one byte.
     ///
-    /// This and the other reads of numbers of a fixed width answer [`Error::UnexpectedEof`] where
-    /// fewer bytes are left, and then take none.
+    /// # Errors
+    ///
+    /// [`Error::UnexpectedEof`] if no byte remains. This and the other reads of a number of a fixed
+    /// width consume nothing if they fail.
     #[inline]
     fn read_u8(&mut self) -> Result<u8>
         ensures ok { IfOk result (λ byte. TakesByte (view self.old) byte (view self.new)) }
@@ -193,7 +219,11 @@ pub trait Reader: Debug + Drop + Sized {
         Ok(bytes[0])
     }
 
-    /// Takes one byte, as a signed number.
+    /// Reads one byte as a signed number.
+    ///
+    /// # Errors
+    ///
+    /// As [`read_u8`](Reader::read_u8).
     #[inline]
     fn read_i8(&mut self) -> Result<i8>
         ensures ok { IfOk result (λ x. TakesSigned 1 (view self.old) x (view self.new)) }
@@ -202,7 +232,11 @@ pub trait Reader: Debug + Drop + Sized {
         Ok(self.read_u8()?.cast_signed())
     }
 
-    /// Takes a number of two bytes.
+    /// Reads a number of two bytes.
+    ///
+    /// # Errors
+    ///
+    /// [`Error::UnexpectedEof`] if fewer bytes remain.
     #[inline]
     fn read_u16(&mut self) -> Result<u16>
         ensures ok { IfOk result (λ x. TakesNumber 2 (view self.old) x (view self.new)) }
@@ -213,7 +247,11 @@ pub trait Reader: Debug + Drop + Sized {
         Ok(self.endian().read_u16(&bytes))
     }
 
-    /// Takes a signed number of two bytes.
+    /// Reads a signed number of two bytes.
+    ///
+    /// # Errors
+    ///
+    /// [`Error::UnexpectedEof`] if fewer bytes remain.
     #[inline]
     fn read_i16(&mut self) -> Result<i16>
         ensures ok { IfOk result (λ x. TakesSigned 2 (view self.old) x (view self.new)) }
@@ -224,7 +262,11 @@ pub trait Reader: Debug + Drop + Sized {
         Ok(self.endian().read_i16(&bytes))
     }
 
-    /// Takes a number of four bytes.
+    /// Reads a number of four bytes.
+    ///
+    /// # Errors
+    ///
+    /// [`Error::UnexpectedEof`] if fewer bytes remain.
     #[inline]
     fn read_u32(&mut self) -> Result<u32>
         ensures ok { IfOk result (λ x. TakesNumber 4 (view self.old) x (view self.new)) }
@@ -235,7 +277,11 @@ pub trait Reader: Debug + Drop + Sized {
         Ok(self.endian().read_u32(&bytes))
     }
 
-    /// Takes a signed number of four bytes.
+    /// Reads a signed number of four bytes.
+    ///
+    /// # Errors
+    ///
+    /// [`Error::UnexpectedEof`] if fewer bytes remain.
     #[inline]
     fn read_i32(&mut self) -> Result<i32>
         ensures ok { IfOk result (λ x. TakesSigned 4 (view self.old) x (view self.new)) }
@@ -246,7 +292,11 @@ pub trait Reader: Debug + Drop + Sized {
         Ok(self.endian().read_i32(&bytes))
     }
 
-    /// Takes a number of eight bytes.
+    /// Reads a number of eight bytes.
+    ///
+    /// # Errors
+    ///
+    /// [`Error::UnexpectedEof`] if fewer bytes remain.
     #[inline]
     fn read_u64(&mut self) -> Result<u64>
         ensures ok { IfOk result (λ x. TakesNumber 8 (view self.old) x (view self.new)) }
@@ -257,7 +307,11 @@ pub trait Reader: Debug + Drop + Sized {
         Ok(self.endian().read_u64(&bytes))
     }
 
-    /// Takes a signed number of eight bytes.
+    /// Reads a signed number of eight bytes.
+    ///
+    /// # Errors
+    ///
+    /// [`Error::UnexpectedEof`] if fewer bytes remain.
     #[inline]
     fn read_i64(&mut self) -> Result<i64>
         ensures ok { IfOk result (λ x. TakesSigned 8 (view self.old) x (view self.new)) }
@@ -268,7 +322,11 @@ pub trait Reader: Debug + Drop + Sized {
         Ok(self.endian().read_i64(&bytes))
     }
 
-    /// Takes a number of sixteen bytes.
+    /// Reads a number of sixteen bytes.
+    ///
+    /// # Errors
+    ///
+    /// [`Error::UnexpectedEof`] if fewer bytes remain.
     #[inline]
     fn read_u128(&mut self) -> Result<u128>
         ensures ok { IfOk result (λ x. TakesNumber 16 (view self.old) x (view self.new)) }
@@ -279,7 +337,11 @@ pub trait Reader: Debug + Drop + Sized {
         Ok(self.endian().read_u128(&bytes))
     }
 
-    /// Takes a number of `n` bytes, at most eight.
+    /// Reads a number of `n` bytes, at most eight.
+    ///
+    /// # Errors
+    ///
+    /// [`Error::UnexpectedEof`] if fewer bytes remain.
     #[inline]
     fn read_uint(&mut self, n: usize) -> Result<u64>
         requires { n ≤ 8 }
@@ -292,10 +354,15 @@ pub trait Reader: Debug + Drop + Sized {
         Ok(self.endian().read_uint(bytes))
     }
 
-    /// Takes the bytes up to the first zero and that zero, and gives a reader of those before it.
+    /// Consumes the bytes up to the first zero and that zero, and returns a reader of those before
+    /// it.
     ///
-    /// Answers [`Error::UnexpectedEof`] where no byte is zero, and [`Error::OutOfMemory`] where
-    /// there is no memory for the reader; then it takes none.
+    /// # Errors
+    ///
+    /// - [`Error::UnexpectedEof`] at the position if no byte is zero.
+    /// - [`Error::OutOfMemory`] if memory for the new reader runs out.
+    ///
+    /// No byte is consumed then.
     #[inline]
     fn read_null_terminated_slice(&mut self) -> Result<Self>
         ensures ok { IfOk result
@@ -309,10 +376,12 @@ pub trait Reader: Debug + Drop + Sized {
         Ok(string)
     }
 
-    /// Takes the bytes of one LEB128 number, however many they are.
+    /// Consumes the bytes of one LEB128 number, of any length (DWARF 5, 7.6).
     ///
-    /// Answers [`Error::UnexpectedEof`] where the bytes end before the number does, and then has
-    /// taken them all.
+    /// # Errors
+    ///
+    /// [`Error::UnexpectedEof`] if the bytes end before the number does. All of them are consumed
+    /// then.
     #[inline]
     fn skip_leb128(&mut self) -> Result<()>
         ensures ok { OnOk result (TakesEncoding (view self.old) (view self.new)) }
@@ -326,11 +395,14 @@ pub trait Reader: Debug + Drop + Sized {
         }
     }
 
-    /// Takes an unsigned LEB128 number of at most ten bytes.
+    /// Reads an unsigned LEB128 number of at most ten bytes (DWARF 5, 7.6).
     ///
-    /// Answers [`Error::UnexpectedEof`] where the bytes end before the number does, and then has
-    /// taken them all. Answers [`Error::BadUnsignedLeb128`] where ten bytes don't end it, or it is
-    /// from 2^64 on, and then has taken ten.
+    /// # Errors
+    ///
+    /// - [`Error::UnexpectedEof`] if the bytes end before the number does and before the tenth
+    ///   byte. All of them are consumed.
+    /// - [`Error::BadUnsignedLeb128`] if ten bytes don't end the number, or if it is 2^64 or more.
+    ///   Ten bytes are consumed.
     #[inline(always)]
     fn read_uleb128(&mut self) -> Result<u64>
         ensures ok { IfOk result (λ v. ReadsNumber unsigned64 (view self.old) v (view self.new)) }
@@ -357,10 +429,12 @@ pub trait Reader: Debug + Drop + Sized {
         Ok(result | u64::from(byte) << 63)
     }
 
-    /// Takes an unsigned LEB128 number that is below 2^32.
+    /// Reads an unsigned LEB128 number that is below 2^32.
     ///
-    /// Refuses as [`read_uleb128`](Reader::read_uleb128) does; a number from 2^32 on is taken and
-    /// is [`Error::BadUnsignedLeb128`].
+    /// # Errors
+    ///
+    /// Those of [`read_uleb128`](Reader::read_uleb128), and [`Error::BadUnsignedLeb128`] if the
+    /// number is 2^32 or more. Its bytes are consumed then.
     #[inline]
     fn read_uleb128_u32(&mut self) -> Result<u32>
         ensures ok { IfOk result (λ v. ReadsNumber unsigned64 (view self.old) v (view self.new)) }
@@ -371,11 +445,14 @@ pub trait Reader: Debug + Drop + Sized {
         u32::try_from(value).map_err(|_| Error::BadUnsignedLeb128)
     }
 
-    /// Takes an unsigned LEB128 number of at most three bytes.
+    /// Reads an unsigned LEB128 number of at most three bytes.
     ///
-    /// Answers [`Error::UnexpectedEof`] where the bytes end before the number does, and then has
-    /// taken them all. Answers [`Error::BadUnsignedLeb128`] where three bytes don't end it, or it is
-    /// from 2^16 on, and then has taken three.
+    /// # Errors
+    ///
+    /// - [`Error::UnexpectedEof`] if the bytes end before the number does and before the third
+    ///   byte. All of them are consumed.
+    /// - [`Error::BadUnsignedLeb128`] if three bytes don't end the number, or if it is 2^16 or
+    ///   more. Three bytes are consumed.
     #[inline(always)]
     fn read_uleb128_u16(&mut self) -> Result<u16>
         ensures ok { IfOk result (λ v. ReadsNumber unsigned16 (view self.old) v (view self.new)) }
@@ -399,11 +476,14 @@ pub trait Reader: Debug + Drop + Sized {
         Ok(with_digit(two, third, 14) as u16)
     }
 
-    /// Takes a signed LEB128 number of at most ten bytes.
+    /// Reads a signed LEB128 number of at most ten bytes (DWARF 5, 7.6).
     ///
-    /// Answers [`Error::UnexpectedEof`] where the bytes end before the number does, and then has
-    /// taken them all. Answers [`Error::BadSignedLeb128`] where ten bytes don't end it, or it is
-    /// below -2^63 or from 2^63 on, and then has taken ten.
+    /// # Errors
+    ///
+    /// - [`Error::UnexpectedEof`] if the bytes end before the number does and before the tenth
+    ///   byte. All of them are consumed.
+    /// - [`Error::BadSignedLeb128`] if ten bytes don't end the number, or if it is below -2^63 or
+    ///   is 2^63 or more. Ten bytes are consumed.
     #[inline(always)]
     fn read_sleb128(&mut self) -> Result<i64>
         ensures ok { IfOk result (λ v. ReadsNumber signed64 (view self.old) v (view self.new)) }
@@ -430,13 +510,15 @@ pub trait Reader: Debug + Drop + Sized {
         }
     }
 
-    /// Takes the length at the front of a unit, in bytes, and says in which format the unit is
-    /// (DWARF 5, 7.4).
+    /// Reads the length, in bytes, at the front of a unit, and the unit's format (DWARF 5, 7.4).
     ///
-    /// Answers [`Error::UnexpectedEof`] where the first four bytes aren't there and takes none, or
-    /// where they are `0xffffffff` and the eight behind them aren't there and takes four;
-    /// [`Error::UnknownReservedLength`] where the four are reserved, which it takes; and
-    /// [`Error::UnsupportedOffset`] where the length is no offset, having taken all twelve.
+    /// # Errors
+    ///
+    /// - [`Error::UnexpectedEof`] if the first four bytes are missing, and then none is consumed;
+    ///   or if they are `0xffffffff` and some of the eight behind them are missing, and then four
+    ///   are consumed.
+    /// - [`Error::UnknownReservedLength`] if the first four bytes are reserved. They are consumed.
+    /// - [`Error::UnsupportedOffset`] if the length is no offset. All twelve bytes are consumed.
     #[inline]
     fn read_initial_length(&mut self) -> Result<(Self::Offset, Format)>
         ensures ok { IfOk result
@@ -460,10 +542,12 @@ pub trait Reader: Debug + Drop + Sized {
         Ok((Self::Offset::from_u64(len)?, Format::Dwarf64))
     }
 
-    /// Takes a byte that is the size of addresses: 1, 2, 4 or 8.
+    /// Reads a byte that is the size of addresses in bytes: 1, 2, 4 or 8.
     ///
-    /// Answers [`Error::UnexpectedEof`] where no byte is left. Another byte is taken and is
-    /// [`Error::UnsupportedAddressSize`].
+    /// # Errors
+    ///
+    /// - [`Error::UnexpectedEof`] if no byte remains.
+    /// - [`Error::UnsupportedAddressSize`] if the byte has another value. It is consumed.
     #[inline]
     fn read_address_size(&mut self) -> Result<u8>
         ensures ok { IfOk result
@@ -479,10 +563,14 @@ pub trait Reader: Debug + Drop + Sized {
         }
     }
 
-    /// Takes an address of `size` bytes.
+    /// Reads an address of `size` bytes.
     ///
-    /// Answers [`Error::UnsupportedAddressSize`] where `size` isn't 1, 2, 4 or 8, and
-    /// [`Error::UnexpectedEof`] where fewer bytes are left; then it takes none.
+    /// # Errors
+    ///
+    /// - [`Error::UnsupportedAddressSize`] if `size` isn't 1, 2, 4 or 8.
+    /// - [`Error::UnexpectedEof`] if fewer bytes remain.
+    ///
+    /// No byte is consumed then.
     #[inline]
     fn read_address(&mut self, size: u8) -> Result<u64>
         ensures ok { IfOk result
@@ -499,10 +587,12 @@ pub trait Reader: Debug + Drop + Sized {
         }
     }
 
-    /// Takes a word of the format: four or eight bytes.
+    /// Reads a word of the format: four or eight bytes.
     ///
-    /// Answers [`Error::UnexpectedEof`] where fewer are left, and then takes none. A word that is no
-    /// offset is taken and is [`Error::UnsupportedOffset`].
+    /// # Errors
+    ///
+    /// - [`Error::UnexpectedEof`] if fewer bytes remain. None is consumed.
+    /// - [`Error::UnsupportedOffset`] if the word is no offset. It is consumed.
     #[inline]
     fn read_word(&mut self, format: Format) -> Result<Self::Offset>
         ensures ok { IfOk result
@@ -520,7 +610,11 @@ pub trait Reader: Debug + Drop + Sized {
         Self::Offset::from_u64(word)
     }
 
-    /// Takes a word that is a length; refuses as [`read_word`](Reader::read_word) does.
+    /// Reads a word of the format that is a length in bytes.
+    ///
+    /// # Errors
+    ///
+    /// As [`read_word`](Reader::read_word).
     #[inline]
     fn read_length(&mut self, format: Format) -> Result<Self::Offset>
         ensures ok { IfOk result
@@ -534,7 +628,11 @@ pub trait Reader: Debug + Drop + Sized {
         self.read_word(format)
     }
 
-    /// Takes a word that is an offset; refuses as [`read_word`](Reader::read_word) does.
+    /// Reads a word of the format that is an offset.
+    ///
+    /// # Errors
+    ///
+    /// As [`read_word`](Reader::read_word).
     #[inline]
     fn read_offset(&mut self, format: Format) -> Result<Self::Offset>
         ensures ok { IfOk result
@@ -548,11 +646,13 @@ pub trait Reader: Debug + Drop + Sized {
         self.read_word(format)
     }
 
-    /// Takes an offset of `size` bytes.
+    /// Reads an offset of `size` bytes.
     ///
-    /// Answers [`Error::UnsupportedOffsetSize`] where `size` isn't 1, 2, 4 or 8, and
-    /// [`Error::UnexpectedEof`] where fewer bytes are left, and then takes none. A number that is no
-    /// offset is taken and is [`Error::UnsupportedOffset`].
+    /// # Errors
+    ///
+    /// - [`Error::UnsupportedOffsetSize`] if `size` isn't 1, 2, 4 or 8. No byte is consumed.
+    /// - [`Error::UnexpectedEof`] if fewer bytes remain. None is consumed.
+    /// - [`Error::UnsupportedOffset`] if the number is no offset. It is consumed.
     #[inline]
     fn read_sized_offset(&mut self, size: u8) -> Result<Self::Offset>
         ensures ok { IfOk result
@@ -576,9 +676,11 @@ pub trait Reader: Debug + Drop + Sized {
     ghost within: { (reader : Self) → IsBounded Self.Offset.GREATEST (view reader) };
 }
 
-/// Takes `N` bytes.
+/// Reads `N` bytes.
 ///
-/// Answers [`Error::UnexpectedEof`] where fewer are left, and then takes none.
+/// # Errors
+///
+/// [`Error::UnexpectedEof`] if fewer bytes remain. None is consumed then.
 #[inline]
 pub fn read_u8_array<R: Reader, const N: usize>(r: &mut R) -> Result<[u8; N]>
     ensures filled { IfOk result (λ bytes. bytes ≡ take N (R.view r.old).bytes) }

@@ -81,7 +81,7 @@ pub const DW_TAG_ALTIUM_circ_type: DwTag = DwTag(0x5101);
 pub const DW_TAG_ALTIUM_mwa_circ_type: DwTag = DwTag(0x5102);
 /// A type whose addresses add with the carry reversed.
 pub const DW_TAG_ALTIUM_rev_carry_type: DwTag = DwTag(0x5103);
-/// A form of a type that stands in read-only memory.
+/// A form of a type that is in read-only memory.
 pub const DW_TAG_ALTIUM_rom: DwTag = DwTag(0x5111);
 
 // Unified Parallel C.

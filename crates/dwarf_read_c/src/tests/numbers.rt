@@ -6,7 +6,7 @@ use crate::status::DWARF_NO_ROOM;
 
 #[test]
 fn numbers_are_read(rt: HostRuntime) {
-    // The status, the value, the bytes taken, and the fault.
+    // The status, the value, the bytes of the number, and the fault.
     let unsigned: [(&[u8], (u32, u64, usize, (u32, u64))); 5] = [
         (b"\xb9\x64\x01", (0, 12857, 2, (7, 7))),
         (
@@ -21,11 +21,11 @@ fn numbers_are_read(rt: HostRuntime) {
         (b"", (1, 7, 7, (1, 0))),
     ];
     for (bytes, wanted) in unsigned {
-        let (mut value, mut taken, mut fault) = (7, 7, SEVEN);
-        let status = dwarf_uleb128(bytes, &mut value, &mut taken, &mut fault);
+        let (mut value, mut len, mut fault) = (7, 7, SEVEN);
+        let status = dwarf_uleb128(bytes, &mut value, &mut len, &mut fault);
         same(
             &rt,
-            (status, value, taken, (fault.kind, fault.value)),
+            (status, value, len, (fault.kind, fault.value)),
             wanted,
             bytes,
         );
@@ -39,11 +39,11 @@ fn numbers_are_read(rt: HostRuntime) {
         (b"\x80", (1, 7, 7, (1, 1))),
     ];
     for (bytes, wanted) in signed {
-        let (mut value, mut taken, mut fault) = (7, 7, SEVEN);
-        let status = dwarf_sleb128(bytes, &mut value, &mut taken, &mut fault);
+        let (mut value, mut len, mut fault) = (7, 7, SEVEN);
+        let status = dwarf_sleb128(bytes, &mut value, &mut len, &mut fault);
         same(
             &rt,
-            (status, value, taken, (fault.kind, fault.value)),
+            (status, value, len, (fault.kind, fault.value)),
             wanted,
             bytes,
         );

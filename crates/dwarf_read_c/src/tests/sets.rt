@@ -1,46 +1,61 @@
-//! Sets of addresses.
+//! Sets of addresses and of string offsets.
 
 use super::{SEVEN, same};
-use crate::sets::{DwarfSet, dwarf_address_set};
+use crate::sets::{DwarfSet, dwarf_address_set, dwarf_str_offset_set};
 
 const NO_SET: DwarfSet = DwarfSet {
     next: 7,
     unit_length: 7,
-    first_address: 7,
+    first_entry: 7,
     word_size: 7,
-    address_size: 7,
+    entry_size: 7,
 };
 
-const TWO_SETS: &[u8] = b"\x0c\x00\x00\x00\x05\x00\x04\x00\x78\x56\x34\x12\xef\xbe\xad\xde\
-    \xff\xff\xff\xff\x14\x00\x00\x00\x00\x00\x00\x00\x05\x00\x08\x00\
-    \xf0\xde\xbc\x9a\x78\x56\x34\x12\xef\xbe\xad\xde\xef\xbe\xad\xde";
+// Two sets of either kind, and one that is a set of string offsets alone: 3 is no size of addresses.
+const SETS: &[u8] = b"\x0c\x00\x00\x00\x05\x00\x04\x00\x78\x56\x34\x12\xef\xbe\xad\xde\
+    \xff\xff\xff\xff\x14\x00\x00\x00\x00\x00\x00\x00\x05\x00\x02\x00\
+    \xf0\xde\xbc\x9a\x78\x56\x34\x12\xef\xbe\xad\xde\xef\xbe\xad\xde\
+    \x04\x00\x00\x00\x05\x00\x03\x00";
 
 #[test]
 fn sets_are_found(rt: HostRuntime) {
-    // The offset; the status, the set and the fault.
-    let rows: [(usize, (u32, (usize, usize, usize, u8, u8), (u32, u64))); 6] = [
-        (0, (0, (16, 12, 8, 4, 4), (7, 7))),
-        (16, (0, (48, 20, 32, 8, 8), (7, 7))),
-        (48, (102, (7, 7, 7, 7, 7), (7, 7))),
-        (49, (1, (7, 7, 7, 7, 7), (1, 0))),
-        (1, (1, (7, 7, 7, 7, 7), (1, 5))),
-        (46, (1, (7, 7, 7, 7, 7), (1, 46))),
+    // Whether the set is one of addresses, and its offset; the status, the set and the fault.
+    let rows: [(
+        bool,
+        usize,
+        (u32, (usize, usize, usize, u8, u8), (u32, u64)),
+    ); 11] = [
+        (true, 0, (0, (16, 12, 8, 4, 4), (7, 7))),
+        (true, 16, (0, (48, 20, 32, 8, 2), (7, 7))),
+        (true, 48, (12, (7, 7, 7, 7, 7), (12, 3))),
+        (true, 56, (102, (7, 7, 7, 7, 7), (7, 7))),
+        (true, 57, (1, (7, 7, 7, 7, 7), (1, 0))),
+        (true, 54, (1, (7, 7, 7, 7, 7), (1, 54))),
+        (false, 0, (0, (16, 12, 8, 4, 4), (7, 7))),
+        (false, 16, (0, (48, 20, 32, 8, 8), (7, 7))),
+        (false, 48, (0, (56, 4, 56, 4, 4), (7, 7))),
+        (false, 56, (102, (7, 7, 7, 7, 7), (7, 7))),
+        (false, 1, (1, (7, 7, 7, 7, 7), (1, 5))),
     ];
-    for (offset, wanted) in rows {
+    for (has_addresses, offset, wanted) in rows {
         let (mut s, mut fault) = (NO_SET, SEVEN);
-        let status = dwarf_address_set(TWO_SETS, false, offset, &mut s, &mut fault);
+        let status = if has_addresses {
+            dwarf_address_set(SETS, false, offset, &mut s, &mut fault)
+        } else {
+            dwarf_str_offset_set(SETS, false, offset, &mut s, &mut fault)
+        };
         let set = (
             s.next,
             s.unit_length,
-            s.first_address,
+            s.first_entry,
             s.word_size,
-            s.address_size,
+            s.entry_size,
         );
         same(
             &rt,
             (status, set, (fault.kind, fault.value)),
             wanted,
-            offset,
+            (has_addresses, offset),
         );
     }
 }

@@ -118,7 +118,7 @@ fn few_places_are_left_alone(rt: HostRuntime) {
     );
 }
 
-// Meant for runs in which a request for memory is refused; the other tests ask for ample memory.
+// Meant for runs in which a request for memory is refused. The other tests need all their memory.
 #[test]
 fn refused_memory(rt: HostRuntime) {
     let (mut m, mut fault) = (NOTHING, SEVEN);

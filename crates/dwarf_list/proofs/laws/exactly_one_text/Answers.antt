@@ -4,13 +4,11 @@ use Rattle.dwarf_list.proofs.laws.exactly_one_text.Goals as goal
 -- what the calls of the laws say
 laws : (c : goal.After-exactly_one_shortest) → AreLaws
 laws c = record {
-  answers = c.exactly_one_answer.ensures;
-  strict_answers = c.exactly_one_strict_answer.ensures.one;
-  strings = c.exactly_one_string.ensures;
-  entries = c.exactly_one_list_of_entries.ensures.one;
-  sets = c.exactly_one_list_of_sets.ensures.one;
-  offsets = c.exactly_one_list_of_string_offsets.ensures.one;
-  offset_sets = c.exactly_one_list_of_offset_sets.ensures.one;
+  tables = c.exactly_one_listing.ensures.table;
+  strict_tables = c.exactly_one_listing.ensures.strict;
+  strings = c.exactly_one_listing.ensures.string;
+  addresses = c.exactly_one_listing.ensures.addresses;
+  string_offsets = c.exactly_one_listing.ensures.string_offsets;
   encodings = c.exactly_one_shortest.ensures;
 }
 

@@ -1,0 +1,4 @@
+pub mod Hexadecimal
+pub mod OneText
+pub mod SetLines
+pub mod SetTexts

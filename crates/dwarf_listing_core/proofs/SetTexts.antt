@@ -1,0 +1,209 @@
+-- Sets have exactly one text, or one error.
+use Rattle.std.proofs.Common.{◌≡◌, ◌-◌, ◌^◌, ◌<◌, ℕ, zero, suc, List, [], ◌∷◌, ◌++◌, Result, Ok, Err, refl, sym, ap, ◌∙◌, arith, inl, inr, ◌⊎◌}
+use Rattle.std.specs.Prelude.{IsTrue, Bool, true, false}
+use Rattle.dwarf_read_core.specs.declared.Error.{Error}
+use Rattle.dwarf_read_core.specs.declared.Format.{Format}
+use Rattle.dwarf_read_core.specs.declared.Format.TheVariants.{Dwarf32, Dwarf64}
+use Rattle.dwarf_read_core.specs.Entries.{Entries, StandsForEntries, StandsForStringOffsets}
+use Rattle.dwarf_read_core.specs.Faults.{is_number_size}
+use Rattle.dwarf_read_core.specs.Format.{word_size}
+use Rattle.dwarf_read_core.specs.Input.{Input}
+use Rattle.dwarf_read_core.specs.Layout.{Layout, AreItems, none, more, fault, fixed, check}
+use Rattle.dwarf_read_core.specs.Once.{HasOne}
+use Rattle.dwarf_read_core.specs.Sets.{Headers, Set, set, address_header, addresses_of, string_offsets_of}
+use Rattle.dwarf_listing_core.specs.Sets as listed
+use Rattle.dwarf_listing_core.specs.Sets.{SetListing, address_listing, offset_listing, HasEntries, HasSets, ListsSection, ListsSets, nothing, bad_header, bad_entry, later, set_lines, without_error}
+
+abbrev Items : Type 0
+Items = List (Result ℕ Error)
+
+-- items that are the same are the same numbers
+same_numbers : (a b : List ℕ) → without_error a ≡ without_error b → a ≡ b
+same_numbers [] [] e = refl
+same_numbers [] (y ∷ b) e = absurd cc
+same_numbers (x ∷ a) [] e = absurd cc
+same_numbers (x ∷ a) (y ∷ b) e =
+    let heads : x ≡ y = cc in
+    let tails : without_error a ≡ without_error b = cc in
+    rw (heads, same_numbers a b tails) refl
+
+-- numbers end in no error
+no_error : (a b : List ℕ) (e : Error) → without_error a ++ Err e ∷ [] ≡ without_error b → ⊥
+no_error [] [] e q = cc
+no_error [] (y ∷ b) e q = cc
+no_error (x ∷ a) [] e q = cc
+no_error (x ∷ a) (y ∷ b) e q =
+    no_error a b e (let tails : without_error a ++ Err e ∷ [] ≡ without_error b = cc in tails)
+
+-- items that are the same end in the same error
+same_error : (a b : List ℕ) (d e : Error) → without_error a ++ Err d ∷ [] ≡ without_error b ++ Err e ∷ [] → d ≡ e
+same_error [] [] d e q = cc
+same_error [] (y ∷ b) d e q = absurd cc
+same_error (x ∷ a) [] d e q = absurd cc
+same_error (x ∷ a) (y ∷ b) d e q =
+    same_error a b d e (let tails : without_error a ++ Err d ∷ [] ≡ without_error b ++ Err e ∷ [] = cc in tails)
+
+-- entries are numbers, or numbers and an error
+abbrev Split : Items → Type 0
+Split items =
+    ((numbers : List ℕ) × (items ≡ without_error numbers))
+    ⊎ ((numbers : List ℕ) × (e : Error) × (items ≡ without_error numbers ++ Err e ∷ []))
+
+-- a number stands before entries of either form
+longer : (n : ℕ) (items : Items) → Split items → Split (Ok n ∷ items)
+longer n items (inl h) = inl (n ∷ h.0, ap (λ (xs : Items). Ok n ∷ xs) h.1)
+longer n items (inr h) = inr (n ∷ h.0, h.1, ap (λ (xs : Items). Ok n ∷ xs) h.2)
+
+-- all items have one of the forms
+split : {item : ℕ → Layout ℕ} {offset : ℕ} {old : Input} {items : Items} → AreItems item offset old items → Split items
+split (none empty) = inl ([], refl)
+split (more {x = x} {items = items} some h others) = longer x items (split others)
+split (fault {e = e} some h) = inr ([], e, refl)
+
+abbrev Text : Type 0
+Text = Result (List ℕ) Error
+
+-- the entries of each set that is read are one list
+pub record HasOneList {H : Type 0} (listing : SetListing H) : Type 0 where
+  pub one : (greatest offset : ℕ) (old new : Input) (s : Set H)
+      → (set listing.header greatest offset).Reads old s new → HasOne (HasEntries listing s)
+
+module _ {H : Type 0} {listing : SetListing H} (law : HasOneList listing) (greatest : ℕ) where
+  -- sets list one text at most, or one error
+  one_text : {offset : ℕ} {old : Input} {items : List (Result (Set H) Error)}
+      → AreItems (set listing.header greatest) offset old items → (one other : Text) → ListsSets listing items one
+      → ListsSets listing items other → other ≡ one
+  one_text (none empty) one other nothing nothing = refl
+  one_text (fault some h) one other (bad_header _ _) (bad_header _ _) = refl
+  one_text {offset} {old} (more {new = new} {x = s} {items = items} some h rest) one other a b =
+      both (one_text rest) one other a b
+    where
+      same : (a b : Items) → HasEntries listing s a → HasEntries listing s b → a ≡ b
+      same a b i j = let one = law.one greatest offset old new s h in one.2 a i ∙ sym (one.2 b j)
+
+      both : ((one other : Text) → ListsSets listing items one → ListsSets listing items other → other ≡ one)
+          → (one other : Text) → ListsSets listing (Ok s ∷ items) one → ListsSets listing (Ok s ∷ items) other
+          → other ≡ one
+      both again one other (bad_entry _ _ m d i) (bad_entry _ _ n e j) =
+          let q : e ≡ d = same_error n m e d
+          (same (without_error n ++ Err e ∷ []) (without_error m ++ Err d ∷ []) j i) in
+          ap (λ (x : Error). let t : Text = Err x in t) q
+      both again one other (bad_entry _ _ m d i) (listed.ListsSets.set _ _ n text j l) =
+          absurd (no_error m n d (same (without_error m ++ Err d ∷ []) (without_error n) i j))
+      both again one other (bad_entry _ _ m d i) (later _ _ n e j l) =
+          absurd (no_error m n d (same (without_error m ++ Err d ∷ []) (without_error n) i j))
+      both again one other (listed.ListsSets.set _ _ m text i l) (bad_entry _ _ n e j) =
+          absurd (no_error n m e (same (without_error n ++ Err e ∷ []) (without_error m) j i))
+      both again one other (later _ _ m d i l) (bad_entry _ _ n e j) =
+          absurd (no_error n m e (same (without_error n ++ Err e ∷ []) (without_error m) j i))
+      both again one other (listed.ListsSets.set _ _ m x i l) (listed.ListsSets.set _ _ n y j k) =
+          let numbers : n ≡ m = same_numbers n m (same (without_error n) (without_error m) j i) in
+          let behind : ◌≡◌ {A = Text} (Ok y) (Ok x) = again (Ok x) (Ok y) l k in
+          let texts : y ≡ x = cc in
+          rw (numbers, texts) refl
+      both again one other (listed.ListsSets.set _ _ m x i l) (later _ _ n e j k) =
+          absurd (let behind : ◌≡◌ {A = Text} (Err e) (Ok x) = again (Ok x) (Err e) l k in cc)
+      both again one other (later _ _ m d i l) (listed.ListsSets.set _ _ n y j k) =
+          absurd (let behind : ◌≡◌ {A = Text} (Ok y) (Err d) = again (Err d) (Ok y) l k in cc)
+      both again one other (later _ _ m d i l) (later _ _ n e j k) = again (Err d) (Err e) l k
+
+  -- the text of a set and of those behind it
+  behind : (s : Set H) (items : List (Result (Set H) Error)) (list : Items) → HasEntries listing s list
+      → Split list → ((one : Text) × ListsSets listing items one)
+      → (one : Text) × ListsSets listing (Ok s ∷ items) one
+  behind s items list is (inl h) (Ok text, l) =
+      (Ok (set_lines listing s h.0 ++ text), listed.ListsSets.set s items h.0 text (rw h.1 at is) l)
+  behind s items list is (inl h) (Err e, l) = (Err e, later s items h.0 e (rw h.1 at is) l)
+  behind s items list is (inr h) l = (Err h.1, bad_entry s items h.0 h.1 (rw h.2 at is))
+
+  -- sets list a text, or an error
+  some_text : {offset : ℕ} {old : Input} {items : List (Result (Set H) Error)}
+      → AreItems (set listing.header greatest) offset old items → (one : Text) × ListsSets listing items one
+  some_text (none empty) = (Ok [], nothing)
+  some_text (fault {e = e} some h) = (Err e, bad_header e [])
+  some_text {offset} {old} (more {new = new} {x = s} {items = items} some h rest) =
+      let one = law.one greatest offset old new s h in
+      behind s items one.0 one.1 (split one.1) (some_text rest)
+
+module _ {H : Type 0} (listing : SetListing H) (law : HasOneList listing)
+    (sets : (headers : Headers) → HasOne (HasSets listing headers)) where
+  -- a section lists exactly one text, or has one error
+  pub one_section : (headers : Headers) → HasOne (ListsSection listing headers)
+  one_section headers =
+      let found = sets headers in
+      let t = some_text law (2 ^ 64 - 1) found.1 in (
+        t.0,
+        (found.0, found.1, t.1),
+        λ other h.
+            let same : h.0 ≡ found.0 = found.2 h.0 h.1 in
+            one_text law (2 ^ 64 - 1) found.1 t.0 other t.1 (rw same at h.2),
+      )
+
+-- ---- sets of addresses
+
+-- a size of addresses isn't 0
+positive : (width : ℕ) → IsTrue (is_number_size width) → 0 < width
+positive zero sized = absurd cc
+positive (suc width) sized = omega arith
+
+-- what was checked holds
+checked : (test : Bool) (e : Error) (old new : Input) → (check test e).Reads old tt new → IsTrue test
+checked true e old new h = refl
+checked false e old new h = absurd h
+
+-- a set of addresses says a size of addresses
+pub address_size : (greatest offset : ℕ) (old new : Input) (s : Set ℕ)
+    → (set address_header greatest offset).Reads old s new → 0 < s.header
+unfolding set address_header
+address_size greatest offset old new s (
+  initial,
+  i,
+  p,
+  (
+    fits,
+    j,
+    q,
+    (
+      unit,
+      k,
+      r,
+      (
+        said,
+        l,
+        (
+          (
+            version,
+            a,
+            x,
+            (known, b, y, (size, c, z, (sized, d, w, (segment, f, v, (flat, g, u, is))))),
+          ),
+          e,
+        ),
+        all,
+      ),
+    ),
+  ),
+) =
+    let same : s.header ≡ size = ap (λ (x : Set ℕ). x.header) all.0 ∙ is.0 in
+    rw same (positive size (checked (is_number_size size) _ c d w))
+
+-- the addresses of each set are one list
+pub addresses_one_list : ((e : Entries) → 0 < e.width → HasOne (StandsForEntries fixed e)) → HasOneList address_listing
+addresses_one_list entries =
+    record {
+      one = λ greatest offset old new s h. entries (addresses_of s)
+          (address_size greatest offset old new s h);
+    }
+
+-- ---- sets of string offsets
+
+-- a word has bytes
+word_positive : (format : Format) → 0 < word_size format
+word_positive Dwarf32 = omega arith
+word_positive Dwarf64 = omega arith
+
+-- the string offsets of each set are one list
+pub offsets_one_list : ((e : Entries) → 0 < e.width → HasOne (StandsForStringOffsets (2 ^ 64 - 1) e))
+    → HasOneList offset_listing
+offsets_one_list entries =
+    record { one = λ greatest offset old new s h. entries (string_offsets_of s) (word_positive s.format) }

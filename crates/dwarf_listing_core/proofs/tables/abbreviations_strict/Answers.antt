@@ -1,0 +1,16 @@
+use Rattle.std.proofs.Common.{◌∙◌, ap}
+use Rattle.std.proofs.lemmas.Result.{err_from_is_err_and}
+use Rattle.dwarf_listing_core.proofs.tables.abbreviations_strict.Goals as goal
+
+pub returns-in_err-table : goal.returns-in_err-table
+returns-in_err-table c =
+    let p = err_from_is_err_and c.from_residual.result c.from_residual.ensures.1 in
+    rw (p.1, p.2) (rw c.new-debug_abbrev.ensures at c.in_err-table.ensures.answer)
+
+pub returns : goal.returns
+returns c = (
+  c.in_ok-table.table,
+  rw c.new-debug_abbrev.ensures at c.in_ok-table.ensures.answer,
+  ap
+      (λ v. v.items) c.into_bytes.ensures.value ∙ c.in_ok-table_text.ensures,
+)

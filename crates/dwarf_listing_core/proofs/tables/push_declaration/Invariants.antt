@@ -1,0 +1,9 @@
+use Rattle.std.proofs.Common.{◌≡◌, ◌++◌, string_bytes, take}
+use Rattle.std.specs.List.{flat_map}
+use Rattle.dwarf_listing_core.specs.Tables.{attribute_line}
+use Rattle.dwarf_listing_core.proofs.tables.push_declaration.Given as goal
+
+abbrev pub invariant-loop-attribute : goal.invariant-loop-attribute
+invariant-loop-attribute l =
+    string_bytes l.text ≡ string_bytes l.initial.text
+    ++ flat_map attribute_line (take l.attribute-index l.attribute-items)

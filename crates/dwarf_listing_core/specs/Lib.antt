@@ -1,0 +1,4 @@
+pub mod Lines
+pub mod Listing
+pub mod Sets
+pub mod Tables

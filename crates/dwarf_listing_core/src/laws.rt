@@ -1,0 +1,28 @@
+//! Laws over the definitions: each function has one as its contract, and does nothing.
+
+ghost use Rattle.std.specs.Prelude.{ℕ, List};
+ghost use Rattle.dwarf_read_core.specs.Once.{HasOne};
+ghost use Rattle.dwarf_listing_core.specs.Lines.{ListsString};
+ghost use Rattle.dwarf_listing_core.specs.Sets.{ListsAddresses, ListsStringOffsets};
+ghost use Rattle.dwarf_listing_core.specs.Tables.{ListsStrictTable, ListsTable};
+
+use dwarf_read_core::laws;
+
+/// Every section has exactly one listing of each kind: a text, or its first error.
+pub fn exactly_one_listing()
+    ensures table { (section : List ℕ) (offset : ℕ) → HasOne (ListsTable section offset) }
+    ensures strict { (section : List ℕ) (offset : ℕ) → HasOne (ListsStrictTable section offset) }
+    ensures string { (section : List ℕ) (offset : ℕ) → HasOne (ListsString section offset) }
+    ensures addresses { (endian : _) (section : List ℕ)
+        → HasOne (ListsAddresses endian section) }
+    ensures string_offsets { (endian : _) (section : List ℕ)
+        → HasOne (ListsStringOffsets endian section) }
+{
+    laws::exactly_one_answer();
+    laws::exactly_one_strict_answer();
+    laws::exactly_one_string();
+    laws::exactly_one_list_of_sets();
+    laws::exactly_one_list_of_entries();
+    laws::exactly_one_list_of_offset_sets();
+    laws::exactly_one_list_of_string_offsets();
+}

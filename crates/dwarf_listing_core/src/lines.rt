@@ -1,0 +1,48 @@
+//! Single lines: a string of a section, and bytes in hexadecimal.
+
+ghost use Rattle.std.specs.Prelude.{◌≡◌, ◌++◌, IfOk, OnOk, string_bytes};
+ghost use Rattle.dwarf_listing_core.specs.Lines.{ListsString, hex_byte, hex_text, line};
+ghost use Rattle.dwarf_listing_core.specs.Listing.{ReturnsText};
+
+use dwarf_read_core::{DebugStr, DebugStrOffset, Error, LittleEndian};
+use std::alloc::{AllocError, Global};
+
+/// The string at an offset of `.debug_str` or `.debug_line_str`, byte for byte, and a line's end.
+///
+/// # Errors
+///
+/// That of [`DebugStr::get_str`], or `OutOfMemory`.
+pub fn string(mem: Global, section: &[u8], offset: u64) -> Result<Vec<u8>, Error>
+    ensures { ReturnsText (ListsString section.now offset) result }
+{
+    let debug_str = DebugStr::new(section, LittleEndian);
+    let string = debug_str.get_str(DebugStrOffset(offset as usize))?;
+    let mut text = Vec::from_slice(mem, string.slice())?;
+    text.push(b'\n')?;
+    Ok(text)
+}
+
+/// Two hexadecimal digits of each byte, with a space between bytes, and a line's end.
+///
+/// # Errors
+///
+/// An error is returned if memory runs out.
+pub fn hex_line(mem: Global, bytes: &[u8]) -> Result<Vec<u8>, AllocError>
+    ensures { IfOk result (λ text. text.items ≡ line (hex_text bytes.now)) }
+{
+    let mut text = String::new(mem);
+    for (i, byte) in bytes.iter().enumerate() {
+        if i > 0 {
+            text.push(' ')?;
+        }
+        push_hex(&mut text, *byte)?;
+    }
+    text.push('\n')?;
+    Ok(text.into_bytes())
+}
+
+fn push_hex(text: &mut String, byte: u8) -> Result<(), AllocError>
+    ensures { OnOk result (string_bytes text.new ≡ string_bytes text.old ++ hex_byte byte) }
+{
+    write!(text, "{byte:02x}")
+}

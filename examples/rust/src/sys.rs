@@ -1,0 +1,84 @@
+//! What the program uses of `include/dwarf_read.h`, which says what each call does.
+
+/// The error of a call.
+#[repr(C)]
+#[derive(Debug, Default, Clone, Copy)]
+pub struct Fault {
+    pub kind: u32,
+    pub value: u64,
+}
+
+/// A set of addresses or of string offsets.
+#[repr(C)]
+#[derive(Debug, Default, Clone, Copy)]
+pub struct Set {
+    pub next: usize,
+    pub unit_length: usize,
+    pub first_entry: usize,
+    pub word_size: u8,
+    pub entry_size: u8,
+}
+
+/// How large a table is.
+#[repr(C)]
+#[derive(Debug, Default, Clone, Copy)]
+pub struct Measure {
+    pub abbreviations: usize,
+    pub attributes: usize,
+    pub closed_by_null: u8,
+}
+
+/// An abbreviation.
+#[repr(C)]
+#[derive(Debug, Default, Clone, Copy)]
+pub struct Abbreviation {
+    pub code: u64,
+    pub tag: u16,
+    pub has_children: u8,
+    pub first_attribute: usize,
+    pub attribute_count: usize,
+}
+
+/// An attribute of an abbreviation.
+#[repr(C)]
+#[derive(Debug, Default, Clone, Copy)]
+pub struct Attribute {
+    pub name: u16,
+    pub form: u16,
+    pub implicit_const: i64,
+}
+
+unsafe extern "C" {
+    pub fn dwarf_string(
+        section: *const u8, len: usize, offset: usize, string_len: &mut usize, fault: &mut Fault,
+    ) -> u32;
+    pub fn dwarf_str_offset(
+        section: *const u8, len: usize, is_big: bool, is_64: bool, base: usize, index: usize,
+        offset: &mut usize, fault: &mut Fault,
+    ) -> u32;
+    pub fn dwarf_address(
+        section: *const u8, len: usize, is_big: bool, size: u8, base: usize, index: usize,
+        address: &mut u64, fault: &mut Fault,
+    ) -> u32;
+    pub fn dwarf_address_set(
+        section: *const u8, len: usize, is_big: bool, offset: usize, set: &mut Set,
+        fault: &mut Fault,
+    ) -> u32;
+    pub fn dwarf_str_offset_set(
+        section: *const u8, len: usize, is_big: bool, offset: usize, set: &mut Set,
+        fault: &mut Fault,
+    ) -> u32;
+    pub fn dwarf_table_measure(
+        section: *const u8, len: usize, offset: usize, measure: &mut Measure, fault: &mut Fault,
+    ) -> u32;
+    pub fn dwarf_table_read(
+        section: *const u8, len: usize, offset: usize, abbreviations: *mut Abbreviation,
+        abbreviation_room: usize, attributes: *mut Attribute, attribute_room: usize,
+        measure: &mut Measure, fault: &mut Fault,
+    ) -> u32;
+    pub fn dwarf_tag_name(tag: u16, name: *mut u8, room: usize, len: &mut usize) -> u32;
+    pub fn dwarf_attribute_name(attribute: u16, name: *mut u8, room: usize, len: &mut usize)
+    -> u32;
+    pub fn dwarf_form_name(form: u16, name: *mut u8, room: usize, len: &mut usize) -> u32;
+    pub fn dwarf_fault_text(fault: &Fault, text: *mut u8, room: usize, len: &mut usize) -> u32;
+}
