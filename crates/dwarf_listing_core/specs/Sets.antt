@@ -13,11 +13,14 @@ use Rattle.dwarf_listing_core.specs.Lines.{line}
 
 -- where a set begins, how many bytes follow its length, and of how many bits its format is
 abbrev pub set_text : ℕ → ℕ → ℕ → List ℕ
-set_text offset unit_length bits = codes "set " ++ decimal offset ++ codes ": length " ++ decimal unit_length ++ codes ", " ++ decimal bits ++ codes "-bit"
+set_text offset unit_length bits =
+    codes "set " ++ decimal offset ++ codes ": length " ++ decimal unit_length
+    ++ codes ", " ++ decimal bits ++ codes "-bit"
 
 -- the same, and how many bytes an address of the set has
 abbrev pub address_header_line : ℕ → ℕ → ℕ → ℕ → List ℕ
-address_header_line offset unit_length bits size = line (set_text offset unit_length bits ++ codes ", address size " ++ decimal size)
+address_header_line offset unit_length bits size =
+    line (set_text offset unit_length bits ++ codes ", address size " ++ decimal size)
 
 -- the same alone
 abbrev pub offset_header_line : ℕ → ℕ → ℕ → List ℕ

@@ -1,5 +1,5 @@
 -- The lines of abbreviation tables.
-use Rattle.std.specs.Prelude.{ℕ, List, [], ◌++◌, ℤ, Option, Some, None, Result, codes, decimal, if◌then◌else◌}
+use Rattle.std.specs.Prelude.{ℕ, Bool, List, [], ◌++◌, ℤ, Option, Some, None, Result, codes, decimal, if◌then◌else◌}
 use Rattle.std.specs.FinMap.{values}
 use Rattle.std.specs.Fmt.{signed_decimal}
 use Rattle.std.specs.List.{flat_map}
@@ -21,9 +21,15 @@ value_text (Some value) = codes " " ++ signed_decimal value
 abbrev pub attribute_line : Specification → List ℕ
 attribute_line s = line (codes "  " ++ attribute_text s.name ++ codes " " ++ form_text s.form ++ value_text s.value)
 
+-- whether there are children
+abbrev pub yes_or_no : Bool → List ℕ
+yes_or_no has_children = if has_children then codes "yes" else codes "no"
+
 -- the code, tag and children of a declaration, and its attributes
 abbrev pub declaration_lines : Declaration → List ℕ
-declaration_lines d = line (decimal d.code ++ codes " " ++ tag_text d.tag ++ codes " " ++ (if d.children then codes "yes" else codes "no")) ++ flat_map attribute_line d.attributes
+declaration_lines d =
+    line (decimal d.code ++ codes " " ++ tag_text d.tag ++ codes " " ++ yes_or_no d.children)
+    ++ flat_map attribute_line d.attributes
 
 -- the declarations of a table by rising code
 abbrev pub table_text : Table → List ℕ

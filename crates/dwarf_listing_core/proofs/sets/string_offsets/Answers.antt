@@ -6,7 +6,8 @@ use Rattle.dwarf_listing_core.proofs.sets.string_offsets.Goals as goal
 
 pub loop-text-init : goal.loop-text-init
 loop-text-init c =
-    rw c.new-text.ensures.bytes (no_sets_listed offset_listing _ _ (rw (c.from-debug_str_offsets.ensures, c.new.ensures) at c.in_ok-headers.ensures.ok))
+    let same = rw (c.from-debug_str_offsets.ensures, c.new.ensures) at c.in_ok-headers.ensures.ok in
+    rw c.new-text.ensures.bytes (no_sets_listed offset_listing _ _ same)
 
 pub loop-text-preserved : goal.loop-text-preserved
 loop-text-preserved c =
@@ -20,7 +21,8 @@ returns-in_err-header c =
 
 pub returns-in_err-push_offset_set : goal.returns-in_err-push_offset_set
 returns-in_err-push_offset_set c =
-    let p = err_from_is_err_and c.from_residual-in_err-push_offset_set.result c.from_residual-in_err-push_offset_set.ensures.1 in
+    let passed = c.from_residual-in_err-push_offset_set in
+    let p = err_from_is_err_and passed.result passed.ensures.1 in
     rw (p.1, p.2) (λ memory. set_fails c.loop-text.invariant _ _ _
     (rw c.in-Some.is at c.in_ok-header.ensures.first) (c.in_err-push_offset_set.ensures.err memory))
 

@@ -1,0 +1,54 @@
+//! Why a run ended early.
+
+use dwarf_read_core::Error;
+use std::alloc::AllocError;
+use std::fmt;
+
+/// Why a run ended early.
+#[derive(Clone, Copy, Debug, PartialEq, Eq)]
+pub enum Fault {
+    /// What is at this offset has this error.
+    At(u64, Error),
+    /// Memory ran out.
+    Memory,
+    /// The arguments are no kind and offsets.
+    Usage,
+    /// The input could not be read.
+    Read,
+    /// The output could not be written.
+    Write,
+}
+
+impl Fault {
+    /// The exit status: 1 for a section or memory, 2 for the arguments, 3 for input and output.
+    pub fn status(&self) -> u8 {
+        match self {
+            Fault::At(..) | Fault::Memory => 1,
+            Fault::Usage => 2,
+            Fault::Read | Fault::Write => 3,
+        }
+    }
+}
+
+impl fmt::Display for Fault {
+    fn fmt<W: fmt::Write>(&self, f: &mut fmt::Formatter<W>) -> fmt::Result {
+        match self {
+            Fault::At(offset, error) => write!(f, "error at 0x{offset:x}: {error}"),
+            Fault::Memory => write!(f, "error: out of memory"),
+            Fault::Usage => write!(f, "usage: dwarf_list_many abbrev OFFSET.. | str OFFSET.."),
+            Fault::Read => write!(f, "error: cannot read input"),
+            Fault::Write => write!(f, "error: cannot write output"),
+        }
+    }
+}
+
+impl From<AllocError> for Fault {
+    ghost use Rattle.dwarf_list_many.specs.declared.fault.Fault.TheVariants.{Memory};
+    ghost use Rattle.std.specs.Prelude.{◌≡◌};
+
+    ghost from_gives = { λ _ fault. fault ≡ Memory };
+
+    fn from(_refused: AllocError) -> Fault {
+        Fault::Memory
+    }
+}
