@@ -1,11 +1,10 @@
 -- Reading from the front, by functions: what is read and the bytes behind it, or the first error.
-use Rattle.std.specs.Prelude.{◌≡◌, ◌≢◌, ℕ, zero, suc, ◌+◌, Bool, true, false, ℤ, List, [], ◌∷◌, ◌++◌, length, drop, Option, Some, None, Result, Ok, Err, nat_lt, ◌==◌, if◌then◌else◌}
-use Rattle.std.specs.FinMap.{contains_key, insert, empty}
+use Rattle.std.specs.Prelude.{◌≡◌, ◌≢◌, ℕ, zero, suc, ◌+◌, Bool, true, false, ℤ, List, [], ◌∷◌, length, Option, Some, None, Result, Ok, Err, nat_lt, ◌==◌, if◌then◌else◌}
+use Rattle.std.specs.FinMap.{contains_key, insert}
 use Rattle.dwarf_base_core.specs.declared.error.Error.{Error}
 use Rattle.dwarf_base_core.specs.declared.error.Error.TheVariants.{AbbreviationTagZero, InvalidAbbreviationChildren, AttributeNameZero, AttributeFormZero, DuplicateAbbreviationCode, OutOfMemory}
 use Rattle.dwarf_reader_core.specs.Leb128.{Kind, Number, unsigned64, unsigned16, signed64, limit, value, is_in_range, refusal}
-use Rattle.dwarf_reader_core.specs.Faults.{eof, end_fault}
-use Rattle.dwarf_reader_core.specs.Input.{Input, end_of}
+use Rattle.dwarf_reader_core.specs.Faults.{eof}
 use Rattle.dwarf_read_core.specs.Grammar.{Specification, Declaration, implicit_const, ByCode, Table, closed, Close, by_null, by_end}
 
 infixl 10 ◌>>=◌
@@ -79,11 +78,6 @@ attributes_at (suc n) end bytes =
 unfoldable pub attributes_in : ℕ → List ℕ → Result (List Specification × List ℕ) Error
 attributes_in end bytes = attributes_at (length bytes + 1) end bytes
 
--- those before, and those that are read
-abbrev pub with_front : List Specification → Result (List Specification × List ℕ) Error
-    → Result (List Specification × List ℕ) Error
-with_front front read = read >>= λ x. Ok (front ++ x.0, x.1)
-
 abbrev pub declaration_of : ℕ → ℕ → Bool → List Specification → Declaration
 declaration_of code tag children attributes =
     record { code = code; tag = tag; children = children; attributes = attributes }
@@ -121,9 +115,3 @@ table_at (suc n) end t bytes =
 -- the declarations at the front, beside those of a table
 unfoldable pub table_in : ℕ → ByCode → List ℕ → Result Table Error
 table_in end t bytes = table_at (length bytes + 1) end t bytes
-
--- the table at an offset of a section
-unfoldable pub answer_at : Input → ℕ → Result Table Error
-answer_at section offset =
-    if nat_lt (length section.bytes) offset then Err (end_fault section) else table_in (end_of section) empty
-    (drop offset section.bytes)

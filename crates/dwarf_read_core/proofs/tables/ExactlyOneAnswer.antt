@@ -15,7 +15,7 @@ use Rattle.dwarf_read_core.proofs.tables.ReadingNumbers.{encoding-nonempty, end_
 use Rattle.dwarf_read_core.specs.Grammar.{Declaration, Sequence, IsDeclaration, Declares, AreDistinct, AreDeclarations, ByCode, Table, closed, by_code_of, by_null, by_end, IsTable, closed_by_null, closed_by_end}
 use Rattle.dwarf_reader_core.specs.Once.{HasOne}
 use Rattle.dwarf_read_core.specs.Answer.{IsFault, in_declaration, repeated, Answer, Answers, TakesNoMemory, outside, table, fault}
-use Rattle.dwarf_read_core.specs.Reading.{◌>>=◌, Gives, declaration_at, close_of, and_declared, table_at, table_in, answer_at}
+use Rattle.dwarf_read_core.specs.Reading.{◌>>=◌, Gives, declaration_at, close_of, and_declared, table_at, table_in}
 use Rattle.dwarf_read_core.proofs.tables.Sequences.{Sequence-push}
 use Rattle.dwarf_read_core.proofs.tables.ReadingIsSound.{DeclarationFound, EndFound, at_end, at_zero, declaration_found, declaration_fault, declaration_shorter}
 use Rattle.dwarf_read_core.proofs.tables.ReadingIsComplete.{declaration_again, zero_again, end_again, fault_again}
@@ -304,6 +304,10 @@ faults_again {end = end} (repeated bytes declaration rest ds d are is twice) =
 abbrev AnswerBy : Bool → Input → ℕ → TableRead
 AnswerBy t section offset =
     cond t (Err (end_fault section)) (table_in (end_of section) empty (drop offset section.bytes))
+
+-- the table that is read at an offset of a section
+unfoldable pub answer_at : Input → ℕ → TableRead
+answer_at section offset = AnswerBy (ltb (length section.bytes) offset) section offset
 
 -- what is read at an offset of a section is an answer for them
 pub is_answer : (section : Input) (offset : ℕ) → Answer section offset (answer_at section offset)

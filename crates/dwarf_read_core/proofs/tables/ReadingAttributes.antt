@@ -4,13 +4,17 @@ use Rattle.std.proofs.lemmas.List.{append-nil}
 use Rattle.dwarf_base_core.specs.declared.error.Error.{Error}
 use Rattle.dwarf_read_core.specs.Grammar.{Specification, Declaration, Sequence, IsSpecification, IsNull, IsFront}
 use Rattle.dwarf_read_core.specs.Answer.{IsFaulty}
-use Rattle.dwarf_read_core.specs.Reading.{◌>>=◌, specification_at, and_others, attributes_at, attributes_in, with_front, declaration_of}
+use Rattle.dwarf_read_core.specs.Reading.{◌>>=◌, specification_at, and_others, attributes_at, attributes_in, declaration_of}
 use Rattle.dwarf_read_core.proofs.tables.Sequences.{Sequence-push}
 use Rattle.dwarf_read_core.proofs.ResultLemmas.{bind_ok, bind_err}
 use Rattle.dwarf_read_core.proofs.tables.ReadingSpecifications.{NullFound, SpecificationFound, specification_found, specification_fault, specification_again, null_again, specification_shorter}
 
 abbrev pub AttributesRead : Type 0
 AttributesRead = Result (List Specification × List ℕ) Error
+
+-- those before, and those that are read
+abbrev pub with_front : List Specification → AttributesRead → AttributesRead
+with_front front read = read >>= λ x. Ok (front ++ x.0, x.1)
 
 -- ---- one specification after the other
 

@@ -8,9 +8,9 @@ use Rattle.dwarf_reader_core.specs.Leb128.{Kind, unsigned64, unsigned16, signed6
 use Rattle.dwarf_reader_core.specs.Faults.{eof}
 use Rattle.dwarf_read_core.specs.Grammar.{Declaration, implicit_const, children_byte, IsCode, IsHead, IsFront, IsDeclaration}
 use Rattle.dwarf_read_core.specs.Answer.{IsBeginning, before_code, before_tag, before_name, before_form, before_value, IsFaulty, number_cut, number_bad, children_cut, tag_zero, children_bad, name_zero, form_zero}
-use Rattle.dwarf_read_core.specs.Reading.{◌>>=◌, number_at, value_at, specification_at, attributes_in, with_front, tag_at, children_at, declaration_of, declared_at, declaration_at}
+use Rattle.dwarf_read_core.specs.Reading.{◌>>=◌, number_at, value_at, specification_at, attributes_in, tag_at, children_at, declaration_of, declared_at, declaration_at}
 use Rattle.dwarf_read_core.proofs.tables.ReadingNumbers.{encoding-nonempty, number_at-string, number_at-cut, number_at-bad}
-use Rattle.dwarf_read_core.proofs.tables.ReadingAttributes.{AttributesRead, attributes_fail, attributes_again, attributes_end}
+use Rattle.dwarf_read_core.proofs.tables.ReadingAttributes.{with_front, AttributesRead, attributes_fail, attributes_again, attributes_end}
 
 abbrev EntryRead : Type 0
 EntryRead = Result (Option Declaration × List ℕ) Error
