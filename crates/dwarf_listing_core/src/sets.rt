@@ -96,7 +96,8 @@ fn push_address(text: &mut Vec<u8>, address: u64) -> Result<(), AllocError>
 }
 
 // Puts the hexadecimal digits of a number before the last byte, and returns where they begin. A
-// section has many addresses, and formatting each by `{:x}` takes twice as long.
+// section has many addresses, and formatting each by `{:x}` takes twice as long. A number has at
+// most 16 digits; there are 64 places because the definition of a number's digits has as many.
 fn put_digits(line: &mut [u8; 65], number: u64) -> usize
     ensures bound { result ≤ 65 }
     ensures digits { drop result line.new ≡ hexadecimal number ++ drop 64 line.old }
