@@ -1,8 +1,10 @@
 //! The lines of sets of addresses and of string offsets.
 
-ghost use Rattle.std.specs.Prelude.{◌≡◌, ◌≢◌, ◌++◌, ◌∷◌, ℕ, List, [], Ok, Err, IfErr, OnOk, string_bytes};
+ghost use Rattle.std.specs.Prelude.{◌≡◌, ◌≢◌, ◌<◌, ◌≤◌, ◌++◌, ◌∷◌, ℕ, false, List, [], drop, Ok, Err, IfErr, OnOk, string_bytes};
+ghost use Rattle.std.specs.Fmt.{digit_glyph};
 ghost use Rattle.std.specs.List.{flat_map};
 ghost use Rattle.dwarf_read_core.specs.Entries.{StandsForAddresses, StandsForStringOffsets};
+ghost use Rattle.dwarf_read_core.specs.ErrorText.{hexadecimal};
 ghost use Rattle.dwarf_read_core.specs.Headers.{set_of, string_offset_set_of};
 ghost use Rattle.dwarf_read_core.specs.Sets.{addresses_of, string_offsets_of};
 ghost use Rattle.dwarf_listing_core.specs.Listing.{ReturnsText};
@@ -25,20 +27,20 @@ pub fn addresses(mem: Global, section: &[u8], endian: RunTimeEndian) -> Result<V
     ensures { ReturnsText (ListsAddresses endian section.now) result }
 {
     let debug_addr = DebugAddr::from(EndianSlice::new(section, endian));
-    let mut text = String::new(mem);
+    let mut text = Vec::new(mem);
     let mut headers = debug_addr.headers()?;
     while let Some(header) = headers.next()? {
         push_address_set(&mut text, &header)?;
     }
-    Ok(text.into_bytes())
+    Ok(text)
 }
 
-fn push_address_set<R: Reader>(text: &mut String, header: &AddrHeader<R>) -> Result<(), Error>
+fn push_address_set<R: Reader>(text: &mut Vec<u8>, header: &AddrHeader<R>) -> Result<(), Error>
     ensures ok { OnOk result ((numbers : List ℕ)
         × StandsForAddresses (addresses_of (set_of R.view R.Offset.value header.now))
         (without_error numbers)
-        × (string_bytes text.new
-        ≡ string_bytes text.old ++ set_lines address_listing
+        × (text.new.items
+        ≡ text.old.items ++ set_lines address_listing
         (set_of R.view R.Offset.value header.now) numbers)) }
     ensures err { IfErr result
         (λ error. error ≢ Error.OutOfMemory → (numbers : List ℕ)
@@ -53,25 +55,28 @@ fn push_address_set<R: Reader>(text: &mut String, header: &AddrHeader<R>) -> Res
 }
 
 fn push_address_header(
-    text: &mut String,
+    text: &mut Vec<u8>,
     offset: u64,
     length: u64,
     bits: u8,
     size: u8,
 ) -> Result<(), AllocError>
     ensures { OnOk result
-        (string_bytes text.new
-        ≡ string_bytes text.old ++ address_header_line offset length bits size) }
+        (text.new.items
+        ≡ text.old.items ++ address_header_line offset length bits size) }
 {
+    let mut line = String::new(*text.allocator());
     writeln!(
-        text,
+        line,
         "set {offset}: length {length}, {bits}-bit, address size {size}"
-    )
+    )?;
+    text.extend_from_slice(line.as_bytes())
 }
 
-fn push_addresses<R: Reader>(text: &mut String, mut entries: AddrEntryIter<R>) -> Result<(), Error>
-    ensures ok { OnOk result ((numbers : List ℕ) × StandsForAddresses entries (without_error numbers)
-        × (string_bytes text.new ≡ string_bytes text.old ++ flat_map address_line numbers)) }
+fn push_addresses<R: Reader>(text: &mut Vec<u8>, mut entries: AddrEntryIter<R>) -> Result<(), Error>
+    ensures ok { OnOk result ((numbers : List ℕ)
+        × StandsForAddresses entries (without_error numbers)
+        × (text.new.items ≡ text.old.items ++ flat_map address_line numbers)) }
     ensures err { IfErr result (λ error. error ≢ Error.OutOfMemory → (numbers : List ℕ)
         × StandsForAddresses entries (without_error numbers ++ Err error ∷ [])) }
 {
@@ -81,10 +86,44 @@ fn push_addresses<R: Reader>(text: &mut String, mut entries: AddrEntryIter<R>) -
     Ok(())
 }
 
-fn push_address(text: &mut String, address: u64) -> Result<(), AllocError>
-    ensures { OnOk result (string_bytes text.new ≡ string_bytes text.old ++ address_line address) }
+fn push_address(text: &mut Vec<u8>, address: u64) -> Result<(), AllocError>
+    ensures { OnOk result (text.new.items ≡ text.old.items ++ address_line address) }
 {
-    writeln!(text, "  0x{address:x}")
+    let mut line = [b'\n'; 65];
+    let start = put_digits(&mut line, address);
+    text.extend_from_slice(b"  0x")?;
+    text.extend_from_slice(&line[start..])
+}
+
+// Puts the hexadecimal digits of a number before the last byte, and returns where they begin. A
+// section has many addresses, and formatting each by `{:x}` takes twice as long. A number has at
+// most 16 digits; there are 64 places because the definition of a number's digits has as many.
+fn put_digits(line: &mut [u8; 65], number: u64) -> usize
+    ensures bound { result ≤ 65 }
+    ensures digits { drop result line.new ≡ hexadecimal number ++ drop 64 line.old }
+{
+    let mut start = 64;
+    let mut rest = number;
+    while start > 0 {
+        start -= 1;
+        line[start] = hex_digit((rest % 16) as u8);
+        rest /= 16;
+        if rest == 0 {
+            break;
+        }
+    }
+    start
+}
+
+fn hex_digit(value: u8) -> u8
+    requires { value < 16 }
+    ensures { result ≡ digit_glyph false value }
+{
+    if value < 10 {
+        b'0' + value
+    } else {
+        b'a' + (value - 10)
+    }
 }
 
 /// The sets of string offsets of a whole `.debug_str_offsets`, in the same way.

@@ -1,4 +1,3 @@
-use Rattle.std.proofs.Common.{ap}
 use Rattle.std.proofs.lemmas.Result.{err_from_is_err_and}
 use Rattle.dwarf_listing_core.specs.Sets.{address_listing}
 use Rattle.dwarf_listing_core.proofs.SetLines.{all_sets_listed, header_fails, no_more, no_sets_listed, one_set_listed, set_fails}
@@ -7,7 +6,7 @@ use Rattle.dwarf_listing_core.proofs.sets.addresses.Goals as goal
 pub loop-text-init : goal.loop-text-init
 loop-text-init c =
     let same = rw (c.from-debug_addr.ensures, c.new.ensures) at c.in_ok-headers.ensures.ok in
-    rw c.new-text.ensures.bytes (no_sets_listed address_listing _ _ same)
+    rw c.new-text.ensures.items (no_sets_listed address_listing _ _ same)
 
 pub loop-text-preserved : goal.loop-text-preserved
 loop-text-preserved c =
@@ -28,5 +27,5 @@ returns-in_err-push_address_set c =
 
 pub returns : goal.returns
 returns c =
-    rw (ap (λ v. v.items) c.into_bytes.ensures.value) (all_sets_listed c.loop-text.invariant
-    (no_more address_listing _ _ _ _ _ c.in_default.not-Some c.in_ok-header.ensures.first))
+    all_sets_listed c.loop-text.invariant
+    (no_more address_listing _ _ _ _ _ c.in_default.not-Some c.in_ok-header.ensures.first)

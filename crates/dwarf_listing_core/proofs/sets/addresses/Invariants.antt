@@ -1,4 +1,4 @@
-use Rattle.std.proofs.Common.{length, string_bytes}
+use Rattle.std.proofs.Common.{length}
 use Rattle.dwarf_listing_core.specs.Sets.{address_listing, sets_section}
 use Rattle.dwarf_listing_core.proofs.SetLines.{AreSetsListed}
 use Rattle.dwarf_listing_core.proofs.sets.addresses.Given as goal
@@ -6,7 +6,7 @@ use Rattle.dwarf_listing_core.proofs.sets.addresses.Given as goal
 -- the text so far, and what is listed of the sets that remain, is what is listed of the section
 abbrev pub invariant-loop-text : goal.invariant-loop-text
 invariant-loop-text l =
-    AreSetsListed address_listing (sets_section l.fn.endian l.section) l.headers (string_bytes l.text)
+    AreSetsListed address_listing (sets_section l.fn.endian l.section) l.headers l.text.items
 
 abbrev pub decreases-loop-text : goal.decreases-loop-text
 decreases-loop-text l = length l.headers.rest.bytes
