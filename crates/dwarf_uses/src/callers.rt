@@ -1,6 +1,6 @@
 //! Small callers of the library, to start from. The README and the documentation quote them.
 
-ghost use Rattle.std.specs.Prelude.{◌≡◌, ◌≢◌, ℕ, Ok, Err, IfOk, IfErr, length, map, option_map};
+ghost use Rattle.std.specs.Prelude.{◌≡◌, ◌≢◌, ℕ, Ok, Err, IfOk, IfErr, map, option_map};
 ghost use Rattle.std.specs.FinMap as finite;
 ghost use Rattle.dwarf_read_core.specs.Entries.{StandsForAddresses};
 ghost use Rattle.dwarf_read_core.specs.Format.{word_size};
@@ -10,6 +10,7 @@ ghost use Rattle.dwarf_read_core.specs.Sections.{debug_abbrev_reader, debug_str_
 ghost use Rattle.dwarf_read_core.specs.Sets.{addresses_of};
 ghost use Rattle.dwarf_read_core.specs.Strings.{StringAt};
 ghost use Rattle.dwarf_read_core.specs.Words.{WordAt, slot};
+ghost use Rattle.dwarf_uses.specs.Callers.{HaveLengths, IsFirstError};
 
 use dwarf_read_core::{
     Abbreviations, AbbreviationsCache, AbbreviationsCacheStrategy, AddrHeader, DebugAbbrev,
@@ -68,7 +69,12 @@ pub fn table_lengths<R: Reader>(
     section: &DebugAbbrev<R>,
     units: &[DebugAbbrevOffset<R::Offset>],
 ) -> Result<Vec<usize>>
-    ensures { IfOk result (λ lengths. length lengths.items ≡ length units.now) }
+    ensures ok { let bytes = R.view (debug_abbrev_reader section.now) in
+        let offsets = map (λ unit. R.Offset.value unit.0) units.now in
+        IfOk result (λ lengths. HaveLengths bytes offsets lengths.items) }
+    ensures err { let bytes = R.view (debug_abbrev_reader section.now) in
+        let offsets = map (λ unit. R.Offset.value unit.0) units.now in
+        IfErr result (λ e. e ≢ Error.OutOfMemory → IsFirstError bytes offsets e) }
 {
     let mut cache = AbbreviationsCache::new(mem);
     let offsets = units.iter().map(|offset| Ok(*offset));
