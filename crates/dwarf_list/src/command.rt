@@ -25,7 +25,7 @@ pub enum Command {
     StrOffsets(RunTimeEndian),
 }
 
-/// The command that the words name, if they name one.
+/// Returns the command that the words name, if they name one.
 pub fn parse_command(words: &[String]) -> Option<Command>
     ensures { result ≡ command_of (map string_bytes words.now) }
 {
@@ -60,7 +60,7 @@ fn parse_endian(name: &str) -> Option<RunTimeEndian>
     }
 }
 
-/// Whether the command reads the input: it lists a part of a section.
+/// Returns whether the command reads the input: it lists a part of a section.
 pub fn reads_input(command: Command) -> bool
     ensures { result ≡ reads_input command }
 {

@@ -22,7 +22,7 @@ pub enum Fault {
     Write,
 }
 
-/// The status that the program ends with: 0 without a fault, and else the fault's own.
+/// Returns the status that the program ends with: 0 without a fault, and else the fault's own.
 pub fn exit_code(outcome: Result<(), Fault>) -> ExitCode
     ensures ok { OnOk outcome (exit_status result ≡ 0) }
     ensures err { IfErr outcome (λ fault. exit_status result ≡ fault_status fault) }
@@ -41,7 +41,7 @@ impl Fault {
         Fault::Section(Error::OutOfMemory)
     }
 
-    /// The status of the program: 1 for a section, 2 for the words, 3 for input and output.
+    /// Returns the status of the program: 1 for a section, 2 for the words, 3 for input and output.
     pub fn status(&self) -> u8
         ensures { result ≡ fault_status self.now }
     {

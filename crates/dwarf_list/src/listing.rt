@@ -11,7 +11,7 @@ use dwarf_read_core::Error;
 use dwarf_read_core::leb128::write::Leb128;
 use std::alloc::Global;
 
-/// The text that a command prints of an input.
+/// Returns the text that a command prints of an input.
 ///
 /// # Errors
 ///

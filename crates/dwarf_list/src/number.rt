@@ -3,7 +3,8 @@
 ghost use Rattle.std.specs.Prelude.{◌≡◌};
 ghost use Rattle.dwarf_list.specs.Number.{is_all_digits, signed_of, unsigned_of, without_minus};
 
-/// The number below 2^64 that one or more ASCII digits are, with any count of leading zeros.
+/// Returns the number below 2^64 that one or more ASCII digits are, with any count of leading
+/// zeros.
 pub fn parse_unsigned(text: &str) -> Option<u64>
     ensures { result ≡ unsigned_of text.now }
 {
@@ -14,7 +15,7 @@ pub fn parse_unsigned(text: &str) -> Option<u64>
     }
 }
 
-/// The same from -2^63 to 2^63 - 1, with or without a minus.
+/// Returns the same from -2^63 to 2^63 - 1, with or without a minus.
 pub fn parse_signed(text: &str) -> Option<i64>
     ensures { result ≡ signed_of text.now }
 {

@@ -30,7 +30,7 @@ impl<E: Env> Env for BehindName<'_, E> {
     }
 }
 
-/// The words of the command line, without the program's name.
+/// Returns the words of the command line, without the program's name.
 ///
 /// # Errors
 ///

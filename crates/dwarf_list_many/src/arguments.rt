@@ -12,7 +12,7 @@ pub enum Kind {
     Strings,
 }
 
-/// The kind and the offsets that the arguments name, behind the program's own name.
+/// Returns the kind and the offsets that the arguments name, behind the program's own name.
 ///
 /// # Errors
 ///

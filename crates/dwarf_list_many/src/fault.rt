@@ -20,7 +20,8 @@ pub enum Fault {
 }
 
 impl Fault {
-    /// The exit status: 1 for a section or memory, 2 for the arguments, 3 for input and output.
+    /// Returns the exit status: 1 for a section or memory, 2 for the arguments, 3 for input and
+    /// output.
     pub fn status(&self) -> u8 {
         match self {
             Fault::At(..) | Fault::Memory => 1,

@@ -7,7 +7,8 @@ ghost use Rattle.dwarf_listing_core.specs.Listing.{ReturnsText};
 use dwarf_read_core::{DebugStr, DebugStrOffset, Error, LittleEndian};
 use std::alloc::{AllocError, Global};
 
-/// The string at an offset of `.debug_str` or `.debug_line_str`, byte for byte, and a line's end.
+/// Returns the string at an offset of `.debug_str` or `.debug_line_str`, byte for byte, and a
+/// line's end.
 ///
 /// # Errors
 ///

@@ -5,8 +5,7 @@ ghost use Rattle.std.specs.Fmt.{digit_glyph};
 ghost use Rattle.std.specs.List.{flat_map};
 ghost use Rattle.dwarf_read_core.specs.Entries.{StandsForAddresses, StandsForStringOffsets};
 ghost use Rattle.dwarf_read_core.specs.ErrorText.{hexadecimal};
-ghost use Rattle.dwarf_read_core.specs.Headers.{set_of, string_offset_set_of};
-ghost use Rattle.dwarf_read_core.specs.Sets.{addresses_of, string_offsets_of};
+ghost use Rattle.dwarf_read_core.specs.Sets.{addresses_of, string_offsets_of, seen_by};
 ghost use Rattle.dwarf_listing_core.specs.Listing.{ReturnsText};
 ghost use Rattle.dwarf_listing_core.specs.Sets.{ListsAddresses, ListsStringOffsets, address_header_line, address_line, address_listing, offset_header_line, offset_line, offset_listing, set_lines, without_error};
 
@@ -16,8 +15,8 @@ use dwarf_read_core::{
 };
 use std::alloc::{AllocError, Global};
 
-/// The sets of addresses of a whole `.debug_addr`: a line for each header, and below it a line for
-/// each address.
+/// Returns the sets of addresses of a whole `.debug_addr`: a line for each header, and below it a
+/// line for each address.
 ///
 /// # Errors
 ///
@@ -37,14 +36,14 @@ pub fn addresses(mem: Global, section: &[u8], endian: RunTimeEndian) -> Result<V
 
 fn push_address_set<R: Reader>(text: &mut Vec<u8>, header: &AddrHeader<R>) -> Result<(), Error>
     ensures ok { OnOk result ((numbers : List ℕ)
-        × StandsForAddresses (addresses_of (set_of R.view R.Offset.value header.now))
+        × StandsForAddresses (addresses_of (seen_by R.view header.now))
         (without_error numbers)
         × (text.new.items
         ≡ text.old.items ++ set_lines address_listing
-        (set_of R.view R.Offset.value header.now) numbers)) }
+        (seen_by R.view header.now) numbers)) }
     ensures err { IfErr result
         (λ error. error ≢ Error.OutOfMemory → (numbers : List ℕ)
-        × StandsForAddresses (addresses_of (set_of R.view R.Offset.value header.now))
+        × StandsForAddresses (addresses_of (seen_by R.view header.now))
         (without_error numbers ++ Err error ∷ [])) }
 {
     let (offset, length) = (header.offset().0.into_u64(), header.length().into_u64());
@@ -126,7 +125,7 @@ fn hex_digit(value: u8) -> u8
     }
 }
 
-/// The sets of string offsets of a whole `.debug_str_offsets`, in the same way.
+/// Returns the sets of string offsets of a whole `.debug_str_offsets`, in the same way.
 ///
 /// # Errors
 ///
@@ -146,15 +145,15 @@ pub fn string_offsets(mem: Global, section: &[u8], endian: RunTimeEndian) -> Res
 fn push_offset_set<R: Reader>(text: &mut String, header: &StrOffsetsHeader<R>) -> Result<(), Error>
     ensures ok { OnOk result ((numbers : List ℕ)
         × StandsForStringOffsets R.Offset.GREATEST
-        (string_offsets_of (string_offset_set_of R.view R.Offset.value header.now))
+        (string_offsets_of (seen_by R.view header.now))
         (without_error numbers)
         × (string_bytes text.new
         ≡ string_bytes text.old ++ set_lines offset_listing
-        (string_offset_set_of R.view R.Offset.value header.now) numbers)) }
+        (seen_by R.view header.now) numbers)) }
     ensures err { IfErr result
         (λ error. error ≢ Error.OutOfMemory → (numbers : List ℕ)
         × StandsForStringOffsets R.Offset.GREATEST
-        (string_offsets_of (string_offset_set_of R.view R.Offset.value header.now))
+        (string_offsets_of (seen_by R.view header.now))
         (without_error numbers ++ Err error ∷ [])) }
 {
     let (offset, length) = (header.offset().into_u64(), header.length().into_u64());

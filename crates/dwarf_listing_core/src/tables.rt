@@ -10,8 +10,8 @@ use dwarf_read_core::{
 };
 use std::alloc::{AllocError, Global};
 
-/// The declarations of the table at an offset of `.debug_abbrev`, by rising code: a line with the
-/// code, the tag and whether there are children, and a line for each attribute.
+/// Returns the declarations of the table at an offset of `.debug_abbrev`, by rising code: a line
+/// with the code, the tag and whether there are children, and a line for each attribute.
 ///
 /// # Errors
 ///
@@ -24,7 +24,7 @@ pub fn abbreviations(mem: Global, section: &[u8], offset: u64) -> Result<Vec<u8>
     Ok(table_text(mem, &table)?.into_bytes())
 }
 
-/// The same lines, if a code of value 0 closes the table.
+/// Returns the same lines, if a code of value 0 closes the table.
 ///
 /// # Errors
 ///

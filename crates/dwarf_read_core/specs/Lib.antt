@@ -5,7 +5,6 @@ pub mod Entries
 pub mod Equality
 pub mod Forms
 pub mod Grammar
-pub mod Headers
 pub mod Items
 pub mod Layout
 pub mod Lookups

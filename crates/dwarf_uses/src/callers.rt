@@ -4,10 +4,9 @@ ghost use Rattle.std.specs.Prelude.{◌≡◌, ◌≢◌, ℕ, Ok, Err, IfOk, If
 ghost use Rattle.std.specs.FinMap as finite;
 ghost use Rattle.dwarf_read_core.specs.Entries.{StandsForAddresses};
 ghost use Rattle.dwarf_read_core.specs.Format.{word_size};
-ghost use Rattle.dwarf_read_core.specs.Headers.{set_of};
 ghost use Rattle.dwarf_read_core.specs.Answer.{Answer};
 ghost use Rattle.dwarf_read_core.specs.Sections.{debug_abbrev_reader, debug_str_offsets_reader, debug_str_reader};
-ghost use Rattle.dwarf_read_core.specs.Sets.{addresses_of};
+ghost use Rattle.dwarf_read_core.specs.Sets.{addresses_of, seen_by};
 ghost use Rattle.dwarf_read_core.specs.Strings.{StringAt};
 ghost use Rattle.dwarf_read_core.specs.Words.{WordAt, slot};
 ghost use Rattle.dwarf_uses.specs.Callers.{HaveLengths, IsFirstError};
@@ -19,7 +18,7 @@ use dwarf_read_core::{
 };
 use std::alloc::Global;
 
-/// The tag of the abbreviation with this code.
+/// Returns the tag of the abbreviation with this code.
 pub fn tag_of(table: &Abbreviations, code: u64) -> Option<DwTag>
     ensures { option_map (λ tag. tag.0) result
         ≡ option_map (λ declaration. declaration.tag) (finite.get table.now.by_code code) }
@@ -30,7 +29,7 @@ pub fn tag_of(table: &Abbreviations, code: u64) -> Option<DwTag>
     }
 }
 
-/// The table at `offset`, a line for each declaration and for each of its attributes.
+/// Returns the table at `offset`, a line for each declaration and for each of its attributes.
 ///
 /// # Errors
 ///
@@ -56,7 +55,8 @@ pub fn table_text<R: Reader>(
     Ok(text)
 }
 
-/// How many abbreviations the table of each unit has. A table that two units share is read once.
+/// Returns how many abbreviations the table of each unit has. A table that two units share is read
+/// once.
 ///
 /// `Duplicates` keeps the tables that more than one unit uses, which is what a reader of all units
 /// wants. `All` keeps the others too, which pays where units are read again.
@@ -86,7 +86,7 @@ pub fn table_lengths<R: Reader>(
     Ok(lengths)
 }
 
-/// The string that an attribute of form `DW_FORM_strx` names by its index.
+/// Returns the string that an attribute of form `DW_FORM_strx` names by its index.
 ///
 /// # Errors
 ///
@@ -107,14 +107,14 @@ pub fn string_by_index<R: Reader>(
     strings.get_str(offset)
 }
 
-/// The addresses of a set, which a walk over [`DebugAddr::headers`](dwarf_read_core::DebugAddr::headers)
-/// gives.
+/// Returns the addresses of a set, which a walk over
+/// [`DebugAddr::headers`](dwarf_read_core::DebugAddr::headers) gives.
 ///
 /// # Errors
 ///
 /// The set's first error.
 pub fn addresses_in<R: Reader>(mem: Global, header: &AddrHeader<R>) -> Result<Vec<u64>>
-    ensures ok { let entries = addresses_of (set_of R.view R.Offset.value header.now) in
+    ensures ok { let entries = addresses_of (seen_by R.view header.now) in
         IfOk result (λ addresses. StandsForAddresses entries (map (λ n. Ok n) addresses.items)) }
 {
     let mut addresses = Vec::new(mem);

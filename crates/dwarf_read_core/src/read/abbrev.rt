@@ -61,7 +61,7 @@ pub struct DebugAbbrev<R> {
 impl<'input, Endian: Endianity> DebugAbbrev<EndianSlice<'input, Endian>> {
     ghost use Rattle.dwarf_read_core.specs.Sections.{debug_abbrev_reader};
 
-    /// The section with these bytes, whose first byte has position 0.
+    /// Returns the section with these bytes, whose first byte has position 0.
     ///
     /// ```
     /// let section = DebugAbbrev::new(bytes, LittleEndian);
@@ -80,7 +80,7 @@ impl<'input, Endian: Endianity> DebugAbbrev<EndianSlice<'input, Endian>> {
 impl<R: Reader> DebugAbbrev<R> {
     ghost use Rattle.dwarf_read_core.specs.Sections.{debug_abbrev_reader};
 
-    /// The table of abbreviations at `offset`, in bytes from the section's start.
+    /// Returns the table of abbreviations at `offset`, in bytes from the section's start.
     ///
     /// A table is a sequence of declarations with distinct codes. A code of value 0 closes it, and
     /// so does the section's end if a declaration could begin there. The table at an offset equal
@@ -127,7 +127,7 @@ impl<R: Reader> DebugAbbrev<R> {
         Abbreviations::parse(mem, &mut input)
     }
 
-    /// The table of abbreviations at `offset`, which a code of value 0 has to close.
+    /// Returns the table of abbreviations at `offset`, which a code of value 0 has to close.
     ///
     /// This is [`abbreviations`](Self::abbreviations), except that the section's end closes no
     /// table. It is meant for a section that is still growing, and for checking what a producer
@@ -184,7 +184,8 @@ impl<R: Reader> DebugAbbrev<R> {
 impl<T> DebugAbbrev<T> {
     ghost use Rattle.dwarf_read_core.specs.Sections.{debug_abbrev_reader};
 
-    /// The section over the reader that `borrow` makes of a reference to the data of this one.
+    /// Returns the section over the reader that `borrow` makes of a reference to the data of this
+    /// one.
     ///
     /// `borrow` is called once. The caller has to make sure that it may be called with that reference.
     pub fn borrow<'a, F, R>(&'a self, mut borrow: F) -> DebugAbbrev<R>
@@ -254,7 +255,7 @@ impl Model for Abbreviations {
 }
 
 impl Abbreviations {
-    /// The table with no abbreviations. It allocates only when one is added.
+    /// Returns the table with no abbreviations. It allocates only when one is added.
     pub fn empty(mem: Global) -> Abbreviations
         ensures none { result.by_code ≡ finite.empty }
         ensures close { result.close ≡ by_end }
@@ -266,7 +267,7 @@ impl Abbreviations {
         }
     }
 
-    /// The same table once more.
+    /// Returns the same table once more.
     ///
     /// # Errors
     ///
@@ -324,7 +325,7 @@ impl Abbreviations {
         Ok(())
     }
 
-    /// The abbreviation with this code, if the table has one. No abbreviation has code 0.
+    /// Returns the abbreviation with this code, if the table has one. No abbreviation has code 0.
     #[inline]
     #[tactic(auto, using(crate::proofs::tables::VectorAndMap::lookup_steps))]
     pub fn get(&self, code: u64) -> Option<&Abbreviation>
@@ -340,7 +341,7 @@ impl Abbreviations {
         }
     }
 
-    /// How many abbreviations there are.
+    /// Returns how many abbreviations there are.
     #[tactic(auto, using(crate::proofs::tables::VectorAndMap::table_len))]
     pub fn len(&self) -> usize
         ensures { result ≡ finite.len self.now.by_code }
@@ -348,7 +349,7 @@ impl Abbreviations {
         self.vec.len() + self.map.len()
     }
 
-    /// Whether a code of value 0 closes the table. If not, the section ended where another
+    /// Returns whether a code of value 0 closes the table. If not, the section ended where another
     /// declaration could begin. No code closes the table that [`empty`](Self::empty) makes.
     pub fn closed_by_null(&self) -> bool
         ensures { result ≡ is_by_null self.now.close }
@@ -356,14 +357,14 @@ impl Abbreviations {
         self.closed_by_null
     }
 
-    /// Whether the table has no abbreviations.
+    /// Returns whether the table has no abbreviations.
     pub fn is_empty(&self) -> bool
         ensures { IsTrue result ↔ (finite.len self.now.by_code ≡ 0) }
     {
         self.len() == 0
     }
 
-    /// The abbreviations, by rising code.
+    /// Returns the abbreviations, by rising code.
     #[tactic(auto, using(crate::proofs::tables::VectorAndMap::table_values))]
     pub fn iter(&self) -> AbbreviationsIter<'_>
         ensures { result ≡ finite.values self.now.by_code }
@@ -530,7 +531,7 @@ impl Abbreviation {
         }
     }
 
-    /// The same abbreviation once more.
+    /// Returns the same abbreviation once more.
     ///
     /// # Errors
     ///
@@ -543,28 +544,28 @@ impl Abbreviation {
         Ok(self.clone()?)
     }
 
-    /// The code by which entries refer to this abbreviation. It is not 0.
+    /// Returns the code by which entries refer to this abbreviation. It is not 0.
     pub fn code(&self) -> u64
         ensures { result ≡ self.now.code }
     {
         self.code
     }
 
-    /// The tag of the entries.
+    /// Returns the tag of the entries.
     pub fn tag(&self) -> DwTag
         ensures { result.0 ≡ self.now.tag }
     {
         self.tag
     }
 
-    /// Whether an entry is followed by its children.
+    /// Returns whether an entry is followed by its children.
     pub fn has_children(&self) -> bool
         ensures { result ≡ self.now.children }
     {
         self.has_children == DW_CHILDREN_yes
     }
 
-    /// The attributes of the entries, in the order of their values.
+    /// Returns the attributes of the entries, in the order of their values.
     pub fn attributes(&self) -> &[AttributeSpecification]
         ensures { result.now ≡ self.now.attributes }
     {
@@ -704,8 +705,8 @@ impl MadeWith<Global> for AttributeSpecification {
 }
 
 impl AttributeSpecification {
-    /// The attribute with this name and form. It has a value of its own exactly if the form is
-    /// `DW_FORM_implicit_const`.
+    /// Returns the attribute with this name and form. It has a value of its own exactly if the form
+    /// is `DW_FORM_implicit_const`.
     pub fn new(
         name: DwAt,
         form: DwForm,
@@ -721,21 +722,22 @@ impl AttributeSpecification {
         }
     }
 
-    /// The name of the attribute.
+    /// Returns the name of the attribute.
     pub fn name(&self) -> DwAt
         ensures { result.0 ≡ self.now.name }
     {
         self.name
     }
 
-    /// The form of the attribute's value.
+    /// Returns the form of the attribute's value.
     pub fn form(&self) -> DwForm
         ensures { result.0 ≡ self.now.form }
     {
         self.form
     }
 
-    /// The value of the attribute if its form is `DW_FORM_implicit_const`, and `None` otherwise.
+    /// Returns the value of the attribute if its form is `DW_FORM_implicit_const`, and `None`
+    /// otherwise.
     pub fn implicit_const_value(&self) -> Option<i64>
         ensures value { result ≡ self.now.value }
         ensures some { IsSome result ↔ (self.now.form ≡ implicit_const) }
@@ -747,8 +749,8 @@ impl AttributeSpecification {
         }
     }
 
-    /// How many bytes a value of this attribute has in a unit with this encoding. `None` if the form
-    /// doesn't determine it (DWARF 5, 7.5.6).
+    /// Returns how many bytes a value of this attribute has in a unit with this encoding. `None` if
+    /// the form doesn't determine it (DWARF 5, 7.5.6).
     pub fn size(&self, encoding: Encoding) -> Option<usize>
         ensures { result ≡ form_size self.now.form encoding }
     {

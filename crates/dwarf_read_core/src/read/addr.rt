@@ -35,7 +35,7 @@ pub struct DebugAddr<R> {
 impl<R: Reader> DebugAddr<R> {
     ghost use Rattle.dwarf_read_core.specs.Sections.{debug_addr_reader};
 
-    /// The address with this `index` among those that begin at `base`. Indices begin at 0.
+    /// Returns the address with this `index` among those that begin at `base`. Indices begin at 0.
     ///
     /// `base` is the offset of the first address of a set, which `DW_AT_addr_base` gives, and
     /// `index` comes from `DW_FORM_addrx`. Addresses have `address_size` bytes, as the unit's
@@ -75,7 +75,7 @@ impl<R: Reader> DebugAddr<R> {
         input.read_address(address_size)
     }
 
-    /// The sets of addresses, one after the other from the section's start.
+    /// Returns the sets of addresses, one after the other from the section's start.
     ///
     /// # Errors
     ///
@@ -95,7 +95,8 @@ impl<R: Reader> DebugAddr<R> {
 impl<T> DebugAddr<T> {
     ghost use Rattle.dwarf_read_core.specs.Sections.{debug_addr_reader};
 
-    /// The section over the reader that `borrow` makes of a reference to the data of this one.
+    /// Returns the section over the reader that `borrow` makes of a reference to the data of this
+    /// one.
     ///
     /// `borrow` is called once. The caller has to make sure that it may be called with that reference.
     pub fn borrow<'a, F, R>(&'a self, mut borrow: F) -> DebugAddr<R>
@@ -165,7 +166,7 @@ impl<R: Reader> Model for AddrHeaderIter<R> {
 }
 
 impl<R: Reader> AddrHeaderIter<R> {
-    /// The header of the next set, or `None` if no bytes remain.
+    /// Returns the header of the next set, or `None` if no bytes remain.
     ///
     /// A set has at least eight bytes.
     ///
@@ -360,14 +361,14 @@ impl<R: Reader> AddrHeader<R> {
         })
     }
 
-    /// Where the set begins, in bytes from the section's start.
+    /// Returns where the set begins, in bytes from the section's start.
     pub fn offset(&self) -> DebugAddrOffset<R::Offset>
         ensures { R.Offset.value result.0 ≡ self.now.offset }
     {
         self.offset
     }
 
-    /// How many bytes of the set follow its initial length: the rest of the header, and the
+    /// Returns how many bytes of the set follow its initial length: the rest of the header, and the
     /// addresses.
     pub fn length(&self) -> R::Offset
         ensures { R.Offset.value result ≡ self.now.unit_length }
@@ -375,7 +376,7 @@ impl<R: Reader> AddrHeader<R> {
         self.length
     }
 
-    /// The set's format and address size; the version is 5.
+    /// Returns the set's format and address size; the version is 5.
     pub fn encoding(&self) -> Encoding
         ensures { result ≡ record {
           address_size = self.now.header;
@@ -386,7 +387,7 @@ impl<R: Reader> AddrHeader<R> {
         self.encoding.encoding
     }
 
-    /// The addresses of the set.
+    /// Returns the addresses of the set.
     ///
     /// # Errors
     ///
@@ -419,7 +420,7 @@ impl<R: Reader> Model for AddrEntryIter<R> {
 }
 
 impl<R: Reader> AddrEntryIter<R> {
-    /// The next address, or `None` if no bytes remain. It doesn't allocate.
+    /// Returns the next address, or `None` if no bytes remain. It doesn't allocate.
     ///
     /// # Errors
     ///

@@ -8,8 +8,8 @@ ghost use Rattle.dwarf_read_core.specs.Words.{slot, place, IsPlaced, Misplaced};
 use dwarf_base_core::{Error, ReaderOffset, Result};
 use dwarf_reader_core::Reader;
 
-/// The length of `index` numbers of `width` bytes each, or `UnsupportedOffset` if it doesn't fit the
-/// offset type.
+/// Returns the length of `index` numbers of `width` bytes each, or `UnsupportedOffset` if it
+/// doesn't fit the offset type.
 #[inline]
 fn length_before<Offset: ReaderOffset>(index: Offset, width: u8) -> Result<Offset>
     ensures { OkBelow (Offset.GREATEST + 1) Offset.value

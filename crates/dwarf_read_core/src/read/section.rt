@@ -26,30 +26,30 @@ pub trait Section<R>: From<R> + Sized {
     fn id() -> SectionId
         ensures { result ≡ section_id };
 
-    /// The section's name in an ELF object, such as `.debug_abbrev`.
+    /// Returns the section's name in an ELF object, such as `.debug_abbrev`.
     fn section_name() -> &'static str
         ensures { result.now ≡ (section_names section_id).name }
     {
         Self::id().name()
     }
 
-    /// The section's name in a split object or a package, such as `.debug_abbrev.dwo`, or `None` if
-    /// it is in neither.
+    /// Returns the section's name in a split object or a package, such as `.debug_abbrev.dwo`, or
+    /// `None` if it is in neither.
     fn dwo_section_name() -> Option<&'static str>
         ensures { option_map (λ name. name.now) result ≡ (section_names section_id).dwo_name }
     {
         Self::id().dwo_name()
     }
 
-    /// The section's name in an XCOFF object, such as `.dwabrev`, or `None` if XCOFF has no name for
-    /// it.
+    /// Returns the section's name in an XCOFF object, such as `.dwabrev`, or `None` if XCOFF has no
+    /// name for it.
     fn xcoff_section_name() -> Option<&'static str>
         ensures { option_map (λ name. name.now) result ≡ (section_names section_id).xcoff_name }
     {
         Self::id().xcoff_name()
     }
 
-    /// The section over the reader that `f` returns for the section's identifier.
+    /// Returns the section over the reader that `f` returns for the section's identifier.
     ///
     /// `f` is called once. The caller has to make sure that it may be called with that identifier.
     ///
@@ -69,14 +69,14 @@ pub trait Section<R>: From<R> + Sized {
         }
     }
 
-    /// The reader of the section's bytes.
+    /// Returns the reader of the section's bytes.
     fn reader(&self) -> &R
     where
         R: Reader,
         ensures { result.now ≡ section_reader self.now };
 
-    /// The `size` bytes from `offset` on, as a section of their own. The first byte keeps its
-    /// position.
+    /// Returns the `size` bytes from `offset` on, as a section of their own. The first byte keeps
+    /// its position.
     ///
     /// The index of a package gives the offset and the size, both in bytes, of what belongs to one
     /// unit (DWARF 5, 7.3.5).
@@ -99,8 +99,8 @@ pub trait Section<R>: From<R> + Sized {
         Ok(part.into())
     }
 
-    /// The section's identifier and the offset, in bytes, of the place that `id` identifies, or `None`
-    /// if that is neither one of the section's bytes nor its end.
+    /// Returns the section's identifier and the offset, in bytes, of the place that `id`
+    /// identifies, or `None` if that is neither one of the section's bytes nor its end.
     fn lookup_offset_id(&self, id: ReaderOffsetId) -> Option<(SectionId, R::Offset)>
     where
         R: Reader,

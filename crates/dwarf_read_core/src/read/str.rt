@@ -29,7 +29,7 @@ pub struct DebugStr<R> {
 impl<'input, Endian: Endianity> DebugStr<EndianSlice<'input, Endian>> {
     ghost use Rattle.dwarf_read_core.specs.Sections.{debug_str_reader};
 
-    /// The section with these bytes, whose first byte has position 0.
+    /// Returns the section with these bytes, whose first byte has position 0.
     pub fn new(debug_str_section: &'input [u8], endian: Endian) -> Self
         ensures { let reader = ⟦<EndianSlice<'input, Endian> as Reader>⟧ in
             reader.view (debug_str_reader result)
@@ -42,8 +42,8 @@ impl<'input, Endian: Endianity> DebugStr<EndianSlice<'input, Endian>> {
 impl<R: Reader> DebugStr<R> {
     ghost use Rattle.dwarf_read_core.specs.Sections.{debug_str_reader};
 
-    /// The string at `offset`, in bytes from the section's start: the bytes up to the first zero
-    /// byte, which is left out.
+    /// Returns the string at `offset`, in bytes from the section's start: the bytes up to the first
+    /// zero byte, which is left out.
     ///
     /// # Errors
     ///
@@ -65,7 +65,8 @@ impl<R: Reader> DebugStr<R> {
 impl<T> DebugStr<T> {
     ghost use Rattle.dwarf_read_core.specs.Sections.{debug_str_reader};
 
-    /// The section over the reader that `borrow` makes of a reference to the data of this one.
+    /// Returns the section over the reader that `borrow` makes of a reference to the data of this
+    /// one.
     ///
     /// `borrow` is called once. The caller has to make sure that it may be called with that reference.
     pub fn borrow<'a, F, R>(&'a self, mut borrow: F) -> DebugStr<R>
@@ -116,8 +117,8 @@ pub struct DebugStrOffsets<R> {
 impl<R: Reader> DebugStrOffsets<R> {
     ghost use Rattle.dwarf_read_core.specs.Sections.{debug_str_offsets_reader};
 
-    /// The string offset with this `index` among those that begin at `base`. It says where a string
-    /// begins in `.debug_str`. Indices begin at 0.
+    /// Returns the string offset with this `index` among those that begin at `base`. It says where
+    /// a string begins in `.debug_str`. Indices begin at 0.
     ///
     /// `base` is the offset of a set's first entry, which `DW_AT_str_offsets_base` gives, and
     /// `index` comes from `DW_FORM_strx`. Entries are words of the unit's `format`. The header of
@@ -157,7 +158,7 @@ impl<R: Reader> DebugStrOffsets<R> {
         Ok(DebugStrOffset(input.read_offset(format)?))
     }
 
-    /// The sets of string offsets, one after the other from the section's start.
+    /// Returns the sets of string offsets, one after the other from the section's start.
     ///
     /// A section of an older standard has no sets. Its offsets follow each other without a header,
     /// and only [`get_str_offset`](DebugStrOffsets::get_str_offset) reads them.
@@ -177,7 +178,8 @@ impl<R: Reader> DebugStrOffsets<R> {
 impl<T> DebugStrOffsets<T> {
     ghost use Rattle.dwarf_read_core.specs.Sections.{debug_str_offsets_reader};
 
-    /// The section over the reader that `borrow` makes of a reference to the data of this one.
+    /// Returns the section over the reader that `borrow` makes of a reference to the data of this
+    /// one.
     ///
     /// `borrow` is called once. The caller has to make sure that it may be called with that reference.
     pub fn borrow<'a, F, R>(&'a self, mut borrow: F) -> DebugStrOffsets<R>
@@ -230,7 +232,7 @@ pub struct DebugLineStr<R> {
 impl<'input, Endian: Endianity> DebugLineStr<EndianSlice<'input, Endian>> {
     ghost use Rattle.dwarf_read_core.specs.Sections.{debug_line_str_reader};
 
-    /// The section with these bytes, whose first byte has position 0.
+    /// Returns the section with these bytes, whose first byte has position 0.
     pub fn new(debug_line_str_section: &'input [u8], endian: Endian) -> Self
         ensures { let reader = ⟦<EndianSlice<'input, Endian> as Reader>⟧ in
             reader.view (debug_line_str_reader result)
@@ -243,8 +245,8 @@ impl<'input, Endian: Endianity> DebugLineStr<EndianSlice<'input, Endian>> {
 impl<R: Reader> DebugLineStr<R> {
     ghost use Rattle.dwarf_read_core.specs.Sections.{debug_line_str_reader};
 
-    /// The string at `offset`, in bytes from the section's start: the bytes up to the first zero
-    /// byte, which is left out.
+    /// Returns the string at `offset`, in bytes from the section's start: the bytes up to the first
+    /// zero byte, which is left out.
     ///
     /// # Errors
     ///
@@ -266,7 +268,8 @@ impl<R: Reader> DebugLineStr<R> {
 impl<T> DebugLineStr<T> {
     ghost use Rattle.dwarf_read_core.specs.Sections.{debug_line_str_reader};
 
-    /// The section over the reader that `borrow` makes of a reference to the data of this one.
+    /// Returns the section over the reader that `borrow` makes of a reference to the data of this
+    /// one.
     ///
     /// `borrow` is called once. The caller has to make sure that it may be called with that reference.
     pub fn borrow<'a, F, R>(&'a self, mut borrow: F) -> DebugLineStr<R>

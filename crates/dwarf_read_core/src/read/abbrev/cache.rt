@@ -83,7 +83,7 @@ impl Model for AbbreviationsCache {
 }
 
 impl AbbreviationsCache {
-    /// A cache that keeps nothing yet.
+    /// Returns a cache that keeps nothing yet.
     pub fn new(mem: Global) -> Self
         ensures { result ≡ finite.empty }
     {
@@ -166,8 +166,8 @@ impl AbbreviationsCache {
         self.abbreviations.retain(|_, answer| is_final(answer));
     }
 
-    /// The table that is kept at an offset, or one that is read from `debug_abbrev` if nothing is
-    /// kept there. The cache doesn't change.
+    /// Returns the table that is kept at an offset, or one that is read from `debug_abbrev` if
+    /// nothing is kept there. The cache doesn't change.
     ///
     /// # Errors
     ///

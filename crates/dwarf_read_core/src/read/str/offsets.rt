@@ -53,7 +53,7 @@ impl<R: Reader> StrOffsetsHeaderIter<R> {
         }
     }
 
-    /// The header of the next set, or `None` if no bytes remain.
+    /// Returns the header of the next set, or `None` if no bytes remain.
     ///
     /// A set has at least eight bytes.
     ///
@@ -228,14 +228,14 @@ impl<R: Reader> StrOffsetsHeader<R> {
         })
     }
 
-    /// Where the set begins, in bytes from the section's start.
+    /// Returns where the set begins, in bytes from the section's start.
     pub fn offset(&self) -> R::Offset
         ensures { R.Offset.value result ≡ self.now.offset }
     {
         self.offset
     }
 
-    /// How many bytes of the set follow its initial length: the rest of the header, and the
+    /// Returns how many bytes of the set follow its initial length: the rest of the header, and the
     /// offsets.
     pub fn length(&self) -> R::Offset
         ensures { R.Offset.value result ≡ self.now.unit_length }
@@ -243,14 +243,14 @@ impl<R: Reader> StrOffsetsHeader<R> {
         self.length
     }
 
-    /// The set's format. The offsets are words of it.
+    /// Returns the set's format. The offsets are words of it.
     pub fn format(&self) -> Format
         ensures { result ≡ self.now.format }
     {
         self.format
     }
 
-    /// The offsets of the set.
+    /// Returns the offsets of the set.
     ///
     /// # Errors
     ///
@@ -284,8 +284,8 @@ impl<R: Reader> Model for StrOffsetsEntryIter<R> {
 }
 
 impl<R: Reader> StrOffsetsEntryIter<R> {
-    /// The next offset of a string in `.debug_str`, or `None` if no bytes remain. It doesn't
-    /// allocate.
+    /// Returns the next offset of a string in `.debug_str`, or `None` if no bytes remain. It
+    /// doesn't allocate.
     ///
     /// # Errors
     ///
