@@ -3,8 +3,8 @@
 use super::worked::{CUT_SET, FOUR_ADDRESSES, TWO_SETS, twenty_words};
 use super::{eof, same};
 use dwarf_read_core::{
-    AddrEntryIter, AddrHeader, AddrHeaderIter, DebugAddr, DebugAddrBase, DebugAddrIndex,
-    EndianSlice, Error, Format, Reader, ReaderOffset, ReaderOffsetId, Result, RunTimeEndian,
+    AddrEntryIter, AddrHeaderIter, DebugAddr, DebugAddrBase, DebugAddrIndex, EndianSlice, Error,
+    Format, Reader, ReaderOffset, ReaderOffsetId, Result, RunTimeEndian,
 };
 use std::alloc::{AllocError, Global};
 use std::process::Abort;
@@ -341,60 +341,35 @@ fn cloned<T: Clone>(value: &T) -> std::result::Result<T, AllocError> {
     value.clone()
 }
 
-// What two iterators return in four calls each.
-type Twice = [[Result<Option<u64>>; 4]; 2];
-
-// What four calls return behind the first set, of an iterator and then of its clone.
-fn cloned_headers<R: Reader + Clone>(section: &DebugAddr<R>) -> Result<Twice> {
-    let mut headers = section.headers()?;
+// A clone goes on where its original does, and neither moves the other.
+#[test]
+fn cloned_sets_go_on_alike(rt: HostRuntime) -> std::result::Result<(), Fail> {
+    let mut headers = section_at(TWO_SETS, RunTimeEndian::Little, false).headers()?;
     next_length(&mut headers)?;
     let mut copy = cloned(&headers)?;
-    Ok([next_lengths(&mut headers), next_lengths(&mut copy)])
+    let left = [Ok(Some(20)), Ok(None), Ok(None), Ok(None)];
+    let found = [next_lengths(&mut headers), next_lengths(&mut copy)];
+    same(&rt, found, [left; 2], "headers");
+    Ok(())
 }
 
-// The headers of the first two sets.
-fn two_headers<R: Reader>(
-    section: &DebugAddr<R>,
-) -> Result<(Option<AddrHeader<R>>, Option<AddrHeader<R>>)> {
-    let mut headers = section.headers()?;
-    Ok((headers.next()?, headers.next()?))
-}
-
-// What four calls return behind the second set's first address, of an iterator and then of its clone.
-fn cloned_entries<R: Reader + Clone>(section: &DebugAddr<R>) -> Result<Option<Twice>> {
-    let (_, second) = two_headers(section)?;
-    let Some(second) = second else {
-        return Ok(None);
-    };
+#[test]
+fn cloned_addresses_go_on_alike(rt: HostRuntime) -> std::result::Result<(), Fail> {
+    let mut headers = section_at(TWO_SETS, RunTimeEndian::Little, false).headers()?;
+    let first = headers.next()?.ok_or("no set")?;
+    let second = headers.next()?.ok_or("no second set")?;
+    let copy = cloned(&second)?;
+    same(
+        &rt,
+        (second == copy, second == first),
+        (true, false),
+        "a header",
+    );
     let mut entries = second.entries()?;
     next_address(&mut entries)?;
     let mut copy = cloned(&entries)?;
-    Ok(Some([next_addresses(&mut entries), next_addresses(&mut copy)]))
-}
-
-// Whether the second header is equal to its clone, and to the first.
-fn equalities<R: Reader + Clone + PartialEq>(section: &DebugAddr<R>) -> Result<(bool, bool)> {
-    let (first, second) = two_headers(section)?;
-    let copy = cloned(&second)?;
-    Ok((second == copy, second == first))
-}
-
-fn cloned_parts<R: Reader + Clone + PartialEq>(
-    section: &DebugAddr<R>,
-) -> Result<(Twice, Option<Twice>, (bool, bool))> {
-    let headers = cloned_headers(section)?;
-    Ok((headers, cloned_entries(section)?, equalities(section)?))
-}
-
-// A clone goes on where its original does, and neither moves the other.
-#[test]
-fn clones_go_on_alike(rt: HostRuntime) -> std::result::Result<(), Fail> {
-    let section = section_at(TWO_SETS, RunTimeEndian::Little, false);
-    let (headers, entries, are_equal) = cloned_parts(&section)?;
-    let left = [Ok(Some(20)), Ok(None), Ok(None), Ok(None)];
-    same(&rt, headers, [left; 2], "headers");
     let left = [Ok(Some(FOUR_ADDRESSES[3])), Ok(None), Ok(None), Ok(None)];
-    same(&rt, entries, Some([left; 2]), "entries");
-    same(&rt, are_equal, (true, false), "a header");
+    let found = [next_addresses(&mut entries), next_addresses(&mut copy)];
+    same(&rt, found, [left; 2], "entries");
     Ok(())
 }

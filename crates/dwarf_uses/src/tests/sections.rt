@@ -191,10 +191,9 @@ fn sections_have_identifiers_and_ranges(rt: HostRuntime) {
 
 // A loader that has strings alone.
 fn load(id: SectionId) -> std::result::Result<Slice<'static>, SectionId> {
-    if id == SectionId::DebugStr {
-        Ok(little(b"abc\0"))
-    } else {
-        Err(id)
+    match id {
+        SectionId::DebugStr => Ok(little(b"abc\0")),
+        _ => Err(id),
     }
 }
 
