@@ -1,9 +1,8 @@
-use Rattle.std.proofs.Common.{rules, refl, suc, ◌∙◌, ap, drop, map, take}
+use Rattle.std.proofs.Common.{rules, suc, ◌∙◌, ap, drop, map, take}
 use Rattle.std.proofs.lemmas.Result.{err_from_is_err_and}
 use Rattle.std.specs.FinMap.{len}
 use Rattle.dwarf_read_core.specs.Grammar.{Table}
-use Rattle.dwarf_read_core.proofs.Kept.{seen_more}
-use Rattle.dwarf_uses.proofs.Lengths.{lengths_more, numbers_around}
+use Rattle.dwarf_uses.proofs.Lengths.{lengths_more, numbers_around, numbers_more}
 use Rattle.dwarf_uses.proofs.callers.table_lengths.Goals as goal
 
 pub returns-in_err-get-clause-err : goal.returns-in_err-get-clause-err
@@ -24,8 +23,8 @@ returns-in_err-get-clause-err g c =
 
 pub loop-offset-preserved : goal.loop-offset-preserved
 loop-offset-preserved g c =
-    let next = seen_more (λ unit. g.R.Offset.ReaderOffset.value unit.0) c.args.units.now c.loop-offset.offset-index
-    c.offset-item.result (g.R.Offset.ReaderOffset.value c.offset-item.result.0) (search rules) (search rules) refl in
+    let next = numbers_more (λ unit. g.R.Offset.ReaderOffset.value unit.0) c.args.units.now c.loop-offset.offset-index
+    c.offset-item.result (search rules) (search rules) in
     let answer = c.in_ok-get.ensures.faithful c.in_ok-populate.ensures.faithful in
     let size = c.len.ensures ∙ ap (λ (t : Table). len t.by_code) c.deref.ensures in
     rw (next, c.in_ok-push.ensures.items)
