@@ -142,27 +142,23 @@ fn each_type_names_its_values(rt: HostRuntime) {
 #[test]
 fn texts_are_padded(rt: HostRuntime) -> Result<(), Fail> {
     let mem = rt.alloc();
-    let (label, unknown) = (DW_TAG_label, DwTag(0x1234));
-    let (alias, address) = (DW_CFA_AARCH64_negate_ra_state, DwAddr(u64::MAX));
-    for (text, wanted) in [
-        (format!(in mem; "{label:>20}")?, "        DW_TAG_label"),
-        (format!(in mem; "{label:20}|")?, "DW_TAG_label        |"),
-        (format!(in mem; "{unknown}")?, "Unknown DwTag: 4660"),
+    for (tag, wanted) in [
         (
-            format!(in mem; "{unknown:*^23}")?,
-            "**Unknown DwTag: 4660**",
+            DW_TAG_label,
+            "        DW_TAG_label|DW_TAG_label        |*****DW_TAG_label******",
         ),
         (
-            format!(in mem; "{alias:->25}")?,
-            "---DW_CFA_GNU_window_save",
-        ),
-        (
-            format!(in mem; "{address:<37}|")?,
-            "Unknown DwAddr: 18446744073709551615 |",
+            DwTag(0x1234),
+            " Unknown DwTag: 4660|Unknown DwTag: 4660 |**Unknown DwTag: 4660**",
         ),
     ] {
+        let text = format!(in mem; "{tag:>20}|{tag:20}|{tag:*^23}")?;
         same(&rt, text.as_str(), wanted, wanted);
     }
+    let (alias, address) = (DW_CFA_AARCH64_negate_ra_state, DwAddr(u64::MAX));
+    let text = format!(in mem; "{alias:->25} {address:<37}|")?;
+    let wanted = "---DW_CFA_GNU_window_save Unknown DwAddr: 18446744073709551615 |";
+    same(&rt, text.as_str(), wanted, "an alias and an address");
     same(&rt, alias.0, 0x2d, "the alias");
     Ok(())
 }

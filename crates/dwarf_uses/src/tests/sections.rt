@@ -238,20 +238,16 @@ fn borrowed<'a>(bytes: &'a [u8; 4]) -> Slice<'a> {
 
 #[test]
 fn sections_are_borrowed(rt: HostRuntime) {
-    let (bytes, wanted) = (*b"abc\0", b"abc\0".as_slice());
-    let strings = DebugStr::from(bytes);
-    let reader = *strings.borrow(borrowed).reader();
-    same(&rt, reader.slice(), wanted, "strings");
-    let lines = DebugLineStr::from(bytes);
-    let reader = *lines.borrow(borrowed).reader();
-    same(&rt, reader.slice(), wanted, "line strings");
-    let offsets = DebugStrOffsets::from(bytes);
-    let reader = *offsets.borrow(borrowed).reader();
-    same(&rt, reader.slice(), wanted, "offsets");
-    let addresses = DebugAddr::from(bytes);
-    let reader = *addresses.borrow(borrowed).reader();
-    same(&rt, reader.slice(), wanted, "addresses");
+    let bytes = *b"abc\0";
+    let (strings, lines) = (DebugStr::from(bytes), DebugLineStr::from(bytes));
+    let (offsets, addresses) = (DebugStrOffsets::from(bytes), DebugAddr::from(bytes));
     let tables = DebugAbbrev::from(bytes);
-    let reader = *tables.borrow(borrowed).reader();
-    same(&rt, reader.slice(), wanted, "tables");
+    let readers = [
+        *strings.borrow(borrowed).reader(),
+        *lines.borrow(borrowed).reader(),
+        *offsets.borrow(borrowed).reader(),
+        *addresses.borrow(borrowed).reader(),
+        *tables.borrow(borrowed).reader(),
+    ];
+    same(&rt, readers, [little(&bytes); 5], "readers");
 }
