@@ -1,5 +1,8 @@
 //! Why a run ended early.
 
+ghost use Rattle.std.specs.Prelude.{◌≡◌};
+ghost use Rattle.dwarf_list_many.specs.Fault.{fault_status};
+
 use dwarf_read_core::Error;
 use std::alloc::AllocError;
 use std::fmt;
@@ -31,7 +34,13 @@ impl Fault {
     }
 }
 
+/// The line on standard error, without its end.
 impl fmt::Display for Fault {
+    ghost use Rattle.std.specs.Prelude.{Some};
+    ghost use Rattle.dwarf_list_many.specs.Fault.{fault_text};
+
+    ghost output = { λ fault. Some (fault_text fault) };
+
     fn fmt<W: fmt::Write>(&self, f: &mut fmt::Formatter<W>) -> fmt::Result {
         match self {
             Fault::At(offset, error) => write!(f, "error at 0x{offset:x}: {error}"),
