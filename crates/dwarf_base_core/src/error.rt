@@ -33,7 +33,7 @@ pub enum Error {
     DataRelativePointerButDataBaseIsUndefined,
     /// A pointer counts from a function (`DW_EH_PE_funcrel`), and no function is at hand.
     FuncRelativePointerInBadContext,
-    /// A pointer is needed, and its encoding says that it is left out (`DW_EH_PE_omit`).
+    /// A pointer is needed, but its encoding says that it is omitted (`DW_EH_PE_omit`).
     CannotParseOmitPointerEncoding,
     /// An unsigned LEB128 number is too long or above the type that it is read into.
     BadUnsignedLeb128,
@@ -83,7 +83,7 @@ pub enum Error {
     NotCiePointer(u64),
     /// A branch leads out of its expression.
     BadBranchTarget(u64),
-    /// An expression asks for the address of an object, and there is none.
+    /// An expression needs the address of an object, but there is none.
     InvalidPushObjectAddress,
     /// An operation takes more values than the stack of its expression has.
     NotEnoughStackItems,
@@ -117,7 +117,7 @@ pub enum Error {
     InvalidCfiSetLoc(u64),
     /// The sum of an address and a length is no address of the unit's size.
     AddressOverflow,
-    /// A call frame instruction is where it may not be.
+    /// A call frame instruction is at a place where it isn't allowed.
     CfiInstructionInInvalidContext,
     /// A `DW_CFA_restore_state` has no state to restore.
     PopWithEmptyStack,

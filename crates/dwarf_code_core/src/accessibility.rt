@@ -20,7 +20,7 @@ pub struct DwAccess(pub u8);
 pub const DW_ACCESS_public: DwAccess = DwAccess(0x01);
 /// Open to the class and those derived from it.
 pub const DW_ACCESS_protected: DwAccess = DwAccess(0x02);
-/// Open to the class alone.
+/// Open only to the class.
 pub const DW_ACCESS_private: DwAccess = DwAccess(0x03);
 
 const NAMES: Names = names![DW_ACCESS_public, DW_ACCESS_protected, DW_ACCESS_private,];

@@ -16,7 +16,7 @@ use std::fmt;
 #[derive(Debug, Clone, Copy, PartialEq, Eq, Hash, PartialOrd, Ord)]
 pub struct DwCfa(pub u8);
 
-// An operand in the low six bits: these stand in the high two.
+// The low six bits are an operand, and the instruction is in the high two.
 
 /// The location moves on by the low six bits.
 pub const DW_CFA_advance_loc: DwCfa = DwCfa(0x01 << 6);
@@ -47,9 +47,9 @@ pub const DW_CFA_undefined: DwCfa = DwCfa(0x07);
 pub const DW_CFA_same_value: DwCfa = DwCfa(0x08);
 /// A register is kept in another one.
 pub const DW_CFA_register: DwCfa = DwCfa(0x09);
-/// Puts the rules of all registers aside.
+/// Pushes the rules of all registers on a stack.
 pub const DW_CFA_remember_state: DwCfa = DwCfa(0x0a);
-/// Takes back the rules that were put aside last.
+/// Pops the rules that were pushed last.
 pub const DW_CFA_restore_state: DwCfa = DwCfa(0x0b);
 /// The frame's address is a register and an offset.
 pub const DW_CFA_def_cfa: DwCfa = DwCfa(0x0c);

@@ -122,9 +122,9 @@ pub const DW_OP_fbreg: DwOp = DwOp(0x91);
 pub const DW_OP_bregx: DwOp = DwOp(0x92);
 /// What comes before is the location of the next bytes of the object.
 pub const DW_OP_piece: DwOp = DwOp(0x93);
-/// As `DW_OP_deref`, of so many bytes.
+/// As `DW_OP_deref`, for a given number of bytes.
 pub const DW_OP_deref_size: DwOp = DwOp(0x94);
-/// As `DW_OP_xderef`, of so many bytes.
+/// As `DW_OP_xderef`, for a given number of bytes.
 pub const DW_OP_xderef_size: DwOp = DwOp(0x95);
 /// Nothing.
 pub const DW_OP_nop: DwOp = DwOp(0x96);

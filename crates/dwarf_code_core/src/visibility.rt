@@ -16,11 +16,11 @@ use std::fmt;
 #[derive(Debug, Clone, Copy, PartialEq, Eq, Hash, PartialOrd, Ord)]
 pub struct DwVis(pub u8);
 
-/// Seen in its own module alone.
+/// Seen only in its own module.
 pub const DW_VIS_local: DwVis = DwVis(0x01);
 /// Seen in other modules.
 pub const DW_VIS_exported: DwVis = DwVis(0x02);
-/// Seen in other modules where it is named with its own.
+/// Seen in other modules if it is named with its own.
 pub const DW_VIS_qualified: DwVis = DwVis(0x03);
 
 const NAMES: Names = names![DW_VIS_local, DW_VIS_exported, DW_VIS_qualified,];

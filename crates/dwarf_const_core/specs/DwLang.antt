@@ -74,7 +74,7 @@ language_names =
 abbrev pub language_text : ℕ → List ℕ
 language_text = text_of language_names (codes "DwLang")
 
--- the languages whose arrays begin at 0 where nothing else is said
+-- the languages whose arrays begin at 0 unless a declaration says otherwise
 abbrev pub zero_based : List ℕ
 zero_based =
     DW_LANG_C89.0 ∷ DW_LANG_C.0 ∷ DW_LANG_C_plus_plus.0 ∷ DW_LANG_Java.0 ∷ DW_LANG_C99.0 ∷ DW_LANG_ObjC.0 ∷

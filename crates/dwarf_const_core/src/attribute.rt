@@ -24,7 +24,7 @@ pub struct DwAt(pub u16);
 
 // No attribute: the pair that closes a declaration's attributes.
 
-/// Stands where there is no attribute.
+/// The name of no attribute.
 pub const DW_AT_null: DwAt = DwAt(0x00);
 
 // DWARF 1, withdrawn since.
@@ -106,7 +106,7 @@ pub const DW_AT_containing_type: DwAt = DwAt(0x1d);
 pub const DW_AT_default_value: DwAt = DwAt(0x1e);
 /// Whether the subroutine was inlined: a `DwInl`.
 pub const DW_AT_inline: DwAt = DwAt(0x20);
-/// Marks a parameter that may be left out.
+/// Marks a parameter that may be omitted.
 pub const DW_AT_is_optional: DwAt = DwAt(0x21);
 /// The least value of a subrange.
 pub const DW_AT_lower_bound: DwAt = DwAt(0x22);

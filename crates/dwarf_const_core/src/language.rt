@@ -207,8 +207,9 @@ impl DwLang {
         NAMES.find(self.0 as u64)
     }
 
-    /// The least index of an array in this language, where a declaration doesn't say it: 0 or 1, or
-    /// `None` for a language that has no such default here (DWARF 5, section 7.12, table 7.17).
+    /// Returns the least index of an array in this language if a declaration doesn't say it: 0 or
+    /// 1, or `None` for a language that has no such default here (DWARF 5, section 7.12, table
+    /// 7.17).
     pub fn default_lower_bound(self) -> Option<usize>
         ensures { result ≡ default_lower_bound self.0 }
     {

@@ -10,7 +10,7 @@ use std::fmt::{InlineText, Write};
 /// The longest name of a type that `pad_name` accepts, in bytes.
 pub const MAX_TYPE_NAME_LEN: usize = 32;
 
-// Room for the name of a type, twenty digits, and the words between.
+// Room for the name of a type, twenty digits, and the text between them.
 const MAX_LEN: usize = 64;
 
 /// The names of the constants of one type, by rising value. The macro `names!` writes such a table.

@@ -31,7 +31,7 @@ pub const DW_TAG_global_subroutine: DwTag = DwTag(0x06);
 pub const DW_TAG_global_variable: DwTag = DwTag(0x07);
 /// A variable of a block or a subroutine.
 pub const DW_TAG_local_variable: DwTag = DwTag(0x0c);
-/// A subroutine of this unit alone.
+/// A subroutine of this unit only.
 pub const DW_TAG_subroutine: DwTag = DwTag(0x14);
 
 // DWARF 2.
@@ -76,7 +76,7 @@ pub const DW_TAG_unspecified_parameters: DwTag = DwTag(0x18);
 pub const DW_TAG_variant: DwTag = DwTag(0x19);
 /// A Fortran common block.
 pub const DW_TAG_common_block: DwTag = DwTag(0x1a);
-/// A Fortran common block, seen where it is used.
+/// A Fortran common block, in a unit that uses it.
 pub const DW_TAG_common_inclusion: DwTag = DwTag(0x1b);
 /// A base class, seen from the class that has it.
 pub const DW_TAG_inheritance: DwTag = DwTag(0x1c);
@@ -177,7 +177,7 @@ pub const DW_TAG_atomic_type: DwTag = DwTag(0x47);
 pub const DW_TAG_call_site: DwTag = DwTag(0x48);
 /// What one parameter is at a call.
 pub const DW_TAG_call_site_parameter: DwTag = DwTag(0x49);
-/// The unit left in the program where its details are in a split file.
+/// The unit that remains in the program if its details are in a split file.
 pub const DW_TAG_skeleton_unit: DwTag = DwTag(0x4a);
 /// An `immutable` form of a D type.
 pub const DW_TAG_immutable_type: DwTag = DwTag(0x4b);

@@ -1,4 +1,4 @@
--- The commands, and the words that name them.
+-- The commands, and the arguments that name them.
 use Rattle.std.specs.Prelude.{◌≡◌, ℕ, Bool, true, false, IsTrue, List, [], ◌∷◌, Option, Some, None, IsSomeAnd, codes, if◌then◌else◌}
 use Rattle.std.specs.Option.{option_map}
 use Rattle.std.specs.Str.{bytes_eq}
@@ -23,7 +23,7 @@ named_command name argument =
     if bytes_eq name (codes "abbrev-strict") then option_map AbbrevStrict (unsigned_of argument) else (
     if bytes_eq name (codes "str-offsets") then option_map StrOffsets (endian_of argument) else None))))))
 
--- the command that the words give
+-- the command that the arguments name
 abbrev pub command_of : List (List ℕ) → Option Command
 command_of (name ∷ argument ∷ []) = named_command name argument
 command_of _ = None
@@ -38,10 +38,10 @@ reads_input (Sleb _) = false
 reads_input (AbbrevStrict _) = true
 reads_input (StrOffsets _) = true
 
--- the words name no command
+-- the arguments name no command
 abbrev pub IsUsage : List (List ℕ) → Type 0
 IsUsage words = command_of words ≡ None
 
--- the words name a command that reads the input
+-- the arguments name a command that reads the input
 abbrev pub ReadsInput : List (List ℕ) → Type 0
 ReadsInput words = IsSomeAnd (command_of words) (λ command. IsTrue (reads_input command))

@@ -1,4 +1,4 @@
--- What the program says of a fault.
+-- What the program says of an error.
 use Rattle.std.specs.Prelude.{◌≡◌, ℕ, List, ◌++◌, ⊤, codes}
 use Rattle.dwarf_read_core.specs.ErrorText.{error_text}
 use Rattle.dwarf_read_core.specs.declared.Error.TheVariants.{OutOfMemory}
@@ -19,7 +19,7 @@ fault_status Usage = 2
 fault_status Read = 3
 fault_status Write = 3
 
--- a fault of reading: the input failed, or memory ran out
+-- an error of reading: the input failed, or memory ran out
 abbrev pub IsReadFault : Fault → Type 0
 IsReadFault (Section error) = error ≡ OutOfMemory
 IsReadFault Read = ⊤

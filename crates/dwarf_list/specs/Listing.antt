@@ -27,7 +27,7 @@ Lists (Sleb value) input = ListsNumber signed64 value
 Lists (AbbrevStrict offset) input = ListsStrictTable input offset
 Lists (StrOffsets endian) input = ListsStringOffsets endian input
 
--- the text that the arguments ask for of an input, or the error
+-- the text that the arguments request of an input, or the error
 abbrev pub IsText : List (List ℕ) → List ℕ → Result (List ℕ) Fault → Type 0
 IsText words input (Ok text) = IsSomeAnd (command_of words) (λ command. Lists command input (Ok text))
 IsText words input (Err (Section error)) = IsSomeAnd (command_of words) (λ command. Lists command input (Err error))

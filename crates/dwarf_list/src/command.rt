@@ -1,4 +1,4 @@
-//! The commands, and the words of the command line that name them.
+//! The commands, and the arguments that name them.
 
 ghost use Rattle.std.specs.Prelude.{◌≡◌, map, string_bytes};
 ghost use Rattle.dwarf_list.specs.Command.{command_of, endian_of, named_command, reads_input};
@@ -25,7 +25,7 @@ pub enum Command {
     StrOffsets(RunTimeEndian),
 }
 
-/// Returns the command that the words name, if they name one.
+/// Returns the command that the arguments name, if they name one.
 pub fn parse_command(words: &[String]) -> Option<Command>
     ensures { result ≡ command_of (map string_bytes words.now) }
 {

@@ -12,9 +12,9 @@ use std::process::ExitCode;
 /// Why the program lists nothing.
 #[derive(Clone, Copy, Debug, PartialEq, Eq)]
 pub enum Fault {
-    /// The section is at fault, or memory ran out.
+    /// The section is malformed, or memory ran out.
     Section(Error),
-    /// The words name no command.
+    /// The arguments name no command.
     Usage,
     /// The input could not be read.
     Read,
@@ -22,7 +22,7 @@ pub enum Fault {
     Write,
 }
 
-/// Returns the status that the program ends with: 0 without a fault, and else the fault's own.
+/// Returns the status that the program ends with: 0 without an error, or else that of the error.
 pub fn exit_code(outcome: Result<(), Fault>) -> ExitCode
     ensures ok { OnOk outcome (exit_status result ≡ 0) }
     ensures err { IfErr outcome (λ fault. exit_status result ≡ fault_status fault) }
@@ -34,14 +34,15 @@ pub fn exit_code(outcome: Result<(), Fault>) -> ExitCode
 }
 
 impl Fault {
-    /// Want of memory.
+    /// Returns the error that memory ran out.
     pub fn out_of_memory() -> Fault
         ensures { result ≡ Fault.Section Error.OutOfMemory }
     {
         Fault::Section(Error::OutOfMemory)
     }
 
-    /// Returns the status of the program: 1 for a section, 2 for the words, 3 for input and output.
+    /// Returns the exit status: 1 for a section or memory, 2 for the arguments, 3 for input and
+    /// output.
     pub fn status(&self) -> u8
         ensures { result ≡ fault_status self.now }
     {

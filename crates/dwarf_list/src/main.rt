@@ -24,7 +24,7 @@ fn list(rt: &HostRuntime) -> Result<(), Fault> {
 fn main(rt: HostRuntime) -> ExitCode {
     let outcome = list(&rt);
     if let Err(fault) = outcome {
-        // Where standard error can't be written either, the status still tells of the fault.
+        // If standard error can't be written either, the status still tells of the error.
         let _ = eprintln!(rt; "{fault}");
     }
     exit_code(outcome)

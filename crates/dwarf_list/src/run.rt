@@ -1,4 +1,4 @@
-//! The whole of a run: words, input, answer, output.
+//! The whole of a run: arguments, input, result, output.
 
 ghost use Rattle.std.specs.Prelude.{◌≡◌, ◌≢◌, List, ℕ, ◌↔◌, Ok, Err, IfOk, IfErr, OnOk, IfSome, map, string_bytes};
 ghost use Rattle.std.specs.Io.KnownBytes.{Appends, IsAtEnd};
@@ -16,11 +16,18 @@ use crate::listing::listing;
 use std::alloc::Global;
 use std::io::{ErrorKind, Read, Write};
 
-/// Does what the words of the command line ask for.
+/// Does what the arguments request.
 ///
-/// The words are judged first. Then the input is read to its end, if the command lists a part of
-/// it, and the text is built whole, written and flushed. Only an `Ok` and a fault of writing leave
-/// anything written.
+/// The arguments are parsed first. Then the input is read to its end, if the command lists a part of
+/// it, and the whole text is built, written and flushed.
+///
+/// # Errors
+///
+/// - `Usage` if the arguments name no command. Nothing is read then.
+/// - `Read` if the input can't be read.
+/// - `Section` if what the command lists is malformed, with the first error, or if memory runs out.
+/// - `Write` if the output can't be written. A part of the text may be written then; after any
+///   other error nothing is.
 pub fn run<I: Read, O: Write>(
     mem: Global,
     words: &[String],
@@ -36,7 +43,7 @@ pub fn run<I: Read, O: Write>(
     ensures end { OnOk result
         (ReadsInput (map string_bytes words.now) → IsAtEnd (I.remaining input.new)) }
 
-    // When each fault comes.
+    // When each error is returned.
     ensures usage { (result ≡ Err Fault.Usage) ↔ IsUsage (map string_bytes words.now) }
     ensures section { (error : _) → result ≡ Err (Fault.Section error) → error ≢ OutOfMemory
         → IfSome (I.remaining input.old) (λ bytes.

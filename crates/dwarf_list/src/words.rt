@@ -1,4 +1,4 @@
-//! The words of the command line, as the system gives them.
+//! The arguments, as the system gives them.
 
 ghost use Rattle.std.specs.Prelude.{◌≡◌, ◌⊎◌, IfErr};
 
@@ -12,7 +12,7 @@ use std::io::ErrorKind;
 #[cfg(test)]
 mod tests;
 
-// The words behind the program's own name, which may be no text.
+// The arguments behind the program's own name, which may be no text.
 #[derive(Drop)]
 struct BehindName<'env, E: Env>(&'env E);
 
@@ -30,11 +30,11 @@ impl<E: Env> Env for BehindName<'_, E> {
     }
 }
 
-/// Returns the words of the command line, without the program's name.
+/// Returns the arguments, without the program's name.
 ///
 /// # Errors
 ///
-/// `Usage` if a word isn't UTF-8, and `OutOfMemory` if memory for the words runs out.
+/// `Usage` if an argument isn't UTF-8, and `OutOfMemory` if memory runs out.
 pub fn command_line<E: Env>(mem: Global, env: &E) -> Result<Vec<String>, Fault>
     ensures err { IfErr result
         (λ fault. (fault ≡ Fault.Usage) ⊎ (fault ≡ Fault.Section Error.OutOfMemory)) }

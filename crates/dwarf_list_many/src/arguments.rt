@@ -1,4 +1,8 @@
-//! What the arguments ask for.
+//! What the arguments request.
+
+ghost use Rattle.std.specs.Prelude.{◌≡◌, ◌⊎◌, ℕ, List, Err, IfOk, IfErr, map, string_bytes};
+ghost use Rattle.dwarf_list_many.specs.Arguments.{AreArguments};
+ghost use Rattle.dwarf_list_many.specs.declared.fault.Fault.TheVariants.{Memory, Usage};
 
 use crate::fault::Fault;
 use std::alloc::Global;
@@ -17,7 +21,13 @@ pub enum Kind {
 /// # Errors
 ///
 /// `Usage` if the arguments are no kind and decimal offsets, and `Memory` if memory runs out.
-pub fn parse_arguments(mem: Global, words: &[String]) -> Result<(Kind, Vec<u64>), Fault> {
+pub fn parse_arguments(mem: Global, words: &[String]) -> Result<(Kind, Vec<u64>), Fault>
+    ensures ok { IfOk result
+        (λ named. AreArguments (map string_bytes words.now) named.0 named.1.items) }
+    ensures usage { result ≡ Err Fault.Usage → (kind : Kind) (offsets : List ℕ)
+        → AreArguments (map string_bytes words.now) kind offsets → ⊥ }
+    ensures err { IfErr result (λ error. (error ≡ Usage) ⊎ (error ≡ Memory)) }
+{
     let [_, kind, texts @ ..] = words else {
         return Err(Fault::Usage);
     };
@@ -31,7 +41,7 @@ pub fn parse_arguments(mem: Global, words: &[String]) -> Result<(Kind, Vec<u64>)
         let Ok(offset) = text.as_str().parse() else {
             return Err(Fault::Usage);
         };
-        offsets.push(offset).map_err(|_| Fault::Memory)?;
+        offsets.push(offset)?;
     }
     Ok((kind, offsets))
 }

@@ -4,7 +4,7 @@ ghost use Rattle.std.specs.Prelude.{◌≡◌};
 ghost use Rattle.dwarf_list_many.specs.Fault.{fault_status};
 
 use dwarf_read_core::Error;
-use std::alloc::AllocError;
+use std::alloc::{AllocError, AllocFailed};
 use std::fmt;
 
 /// Why a run ended early.
@@ -25,7 +25,9 @@ pub enum Fault {
 impl Fault {
     /// Returns the exit status: 1 for a section or memory, 2 for the arguments, 3 for input and
     /// output.
-    pub fn status(&self) -> u8 {
+    pub fn status(&self) -> u8
+        ensures { result ≡ fault_status self.now }
+    {
         match self {
             Fault::At(..) | Fault::Memory => 1,
             Fault::Usage => 2,
@@ -59,6 +61,17 @@ impl From<AllocError> for Fault {
     ghost from_gives = { λ _ fault. fault ≡ Memory };
 
     fn from(_refused: AllocError) -> Fault {
+        Fault::Memory
+    }
+}
+
+impl<T: Drop> From<AllocFailed<T>> for Fault {
+    ghost use Rattle.dwarf_list_many.specs.declared.fault.Fault.TheVariants.{Memory};
+    ghost use Rattle.std.specs.Prelude.{◌≡◌};
+
+    ghost from_gives = { λ _ fault. fault ≡ Memory };
+
+    fn from(_failed: AllocFailed<T>) -> Fault {
         Fault::Memory
     }
 }

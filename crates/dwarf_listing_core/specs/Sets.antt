@@ -17,20 +17,20 @@ set_text offset unit_length bits =
     codes "set " ++ decimal offset ++ codes ": length " ++ decimal unit_length
     ++ codes ", " ++ decimal bits ++ codes "-bit"
 
--- the same, and how many bytes an address of the set has
+-- the line of a set of addresses, which tells how many bytes an address has
 abbrev pub address_header_line : ℕ → ℕ → ℕ → ℕ → List ℕ
 address_header_line offset unit_length bits size =
     line (set_text offset unit_length bits ++ codes ", address size " ++ decimal size)
 
--- the same alone
+-- the line of a set of string offsets
 abbrev pub offset_header_line : ℕ → ℕ → ℕ → List ℕ
 offset_header_line offset unit_length bits = line (set_text offset unit_length bits)
 
--- an address
+-- the line of an address
 abbrev pub address_line : ℕ → List ℕ
 address_line address = line (codes "  0x" ++ hexadecimal address)
 
--- an offset of a string
+-- the line of a string's offset
 abbrev pub offset_line : ℕ → List ℕ
 offset_line offset = line (codes "  " ++ decimal offset)
 
@@ -69,7 +69,7 @@ offset_listing =
 abbrev pub set_lines : {H : Type 0} → SetListing H → Set H → List ℕ → List ℕ
 set_lines listing s numbers = listing.header_line s ++ flat_map listing.entry_line numbers
 
--- the numbers alone, with no error as the last item
+-- numbers with no error behind them
 abbrev pub without_error : List ℕ → List (Result ℕ Error)
 without_error numbers = map (λ n. Ok n) numbers
 

@@ -49,7 +49,7 @@ fault_of error = record { kind = kind_of error; value = value_of error }
 abbrev pub IsKnown : Error → Type 0
 IsKnown error = kind_of error ≤ 19
 
--- a call returns an error of which this holds: the status is its number, and the fault has its number and value
+-- a call returns an error of which this holds: the status is its number, and `fault` has its number and value
 pub record Refuses (Is : Error → Type 0) (status : ℕ) (fault : DwarfFault) : Type 0 where
   pub error : Error
   pub is : Is error

@@ -10,7 +10,7 @@ use Rattle.dwarf_read_core.specs.Layout.{Layout}
 use Rattle.dwarf_read_core.specs.Sets.{Set, set}
 use Rattle.dwarf_read_c.specs.declared.sets.DwarfSet.{DwarfSet}
 
--- the layout of a set at an offset, where offsets have 64 bits
+-- the layout of a set at an offset, with offsets of 64 bits
 abbrev pub set_at : {H : Type 0} → Layout H → ℕ → Layout (Set H)
 set_at header offset = set header (2 ^ 64 - 1) offset
 

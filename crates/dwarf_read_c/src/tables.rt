@@ -66,7 +66,7 @@ pub struct DwarfAttribute {
 ///   is cut short;
 /// - 2 or 3 (`BadUnsignedLeb128`, `BadSignedLeb128`) for a number that is too long or too large;
 /// - 4 to 7 for a field that no declaration has: a tag of 0, a byte for children other than 0 and 1,
-///   a name of 0 or a form of 0 alone;
+///   a name of 0 with a form other than 0, or a form of 0 with another name;
 /// - 8 (`DuplicateAbbreviationCode`) for a whole declaration whose code was there before.
 ///
 /// 18 (`OutOfMemory`) if memory for the table runs out.

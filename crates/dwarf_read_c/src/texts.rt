@@ -11,9 +11,9 @@ use crate::status::{DWARF_NO_NAME, DWARF_OUT_OF_MEMORY};
 use dwarf_read_core::{DwChildren, Error, ReaderOffsetId};
 use std::alloc::Global;
 
-/// Writes the text of an error, as `unexpected end of input`, to the front of `text`, with no zero byte
+/// Writes the text of an error, such as `unexpected end of input`, to the front of `text`, with no zero byte
 /// behind it. `len` is how many bytes the text has. If `text` has no room for them, only `len` is written,
-/// and the call returns `DWARF_NO_ROOM`. It returns `DWARF_NO_NAME` if no call writes such a fault, and
+/// and the call returns `DWARF_NO_ROOM`. It returns `DWARF_NO_NAME` if no call writes such a number, and
 /// `DWARF_OUT_OF_MEMORY` if memory for the text runs out. Then nothing is written.
 #[unsafe(no_mangle)]
 pub extern "C" fn dwarf_fault_text(

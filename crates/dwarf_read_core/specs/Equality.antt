@@ -8,7 +8,7 @@ use Rattle.dwarf_base_core.specs.Format.{word_size}
 use Rattle.dwarf_read_core.specs.Grammar.{Specification, Declaration, implicit_const}
 use Rattle.dwarf_read_core.specs.Sets.{SetOf}
 
--- the same name, form and value, if none counts as 0
+-- the same name, form and value, if no value counts as 0
 abbrev pub same_specification : Specification → Specification → Bool
 same_specification =
     eq_of_both (on (λ s. s.name) ◌==◌) (eq_of_both (on (λ s. s.form) ◌==◌)

@@ -22,7 +22,7 @@ end_of input = input.position + length input.bytes
 abbrev pub after : ℕ → Input → Input
 after n input = record input { bytes = drop n input.bytes; position = input.position + n }
 
--- the first n bytes alone
+-- only the first n bytes
 abbrev pub first : ℕ → Input → Input
 first n input = record input { bytes = take n input.bytes }
 

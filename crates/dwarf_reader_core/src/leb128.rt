@@ -10,10 +10,10 @@ const CONTINUATION_BIT: u8 = 1 << 7;
 
 const SIGN_BIT: u8 = 1 << 6;
 
-// The greatest tenth byte of an unsigned number of 64 bits: it has room for bit 63 alone.
+// The greatest tenth byte of an unsigned number of 64 bits: it has room for bit 63 only.
 pub(crate) const MAX_TENTH_BYTE: u8 = 0x01;
 
-// The greatest third byte of an unsigned number of 16 bits: it has room for bits 14 and 15 alone.
+// The greatest third byte of an unsigned number of 16 bits: it has room for bits 14 and 15 only.
 pub(crate) const MAX_THIRD_BYTE: u8 = 0x03;
 
 // The seven bits of the number that a byte carries.

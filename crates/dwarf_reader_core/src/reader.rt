@@ -501,7 +501,7 @@ pub trait Reader: Debug + Drop + Sized {
                 return Ok(with_sign(result, has_sign_bit(byte), 7 * index + 7));
             }
         }
-        // The tenth byte has room for bit 63 alone, which is the sign.
+        // The tenth byte has room for bit 63 only, which is the sign.
         let byte = self.read_u8()?;
         match byte {
             0x00 => Ok(with_sign(result, false, 63)),

@@ -59,7 +59,7 @@ pub fn table_text<R: Reader>(
 /// once.
 ///
 /// `Duplicates` keeps the tables that more than one unit uses, which is what a reader of all units
-/// wants. `All` keeps the others too, which pays where units are read again.
+/// wants. `All` keeps the others too, which pays if units are read again.
 ///
 /// # Errors
 ///

@@ -21,10 +21,10 @@ use std::borrow::{CowSlice, CowStr};
 
 /// A [`Reader`] that owns its bytes and the allocator for copies of them. Its offsets have 32 bits.
 ///
-/// A clone copies the bytes that remain, and so memory for it can run out. The reader also refuses
-/// clones by itself: it counts how deep they may go. Where that number is 0, `try_clone` and `split`
-/// return [`Error::OutOfMemory`]. What they return has one fewer, and their reader's own number
-/// stays. So a test sees each clone that a call makes refused in turn.
+/// A clone copies the bytes that remain, so memory for it can run out. The reader also limits its
+/// clones: it counts how deep they may go. If that number is 0, `try_clone` and `split` return
+/// [`Error::OutOfMemory`]. The reader that they return has one fewer, and the number of the reader
+/// itself doesn't change. So a test can refuse each clone that a call makes, one after the other.
 #[derive(Debug, Drop)]
 pub struct OwnedReader<Endian: Endianity> {
     alloc: Global,

@@ -116,7 +116,7 @@ pub const DW_AT_call_pc: DwAt = DwAt(0x81);
 pub const DW_AT_call_tail_call: DwAt = DwAt(0x82);
 /// Where the called address is.
 pub const DW_AT_call_target: DwAt = DwAt(0x83);
-/// The same, where the call may change it.
+/// The same, if the call may change it.
 pub const DW_AT_call_target_clobbered: DwAt = DwAt(0x84);
 /// Where the data is that a parameter points to, at the call.
 pub const DW_AT_call_data_location: DwAt = DwAt(0x85);

@@ -84,7 +84,7 @@ pub const DW_AT_GNU_call_site_value: DwAt = DwAt(0x2111);
 pub const DW_AT_GNU_call_site_data_value: DwAt = DwAt(0x2112);
 /// Where the called address is.
 pub const DW_AT_GNU_call_site_target: DwAt = DwAt(0x2113);
-/// The same, where the call may change it.
+/// The same, if the call may change it.
 pub const DW_AT_GNU_call_site_target_clobbered: DwAt = DwAt(0x2114);
 /// Marks a tail call.
 pub const DW_AT_GNU_tail_call: DwAt = DwAt(0x2115);

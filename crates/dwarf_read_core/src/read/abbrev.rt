@@ -311,7 +311,7 @@ impl Abbreviations {
             return Err(Error::DuplicateAbbreviationCode(code));
         }
         if index == len {
-            // The code may be in the map already, where it stays.
+            // If the code is in the map already, it stays there.
             if !self.map.is_empty() && self.map.contains_key(&Key(code)) {
                 return Err(Error::DuplicateAbbreviationCode(code));
             }

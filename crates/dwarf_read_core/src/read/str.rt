@@ -43,7 +43,7 @@ impl<R: Reader> DebugStr<R> {
     ghost use Rattle.dwarf_read_core.specs.Sections.{debug_str_reader};
 
     /// Returns the string at `offset`, in bytes from the section's start: the bytes up to the first
-    /// zero byte, which is left out.
+    /// zero byte, which is not a part of it.
     ///
     /// # Errors
     ///
@@ -246,7 +246,7 @@ impl<R: Reader> DebugLineStr<R> {
     ghost use Rattle.dwarf_read_core.specs.Sections.{debug_line_str_reader};
 
     /// Returns the string at `offset`, in bytes from the section's start: the bytes up to the first
-    /// zero byte, which is left out.
+    /// zero byte, which is not a part of it.
     ///
     /// # Errors
     ///
