@@ -71,19 +71,17 @@ pub fn address(section: &[u8], is_big: bool, size: u8, base: usize, index: usize
 
 /// The set of addresses at an offset, or `None` at the section's end.
 pub fn address_set(section: &[u8], is_big: bool, offset: usize) -> Result<Option<Set>> {
-    let (bytes, len, mut set) = (section.as_ptr(), section.len(), Set::default());
-    let status = check(|fault| unsafe {
-        sys::dwarf_address_set(bytes, len, is_big, offset, &mut set, fault)
-    })?;
-    Ok((status == OK).then_some(set))
+    set(sys::dwarf_address_set, section, is_big, offset)
 }
 
 /// The set of string offsets at an offset, or `None` at the section's end.
 pub fn str_offset_set(section: &[u8], is_big: bool, offset: usize) -> Result<Option<Set>> {
+    set(sys::dwarf_str_offset_set, section, is_big, offset)
+}
+
+fn set(call: sys::SetCall, section: &[u8], is_big: bool, offset: usize) -> Result<Option<Set>> {
     let (bytes, len, mut set) = (section.as_ptr(), section.len(), Set::default());
-    let status = check(|fault| unsafe {
-        sys::dwarf_str_offset_set(bytes, len, is_big, offset, &mut set, fault)
-    })?;
+    let status = check(|fault| unsafe { call(bytes, len, is_big, offset, &mut set, fault) })?;
     Ok((status == OK).then_some(set))
 }
 
@@ -94,19 +92,9 @@ pub fn table(section: &[u8], offset: usize) -> Result<(Vec<Abbreviation>, Vec<At
     let mut abbreviations = vec![Abbreviation::default(); measure.abbreviations];
     let mut attributes = vec![Attribute::default(); measure.attributes];
     let (first, room) = (abbreviations.as_mut_ptr(), abbreviations.len());
-    let (first_attribute, attribute_room) = (attributes.as_mut_ptr(), attributes.len());
+    let (list, places) = (attributes.as_mut_ptr(), attributes.len());
     check(|fault| unsafe {
-        sys::dwarf_table_read(
-            bytes,
-            len,
-            offset,
-            first,
-            room,
-            first_attribute,
-            attribute_room,
-            &mut measure,
-            fault,
-        )
+        sys::dwarf_table_read(bytes, len, offset, first, room, list, places, &mut measure, fault)
     })?;
     Ok((abbreviations, attributes))
 }
@@ -117,8 +105,8 @@ pub fn tag_name(tag: u16) -> Option<String> {
 }
 
 /// The name of an attribute.
-pub fn attribute_name(attribute: u16) -> Option<String> {
-    text(|at, room, len| unsafe { sys::dwarf_attribute_name(attribute, at, room, len) })
+pub fn attribute_name(name: u16) -> Option<String> {
+    text(|at, room, len| unsafe { sys::dwarf_attribute_name(name, at, room, len) })
 }
 
 /// The name of a form.

@@ -48,6 +48,10 @@ pub struct Attribute {
     pub implicit_const: i64,
 }
 
+/// The type of both calls for sets.
+pub type SetCall =
+    unsafe extern "C" fn(*const u8, usize, bool, usize, &mut Set, &mut Fault) -> u32;
+
 unsafe extern "C" {
     pub fn dwarf_string(
         section: *const u8, len: usize, offset: usize, string_len: &mut usize, fault: &mut Fault,
