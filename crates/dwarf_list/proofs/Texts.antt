@@ -59,60 +59,60 @@ module _ (laws : AreLaws) where
       let has = has_one_listing c input in
       has.2 other b ∙ sym (has.2 one a)
 
-  abbrev Outcome : Type 0
-  Outcome = Result (List ℕ) Fault
+  abbrev RunResult : Type 0
+  RunResult = Result (List ℕ) Fault
 
   -- what the program makes of a listing
-  outcome_of : Listing → Outcome
-  outcome_of (Ok text) = Ok text
-  outcome_of (Err e) = Err (Section e)
+  run_result_of : Listing → RunResult
+  run_result_of (Ok text) = Ok text
+  run_result_of (Err e) = Err (Section e)
 
-  -- the outcome of words that give this command, or none
-  abbrev IsOutcome : Option Command → List ℕ → Outcome → Type 0
-  IsOutcome c input (Ok text) = IsSomeAnd c (λ command. Lists command input (Ok text))
-  IsOutcome c input (Err (Section e)) = IsSomeAnd c (λ command. Lists command input (Err e))
-  IsOutcome c input (Err Usage) = c ≡ None
-  IsOutcome c input (Err Read) = ⊥
-  IsOutcome c input (Err Write) = ⊥
+  -- the result of words that give this command, or none
+  abbrev IsRunResult : Option Command → List ℕ → RunResult → Type 0
+  IsRunResult c input (Ok text) = IsSomeAnd c (λ command. Lists command input (Ok text))
+  IsRunResult c input (Err (Section e)) = IsSomeAnd c (λ command. Lists command input (Err e))
+  IsRunResult c input (Err Usage) = c ≡ None
+  IsRunResult c input (Err Read) = ⊥
+  IsRunResult c input (Err Write) = ⊥
 
-  is_outcome : (c : Command) (input : List ℕ) (one : Listing) → Lists c input one
-      → IsOutcome (Some c) input (outcome_of one)
-  unfolding outcome_of
-  is_outcome c input (Ok text) is = is
-  is_outcome c input (Err e) is = is
+  run_result_of_listing : (c : Command) (input : List ℕ) (one : Listing) → Lists c input one
+      → IsRunResult (Some c) input (run_result_of one)
+  unfolding run_result_of
+  run_result_of_listing c input (Ok text) is = is
+  run_result_of_listing c input (Err e) is = is
 
-  only_outcome : (c : Command) (input : List ℕ) (one : Listing) (other : Outcome) → Lists c input one
-      → IsOutcome (Some c) input other → other ≡ outcome_of one
-  unfolding outcome_of
-  only_outcome c input one (Ok text) is h = ap outcome_of (one_listing c input one (Ok text) is h)
-  only_outcome c input one (Err (Section e)) is h = ap outcome_of (one_listing c input one (Err e) is h)
-  only_outcome c input one (Err Usage) is h = absurd cc
-  only_outcome c input one (Err Read) is h = absurd h
-  only_outcome c input one (Err Write) is h = absurd h
+  only_run_result : (c : Command) (input : List ℕ) (one : Listing) (other : RunResult) → Lists c input one
+      → IsRunResult (Some c) input other → other ≡ run_result_of one
+  unfolding run_result_of
+  only_run_result c input one (Ok text) is h = ap run_result_of (one_listing c input one (Ok text) is h)
+  only_run_result c input one (Err (Section e)) is h = ap run_result_of (one_listing c input one (Err e) is h)
+  only_run_result c input one (Err Usage) is h = absurd cc
+  only_run_result c input one (Err Read) is h = absurd h
+  only_run_result c input one (Err Write) is h = absurd h
 
-  only_usage : (input : List ℕ) (other : Outcome) → IsOutcome None input other → other ≡ Err Usage
+  only_usage : (input : List ℕ) (other : RunResult) → IsRunResult None input other → other ≡ Err Usage
   only_usage input (Ok text) h = absurd h
   only_usage input (Err (Section e)) h = absurd h
   only_usage input (Err Usage) h = refl
   only_usage input (Err Read) h = absurd h
   only_usage input (Err Write) h = absurd h
 
-  one_outcome : (c : Option Command) (input : List ℕ) → HasOne (IsOutcome c input)
-  one_outcome None input = (Err Usage, refl, only_usage input)
-  one_outcome (Some c) input =
+  exactly_one_run_result : (c : Option Command) (input : List ℕ) → HasOne (IsRunResult c input)
+  exactly_one_run_result None input = (Err Usage, refl, only_usage input)
+  exactly_one_run_result (Some c) input =
       let some = has_one_listing c input in
-      (outcome_of some.0, is_outcome c input some.0 some.1, λ other h. only_outcome c input some.0 other some.1 h)
+      (run_result_of some.0, run_result_of_listing c input some.0 some.1, λ other h. only_run_result c input some.0 other some.1 h)
 
-  to_text : (words : List (List ℕ)) (input : List ℕ) (outcome : Outcome)
-      → IsOutcome (command_of words) input outcome → IsText words input outcome
+  to_text : (words : List (List ℕ)) (input : List ℕ) (result : RunResult)
+      → IsRunResult (command_of words) input result → IsText words input result
   to_text words input (Ok text) h = h
   to_text words input (Err (Section e)) h = h
   to_text words input (Err Usage) h = h
   to_text words input (Err Read) h = h
   to_text words input (Err Write) h = h
 
-  from_text : (words : List (List ℕ)) (input : List ℕ) (outcome : Outcome) → IsText words input outcome
-      → IsOutcome (command_of words) input outcome
+  from_text : (words : List (List ℕ)) (input : List ℕ) (result : RunResult) → IsText words input result
+      → IsRunResult (command_of words) input result
   from_text words input (Ok text) h = h
   from_text words input (Err (Section e)) h = h
   from_text words input (Err Usage) h = h
@@ -122,5 +122,5 @@ module _ (laws : AreLaws) where
   -- arguments and bytes have exactly one text, or one error
   pub one_text : (words : List (List ℕ)) (input : List ℕ) → HasOne (IsText words input)
   one_text words input =
-      let one = one_outcome (command_of words) input in
+      let one = exactly_one_run_result (command_of words) input in
       (one.0, to_text words input one.0 one.1, λ other h. one.2 other (from_text words input other h))

@@ -18,7 +18,7 @@ ghost use Rattle.dwarf_read_core.specs.Strings.{StringAt};
 ghost use Rattle.dwarf_read_core.specs.Words.{AddressAt, Slot, WordAt};
 
 pub use dwarf_reader_core::laws::{
-    exactly_one_shortest, no_encoding_begins_another, one_outcome, written_is_read,
+    exactly_one_outcome, exactly_one_shortest, no_encoding_begins_another, written_is_read,
 };
 
 /// Every section has exactly one answer at every offset: a table, or the first error.

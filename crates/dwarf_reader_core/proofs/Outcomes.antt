@@ -132,5 +132,5 @@ module _ (k : Kind) (bytes : List ℕ) where
       r)
       (three_ways (limit k) bytes)
 
-  pub one_outcome_of : HasOne (HasOutcome k bytes)
-  one_outcome_of = (some.0, some.1, λ p h. unique p some.0 h some.1)
+  pub exactly_one_outcome_of : HasOne (HasOutcome k bytes)
+  exactly_one_outcome_of = (some.0, some.1, λ p h. unique p some.0 h some.1)

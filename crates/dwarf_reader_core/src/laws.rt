@@ -12,7 +12,7 @@ ghost use Rattle.dwarf_reader_core.specs.Shortest.{Encodes, IsShortest};
 
 /// Bytes begin with one number of each kind, or end before one does, or are bad, and exactly one of
 /// these holds.
-pub fn one_outcome()
+pub fn exactly_one_outcome()
     ensures unsigned { (bytes : List ℕ) → HasOne (HasOutcome unsigned64 bytes) }
     ensures short { (bytes : List ℕ) → HasOne (HasOutcome unsigned16 bytes) }
     ensures signed { (bytes : List ℕ) → HasOne (HasOutcome signed64 bytes) }

@@ -193,7 +193,7 @@ pub trait Reader: Debug + Drop + Sized {
         ensures ok { OnOk result (Takes (length buf.old) (view self.old) (view self.new)) }
         ensures err { IfErr result
             (λ e. EndsBefore (length buf.old) (view self.old) e (view self.new)) }
-        ensures kept { OnErr result (buf.new ≡ buf.old) };
+        ensures unchanged { OnErr result (buf.new ≡ buf.old) };
 
     /// Returns whether no bytes remain.
     #[inline]
@@ -368,7 +368,7 @@ pub trait Reader: Debug + Drop + Sized {
         ensures ok { IfOk result
             (λ string. TakesString (view self.old) (view string) (view self.new)) }
         ensures err { IfErr result (λ e. Lacks 0 (view self.old) e ⊎ WantsMemory clone_is_free e) }
-        ensures kept { OnErr result (view self.new ≡ view self.old) }
+        ensures unchanged { OnErr result (view self.new ≡ view self.old) }
     {
         let len = self.find(0)?;
         let string = self.split(len)?;
