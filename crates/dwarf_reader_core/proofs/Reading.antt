@@ -33,6 +33,10 @@ pub record TakesNext (old : Input) (k byte : ℕ) (new : Input) : Type 0 where
 pub begun_none : (old : Input) → Begun old 0 old 0
 begun_none old = record { enough = omega arith; none = tt; left = sym (after-zero old); worth = refl }
 
+-- the same, by another number of bytes that is equal
+pub begun_at : {old mid : Input} {k n value : ℕ} → k ≡ n → Begun old k mid value → Begun old n mid value
+begun_at {old} {mid} {value = value} is b = subst (λ i. Begun old i mid value) is b
+
 -- as many bytes are gone as digits are read
 begun_rest : {old mid : Input} {k value : ℕ} → Begun old k mid value → length mid.bytes ≡ length old.bytes - k
 begun_rest {old} {mid} {k} b = ap (λ (i : Input). length i.bytes) b.left ∙ length-drop k old.bytes

@@ -13,6 +13,7 @@ ghost use Rattle.std.proofs.Common.{arith, rules};
 ghost use Rattle.dwarf_base_core.specs.declared.error.Error.TheVariants.{BadUtf8, OutOfMemory};
 ghost use Rattle.dwarf_reader_core.specs.Input.{after, first, IsFirst, IsPartOf};
 
+use crate::leb128::{MAX_TENTH_BYTE, has_continuation_bit, with_digit};
 use crate::reader::Reader;
 use bstr::ByteSlice;
 use dwarf_base_core::endianity::Endianity;
@@ -448,6 +449,30 @@ impl<'input, Endian: Endianity> Reader for EndianSlice<'input, Endian> {
             end: self.end,
         };
         Ok(*byte)
+    }
+
+    // The body is that of the trait. A default body is called out of line, whatever its hint says.
+    // This one is inlined, and the caller then has the bytes that remain in registers.
+    #[inline(always)]
+    fn read_uleb128(&mut self) -> Result<u64> {
+        // Most numbers have one byte.
+        let first = self.read_u8()?;
+        if !has_continuation_bit(first) {
+            return Ok(u64::from(first));
+        }
+        let mut result = with_digit(0, first, 0);
+        for index in 1..9 {
+            let byte = self.read_u8()?;
+            result = with_digit(result, byte, 7 * index);
+            if !has_continuation_bit(byte) {
+                return Ok(result);
+            }
+        }
+        let byte = self.read_u8()?;
+        if byte > MAX_TENTH_BYTE {
+            return Err(Error::BadUnsignedLeb128);
+        }
+        Ok(result | u64::from(byte) << 63)
     }
 }
 
