@@ -13,7 +13,7 @@ ghost use Rattle.std.proofs.Common.{arith, rules};
 ghost use Rattle.dwarf_base_core.specs.declared.error.Error.TheVariants.{BadUtf8, OutOfMemory};
 ghost use Rattle.dwarf_reader_core.specs.Input.{after, first, IsFirst, IsPartOf};
 
-use crate::leb128::{MAX_TENTH_BYTE, has_continuation_bit, with_digit};
+use crate::leb128::{MAX_TENTH_BYTE, has_continuation_bit, has_sign_bit, with_digit, with_sign};
 use crate::reader::Reader;
 use bstr::ByteSlice;
 use dwarf_base_core::endianity::Endianity;
@@ -451,8 +451,8 @@ impl<'input, Endian: Endianity> Reader for EndianSlice<'input, Endian> {
         Ok(*byte)
     }
 
-    // The body is that of the trait. A default body is called out of line, whatever its hint says.
-    // This one is inlined, and the caller then has the bytes that remain in registers.
+    // The next two have the bodies of the trait. A default body is called out of line, whatever its
+    // hint says. These are inlined, and the caller then has the bytes that remain in registers.
     #[inline(always)]
     fn read_uleb128(&mut self) -> Result<u64> {
         // Most numbers have one byte.
@@ -473,6 +473,29 @@ impl<'input, Endian: Endianity> Reader for EndianSlice<'input, Endian> {
             return Err(Error::BadUnsignedLeb128);
         }
         Ok(result | u64::from(byte) << 63)
+    }
+
+    #[inline(always)]
+    fn read_sleb128(&mut self) -> Result<i64> {
+        let first = self.read_u8()?;
+        let mut result = with_digit(0, first, 0);
+        if !has_continuation_bit(first) {
+            return Ok(with_sign(result, has_sign_bit(first), 7));
+        }
+        for index in 1..9 {
+            let byte = self.read_u8()?;
+            result = with_digit(result, byte, 7 * index);
+            if !has_continuation_bit(byte) {
+                return Ok(with_sign(result, has_sign_bit(byte), 7 * index + 7));
+            }
+        }
+        // The tenth byte has room for bit 63 only, which is the sign.
+        let byte = self.read_u8()?;
+        match byte {
+            0x00 => Ok(with_sign(result, false, 63)),
+            0x7f => Ok(with_sign(result, true, 63)),
+            _ => Err(Error::BadSignedLeb128),
+        }
     }
 }
 

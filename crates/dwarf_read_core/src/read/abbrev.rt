@@ -11,6 +11,7 @@ ghost use Rattle.std.specs.Fn.{CalledAt, TakesAt};
 ghost use Rattle.std.specs.Iterator.{YieldsFirstRef, item_count};
 ghost use Rattle.dwarf_base_core.specs.declared.common.SectionId.TheVariants.{DebugAbbrev as debug_abbrev};
 ghost use Rattle.dwarf_reader_core.specs.Input.{end_of};
+ghost use Rattle.dwarf_reader_core.specs.Leb128.{signed64, ReadsNumber, RefusesNumber};
 ghost use Rattle.dwarf_read_core.specs.Equality.{same_declaration, same_declaration_equiv};
 ghost use Rattle.dwarf_read_core.specs.Forms.{form_size};
 ghost use Rattle.dwarf_read_core.specs.Grammar.{implicit_const, by_end, is_by_null, attribute_count};
@@ -771,12 +772,23 @@ impl AttributeSpecification {
             (DW_AT_null, _) => Err(Error::AttributeNameZero),
             (_, DW_FORM_null) => Err(Error::AttributeFormZero),
             (_, DW_FORM_implicit_const) => {
-                let value = input.read_sleb128()?;
+                let value = read_implicit_const(input)?;
                 Ok(Some(AttributeSpecification::new(name, form, Some(value))))
             }
             (_, _) => Ok(Some(AttributeSpecification::new(name, form, None))),
         }
     }
+}
+
+// Reads the value of an attribute in the form `DW_FORM_implicit_const`. It is out of line, since the
+// form is rare and the code of a whole table is faster without it.
+#[inline(never)]
+fn read_implicit_const<R: Reader>(input: &mut R) -> Result<i64>
+    ensures ok { IfOk result (λ v. ReadsNumber signed64 (R.view input.old) v (R.view input.new)) }
+    ensures err { IfErr result
+        (λ e. RefusesNumber signed64 (R.view input.old) e (R.view input.new)) }
+{
+    input.read_sleb128()
 }
 
 #[inline]
