@@ -6,7 +6,7 @@ use dwarf_read_core::{
     AddrEntryIter, AddrHeaderIter, DebugAddr, DebugAddrBase, DebugAddrIndex, EndianSlice, Error,
     Format, Reader, ReaderOffset, ReaderOffsetId, Result, RunTimeEndian,
 };
-use std::alloc::{AllocError, Global};
+use std::alloc::Global;
 use std::process::Abort;
 use std::test::Fail;
 
@@ -101,10 +101,6 @@ fn section_at(bytes: &[u8], order: RunTimeEndian, is_far: bool) -> DebugAddr<Sli
     }
 }
 
-fn headers_at(bytes: &[u8], is_far: bool) -> Result<AddrHeaderIter<Slice<'_>>> {
-    section_at(bytes, RunTimeEndian::Little, is_far).headers()
-}
-
 // The fault at the first position 0, or at 100.
 fn fault_at(fault: Error, is_far: bool) -> Error {
     match fault {
@@ -114,7 +110,7 @@ fn fault_at(fault: Error, is_far: bool) -> Error {
 }
 
 // What four calls return of a section's sets: of each its length.
-pub(super) fn next_lengths<R: Reader>(headers: &mut AddrHeaderIter<R>) -> [Result<Option<u64>>; 4] {
+fn next_lengths<R: Reader>(headers: &mut AddrHeaderIter<R>) -> [Result<Option<u64>>; 4] {
     [
         next_length(headers),
         next_length(headers),
@@ -144,9 +140,12 @@ fn next_address<R: Reader>(entries: &mut AddrEntryIter<R>) -> Result<Option<u64>
     entries.next()
 }
 
+pub(super) fn lengths_of<R: Reader>(section: &DebugAddr<R>) -> Result<[Result<Option<u64>>; 4]> {
+    Ok(next_lengths(&mut section.headers()?))
+}
+
 fn lengths_at(bytes: &[u8], is_far: bool) -> Result<[Result<Option<u64>>; 4]> {
-    let mut headers = headers_at(bytes, is_far)?;
-    Ok(next_lengths(&mut headers))
+    lengths_of(&section_at(bytes, RunTimeEndian::Little, is_far))
 }
 
 // Bytes, and the fault of their first set.
@@ -254,18 +253,28 @@ static SETS: &[(&[u8], bool, &[(Header, &[Result<Option<u64>>])])] = &[
     ),
 ];
 
-#[test]
-fn sets_are_walked(rt: HostRuntime) -> std::result::Result<(), Fail> {
-    for (bytes, is_far, sets) in SETS {
-        let mut headers = headers_at(bytes, *is_far)?;
-        for (wanted, addresses) in *sets {
-            let (header, found) = next_set(&mut headers)?.ok_or("a set is missing")?;
-            same(&rt, header, *wanted, bytes);
-            same(&rt, found.as_slice(), *addresses, bytes);
-        }
-        same(&rt, next_lengths(&mut headers), [Ok(None); 4], bytes);
+// Ends the test where a section has other sets.
+fn check_sets<R: Reader>(
+    rt: &impl Abort,
+    section: &DebugAddr<R>,
+    sets: &[(Header, &[Result<Option<u64>>])],
+) -> Result<()> {
+    let mut headers = section.headers()?;
+    for (wanted, addresses) in sets {
+        let (header, found) = next_set(&mut headers)?.ok_or(Error::NoEntryAtGivenOffset(wanted.0))?;
+        same(rt, header, *wanted, "a set");
+        same(rt, found.as_slice(), *addresses, "its addresses");
     }
+    same(rt, next_lengths(&mut headers), [Ok(None); 4], "the end");
     Ok(())
+}
+
+#[test]
+fn sets_are_walked(rt: HostRuntime) {
+    for (bytes, is_far, sets) in SETS {
+        let section = section_at(bytes, RunTimeEndian::Little, *is_far);
+        same(&rt, check_sets(&rt, &section, *sets), Ok(()), bytes);
+    }
 }
 
 // Appends the addresses of a section's sets, up to the first fault.
@@ -337,39 +346,39 @@ fn cut_sets_end_early(rt: HostRuntime) {
     }
 }
 
-fn cloned<T: Clone>(value: &T) -> std::result::Result<T, AllocError> {
-    value.clone()
-}
-
 // A clone goes on where its original does, and neither moves the other.
-#[test]
-fn cloned_sets_go_on_alike(rt: HostRuntime) -> std::result::Result<(), Fail> {
-    let mut headers = section_at(TWO_SETS, RunTimeEndian::Little, false).headers()?;
+fn check_clones<R: Reader + Clone>(rt: &impl Abort, section: &DebugAddr<R>) -> Result<()> {
+    let mut headers = section.headers()?;
     next_length(&mut headers)?;
-    let mut copy = cloned(&headers)?;
+    let mut copy = headers.clone()?;
     let left = [Ok(Some(20)), Ok(None), Ok(None), Ok(None)];
     let found = [next_lengths(&mut headers), next_lengths(&mut copy)];
-    same(&rt, found, [left; 2], "headers");
+    same(rt, found, [left; 2], "headers");
+    Ok(())
+}
+
+fn check_cloned_set<R: Reader + Clone + PartialEq>(
+    rt: &impl Abort,
+    section: &DebugAddr<R>,
+) -> Result<()> {
+    let mut headers = section.headers()?;
+    let first = headers.next()?.ok_or(Error::NoEntryAtGivenOffset(0))?;
+    let second = headers.next()?.ok_or(Error::NoEntryAtGivenOffset(16))?;
+    let copy = second.clone()?;
+    let are_equal = (second == copy, second == first);
+    same(rt, are_equal, (true, false), "a header");
+    let mut entries = second.entries()?;
+    next_address(&mut entries)?;
+    let mut copy = entries.clone()?;
+    let left = [Ok(Some(FOUR_ADDRESSES[3])), Ok(None), Ok(None), Ok(None)];
+    let found = [next_addresses(&mut entries), next_addresses(&mut copy)];
+    same(rt, found, [left; 2], "entries");
     Ok(())
 }
 
 #[test]
-fn cloned_addresses_go_on_alike(rt: HostRuntime) -> std::result::Result<(), Fail> {
-    let mut headers = section_at(TWO_SETS, RunTimeEndian::Little, false).headers()?;
-    let first = headers.next()?.ok_or("no set")?;
-    let second = headers.next()?.ok_or("no second set")?;
-    let copy = cloned(&second)?;
-    same(
-        &rt,
-        (second == copy, second == first),
-        (true, false),
-        "a header",
-    );
-    let mut entries = second.entries()?;
-    next_address(&mut entries)?;
-    let mut copy = cloned(&entries)?;
-    let left = [Ok(Some(FOUR_ADDRESSES[3])), Ok(None), Ok(None), Ok(None)];
-    let found = [next_addresses(&mut entries), next_addresses(&mut copy)];
-    same(&rt, found, [left; 2], "entries");
-    Ok(())
+fn clones_go_on_alike(rt: HostRuntime) {
+    let section = section_at(TWO_SETS, RunTimeEndian::Little, false);
+    same(&rt, check_clones(&rt, &section), Ok(()), "sets");
+    same(&rt, check_cloned_set(&rt, &section), Ok(()), "addresses");
 }

@@ -47,18 +47,26 @@ fn check(
     same(rt, code_at(cache, &none(), 5), at_5, what);
 }
 
-// Keeps the tables at 5, 0, 5, 7, an error, 7.
-fn populate(cache: &mut AbbreviationsCache, strategy: AbbreviationsCacheStrategy) -> Result<()> {
-    let offsets = [
-        Ok(DebugAbbrevOffset(5)),
-        Ok(DebugAbbrevOffset(0)),
-        Ok(DebugAbbrevOffset(5)),
-        Ok(DebugAbbrevOffset(7)),
-        Err(Error::BadUtf8),
-        Ok(DebugAbbrevOffset(7)),
-    ];
-    cache.populate(strategy, &one(), offsets.into_iter())
+type Wanted = Result<DebugAbbrevOffset<usize>>;
+
+// Keeps the tables at these offsets.
+fn populate(
+    cache: &mut AbbreviationsCache,
+    strategy: AbbreviationsCacheStrategy,
+    section: &DebugAbbrev<Slice<'_>>,
+    offsets: &[Wanted],
+) -> Result<()> {
+    cache.populate(strategy, section, offsets.iter().map(|offset| *offset))
 }
+
+static OFFSETS: &[Wanted] = &[
+    Ok(DebugAbbrevOffset(5)),
+    Ok(DebugAbbrevOffset(0)),
+    Ok(DebugAbbrevOffset(5)),
+    Ok(DebugAbbrevOffset(7)),
+    Err(Error::BadUtf8),
+    Ok(DebugAbbrevOffset(7)),
+];
 
 // Keeps a table with the code 9 at 5.
 fn set_nine(mem: Global, cache: &mut AbbreviationsCache) -> Result<()> {
@@ -72,20 +80,20 @@ fn tables_are_kept_or_read_afresh(rt: HostRuntime) -> std::result::Result<(), Fa
     let mem = rt.alloc();
     let mut cache = AbbreviationsCache::new(mem);
     check(&rt, &cache, Ok(0), Err(eof(0)), "new");
-    populate(&mut cache, AbbreviationsCacheStrategy::Duplicates)?;
+    let strategy = AbbreviationsCacheStrategy::Duplicates;
+    populate(&mut cache, strategy, &one(), OFFSETS)?;
     check(&rt, &cache, Ok(0), Ok(0), "duplicates");
     same(&rt, code_at(&cache, &one(), 7), Err(eof(0)), "7, once");
-    populate(&mut cache, AbbreviationsCacheStrategy::All)?;
+    let strategy = AbbreviationsCacheStrategy::All;
+    populate(&mut cache, strategy, &one(), OFFSETS)?;
     check(&rt, &cache, Ok(1), Ok(0), "all");
     set_nine(mem, &mut cache)?;
     check(&rt, &cache, Ok(1), Ok(9), "set");
     let wants = [Ok(DebugAbbrevOffset(0)), Err(Error::OutOfMemory)];
-    let strategy = AbbreviationsCacheStrategy::All;
-    let refused = cache.populate(strategy, &none(), wants.into_iter());
+    let refused = populate(&mut cache, strategy, &none(), &wants);
     same(&rt, refused, Err(Error::OutOfMemory), "refused");
     check(&rt, &cache, Ok(1), Ok(9), "refused");
-    let nothing: [Result<DebugAbbrevOffset<usize>>; 0] = [];
-    cache.populate(strategy, &one(), nothing.into_iter())?;
+    populate(&mut cache, strategy, &one(), &[])?;
     check(&rt, &cache, Ok(0), Err(eof(0)), "no offsets");
     Ok(())
 }
@@ -102,7 +110,7 @@ fn nothing_is_asked_behind_an_error(rt: HostRuntime) -> std::result::Result<(), 
     let strategy = AbbreviationsCacheStrategy::All;
     cache.populate(strategy, &one(), offsets.by_ref())?;
     same(&rt, code_at(&cache, &none(), 5), Ok(0), "before");
-    let left: Option<Result<DebugAbbrevOffset<usize>>> = offsets.next();
+    let left: Option<Wanted> = offsets.next();
     same(&rt, left, Some(Ok(DebugAbbrevOffset(7))), "behind");
     Ok(())
 }
@@ -120,7 +128,7 @@ fn growing_sections_are_read_again(rt: HostRuntime) -> std::result::Result<(), F
     let mut cache = AbbreviationsCache::new(rt.alloc());
     let section = DebugAbbrev::new(bytes, LittleEndian);
     let strategy = AbbreviationsCacheStrategy::All;
-    cache.populate(strategy, &section, offsets.into_iter())?;
+    populate(&mut cache, strategy, &section, &offsets)?;
     for (offset, wanted) in [
         (0, Ok(0)),
         (2, Err(Error::AbbreviationTagZero)),
@@ -143,7 +151,7 @@ fn growing_sections_are_read_again(rt: HostRuntime) -> std::result::Result<(), F
 
 fn populated(mem: Global) -> Result<AbbreviationsCache> {
     let mut cache = AbbreviationsCache::new(mem);
-    populate(&mut cache, AbbreviationsCacheStrategy::All)?;
+    populate(&mut cache, AbbreviationsCacheStrategy::All, &one(), OFFSETS)?;
     Ok(cache)
 }
 
@@ -176,7 +184,7 @@ fn refused_memory_for_all_tables(rt: HostRuntime) {
     if let Ok(mut cache) = populated(rt.alloc()) {
         let offsets = [Ok(DebugAbbrevOffset(0)), Ok(DebugAbbrevOffset(0))];
         let strategy = AbbreviationsCacheStrategy::Duplicates;
-        let wanted = match cache.populate(strategy, &none(), offsets.into_iter()) {
+        let wanted = match populate(&mut cache, strategy, &none(), &offsets) {
             Ok(()) => 0,
             Err(error) => {
                 same(&rt, error, Error::OutOfMemory, "populate");

@@ -3,7 +3,7 @@
 use super::{eof, little, same};
 use dwarf_read_core::leb128::read;
 use dwarf_read_core::leb128::write::{Leb128, sleb128_size, uleb128_size};
-use dwarf_read_core::{EndianSlice, Error, LittleEndian, Reader, ReaderOffsetId, Result};
+use dwarf_read_core::{Error, Reader, ReaderOffsetId, Result};
 
 // The last of the thirty-one bytes alone ends a number.
 const LONG: &[u8] = &[
@@ -157,12 +157,23 @@ fn numbers_are_read(rt: HostRuntime) {
     }
 }
 
+fn three_numbers<R: Reader>(mut input: R) -> [Result<u64>; 3] {
+    [
+        read::unsigned(&mut input),
+        read::unsigned(&mut input),
+        read::unsigned(&mut input),
+    ]
+}
+
 #[test]
 fn numbers_are_read_one_behind_the_other(rt: HostRuntime) {
-    let mut input = little(&[0x82, 0x01, 0x01]);
-    same(&rt, read::unsigned(&mut input), Ok(130), "first");
-    same(&rt, read::unsigned(&mut input), Ok(1), "second");
-    same(&rt, read::unsigned(&mut input), Err(eof(3)), "third");
+    let wanted = [Ok(130), Ok(1), Err(eof(3))];
+    same(
+        &rt,
+        three_numbers(little(&[0x82, 0x01, 0x01])),
+        wanted,
+        "three",
+    );
 }
 
 #[test]
@@ -181,28 +192,24 @@ fn numbers_are_written(rt: HostRuntime) {
     }
 }
 
-// A reader of what stands at the front of many zero bytes.
-fn padded<'a>(buffer: &'a mut [u8; 1024], written: &Leb128) -> EndianSlice<'a, LittleEndian> {
-    let bytes = written.bytes();
+// What was written, with zero bytes behind it.
+fn padded(written: &Leb128) -> [u8; 1024] {
+    let (mut buffer, bytes) = ([0; 1024], written.bytes());
     buffer[..bytes.len()].copy_from_slice(bytes);
-    little(buffer.as_slice())
+    buffer
 }
 
 #[test]
 fn written_numbers_are_read(rt: HostRuntime) {
     for value in 0..1025u64 {
-        let mut buffer = [0; 1024];
         let written = Leb128::unsigned(value);
-        let mut input = padded(&mut buffer, &written);
-        same(&rt, read::unsigned(&mut input), Ok(value), value);
-        same(&rt, input.offset_id().0, written.len() as u64, value);
+        let wanted = (Ok(value), written.len() as u64);
+        same(&rt, unsigned(&padded(&written)), wanted, value);
     }
     for value in (-513..513i64).chain([i64::MIN]) {
-        let mut buffer = [0; 1024];
         let written = Leb128::signed(value);
-        let mut input = padded(&mut buffer, &written);
-        same(&rt, read::signed(&mut input), Ok(value), value);
-        same(&rt, input.offset_id().0, written.len() as u64, value);
+        let wanted = (Ok(value), written.len() as u64);
+        same(&rt, signed(&padded(&written)), wanted, value);
     }
 }
 
@@ -211,9 +218,8 @@ fn written_numbers_are_read(rt: HostRuntime) {
 fn bytes_carry_seven_bits(rt: HostRuntime) {
     for digit in 0..127u8 {
         let wide = u64::from(digit);
-        same(&rt, read::unsigned(&mut little(&[digit])), Ok(wide), digit);
-        let padded = [digit + 128, 0];
-        same(&rt, read::unsigned(&mut little(&padded)), Ok(wide), digit);
+        same(&rt, unsigned(&[digit]), (Ok(wide), 1), digit);
+        same(&rt, unsigned(&[digit + 128, 0]), (Ok(wide), 2), digit);
         for number in [65536 + wide, 65536 * wide + wide + 128] {
             let written = Leb128::unsigned(number);
             same(&rt, written.bytes().first(), Some(&(digit + 128)), number);

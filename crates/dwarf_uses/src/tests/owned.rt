@@ -1,13 +1,13 @@
 //! The owned reader: 32-bit offsets, and clones that are refused.
 
-use super::addresses::{check_walk, next_lengths, walk};
+use super::addresses::{check_walk, lengths_of, walk};
 use super::worked::{FOUR_ADDRESSES, STRINGS, TWO_SETS, UNIT};
-use super::{end_requests, eof, little, same};
+use super::{end_requests, eof, same};
 use crate::OwnedReader;
 use dwarf_read_core::{
     DebugAbbrev, DebugAbbrevOffset, DebugAddr, DebugAddrBase, DebugAddrIndex, DebugStr,
-    DebugStrOffset, DebugStrOffsets, DebugStrOffsetsBase, DebugStrOffsetsIndex, Error, Format,
-    LittleEndian, Reader, ReaderOffset, Result, read_u8_array,
+    DebugStrOffset, DebugStrOffsets, DebugStrOffsetsBase, DebugStrOffsetsIndex, EndianSlice, Error,
+    Format, LittleEndian, Reader, ReaderOffset, Result, read_u8_array,
 };
 use std::alloc::Global;
 use std::fmt::Debug;
@@ -22,17 +22,11 @@ fn owned(mem: Global, bytes: &[u8], depth: u8) -> Result<Owned> {
     Ok(OwnedReader::new(mem, bytes, LittleEndian, depth))
 }
 
-// What the constant says, and what the call returns.
-fn is_clone_free<R: Reader>(reader: &R) -> (bool, bool) {
-    (R::CLONE_IS_FREE, reader.is_clone_free())
-}
-
 #[test]
-fn constants_tell_of_clones(rt: HostRuntime) -> std::result::Result<(), Fail> {
-    same(&rt, is_clone_free(&little(UNIT)), (true, true), "a slice");
-    let owned = owned(rt.alloc(), UNIT, 9)?;
-    same(&rt, is_clone_free(&owned), (false, false), "owned bytes");
-    Ok(())
+fn constants_tell_of_clones(rt: HostRuntime) {
+    let of_slices = <EndianSlice<'_, LittleEndian> as Reader>::CLONE_IS_FREE;
+    let constants = (of_slices, <Owned as Reader>::CLONE_IS_FREE);
+    same(&rt, constants, (true, false), "slices and owned bytes");
 }
 
 #[test]
@@ -66,8 +60,7 @@ fn addresses(mem: Global, bytes: &[u8], depth: u8) -> Result<DebugAddr<Owned>> {
 
 // What four calls return of the sets, of readers whose clones may go so deep.
 fn lengths(mem: Global, bytes: &[u8], depth: u8) -> Result<[Result<Option<u64>>; 4]> {
-    let mut headers = addresses(mem, bytes, depth)?.headers()?;
-    Ok(next_lengths(&mut headers))
+    lengths_of(&addresses(mem, bytes, depth)?)
 }
 
 // The offset that an index names of a section of one word of 2^32.

@@ -6,6 +6,7 @@ use dwarf_read_core::{
     BigEndian, EndianSlice, Error, Format, LittleEndian, Reader, ReaderOffsetId, Result,
     RunTimeEndian, read_u8_array,
 };
+use std::process::Abort;
 use std::test::Fail;
 
 const TEN: &[u8; 10] = &[0, 1, 2, 3, 4, 5, 6, 7, 8, 9];
@@ -46,12 +47,16 @@ fn long_and_odd_numbers_are_read(rt: HostRuntime) {
 
 #[test]
 fn refused_reads_consume_nothing(rt: HostRuntime) {
-    let mut three = little(&[1, 2, 3]);
-    same(&rt, three.read_u32(), Err(eof(0)), "4 of 3 bytes");
+    check_three(&rt, little(&[1, 2, 3]));
+}
+
+// Reads the bytes 1, 2 and 3 at position 0.
+fn check_three<R: Reader>(rt: &impl Abort, mut three: R) {
+    same(rt, three.read_u32(), Err(eof(0)), "4 of 3 bytes");
     let array = read_u8_array::<_, 3>(&mut three);
-    same(&rt, array, Ok([1, 2, 3]), "3 of 3 bytes");
+    same(rt, array, Ok([1, 2, 3]), "3 of 3 bytes");
     let array = read_u8_array::<_, 1>(&mut three);
-    same(&rt, array, Err(eof(3)), "1 of no bytes");
+    same(rt, array, Err(eof(3)), "1 of no bytes");
 }
 
 // An initial length of twelve bytes.

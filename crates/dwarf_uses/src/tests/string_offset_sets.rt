@@ -4,11 +4,12 @@ use super::worked::twenty_words;
 use super::{eof, same};
 use crate::OwnedReader;
 use dwarf_read_core::{
-    BigEndian, DebugStrOffset, DebugStrOffsets, DebugStrOffsetsBase, DebugStrOffsetsIndex,
-    EndianSlice, Error, Format, LittleEndian, Reader, ReaderOffset, ReaderOffsetId, Result,
-    StrOffsetsHeaderIter,
+    DebugStrOffset, DebugStrOffsets, DebugStrOffsetsBase, DebugStrOffsetsIndex, EndianSlice, Error,
+    Format, LittleEndian, Reader, ReaderOffset, ReaderOffsetId, Result, RunTimeEndian,
+    StrOffsetsEntryIter, StrOffsetsHeaderIter,
 };
-use std::alloc::{AllocError, Global};
+use std::alloc::Global;
+use std::process::Abort;
 use std::test::Fail;
 
 // Two sets, the first in the 32-bit format with two offsets, the second in the 64-bit format with
@@ -22,194 +23,232 @@ const CUT_SET: &[u8] = b"\x06\0\0\0\x05\0\0\0\x01\x02";
 // A set with the offset 2^32.
 const LARGE_OFFSET: [u8; 24] = *b"\xff\xff\xff\xff\x0c\0\0\0\0\0\0\0\x05\0\0\0\0\0\0\0\x01\0\0\0";
 
+type Slice<'a> = EndianSlice<'a, RunTimeEndian>;
+
+fn little_section(bytes: &[u8]) -> DebugStrOffsets<Slice<'_>> {
+    DebugStrOffsets::from(EndianSlice::new(bytes, RunTimeEndian::Little))
+}
+
 // Where a set begins, its length, and its format.
 type Place = (u64, u64, Format);
 
-// The sets of a section and their offsets one behind the other, and the first fault.
-#[derive(Drop)]
-struct Walk {
-    places: Vec<Place>,
-    offsets: Vec<u64>,
-    fault: Option<Error>,
-}
-
-fn walked<R: Reader>(
-    mem: Global,
-    section: &DebugStrOffsets<R>,
-) -> std::result::Result<Walk, AllocError> {
-    let mut walk = Walk {
-        places: Vec::new(mem),
-        offsets: Vec::new(mem),
-        fault: None,
-    };
-    walk.fault = walk_on(section, &mut walk.places, &mut walk.offsets)?.err();
-    Ok(walk)
-}
-
-fn walk_on<R: Reader>(
+// Appends the sets of a section and their offsets, up to the first fault.
+fn walk<R: Reader>(
     section: &DebugStrOffsets<R>,
     places: &mut Vec<Place>,
     offsets: &mut Vec<u64>,
-) -> std::result::Result<Result<()>, AllocError> {
-    let headers = match section.headers() {
-        Ok(headers) => headers,
-        Err(fault) => return Ok(Err(fault)),
-    };
-    for header in headers {
-        let header = match header {
-            Ok(header) => header,
-            Err(fault) => return Ok(Err(fault)),
-        };
+) -> Result<()> {
+    for header in section.headers()? {
+        let header = header?;
         let (offset, length) = (header.offset().into_u64(), header.length().into_u64());
         places.push((offset, length, header.format()))?;
-        let entries = match header.entries() {
-            Ok(entries) => entries,
-            Err(fault) => return Ok(Err(fault)),
-        };
-        for entry in entries {
-            match entry {
-                Ok(offset) => offsets.push(offset.0.into_u64())?,
-                Err(fault) => return Ok(Err(fault)),
-            }
+        for entry in header.entries()? {
+            offsets.push(entry?.0.into_u64())?;
         }
-    }
-    Ok(Ok(()))
-}
-
-#[test]
-fn sets_are_walked(rt: HostRuntime) -> std::result::Result<(), Fail> {
-    let first: Place = (0, 12, Format::Dwarf32);
-    let second: Place = (16, 12, Format::Dwarf64);
-    let rows: [(&[u8], &[Place], &[u64], Option<Error>); 5] = [
-        (b"", &[], &[], None),
-        (TWO_SETS, &[first, second], &[1000, 1001, 1000], None),
-        (&TWO_SETS[..18], &[first], &[1000, 1001], Some(eof(16))),
-        (CUT_SET, &[(0, 6, Format::Dwarf32)], &[], Some(eof(8))),
-        (&LARGE_OFFSET, &[(0, 12, Format::Dwarf64)], &[1 << 32], None),
-    ];
-    for (bytes, places, offsets, fault) in rows {
-        let section = DebugStrOffsets::from(EndianSlice::new(bytes, LittleEndian));
-        let walk = walked(rt.alloc(), &section)?;
-        same(&rt, walk.places.as_slice(), places, bytes);
-        same(&rt, walk.offsets.as_slice(), offsets, bytes);
-        same(&rt, walk.fault, fault, bytes);
     }
     Ok(())
 }
+
+// Ends the test where a section has other sets or offsets, or another fault.
+fn check_walk<R: Reader>(
+    rt: &impl Abort,
+    mem: Global,
+    section: &DebugStrOffsets<R>,
+    wanted: (&[Place], &[u64], Result<()>),
+) {
+    let (mut places, mut offsets) = (Vec::new(mem), Vec::new(mem));
+    let outcome = walk(section, &mut places, &mut offsets);
+    let found = (places.as_slice(), offsets.as_slice(), outcome);
+    same(rt, found, wanted, "sets");
+}
+
+// Bytes, their sets and offsets, and the fault behind these.
+static WALKS: &[(&[u8], (&[Place], &[u64], Result<()>))] = &[
+    (b"", (&[], &[], Ok(()))),
+    (
+        TWO_SETS,
+        (
+            &[(0, 12, Format::Dwarf32), (16, 12, Format::Dwarf64)],
+            &[1000, 1001, 1000],
+            Ok(()),
+        ),
+    ),
+    (
+        b"\x0c\0\0\0\x05\0\0\0\xe8\x03\0\0\xe9\x03\0\0\xff\xff",
+        (&[(0, 12, Format::Dwarf32)], &[1000, 1001], Err(eof!(16))),
+    ),
+    (CUT_SET, (&[(0, 6, Format::Dwarf32)], &[], Err(eof!(8)))),
+    (
+        &LARGE_OFFSET,
+        (&[(0, 12, Format::Dwarf64)], &[1 << 32], Ok(())),
+    ),
+];
+
+#[test]
+fn sets_are_walked(rt: HostRuntime) {
+    for (bytes, wanted) in WALKS {
+        check_walk(&rt, rt.alloc(), &little_section(bytes), *wanted);
+    }
+}
+
+const TWENTY: &[u64] = &[
+    1000, 1001, 1002, 1003, 1004, 1005, 1006, 1007, 1008, 1009, 1010, 1011, 1012, 1013, 1014, 1015,
+    1016, 1017, 1018, 1019,
+];
 
 #[test]
 fn twenty_offsets_are_walked(rt: HostRuntime) -> std::result::Result<(), Fail> {
     for (format, length) in [(Format::Dwarf32, 84), (Format::Dwarf64, 164)] {
         let bytes = twenty_words(rt.alloc(), format, true)?;
-        let section = DebugStrOffsets::from(EndianSlice::new(&bytes, BigEndian));
-        let walk = walked(rt.alloc(), &section)?;
-        same(&rt, walk.places.as_slice(), &[(0, length, format)], length);
-        same(&rt, walk.offsets.len(), 20, length);
-        for (offset, wanted) in walk.offsets.iter().zip(1000..1020u64) {
-            same(&rt, *offset, wanted, length);
-        }
-        same(&rt, walk.fault, None, length);
+        let section = DebugStrOffsets::from(EndianSlice::new(&bytes, RunTimeEndian::Big));
+        let places = [(0, length, format)];
+        let wanted = (places.as_slice(), TWENTY, Ok(()));
+        check_walk(&rt, rt.alloc(), &section, wanted);
     }
     Ok(())
 }
 
-// Whether three calls find no set.
-fn is_over<R: Reader>(headers: &mut StrOffsetsHeaderIter<R>) -> bool {
-    for _ in 0..3u8 {
-        match headers.next() {
-            Ok(None) => {}
-            _ => return false,
-        }
+// What four calls return of a section's sets: of each its length.
+fn next_lengths<R: Reader>(headers: &mut StrOffsetsHeaderIter<R>) -> [Result<Option<u64>>; 4] {
+    [
+        next_length(headers),
+        next_length(headers),
+        next_length(headers),
+        next_length(headers),
+    ]
+}
+
+fn next_length<R: Reader>(headers: &mut StrOffsetsHeaderIter<R>) -> Result<Option<u64>> {
+    match headers.next()? {
+        Some(header) => Ok(Some(header.length().into_u64())),
+        None => Ok(None),
     }
-    true
+}
+
+// What four calls return of a set's offsets.
+fn next_offsets<R: Reader>(entries: &mut StrOffsetsEntryIter<R>) -> [Result<Option<u64>>; 4] {
+    [
+        next_offset(entries),
+        next_offset(entries),
+        next_offset(entries),
+        next_offset(entries),
+    ]
+}
+
+fn next_offset<R: Reader>(entries: &mut StrOffsetsEntryIter<R>) -> Result<Option<u64>> {
+    match entries.next()? {
+        Some(offset) => Ok(Some(offset.0.into_u64())),
+        None => Ok(None),
+    }
+}
+
+// Bytes, and the fault of their first set, whose first position is 100.
+static SET_FAULTS: &[(&[u8], Error)] = &[
+    (b"\xff\xff\xff", eof!(100)),
+    (
+        b"\xfe\xff\xff\xff",
+        Error::UnknownReservedLength(0xffff_fffe),
+    ),
+    (b"\xff\xff\xff\xff\x12\x34\x56\x78", eof!(104)),
+    (b"\x05\0\0\0\x05\0\0\0", eof!(104)),
+    (b"\x01\0\0\0\x05", eof!(104)),
+    (b"\x04\0\0\0\x04\0\0\0", Error::UnknownVersion(4)),
+    (
+        b"\x04\0\0\0\x06\0\0\0\x04\0\0\0\x05\0\0\0",
+        Error::UnknownVersion(6),
+    ),
+    (b"\x02\0\0\0\x05\0", eof!(106)),
+    (b"\x03\0\0\0\x05\0\0", eof!(106)),
+];
+
+// What four calls return of the sets of at most a hundred bytes.
+fn lengths_at_100(bytes: &[u8]) -> Result<[Result<Option<u64>>; 4]> {
+    let bytes = &bytes[..bytes.len().min(100)];
+    let reader = EndianSlice::with_first_id(bytes, RunTimeEndian::Little, ReaderOffsetId(100));
+    lengths_of(&DebugStrOffsets::from(reader))
+}
+
+// No set follows a fault.
+#[test]
+fn first_faults_are_returned(rt: HostRuntime) {
+    for (bytes, fault) in SET_FAULTS {
+        let wanted = [Err(*fault), Ok(None), Ok(None), Ok(None)];
+        same(&rt, lengths_at_100(bytes), Ok(wanted), bytes);
+    }
+}
+
+// What four calls return of the first set's offsets.
+fn offsets_of<R: Reader>(section: &DebugStrOffsets<R>) -> Result<[Result<Option<u64>>; 4]> {
+    match section.headers()?.next()? {
+        Some(header) => Ok(next_offsets(&mut header.entries()?)),
+        None => Err(Error::NoEntryAtGivenOffset(0)),
+    }
+}
+
+// What four calls return of the sets.
+fn lengths_of<R: Reader>(section: &DebugStrOffsets<R>) -> Result<[Result<Option<u64>>; 4]> {
+    Ok(next_lengths(&mut section.headers()?))
 }
 
 #[test]
-fn first_faults_are_returned(rt: HostRuntime) -> std::result::Result<(), Fail> {
-    let rows: [(&[u8], Error); 9] = [
-        (b"\xff\xff\xff", eof(100)),
-        (
-            b"\xfe\xff\xff\xff",
-            Error::UnknownReservedLength(0xffff_fffe),
-        ),
-        (b"\xff\xff\xff\xff\x12\x34\x56\x78", eof(104)),
-        (b"\x05\0\0\0\x05\0\0\0", eof(104)),
-        (b"\x01\0\0\0\x05", eof(104)),
-        (b"\x04\0\0\0\x04\0\0\0", Error::UnknownVersion(4)),
-        (
-            b"\x04\0\0\0\x06\0\0\0\x04\0\0\0\x05\0\0\0",
-            Error::UnknownVersion(6),
-        ),
-        (b"\x02\0\0\0\x05\0", eof(106)),
-        (b"\x03\0\0\0\x05\0\0", eof(106)),
-    ];
-    for (bytes, fault) in rows {
-        let reader = match bytes.len() {
-            0..100 => EndianSlice::with_first_id(bytes, LittleEndian, ReaderOffsetId(100)),
-            _ => EndianSlice::new(bytes, LittleEndian),
-        };
-        let mut headers = DebugStrOffsets::from(reader).headers()?;
-        same(&rt, headers.next().err(), Some(fault), bytes);
-        same(&rt, is_over(&mut headers), true, bytes);
-    }
-    Ok(())
+fn faults_end_a_set(rt: HostRuntime) {
+    let section = little_section(CUT_SET);
+    let cut = [Err(eof(8)), Ok(None), Ok(None), Ok(None)];
+    same(&rt, offsets_of(&section), Ok(cut), "offsets");
+    let sets = [Ok(Some(6)), Ok(None), Ok(None), Ok(None)];
+    same(&rt, lengths_of(&section), Ok(sets), "sets");
 }
 
+// The offsets that a walk finds, each by its set's base and its index.
 #[test]
-fn faults_end_a_set(rt: HostRuntime) -> std::result::Result<(), Fail> {
-    let section = DebugStrOffsets::from(EndianSlice::new(CUT_SET, LittleEndian));
+fn entries_are_found_by_their_index(rt: HostRuntime) {
+    let section = little_section(TWO_SETS);
+    for (format, base, index, wanted) in [
+        (Format::Dwarf32, 8, 0, 1000),
+        (Format::Dwarf32, 8, 1, 1001),
+        (Format::Dwarf64, 32, 0, 1000),
+    ] {
+        let (base, index) = (DebugStrOffsetsBase(base), DebugStrOffsetsIndex(index));
+        let offset = section.get_str_offset(format, base, index);
+        same(&rt, offset, Ok(DebugStrOffset(wanted)), (base, index));
+    }
+}
+
+// A clone goes on where its original does, and neither moves the other.
+fn check_clones<R: Reader + Clone>(rt: &impl Abort, section: &DebugStrOffsets<R>) -> Result<()> {
     let mut headers = section.headers()?;
-    let mut entries = headers.next()?.ok_or("no set")?.entries()?;
-    for wanted in [Err(eof(8)), Ok(None), Ok(None)] {
-        same(&rt, entries.next(), wanted, "a cut set");
-    }
-    same(&rt, is_over(&mut headers), true, "a cut set");
+    same(rt, next_length(&mut headers), Ok(Some(12)), "headers");
+    let mut copy = headers.clone()?;
+    let left = [Ok(Some(12)), Ok(None), Ok(None), Ok(None)];
+    let found = [next_lengths(&mut headers), next_lengths(&mut copy)];
+    same(rt, found, [left; 2], "headers");
     Ok(())
 }
 
-#[test]
-fn entries_are_found_by_their_index(rt: HostRuntime) -> std::result::Result<(), Fail> {
-    let section = DebugStrOffsets::from(EndianSlice::new(TWO_SETS, LittleEndian));
-    let mut count = 0usize;
-    for header in section.headers()? {
-        let header = header?;
-        let header_size = match header.format() {
-            Format::Dwarf32 => 8,
-            Format::Dwarf64 => 16,
-        };
-        let base = DebugStrOffsetsBase(header.offset().wrapping_add(header_size));
-        for (index, entry) in header.entries()?.enumerate() {
-            let offset = section.get_str_offset(header.format(), base, DebugStrOffsetsIndex(index));
-            same(&rt, offset, entry, (base, index));
-            count = count.wrapping_add(1);
-        }
-    }
-    same(&rt, count, 3, "offsets");
-    Ok(())
-}
-
-fn cloned<T: Clone>(value: &T) -> std::result::Result<T, AllocError> {
-    value.clone()
-}
-
-#[test]
-fn clones_go_on_alike(rt: HostRuntime) -> std::result::Result<(), Fail> {
-    let section = DebugStrOffsets::from(EndianSlice::new(TWO_SETS, LittleEndian));
+fn check_cloned_set<R: Reader + Clone + PartialEq>(
+    rt: &impl Abort,
+    section: &DebugStrOffsets<R>,
+) -> Result<()> {
     let mut headers = section.headers()?;
-    let first = headers.next()?.ok_or("no set")?;
-    let mut headers_copy = cloned(&headers)?;
-    let second = headers.next()?.ok_or("no second set")?;
-    same(&rt, headers_copy.next()?.as_ref(), Some(&second), "headers");
-    same(&rt, &cloned(&first)?, &first, "a header");
-    assert_ne!(rt; first, second);
+    let first = headers.next()?.ok_or(Error::NoEntryAtGivenOffset(0))?;
+    let second = headers.next()?.ok_or(Error::NoEntryAtGivenOffset(16))?;
+    let copy = first.clone()?;
+    let are_equal = (first == copy, first == second);
+    same(rt, are_equal, (true, false), "a header");
     let mut entries = first.entries()?;
-    same(&rt, entries.next()?, Some(DebugStrOffset(1000)), "entries");
-    let mut entries_copy = cloned(&entries)?;
-    for wanted in [Some(DebugStrOffset(1001)), None] {
-        same(&rt, entries.next()?, wanted, "entries");
-        same(&rt, entries_copy.next()?, wanted, "entries");
-    }
+    same(rt, next_offset(&mut entries), Ok(Some(1000)), "entries");
+    let mut copy = entries.clone()?;
+    let left = [Ok(Some(1001)), Ok(None), Ok(None), Ok(None)];
+    let found = [next_offsets(&mut entries), next_offsets(&mut copy)];
+    same(rt, found, [left; 2], "entries");
     Ok(())
+}
+
+#[test]
+fn clones_go_on_alike(rt: HostRuntime) {
+    let section = little_section(TWO_SETS);
+    same(&rt, check_clones(&rt, &section), Ok(()), "sets");
+    same(&rt, check_cloned_set(&rt, &section), Ok(()), "offsets");
 }
 
 // A section whose reader counts in 32 bits and whose clones may go so deep.
@@ -218,28 +257,28 @@ fn large_offset(mem: Global, depth: u8) -> Result<DebugStrOffsets<OwnedReader<Li
     Ok(OwnedReader::new(mem, bytes, LittleEndian, depth).into())
 }
 
-#[test]
-fn refused_clones_are_returned(rt: HostRuntime) -> std::result::Result<(), Fail> {
-    let want = Some(Error::OutOfMemory);
-    same(&rt, large_offset(rt.alloc(), 0)?.headers().err(), want, 0);
-    let mut headers = large_offset(rt.alloc(), 1)?.headers()?;
-    same(&rt, headers.next().err(), want, 1);
-    same(&rt, is_over(&mut headers), true, 1);
-    let header = large_offset(rt.alloc(), 2)?.headers()?.next()?;
-    let header = header.ok_or("no set")?;
-    same(&rt, header.entries().err(), want, 2);
-    Ok(())
+fn lengths(mem: Global, depth: u8) -> Result<[Result<Option<u64>>; 4]> {
+    lengths_of(&large_offset(mem, depth)?)
 }
 
+fn offsets(mem: Global, depth: u8) -> Result<[Result<Option<u64>>; 4]> {
+    offsets_of(&large_offset(mem, depth)?)
+}
+
+// An iterator that returned an error has no other item.
 #[test]
-fn large_offsets_are_refused(rt: HostRuntime) -> std::result::Result<(), Fail> {
-    let mut headers = large_offset(rt.alloc(), 3)?.headers()?;
-    let mut entries = headers.next()?.ok_or("no set")?.entries()?;
-    let fault = entries.next().err();
-    same(&rt, fault, Some(Error::UnsupportedOffset), "2^32");
-    for _ in 0..3u8 {
-        same(&rt, entries.next()?, None, "2^32");
+fn refused_clones_and_offsets_end_a_walk(rt: HostRuntime) {
+    let (mem, refused) = (rt.alloc(), Error::OutOfMemory);
+    let ended = [Err(refused), Ok(None), Ok(None), Ok(None)];
+    let whole = [Ok(Some(12)), Ok(None), Ok(None), Ok(None)];
+    let large = [Err(Error::UnsupportedOffset), Ok(None), Ok(None), Ok(None)];
+    for (found, wanted, what) in [
+        (lengths(mem, 0), Err(refused), "sets, no clone"),
+        (lengths(mem, 1), Ok(ended), "sets, one clone"),
+        (lengths(mem, 2), Ok(whole), "sets, two clones"),
+        (offsets(mem, 2), Err(refused), "offsets, two clones"),
+        (offsets(mem, 3), Ok(large), "offsets, three clones"),
+    ] {
+        same(&rt, found, wanted, what);
     }
-    same(&rt, is_over(&mut headers), true, "2^32");
-    Ok(())
 }

@@ -5,7 +5,8 @@ use super::{end_requests, eof, same};
 use dwarf_read_core::constants::*;
 use dwarf_read_core::{
     Abbreviations, AttributeSpecification, BigEndian, DebugAbbrev, DebugAbbrevOffset, Encoding,
-    EndianSlice, Error, Format, LittleEndian, ReaderOffsetId, Result, RunTimeEndian,
+    EndianSlice, Error, Format, LittleEndian, Reader, ReaderOffset, ReaderOffsetId, Result,
+    RunTimeEndian,
 };
 use std::alloc::{AllocError, Global};
 use std::process::Abort;
@@ -19,8 +20,20 @@ fn unterminated(position: u64) -> Error {
     Error::UnterminatedAbbreviations(ReaderOffsetId(position))
 }
 
-fn table_at(mem: Global, bytes: &[u8], offset: usize) -> Result<Abbreviations> {
-    DebugAbbrev::new(bytes, LittleEndian).abbreviations(mem, DebugAbbrevOffset(offset))
+fn table_in<R: Reader>(mem: Global, section: &DebugAbbrev<R>, offset: u8) -> Result<Abbreviations> {
+    section.abbreviations(mem, DebugAbbrevOffset(R::Offset::from_u8(offset)))
+}
+
+fn table_at(mem: Global, bytes: &[u8], offset: u8) -> Result<Abbreviations> {
+    table_in(mem, &DebugAbbrev::new(bytes, LittleEndian), offset)
+}
+
+fn strict_table_in<R: Reader>(
+    mem: Global,
+    section: &DebugAbbrev<R>,
+    offset: u8,
+) -> Result<Abbreviations> {
+    section.abbreviations_strict(mem, DebugAbbrevOffset(R::Offset::from_u8(offset)))
 }
 
 // A table by rising code, and a `.` where a code of value 0 closes it.
@@ -46,7 +59,7 @@ fn shown(mem: Global, table: &Abbreviations) -> std::result::Result<String, Allo
 }
 
 // Bytes, an offset, and the table there.
-static TABLES: &[(&[u8], usize, &str)] = &[
+static TABLES: &[(&[u8], u8, &str)] = &[
     (
         UNIT,
         0,
@@ -111,7 +124,7 @@ fn tables_are_read(rt: HostRuntime) -> std::result::Result<(), Fail> {
 }
 
 // Bytes, an offset, and the strict table there.
-static STRICT: &[(&[u8], usize, Result<&str>)] = &[
+static STRICT: &[(&[u8], u8, Result<&str>)] = &[
     (
         UNIT,
         0,
@@ -142,9 +155,8 @@ static STRICT: &[(&[u8], usize, Result<&str>)] = &[
     ),
 ];
 
-fn strict_text(mem: Global, bytes: &[u8], offset: usize) -> Result<String> {
-    let section = DebugAbbrev::new(bytes, LittleEndian);
-    let table = section.abbreviations_strict(mem, DebugAbbrevOffset(offset))?;
+fn strict_text(mem: Global, bytes: &[u8], offset: u8) -> Result<String> {
+    let table = strict_table_in(mem, &DebugAbbrev::new(bytes, LittleEndian), offset)?;
     Ok(shown(mem, &table)?)
 }
 
@@ -157,12 +169,12 @@ fn strict_tables_are_closed(rt: HostRuntime) {
         }
     }
     let reader = EndianSlice::with_first_id(ENDED, LittleEndian, ReaderOffsetId(100));
-    let table = DebugAbbrev::from(reader).abbreviations_strict(rt.alloc(), DebugAbbrevOffset(0));
+    let table = strict_table_in(rt.alloc(), &DebugAbbrev::from(reader), 0);
     same(&rt, table.err(), Some(unterminated(105)), "at 100");
 }
 
 // Bytes, an offset, and the first fault there.
-static FAULTS: &[(&[u8], usize, Error)] = &[
+static FAULTS: &[(&[u8], u8, Error)] = &[
     (ENDED, 6, eof!(0)),
     (b"\x01\x11\0\0\0\x02\0", 0, Error::AbbreviationTagZero),
     (b"\x01\x2e\0\x03\x21", 0, eof!(5)),
@@ -229,7 +241,7 @@ fn first_faults_are_returned(rt: HostRuntime) {
 
 #[test]
 fn positions_begin_at_the_first(rt: HostRuntime) -> std::result::Result<(), Fail> {
-    let rows: [(&[u8], usize, Error); 4] = [
+    let rows: [(&[u8], u8, Error); 4] = [
         (b"\x80", 0, eof(101)),
         (ENDED, 6, eof(100)),
         (b"\x01\x11\0\0\0\x01", 0, eof(106)),
@@ -237,11 +249,11 @@ fn positions_begin_at_the_first(rt: HostRuntime) -> std::result::Result<(), Fail
     ];
     for (bytes, offset, wanted) in rows {
         let reader = EndianSlice::with_first_id(bytes, BigEndian, ReaderOffsetId(100));
-        let table = DebugAbbrev::from(reader).abbreviations(rt.alloc(), DebugAbbrevOffset(offset));
+        let table = table_in(rt.alloc(), &DebugAbbrev::from(reader), offset);
         same(&rt, table.err(), Some(wanted), bytes);
     }
     let none: DebugAbbrev<EndianSlice<'_, RunTimeEndian>> = DebugAbbrev::default();
-    let table = none.abbreviations(rt.alloc(), DebugAbbrevOffset(0))?;
+    let table = table_in(rt.alloc(), &none, 0)?;
     same(&rt, (table.is_empty(), table.len()), (true, 0), "no bytes");
     Ok(())
 }
