@@ -1,10 +1,10 @@
 -- A reading of a LEB128 number, one byte after the other.
-use Rattle.std.proofs.Common.{◌≡◌, ℕ, ◌+◌, ◌-◌, ◌*◌, ◌%◌, ◌^◌, ◌<◌, ◌≤◌, [], ◌∷◌, ◌++◌, length, get_or, take, refl, sym, ap, ◌∙◌, subst, arith, inr, IsTrue, ◌↔◌, ⊎_elim, Bool, true, false, pos, ◌-ℤ◌, nat_le, if◌then◌else◌}
+use Rattle.std.proofs.Common.{◌≡◌, ℕ, suc, ◌+◌, ◌-◌, ◌*◌, ◌%◌, ◌^◌, ◌<◌, ◌≤◌, List, [], ◌∷◌, ◌++◌, length, get_or, take, drop, refl, sym, ap, ◌∙◌, subst, arith, inr, IsTrue, ◌↔◌, ⊎_elim, Bool, true, false, pos, ◌-ℤ◌, nat_le, if◌then◌else◌}
 use Rattle.std.proofs.lemmas.List.{take_more, length-take-le, drop-drop, get_or-drop, length-drop}
 use Rattle.std.proofs.lemmas.Bool.{cases_lt, false≢true, le-leb, lt-leb}
 use Rattle.std.proofs.Math.Nat.{add_assoc, add-zero}
-use Rattle.dwarf_reader_core.specs.Input.{Input, after, TakesByte}
-use Rattle.dwarf_reader_core.specs.Leb128.{IsEncoding, NoneIsLast, unsigned_value, signed_value, is_negative, Kind, Number, value, limit, is_in_range, refusal, HasNumber, IsCut, ReadsNumber, RefusesNumber}
+use Rattle.dwarf_reader_core.specs.Input.{Input, after, Takes, TakesByte}
+use Rattle.dwarf_reader_core.specs.Leb128.{IsEncoding, NoneIsLast, unsigned_value, signed_value, is_negative, Kind, Number, value, limit, is_in_range, refusal, HasNumber, IsCut, ReadsNumber, RefusesNumber, TakesEncoding}
 use Rattle.dwarf_reader_core.proofs.Encodings.{NoneIsLast-push, IsEncoding-push, IsEncoding-last, unsigned_value-push, worth_below, past_none, is_negative-push}
 use Rattle.dwarf_reader_core.proofs.Bits.{pow_digits}
 
@@ -185,3 +185,34 @@ next_below {old} {k = k} {value = value} {byte = byte} b n m within =
     ap (λ p. value + byte % 128 * p) (pow_digits k) ∙ sym (worth_next b n)
     in
     rw worth (worth_below old.bytes (k + 1) m (omega (arith, n.enough)) (omega arith))
+
+-- a byte that isn't the last, before an encoding
+IsEncoding-before : (b : ℕ) (bytes : List ℕ) → 128 ≤ b → IsEncoding bytes → IsEncoding (b ∷ bytes)
+IsEncoding-before b [] more encoding = absurd encoding
+IsEncoding-before b (c ∷ bytes) more encoding = (more, encoding)
+
+-- behind a first byte that goes on, the first one that doesn't ends the encoding
+IsEncoding-behind : (bytes : List ℕ) (n : ℕ) → n + 1 < length bytes → 128 ≤ get_or bytes 0 0
+    → NoneIsLast (take n (drop 1 bytes)) → get_or (drop 1 bytes) n 0 < 128 → IsEncoding (take (n + 2) bytes)
+IsEncoding-behind [] n enough more none last = absurd (omega (arith, enough))
+IsEncoding-behind (b ∷ bytes) n enough more none last =
+    let within : n < length bytes = omega (arith, enough) in
+    let next : suc (n + 1) ≡ n + 2 = omega arith in
+    let encoding = IsEncoding-push (take n bytes) (get_or bytes n 0) none last in
+    subst (λ k. IsEncoding (take k (b ∷ bytes))) next
+    (IsEncoding-before b (take (n + 1) bytes) more (subst IsEncoding (sym (take_more bytes n 0 within)) encoding))
+
+-- the encoding ends at the first byte that doesn't go on, behind one that does
+pub encoding_found : {old mid new : Input} {byte : ℕ} (n : ℕ) → TakesByte old byte mid → 128 ≤ byte
+    → NoneIsLast (take n mid.bytes) → get_or mid.bytes n 0 < 128 → Takes (n + 1) mid new → TakesEncoding old new
+encoding_found {old} {mid} {new} n t more none last next =
+    let is : mid.bytes ≡ drop 1 old.bytes = ap (λ (i : Input). i.bytes) t.left in
+    let rest : length mid.bytes ≡ length old.bytes - 1 = ap length is ∙ length-drop 1 old.bytes in
+    let enough : n + 1 < length old.bytes = omega (arith, rest, next.enough, t.enough) in
+    let len : 1 + (n + 1) ≡ n + 2 = omega arith in
+    record {
+      len = n + 2;
+      enough = omega (arith, enough);
+      is = IsEncoding-behind old.bytes n enough (omega (arith, more, t.is)) (rw is at none) (rw is at last);
+      left = next.left ∙ ap (after (n + 1)) t.left ∙ after-after (n + 1) 1 old ∙ ap (λ k. after k old) len;
+    }

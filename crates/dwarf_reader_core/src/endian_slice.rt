@@ -451,6 +451,23 @@ impl<'input, Endian: Endianity> Reader for EndianSlice<'input, Endian> {
         Ok(*byte)
     }
 
+    // Behind a first byte that goes on, the last one is found by its index: one number is counted,
+    // where a read of each byte moves the slice.
+    #[inline(always)]
+    fn skip_leb128(&mut self) -> Result<()> {
+        let first = self.read_u8()?;
+        if !has_continuation_bit(first) {
+            return Ok(());
+        }
+        for (index, byte) in self.slice.iter().enumerate() {
+            if !has_continuation_bit(*byte) {
+                return self.skip(index + 1);
+            }
+        }
+        self.skip(self.slice.len())?;
+        Err(Error::UnexpectedEof(self.offset_id()))
+    }
+
     // The next two have the bodies of the trait. A default body is called out of line, whatever its
     // hint says. These are inlined, and the caller then has the bytes that remain in registers.
     #[inline(always)]

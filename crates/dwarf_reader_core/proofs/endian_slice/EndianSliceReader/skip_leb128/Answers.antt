@@ -1,0 +1,13 @@
+use Rattle.std.proofs.Common.{rules, ◌≡◌, ◌<◌, ◌+◌, get_or}
+use Rattle.dwarf_reader_core.specs.Input.{Input, Takes}
+use Rattle.dwarf_reader_core.specs.Leb128.{TakesEncoding}
+use Rattle.dwarf_reader_core.proofs.Reading.{encoding_found}
+use Rattle.dwarf_reader_core.proofs.endian_slice.EndianSliceReader.skip_leb128.Goals as goal
+
+pub returns-then-not-has_continuation_bit-2-clause-ok : goal.returns-then-not-has_continuation_bit-2-clause-ok
+returns-then-not-has_continuation_bit-2-clause-ok g c =
+    let found = c.loop-index.invariant in
+    let last : get_or c.read_u8.new.self.slice.now c.loop-index.index 0 < 128 = search rules in
+    let ends = λ (new : Input). encoding_found {new = new} c.loop-index.index found.0 found.1 found.2 last in
+    let is : c.loop-index.self ≡ c.read_u8.new.self = found.3 in
+    search (rules, ends, is)
