@@ -2,10 +2,11 @@
 
 ghost use Rattle.std.specs.Prelude.{◌+◌, ◌*◌, OnOk, IfErr};
 ghost use Rattle.dwarf_base_core.specs.Checked.{OkBelow};
+ghost use Rattle.dwarf_base_core.specs.Format.{word_size};
 ghost use Rattle.dwarf_reader_core.specs.Input.{Takes};
 ghost use Rattle.dwarf_read_core.specs.Words.{slot, place, IsPlaced, Misplaced};
 
-use dwarf_base_core::{Error, ReaderOffset, Result};
+use dwarf_base_core::{Error, Format, ReaderOffset, Result};
 use dwarf_reader_core::Reader;
 
 /// Returns the length of `index` numbers of `width` bytes each, or `UnsupportedOffset` if it
@@ -48,5 +49,39 @@ pub(crate) fn skip_to_index<R: Reader>(
         (slot (R.Offset.value base) (R.Offset.value index) width)) }
 {
     input.skip(base)?;
+    input.skip(length_before(index, width)?)
+}
+
+/// Skips the bytes before the word with this index, as [`skip_to_index`] does for the width of a
+/// format's words.
+///
+/// # Errors
+///
+/// Those of [`skip_to_index`].
+#[inline]
+#[tactic(auto, using(crate::proofs::lookups::Words::no_base, crate::proofs::lookups::Words::too_far_off, crate::proofs::lookups::Words::past_end, crate::proofs::lookups::Words::skipped, crate::proofs::lookups::Words::placed))]
+pub(crate) fn skip_to_word<R: Reader>(
+    input: &mut R,
+    base: R::Offset,
+    index: R::Offset,
+    format: Format,
+) -> Result<()>
+    ensures placed { OnOk result
+        (IsPlaced R.Offset.GREATEST (R.view input.old)
+        (slot (R.Offset.value base) (R.Offset.value index) (word_size format))) }
+    ensures ok { OnOk result
+        (Takes (place (slot (R.Offset.value base) (R.Offset.value index) (word_size format)))
+        (R.view input.old) (R.view input.new)) }
+    ensures err { IfErr result
+        (Misplaced R.Offset.GREATEST (R.view input.old)
+        (slot (R.Offset.value base) (R.Offset.value index) (word_size format))) }
+{
+    input.skip(base)?;
+    let width = format.word_size();
+    let words = input.len().into_u64() / u64::from(width);
+    if index.into_u64() < words {
+        // The word is there, so the length before it doesn't wrap.
+        return input.skip(R::Offset::from_u64(index.into_u64() * u64::from(width))?);
+    }
     input.skip(length_before(index, width)?)
 }

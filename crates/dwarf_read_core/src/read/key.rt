@@ -1,6 +1,6 @@
 //! Numbers as keys of ordered maps.
 
-ghost use Rattle.std.specs.Prelude.{nat_eq, Some};
+ghost use Rattle.std.specs.Prelude.{◌≡◌, ◌≤◌, nat_eq, Some};
 ghost use Rattle.std.proofs.Common.{rules};
 ghost use Rattle.std.specs.Cmp.Rules.{comparing};
 ghost use Rattle.std.specs.Ordering.{nat_cmp};
@@ -70,13 +70,24 @@ impl Ord for Key {
     ghost matches_eq = { Prim.search rules };
 
     fn cmp(&self, other: &Key) -> Ordering {
-        let (key, other) = (self.0, other.0);
-        if key > other {
+        if self.0 > other.0 {
             Ordering::Greater
-        } else if key < other {
-            Ordering::Less
         } else {
-            Ordering::Equal
+            where_it_ends(self.0, other.0)
         }
+    }
+}
+
+// The order of a number and the first one that isn't below it. A search asks once in each node, so this
+// is a call: inlined, it is computed for each key.
+#[inline(never)]
+fn where_it_ends(key: u64, other: u64) -> Ordering
+    requires { key ≤ other }
+    ensures { result ≡ nat_cmp key other }
+{
+    if key < other {
+        Ordering::Less
+    } else {
+        Ordering::Equal
     }
 }

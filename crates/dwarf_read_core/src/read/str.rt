@@ -11,7 +11,7 @@ ghost use Rattle.dwarf_read_core.specs.Words.{WordAt, slot};
 
 mod offsets;
 
-use super::indexed::skip_to_index;
+use super::indexed::skip_to_word;
 use super::section::Section;
 use dwarf_base_core::{
     DebugLineStrOffset, DebugStrOffset, DebugStrOffsetsBase, DebugStrOffsetsIndex, Endianity,
@@ -154,7 +154,7 @@ impl<R: Reader> DebugStrOffsets<R> {
             (λ offset. R.Offset.value offset.0) R.clone_is_free section result }
     {
         let input = &mut self.section.try_clone()?;
-        skip_to_index(input, base.0, index.0, format.word_size())?;
+        skip_to_word(input, base.0, index.0, format)?;
         Ok(DebugStrOffset(input.read_offset(format)?))
     }
 

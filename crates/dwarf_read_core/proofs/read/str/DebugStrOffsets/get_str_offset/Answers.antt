@@ -1,22 +1,22 @@
 use Rattle.dwarf_read_core.proofs.lookups.Words.{word-propagated, word-stays, word_misplaced, word_more, word_refused, word_taken}
 use Rattle.dwarf_read_core.proofs.read.str.DebugStrOffsets.get_str_offset.Goals as goal
 
-pub returns-in_err-skip_to_index-clause-answer : goal.returns-in_err-skip_to_index-clause-answer
-returns-in_err-skip_to_index-clause-answer g c =
-    word-propagated _ _ _ _ _ _ c.from_residual-in_err-skip_to_index.ensures.1
+pub returns-in_err-skip_to_word-clause-answer : goal.returns-in_err-skip_to_word-clause-answer
+returns-in_err-skip_to_word-clause-answer g c =
+    word-propagated _ _ _ _ _ _ c.from_residual-in_err-skip_to_word.ensures.1
     (word_misplaced _ _ _ _
-    (rw (c.word_size.ensures, c.in_ok-input.ensures.ok) at c.in_err-skip_to_index.ensures.err))
+    (rw c.in_ok-input.ensures.ok at c.in_err-skip_to_word.ensures.err))
 
-pub returns-in_err-skip_to_index-clause-stable : goal.returns-in_err-skip_to_index-clause-stable
-returns-in_err-skip_to_index-clause-stable g c =
-    word-stays _ _ _ _ _ _ (returns-in_err-skip_to_index-clause-answer g c)
+pub returns-in_err-skip_to_word-clause-stable : goal.returns-in_err-skip_to_word-clause-stable
+returns-in_err-skip_to_word-clause-stable g c =
+    word-stays _ _ _ _ _ _ (returns-in_err-skip_to_word-clause-answer g c)
 
 pub returns-in_err-read_offset-clause-answer : goal.returns-in_err-read_offset-clause-answer
 returns-in_err-read_offset-clause-answer g c =
     word-propagated _ _ _ _ _ _ c.from_residual-in_err-read_offset.ensures.1
     (word_refused _ _ _ _ _ _
-    (rw (c.word_size.ensures, c.in_ok-input.ensures.ok) at c.in_ok-skip_to_index.ensures.placed)
-    (rw (c.word_size.ensures, c.in_ok-input.ensures.ok) at c.in_ok-skip_to_index.ensures.ok)
+    (rw c.in_ok-input.ensures.ok at c.in_ok-skip_to_word.ensures.placed)
+    (rw c.in_ok-input.ensures.ok at c.in_ok-skip_to_word.ensures.ok)
     c.in_err-read_offset.ensures.err)
 
 pub returns-in_err-read_offset-clause-stable : goal.returns-in_err-read_offset-clause-stable
@@ -26,8 +26,8 @@ returns-in_err-read_offset-clause-stable g c =
 pub returns-clause-answer : goal.returns-clause-answer
 returns-clause-answer g c =
     word_taken _ _ _ _ _ _
-    (rw (c.word_size.ensures, c.in_ok-input.ensures.ok) at c.in_ok-skip_to_index.ensures.placed)
-    (rw (c.word_size.ensures, c.in_ok-input.ensures.ok) at c.in_ok-skip_to_index.ensures.ok)
+    (rw c.in_ok-input.ensures.ok at c.in_ok-skip_to_word.ensures.placed)
+    (rw c.in_ok-input.ensures.ok at c.in_ok-skip_to_word.ensures.ok)
     c.in_ok-read_offset.ensures.ok c.in_ok-read_offset.ensures.in_range
 
 pub returns-clause-stable : goal.returns-clause-stable

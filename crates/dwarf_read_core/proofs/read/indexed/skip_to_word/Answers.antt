@@ -1,0 +1,20 @@
+use Rattle.std.proofs.Common.{◌*◌, ◌<◌, arith}
+use Rattle.dwarf_read_core.proofs.ResultLemmas.{propagated-err}
+use Rattle.dwarf_read_core.proofs.lookups.Words.{past_end_found, too_far_off}
+use Rattle.dwarf_read_core.proofs.read.indexed.skip_to_word.Goals as goal
+
+pub returns-in_err-length_before-clause-err : goal.returns-in_err-length_before-clause-err
+returns-in_err-length_before-clause-err g c =
+    let offset = g.R.Offset.ReaderOffset in
+    let over : offset.GREATEST < offset.value c.args.index * c.word_size-width.result =
+    omega (arith, c.in_err-length_before.ensures.1)
+    in
+    propagated-err _ _ c.from_residual-in_err-length_before.ensures.1
+    (rw c.in_err-length_before.ensures.0
+    (too_far_off _ _ _ _ c.in_ok-skip.ensures.ok (rw c.word_size-width.ensures at over)))
+
+pub returns-clause-err : goal.returns-clause-err
+returns-clause-err g c =
+    past_end_found _ _ _ _ _ _ _ c.in_ok-skip.ensures.ok
+    (rw c.word_size-width.ensures at c.in_ok-length_before.ensures.0)
+    (omega (arith, c.in_ok-length_before.ensures)) c.skip-2.ensures.err
