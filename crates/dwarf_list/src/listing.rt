@@ -5,27 +5,27 @@ ghost use Rattle.dwarf_list.specs.Listing.{Lists};
 
 use crate::command::Command;
 use dwarf_listing_core::{
-    abbreviations, abbreviations_strict, addresses, hex_line, string, string_offsets,
+    abbreviations, abbreviations_strict, addresses, hex_line, into_string, string_offsets,
 };
 use dwarf_read_core::Error;
 use dwarf_read_core::leb128::write::Leb128;
 use std::alloc::Global;
 
-/// Returns the text that a command prints of an input.
+/// Returns the text that a command prints of an input. A string becomes the text where it is.
 ///
 /// # Errors
 ///
 /// The section's error, or `OutOfMemory`.
-pub fn listing(mem: Global, command: Command, input: &[u8]) -> Result<Vec<u8>, Error>
-    ensures { ReturnsText (Lists command input.now) result }
+pub fn listing(mem: Global, command: Command, input: Vec<u8>) -> Result<Vec<u8>, Error>
+    ensures { ReturnsText (Lists command input.items) result }
 {
     match command {
-        Command::Abbrev(offset) => abbreviations(mem, input, offset),
-        Command::Str(offset) => string(mem, input, offset),
-        Command::Addr(endian) => addresses(mem, input, endian),
+        Command::Abbrev(offset) => abbreviations(mem, &input, offset),
+        Command::Str(offset) => into_string(input, offset),
+        Command::Addr(endian) => addresses(mem, &input, endian),
         Command::Uleb(value) => Ok(hex_line(mem, Leb128::unsigned(value).bytes())?),
         Command::Sleb(value) => Ok(hex_line(mem, Leb128::signed(value).bytes())?),
-        Command::AbbrevStrict(offset) => abbreviations_strict(mem, input, offset),
-        Command::StrOffsets(endian) => string_offsets(mem, input, endian),
+        Command::AbbrevStrict(offset) => abbreviations_strict(mem, &input, offset),
+        Command::StrOffsets(endian) => string_offsets(mem, &input, endian),
     }
 }

@@ -58,7 +58,7 @@ pub fn run<I: Read, O: Write>(
     } else {
         Vec::new(mem)
     };
-    let text = listing(mem, command, &bytes)?;
+    let text = listing(mem, command, bytes)?;
     write_output(output, &text)
 }
 

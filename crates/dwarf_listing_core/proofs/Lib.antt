@@ -2,3 +2,4 @@ pub mod Hexadecimal
 pub mod OneText
 pub mod SetLines
 pub mod SetTexts
+pub mod StringLines

@@ -23,6 +23,24 @@ pub fn string(mem: Global, section: &[u8], offset: u64) -> Result<Vec<u8>, Error
     Ok(text)
 }
 
+/// Returns what [`string`] returns, in the memory of the section itself. The bytes of the string are moved to its front,
+/// and the line's end takes the place of the zero behind them.
+///
+/// # Errors
+///
+/// That of [`DebugStr::get_str`], or `OutOfMemory`.
+pub fn into_string(mut section: Vec<u8>, offset: u64) -> Result<Vec<u8>, Error>
+    ensures { ReturnsText (ListsString section.items offset) result }
+{
+    let debug_str = DebugStr::new(&section, LittleEndian);
+    let start = offset as usize;
+    let len = debug_str.get_str(DebugStrOffset(start))?.slice().len();
+    section.truncate(start + len);
+    drop(section.drain(..start));
+    section.push(b'\n')?;
+    Ok(section)
+}
+
 /// Two hexadecimal digits of each byte, with a space between bytes, and a line's end.
 ///
 /// # Errors
