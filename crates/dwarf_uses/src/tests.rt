@@ -1,6 +1,6 @@
 //! All public calls, each by worked answers.
 
-use dwarf_read_core::{EndianSlice, Error, LittleEndian};
+use dwarf_read_core::{EndianSlice, Error, LittleEndian, Result};
 use std::alloc::Global;
 use std::fmt::Debug;
 use std::hash::{DefaultHasher, Hash, Hasher};
@@ -33,6 +33,14 @@ mod worked;
 // Ends the test where an answer isn't the one that is wanted, and tells of what it is the answer.
 fn same<T: PartialEq + Debug + Drop, W: Debug + Copy>(rt: &impl Abort, got: T, wanted: T, what: W) {
     assert_eq!(rt; got, wanted, "{what:?}");
+}
+
+// What four calls of an iterator's `next` return.
+type Four = [Result<Option<u64>>; 4];
+
+// The same of four answers. A test that calls this one has fewer types to prove.
+fn same_four(rt: &impl Abort, got: Four, wanted: Four, what: &str) {
+    same(rt, got, wanted, what);
 }
 
 // The error that bytes are missing at a position.

@@ -1,10 +1,10 @@
 //! Addresses by their index, and the sets of addresses.
 
 use super::worked::{CUT_SET, FOUR_ADDRESSES, TWO_SETS, twenty_words};
-use super::{eof, same};
+use super::{Four, eof, same, same_four};
 use dwarf_read_core::{
-    AddrEntryIter, AddrHeaderIter, DebugAddr, DebugAddrBase, DebugAddrIndex, EndianSlice, Error,
-    Format, Reader, ReaderOffset, ReaderOffsetId, Result, RunTimeEndian,
+    AddrEntryIter, AddrHeader, AddrHeaderIter, DebugAddr, DebugAddrBase, DebugAddrIndex,
+    EndianSlice, Error, Format, Reader, ReaderOffset, ReaderOffsetId, Result, RunTimeEndian,
 };
 use std::alloc::Global;
 use std::process::Abort;
@@ -110,7 +110,7 @@ fn fault_at(fault: Error, is_far: bool) -> Error {
 }
 
 // What four calls return of a section's sets: of each its length.
-fn next_lengths<R: Reader>(headers: &mut AddrHeaderIter<R>) -> [Result<Option<u64>>; 4] {
+fn next_lengths<R: Reader>(headers: &mut AddrHeaderIter<R>) -> Four {
     [
         next_length(headers),
         next_length(headers),
@@ -127,7 +127,7 @@ fn next_length<R: Reader>(headers: &mut AddrHeaderIter<R>) -> Result<Option<u64>
 }
 
 // What four calls return of a set's addresses.
-fn next_addresses<R: Reader>(entries: &mut AddrEntryIter<R>) -> [Result<Option<u64>>; 4] {
+fn next_addresses<R: Reader>(entries: &mut AddrEntryIter<R>) -> Four {
     [
         next_address(entries),
         next_address(entries),
@@ -140,11 +140,11 @@ fn next_address<R: Reader>(entries: &mut AddrEntryIter<R>) -> Result<Option<u64>
     entries.next()
 }
 
-pub(super) fn lengths_of<R: Reader>(section: &DebugAddr<R>) -> Result<[Result<Option<u64>>; 4]> {
+pub(super) fn lengths_of<R: Reader>(section: &DebugAddr<R>) -> Result<Four> {
     Ok(next_lengths(&mut section.headers()?))
 }
 
-fn lengths_at(bytes: &[u8], is_far: bool) -> Result<[Result<Option<u64>>; 4]> {
+fn lengths_at(bytes: &[u8], is_far: bool) -> Result<Four> {
     lengths_of(&section_at(bytes, RunTimeEndian::Little, is_far))
 }
 
@@ -187,20 +187,21 @@ fn first_faults_of_sets_are_returned(rt: HostRuntime) {
 // A set's offset, its length, its address size and its format.
 type Header = (u64, u64, u8, Format);
 
+// The next header, where there has to be one.
+fn next_header<R: Reader>(headers: &mut AddrHeaderIter<R>) -> Result<AddrHeader<R>> {
+    headers.next()?.ok_or(Error::NoEntryAtGivenOffset(0))
+}
+
 // The next set, and what four calls return of its addresses.
-fn next_set<R: Reader>(
-    headers: &mut AddrHeaderIter<R>,
-) -> Result<Option<(Header, [Result<Option<u64>>; 4])>> {
-    let Some(header) = headers.next()? else {
-        return Ok(None);
-    };
+fn next_set<R: Reader>(headers: &mut AddrHeaderIter<R>) -> Result<(Header, Four)> {
+    let header = next_header(headers)?;
     let encoding = header.encoding();
     let addresses = next_addresses(&mut header.entries()?);
     let (offset, length) = (header.offset().0.into_u64(), header.length().into_u64());
-    Ok(Some((
+    Ok((
         (offset, length, encoding.address_size, encoding.format),
         addresses,
-    )))
+    ))
 }
 
 // Bytes, whether the first position is 100, and the sets.
@@ -261,7 +262,7 @@ fn check_sets<R: Reader>(
 ) -> Result<()> {
     let mut headers = section.headers()?;
     for (wanted, addresses) in sets {
-        let (header, found) = next_set(&mut headers)?.ok_or(Error::NoEntryAtGivenOffset(wanted.0))?;
+        let (header, found) = next_set(&mut headers)?;
         same(rt, header, *wanted, "a set");
         same(rt, found.as_slice(), *addresses, "its addresses");
     }
@@ -277,18 +278,24 @@ fn sets_are_walked(rt: HostRuntime) {
     }
 }
 
+// Appends the addresses of a set, up to the first fault.
+fn append<R: Reader>(header: &AddrHeader<R>, addresses: &mut Vec<u64>) -> Result<()> {
+    for address in header.entries()? {
+        addresses.push(address?)?;
+    }
+    Ok(())
+}
+
 // Appends the addresses of a section's sets, up to the first fault.
 pub(super) fn walk<R: Reader>(section: &DebugAddr<R>, addresses: &mut Vec<u64>) -> Result<()> {
     for header in section.headers()? {
-        for address in header?.entries()? {
-            addresses.push(address?)?;
-        }
+        append(&header?, addresses)?;
     }
     Ok(())
 }
 
 // Ends the test where a section's sets have other addresses, or another fault.
-pub(super) fn check_walk<R: Reader>(
+fn check_walk<R: Reader>(
     rt: &impl Abort,
     mem: Global,
     section: &DebugAddr<R>,
@@ -352,8 +359,8 @@ fn check_clones<R: Reader + Clone>(rt: &impl Abort, section: &DebugAddr<R>) -> R
     next_length(&mut headers)?;
     let mut copy = headers.clone()?;
     let left = [Ok(Some(20)), Ok(None), Ok(None), Ok(None)];
-    let found = [next_lengths(&mut headers), next_lengths(&mut copy)];
-    same(rt, found, [left; 2], "headers");
+    same_four(rt, next_lengths(&mut headers), left, "headers");
+    same_four(rt, next_lengths(&mut copy), left, "a copy of headers");
     Ok(())
 }
 
@@ -362,23 +369,33 @@ fn check_cloned_set<R: Reader + Clone + PartialEq>(
     section: &DebugAddr<R>,
 ) -> Result<()> {
     let mut headers = section.headers()?;
-    let first = headers.next()?.ok_or(Error::NoEntryAtGivenOffset(0))?;
-    let second = headers.next()?.ok_or(Error::NoEntryAtGivenOffset(16))?;
+    let (first, second) = (next_header(&mut headers)?, next_header(&mut headers)?);
     let copy = second.clone()?;
     let are_equal = (second == copy, second == first);
     same(rt, are_equal, (true, false), "a header");
-    let mut entries = second.entries()?;
+    check_cloned_entries(rt, &second)
+}
+
+fn check_cloned_entries<R: Reader + Clone>(rt: &impl Abort, header: &AddrHeader<R>) -> Result<()> {
+    let mut entries = header.entries()?;
     next_address(&mut entries)?;
     let mut copy = entries.clone()?;
     let left = [Ok(Some(FOUR_ADDRESSES[3])), Ok(None), Ok(None), Ok(None)];
-    let found = [next_addresses(&mut entries), next_addresses(&mut copy)];
-    same(rt, found, [left; 2], "entries");
+    same_four(rt, next_addresses(&mut entries), left, "entries");
+    same_four(rt, next_addresses(&mut copy), left, "a copy of entries");
     Ok(())
+}
+
+fn check_all_clones<R: Reader + Clone + PartialEq>(
+    rt: &impl Abort,
+    section: &DebugAddr<R>,
+) -> Result<()> {
+    check_clones(rt, section)?;
+    check_cloned_set(rt, section)
 }
 
 #[test]
 fn clones_go_on_alike(rt: HostRuntime) {
     let section = section_at(TWO_SETS, RunTimeEndian::Little, false);
-    same(&rt, check_clones(&rt, &section), Ok(()), "sets");
-    same(&rt, check_cloned_set(&rt, &section), Ok(()), "addresses");
+    same(&rt, check_all_clones(&rt, &section), Ok(()), "clones");
 }

@@ -5,52 +5,74 @@ use super::worked::{FOUR_ADDRESSES, STRINGS, THREE, TWO_SETS, UNIT};
 use crate::callers::{addresses_in, string_by_index, table_lengths, table_text, tag_of};
 use dwarf_read_core::constants::{DW_TAG_compile_unit, DwTag};
 use dwarf_read_core::{
-    DebugAbbrev, DebugAbbrevOffset, DebugAddr, DebugStr, DebugStrOffsets, DebugStrOffsetsBase,
-    DebugStrOffsetsIndex, EndianSlice, Format, LittleEndian,
+    Abbreviations, DebugAbbrev, DebugAbbrevOffset, DebugAddr, DebugStr, DebugStrOffsets,
+    DebugStrOffsetsBase, DebugStrOffsetsIndex, EndianSlice, Format, LittleEndian, Reader,
+    ReaderOffset, Result,
 };
+use std::alloc::Global;
+use std::process::Abort;
 use std::test::Fail;
+
+fn check_tags(rt: &impl Abort, table: &Abbreviations) {
+    let none: Option<DwTag> = None;
+    same(rt, tag_of(table, 1), Some(DW_TAG_compile_unit), "code 1");
+    same(rt, tag_of(table, 2), none, "code 2");
+}
+
+// Ends the test where the table at 0 isn't the one of one unit.
+fn check_unit<R: Reader>(rt: &impl Abort, mem: Global, section: &DebugAbbrev<R>) -> Result<()> {
+    let offset = DebugAbbrevOffset(R::Offset::from_u8(0));
+    check_tags(rt, &section.abbreviations(mem, offset)?);
+    let text = table_text(mem, section, offset)?;
+    let wanted = "1 DW_TAG_compile_unit\n  DW_AT_name DW_FORM_string\n";
+    same(rt, text.as_str(), wanted, "text");
+    Ok(())
+}
+
+// The lengths of the tables at 0, at 5, and at 0 again.
+fn lengths(mem: Global, bytes: &[u8]) -> Result<Vec<usize>> {
+    let (first, second) = (DebugAbbrevOffset(0), DebugAbbrevOffset(5));
+    let section = DebugAbbrev::new(bytes, LittleEndian);
+    table_lengths(mem, &section, &[first, second, first])
+}
 
 #[test]
 fn tables_are_walked(rt: HostRuntime) -> std::result::Result<(), Fail> {
     let mem = rt.alloc();
-    let section = DebugAbbrev::new(UNIT, LittleEndian);
-    let table = section.abbreviations(mem, DebugAbbrevOffset(0))?;
-    let none: Option<DwTag> = None;
-    same(&rt, tag_of(&table, 1), Some(DW_TAG_compile_unit), "code 1");
-    same(&rt, tag_of(&table, 2), none, "code 2");
-    let text = table_text(mem, &section, DebugAbbrevOffset(0))?;
-    let wanted = "1 DW_TAG_compile_unit\n  DW_AT_name DW_FORM_string\n";
-    same(&rt, text.as_str(), wanted, "text");
-    let section = DebugAbbrev::new(THREE, LittleEndian);
-    let units = [
-        DebugAbbrevOffset(0),
-        DebugAbbrevOffset(5),
-        DebugAbbrevOffset(0),
-    ];
-    let lengths = table_lengths(mem, &section, &units)?;
+    check_unit(&rt, mem, &DebugAbbrev::new(UNIT, LittleEndian))?;
+    let lengths = lengths(mem, THREE)?;
     same(&rt, lengths.as_slice(), [3, 2, 3].as_slice(), "lengths");
     Ok(())
 }
 
-#[test]
-fn sections_are_looked_up(rt: HostRuntime) -> std::result::Result<(), Fail> {
-    let mem = rt.alloc();
-    let offsets = b"\x0c\0\0\0\x05\0\0\0\0\0\0\0\x04\0\0\0";
-    let offsets = DebugStrOffsets::from(EndianSlice::new(offsets, LittleEndian));
+const OFFSETS: &[u8] = b"\x0c\0\0\0\x05\0\0\0\0\0\0\0\x04\0\0\0";
+
+fn string_at(index: usize) -> Result<&'static [u8]> {
+    let offsets = DebugStrOffsets::from(EndianSlice::new(OFFSETS, LittleEndian));
     let strings = DebugStr::new(STRINGS, LittleEndian);
-    let (base, index) = (DebugStrOffsetsBase(8), DebugStrOffsetsIndex(1));
-    let string = string_by_index(&offsets, &strings, Format::Dwarf32, base, index)?;
-    same(&rt, string.slice(), b"two", "string 1");
-    let sets = DebugAddr::from(EndianSlice::new(TWO_SETS, LittleEndian));
+    let (base, index) = (DebugStrOffsetsBase(8), DebugStrOffsetsIndex(index));
+    Ok(string_by_index(&offsets, &strings, Format::Dwarf32, base, index)?.slice())
+}
+
+// The addresses of all sets.
+fn addresses<R: Reader>(mem: Global, sets: &DebugAddr<R>) -> Result<Vec<u64>> {
     let mut addresses = Vec::new(mem);
     for header in sets.headers()? {
         for address in addresses_in(mem, &header?)? {
             addresses.push(address)?;
         }
     }
+    Ok(addresses)
+}
+
+#[test]
+fn sections_are_looked_up(rt: HostRuntime) -> std::result::Result<(), Fail> {
+    same(&rt, string_at(1), Ok(b"two".as_slice()), "string 1");
+    let sets = DebugAddr::from(EndianSlice::new(TWO_SETS, LittleEndian));
+    let found = addresses(rt.alloc(), &sets)?;
     same(
         &rt,
-        addresses.as_slice(),
+        found.as_slice(),
         FOUR_ADDRESSES.as_slice(),
         "addresses",
     );

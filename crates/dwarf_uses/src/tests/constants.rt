@@ -90,9 +90,16 @@ fn codes_are_as_published(rt: HostRuntime) {
     check_rows(&rt, mem, codes::ADDRESS_CLASSES);
 }
 
+// Each name is the one that is wanted.
+fn check_names(rt: &impl Abort, names: &[(Option<&str>, &str)]) {
+    for (name, wanted) in names {
+        same(rt, *name, Some(*wanted), wanted);
+    }
+}
+
 #[test]
-fn each_type_names_its_values(rt: HostRuntime) {
-    for (name, wanted) in [
+fn numbers_of_two_bytes_name_their_values(rt: HostRuntime) {
+    let names = [
         (DW_AT_null.static_string(), "DW_AT_null"),
         (DW_TAG_null.static_string(), "DW_TAG_null"),
         (DW_FORM_null.static_string(), "DW_FORM_null"),
@@ -100,6 +107,14 @@ fn each_type_names_its_values(rt: HostRuntime) {
         (DW_IDX_compile_unit.static_string(), "DW_IDX_compile_unit"),
         (DW_LNCT_path.static_string(), "DW_LNCT_path"),
         (DW_OP_addr.static_string(), "DW_OP_addr"),
+    ];
+    check_names(&rt, &names);
+    same(&rt, DwTag(0x1234).static_string(), None, "no tag");
+}
+
+#[test]
+fn codes_name_their_values(rt: HostRuntime) {
+    let names = [
         (DW_UT_compile.static_string(), "DW_UT_compile"),
         (DW_CFA_nop.static_string(), "DW_CFA_nop"),
         (DW_CHILDREN_no.static_string(), "DW_CHILDREN_no"),
@@ -112,6 +127,13 @@ fn each_type_names_its_values(rt: HostRuntime) {
         (DW_VIRTUALITY_none.static_string(), "DW_VIRTUALITY_none"),
         (DW_ID_case_sensitive.static_string(), "DW_ID_case_sensitive"),
         (DW_CC_normal.static_string(), "DW_CC_normal"),
+    ];
+    check_names(&rt, &names);
+}
+
+#[test]
+fn later_codes_name_their_values(rt: HostRuntime) {
+    let names = [
         (DW_INL_not_inlined.static_string(), "DW_INL_not_inlined"),
         (DW_ORD_row_major.static_string(), "DW_ORD_row_major"),
         (DW_DSC_label.static_string(), "DW_DSC_label"),
@@ -133,10 +155,8 @@ fn each_type_names_its_values(rt: HostRuntime) {
             DW_CFA_AARCH64_negate_ra_state.static_string(),
             "DW_CFA_GNU_window_save",
         ),
-    ] {
-        same(&rt, name, Some(wanted), wanted);
-    }
-    same(&rt, DwTag(0x1234).static_string(), None, "no tag");
+    ];
+    check_names(&rt, &names);
 }
 
 #[test]

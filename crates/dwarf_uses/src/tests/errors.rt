@@ -3,7 +3,8 @@
 use super::same;
 use dwarf_read_core::constants::*;
 use dwarf_read_core::{Error, ReaderOffsetId};
-use std::alloc::{AllocError, AllocFailed};
+use std::alloc::{AllocError, AllocFailed, Global};
+use std::process::Abort;
 use std::test::Fail;
 
 static TEXTS: &[(Error, &str)] = &[
@@ -250,15 +251,21 @@ static TEXTS: &[(Error, &str)] = &[
     ),
 ];
 
+// Each error has its text, whatever the width that is asked for.
+fn check_texts(rt: &impl Abort, mem: Global, texts: &[(Error, &str)]) -> Result<(), AllocError> {
+    for (error, text) in texts {
+        let plain = format!(in mem; "{error}")?;
+        same(rt, plain.as_str(), *text, text);
+        let padded = format!(in mem; "{error:*>90}")?;
+        same(rt, padded.as_str(), *text, text);
+    }
+    same(rt, texts.len(), 79, "errors");
+    Ok(())
+}
+
 #[test]
 fn texts_are_as_published(rt: HostRuntime) -> Result<(), Fail> {
-    for (error, text) in TEXTS {
-        let plain = format!(in rt.alloc(); "{error}")?;
-        same(&rt, plain.as_str(), *text, text);
-        let padded = format!(in rt.alloc(); "{error:*>90}")?;
-        same(&rt, padded.as_str(), *text, text);
-    }
-    same(&rt, TEXTS.len(), 79, "errors");
+    check_texts(&rt, rt.alloc(), TEXTS)?;
     Ok(())
 }
 

@@ -9,6 +9,7 @@ use dwarf_read_core::{
     DebugAddr, DebugStr, DebugStrOffset, DebugStrOffsets, EndianSlice, Endianity, Error,
     LittleEndian, Reader, ReaderAddress, ReaderOffset, ReaderOffsetId, Result, Section,
 };
+use std::fmt::Display;
 use std::test::Fail;
 
 // The end of a part, at any type of offsets.
@@ -34,7 +35,10 @@ fn examples_of_numbers(rt: HostRuntime) {
     same(&rt, past, Err(Error::AddressOverflow), "past");
     same(&rt, wrapped, 0, "wrapped");
     same(&rt, end_of(2u32, 3), Ok(5), "end of a part");
+}
 
+#[test]
+fn examples_of_leb128(rt: HostRuntime) {
     let number = Leb128::unsigned(12857);
     assert_eq!(rt; number.bytes(), [0xb9, 0x64].as_slice());
 
@@ -50,8 +54,13 @@ fn examples_of_tables(rt: HostRuntime) -> std::result::Result<(), Fail> {
     let table = section.abbreviations(mem, DebugAbbrevOffset(0))?;
     let tag = table.get(1).map(|abbreviation| abbreviation.tag());
     same(&rt, tag, Some(DW_TAG_compile_unit), "tag");
+    Ok(())
+}
 
-    let debug_abbrev = section;
+#[test]
+fn examples_of_caches(rt: HostRuntime) -> std::result::Result<(), Fail> {
+    let mem = rt.alloc();
+    let debug_abbrev = DebugAbbrev::new(UNIT, LittleEndian);
     let offsets = [DebugAbbrevOffset(0), DebugAbbrevOffset(0)]
         .into_iter()
         .map(Ok);
@@ -75,26 +84,44 @@ fn find_section(name: &str) -> Result<EndianSlice<'static, LittleEndian>> {
 #[test]
 fn examples_of_sections(rt: HostRuntime) -> std::result::Result<(), Fail> {
     let debug_str = DebugStr::load(|id| find_section(id.name()))?;
-    same(
-        &rt,
-        debug_str.get_str(DebugStrOffset(4))?.slice(),
-        b"two",
-        "string",
-    );
+    let string = debug_str.get_str(DebugStrOffset(4))?;
+    same(&rt, string.slice(), b"two", "string");
+    Ok(())
+}
 
-    let section = DebugAddr::from(EndianSlice::new(TWO_SETS, LittleEndian));
+fn print_addresses<R: Reader>(
+    rt: &impl Print,
+    section: &DebugAddr<R>,
+) -> std::result::Result<(), Fail> {
     for header in section.headers()? {
         for address in header?.entries()? {
             println!(rt; "{:#x}", address?)?;
         }
     }
+    Ok(())
+}
 
-    let offsets = b"\x08\0\0\0\x05\0\0\0\x04\0\0\0";
-    let section = DebugStrOffsets::from(EndianSlice::new(offsets, LittleEndian));
+fn print_offsets<R: Reader>(
+    rt: &impl Print,
+    section: &DebugStrOffsets<R>,
+) -> std::result::Result<(), Fail>
+where
+    R::Offset: Display,
+{
     for header in section.headers()? {
         for offset in header?.entries()? {
             println!(rt; "{}", offset?.0)?;
         }
     }
+    Ok(())
+}
+
+#[test]
+fn examples_of_sets(rt: HostRuntime) -> std::result::Result<(), Fail> {
+    let section = DebugAddr::from(EndianSlice::new(TWO_SETS, LittleEndian));
+    print_addresses(&rt, &section)?;
+    let offsets = b"\x08\0\0\0\x05\0\0\0\x04\0\0\0";
+    let section = DebugStrOffsets::from(EndianSlice::new(offsets, LittleEndian));
+    print_offsets(&rt, &section)?;
     Ok(())
 }

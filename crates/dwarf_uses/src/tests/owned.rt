@@ -1,6 +1,6 @@
 //! The owned reader: 32-bit offsets, and clones that are refused.
 
-use super::addresses::{check_walk, lengths_of, walk};
+use super::addresses::{lengths_of, walk};
 use super::worked::{FOUR_ADDRESSES, STRINGS, TWO_SETS, UNIT};
 use super::{end_requests, eof, same};
 use crate::OwnedReader;
@@ -29,19 +29,31 @@ fn constants_tell_of_clones(rt: HostRuntime) {
     same(&rt, constants, (true, false), "slices and owned bytes");
 }
 
+// Ends the test where the strings one and two aren't there, or one has a clone.
+fn check_parts<R: Reader>(rt: &impl Abort, mem: Global, mut strings: R) -> Result<()> {
+    let one = strings.read_null_terminated_slice()?;
+    same(rt, strings.offset_id().0, 4, "behind one");
+    check_one(rt, mem, one)?;
+    let two = strings.split(R::Offset::from_u8(3))?;
+    same(rt, two.to_slice()?.as_slice(), b"two".as_slice(), "two");
+    Ok(())
+}
+
+fn check_one<R: Reader>(rt: &impl Abort, mem: Global, mut one: R) -> Result<()> {
+    same(rt, one.len().into_u64(), 3, "one");
+    same(rt, one.try_clone().err(), Some(Error::OutOfMemory), "one");
+    let part = one.split(R::Offset::from_u8(1));
+    same(rt, part.err(), Some(Error::OutOfMemory), "one");
+    same(rt, one.offset_id().0, 0, "one");
+    same(rt, one.to_string_lossy(mem)?.as_str(), "one", "one");
+    same(rt, read_u8_array::<_, 3>(&mut one)?, *b"one", "one");
+    Ok(())
+}
+
 #[test]
 fn parts_have_one_clone_fewer(rt: HostRuntime) -> std::result::Result<(), Fail> {
-    let mut strings = owned(rt.alloc(), b"one\0two\0", 1)?;
-    let mut one = strings.read_null_terminated_slice()?;
-    same(&rt, one.len(), 3, "one");
-    same(&rt, strings.offset_id().0, 4, "behind one");
-    same(&rt, one.try_clone().err(), Some(Error::OutOfMemory), "one");
-    same(&rt, one.split(1).err(), Some(Error::OutOfMemory), "one");
-    same(&rt, one.offset_id().0, 0, "one");
-    same(&rt, one.to_string_lossy(rt.alloc())?.as_str(), "one", "one");
-    same(&rt, read_u8_array::<_, 3>(&mut one)?, *b"one", "one");
-    let two = strings.split(3)?;
-    same(&rt, two.to_slice()?.as_slice(), b"two".as_slice(), "two");
+    let strings = owned(rt.alloc(), b"one\0two\0", 1)?;
+    check_parts(&rt, rt.alloc(), strings)?;
     Ok(())
 }
 
@@ -106,13 +118,17 @@ fn check_depths<T: PartialEq + Debug + Copy>(
     assert!(rt; !is_refused, "{what} at any depth");
 }
 
-fn code_in_table(mem: Global, depth: u8) -> Result<Option<u64>> {
-    let section = DebugAbbrev::from(owned(mem, UNIT, depth)?);
-    let table = section.abbreviations(mem, DebugAbbrevOffset(0))?;
+// The first code of the table at 0.
+fn first_code<R: Reader>(mem: Global, section: &DebugAbbrev<R>) -> Result<Option<u64>> {
+    let table = section.abbreviations(mem, DebugAbbrevOffset(R::Offset::from_u8(0)))?;
     match table.iter().next() {
         Some(abbreviation) => Ok(Some(abbreviation.code())),
         None => Ok(None),
     }
+}
+
+fn code_in_table(mem: Global, depth: u8) -> Result<Option<u64>> {
+    first_code(mem, &DebugAbbrev::from(owned(mem, UNIT, depth)?))
 }
 
 // The first three bytes of a string, and its position.
@@ -131,10 +147,15 @@ fn second_address(mem: Global, depth: u8) -> Result<u64> {
     section.get_address(4, DebugAddrBase(8), DebugAddrIndex(1))
 }
 
+// Appends the addresses of all sets, up to the first fault.
+fn append(addresses: &DebugAddr<Owned>, found: &mut Vec<u64>) -> Result<()> {
+    walk(addresses, found)
+}
+
 // How many addresses all sets have.
 fn count_of_addresses(mem: Global, depth: u8) -> Result<usize> {
     let mut found = Vec::new(mem);
-    walk(&addresses(mem, TWO_SETS, depth)?, &mut found)?;
+    append(&addresses(mem, TWO_SETS, depth)?, &mut found)?;
     Ok(found.len())
 }
 
@@ -177,8 +198,10 @@ fn refused_clones_end_a_walk(rt: HostRuntime) -> std::result::Result<(), Fail> {
     same(&rt, lengths(mem, TWO_SETS, 1), Ok(sets), "1");
     let fault = fault_of_entries(&addresses(mem, TWO_SETS, 2)?);
     same(&rt, fault, Ok(Some(Error::OutOfMemory)), "2");
-    let section = addresses(mem, TWO_SETS, 3)?;
-    check_walk(&rt, mem, &section, &FOUR_ADDRESSES, Ok(()));
+    let mut found = Vec::new(mem);
+    let outcome = append(&addresses(mem, TWO_SETS, 3)?, &mut found);
+    same(&rt, outcome, Ok(()), "3");
+    same(&rt, found.as_slice(), FOUR_ADDRESSES.as_slice(), "3");
     Ok(())
 }
 
@@ -189,7 +212,7 @@ fn refused_memory_for_clones(rt: HostRuntime) {
     let mem = rt.alloc();
     if let Ok(section) = addresses(mem, TWO_SETS, 3) {
         let mut found = Vec::new(mem);
-        let outcome = walk(&section, &mut found);
+        let outcome = append(&section, &mut found);
         let count = found.len().min(4);
         same(&rt, found.as_slice(), &FOUR_ADDRESSES[..count], "sets");
         match outcome {

@@ -12,6 +12,7 @@ use dwarf_read_core::{
     RangeListsOffset, RawRangeListsOffset, ReaderOffsetId, Register, RunTimeEndian, SectionId,
     StoreOnHeap, UnitOffset, UnitSectionOffset, Vendor,
 };
+use std::alloc::Global;
 use std::fmt::Debug;
 use std::hash::Hash;
 use std::mem::size_of;
@@ -244,9 +245,15 @@ fn offsets_and_sections_are_ordered(rt: HostRuntime) {
     are_rising(&rt, &sections, "SectionId");
 }
 
+fn are_two_bytes(rt: &impl Abort, sizes: &[(usize, &str)]) {
+    for (size, name) in sizes {
+        same(rt, *size, 2, name);
+    }
+}
+
 #[test]
 fn offsets_are_as_wide_as_their_field(rt: HostRuntime) {
-    for (size, name) in [
+    let sizes = [
         (size_of::<DebugAddrOffset<u16>>(), "DebugAddrOffset"),
         (size_of::<DebugAddrBase<u16>>(), "DebugAddrBase"),
         (size_of::<DebugAddrIndex<u16>>(), "DebugAddrIndex"),
@@ -263,6 +270,13 @@ fn offsets_are_as_wide_as_their_field(rt: HostRuntime) {
             size_of::<DebugStrOffsetsIndex<u16>>(),
             "DebugStrOffsetsIndex",
         ),
+    ];
+    are_two_bytes(&rt, &sizes);
+}
+
+#[test]
+fn more_offsets_are_as_wide_as_their_field(rt: HostRuntime) {
+    let sizes = [
         (size_of::<DebugAbbrevOffset<u16>>(), "DebugAbbrevOffset"),
         (size_of::<LocationListsOffset<u16>>(), "LocationListsOffset"),
         (size_of::<DebugMacinfoOffset<u16>>(), "DebugMacinfoOffset"),
@@ -277,9 +291,12 @@ fn offsets_are_as_wide_as_their_field(rt: HostRuntime) {
         (size_of::<UnitSectionOffset<u16>>(), "UnitSectionOffset"),
         (size_of::<UnitOffset<u16>>(), "UnitOffset"),
         (size_of::<Register>(), "Register"),
-    ] {
-        same(&rt, size, 2, name);
-    }
+    ];
+    are_two_bytes(&rt, &sizes);
+}
+
+#[test]
+fn identifiers_have_eight_bytes(rt: HostRuntime) {
     let sizes = [
         size_of::<ReaderOffsetId>(),
         size_of::<DebugTypeSignature>(),
@@ -294,32 +311,24 @@ fn offsets_are_as_wide_as_their_field(rt: HostRuntime) {
     same(&rt, sizes, [0; 3], "types with one value");
 }
 
+// The derived text of a value is the one that is wanted.
+fn is_told<T: Debug>(rt: &impl Abort, mem: Global, value: &T, wanted: &str) -> Result<(), Fail> {
+    let text = format!(in mem; "{value:?}")?;
+    same(rt, text.as_str(), wanted, wanted);
+    Ok(())
+}
+
 #[test]
 fn derived_texts_tell_the_fields(rt: HostRuntime) -> Result<(), Fail> {
     let mem = rt.alloc();
-    let encoding = encoding(8, 5);
+    let fields = "Encoding { address_size: 8, format: Dwarf32, version: 5 }";
+    is_told(&rt, mem, &encoding(8, 5), fields)?;
     let error = Error::UnexpectedEof(ReaderOffsetId(5));
-    for (text, wanted) in [
-        (
-            format!(in mem; "{encoding:?}")?,
-            "Encoding { address_size: 8, format: Dwarf32, version: 5 }",
-        ),
-        (
-            format!(in mem; "{error:?}")?,
-            "UnexpectedEof(ReaderOffsetId(5))",
-        ),
-        (
-            format!(in mem; "{:?}", DebugAbbrevOffset(7usize))?,
-            "DebugAbbrevOffset(7)",
-        ),
-        (
-            format!(in mem; "{:?} {:?} {:?}", StoreOnHeap, Vendor::AArch64, BigEndian)?,
-            "StoreOnHeap AArch64 BigEndian",
-        ),
-    ] {
-        same(&rt, text.as_str(), wanted, wanted);
-    }
-    Ok(())
+    is_told(&rt, mem, &error, "UnexpectedEof(ReaderOffsetId(5))")?;
+    is_told(&rt, mem, &DebugAbbrevOffset(7usize), "DebugAbbrevOffset(7)")?;
+    is_told(&rt, mem, &StoreOnHeap, "StoreOnHeap")?;
+    is_told(&rt, mem, &Vendor::AArch64, "AArch64")?;
+    is_told(&rt, mem, &BigEndian, "BigEndian")
 }
 
 #[test]

@@ -1,12 +1,13 @@
 //! The sets of string offsets.
 
+use super::strings::offset_at;
 use super::worked::twenty_words;
-use super::{eof, same};
+use super::{Four, eof, same, same_four};
 use crate::OwnedReader;
 use dwarf_read_core::{
-    DebugStrOffset, DebugStrOffsets, DebugStrOffsetsBase, DebugStrOffsetsIndex, EndianSlice, Error,
-    Format, LittleEndian, Reader, ReaderOffset, ReaderOffsetId, Result, RunTimeEndian,
-    StrOffsetsEntryIter, StrOffsetsHeaderIter,
+    DebugStrOffsets, EndianSlice, Error, Format, LittleEndian, Reader, ReaderOffset,
+    ReaderOffsetId, Result, RunTimeEndian, StrOffsetsEntryIter, StrOffsetsHeader,
+    StrOffsetsHeaderIter,
 };
 use std::alloc::Global;
 use std::process::Abort;
@@ -109,13 +110,18 @@ fn twenty_offsets_are_walked(rt: HostRuntime) -> std::result::Result<(), Fail> {
 }
 
 // What four calls return of a section's sets: of each its length.
-fn next_lengths<R: Reader>(headers: &mut StrOffsetsHeaderIter<R>) -> [Result<Option<u64>>; 4] {
+fn next_lengths<R: Reader>(headers: &mut StrOffsetsHeaderIter<R>) -> Four {
     [
         next_length(headers),
         next_length(headers),
         next_length(headers),
         next_length(headers),
     ]
+}
+
+// The next header, where there has to be one.
+fn next_header<R: Reader>(headers: &mut StrOffsetsHeaderIter<R>) -> Result<StrOffsetsHeader<R>> {
+    headers.next()?.ok_or(Error::NoEntryAtGivenOffset(0))
 }
 
 fn next_length<R: Reader>(headers: &mut StrOffsetsHeaderIter<R>) -> Result<Option<u64>> {
@@ -126,7 +132,7 @@ fn next_length<R: Reader>(headers: &mut StrOffsetsHeaderIter<R>) -> Result<Optio
 }
 
 // What four calls return of a set's offsets.
-fn next_offsets<R: Reader>(entries: &mut StrOffsetsEntryIter<R>) -> [Result<Option<u64>>; 4] {
+fn next_offsets<R: Reader>(entries: &mut StrOffsetsEntryIter<R>) -> Four {
     [
         next_offset(entries),
         next_offset(entries),
@@ -161,11 +167,19 @@ static SET_FAULTS: &[(&[u8], Error)] = &[
     (b"\x03\0\0\0\x05\0\0", eof!(106)),
 ];
 
-// What four calls return of the sets of at most a hundred bytes.
-fn lengths_at_100(bytes: &[u8]) -> Result<[Result<Option<u64>>; 4]> {
+// What four calls return of a section's sets, and of its first set's offsets.
+type Answers = (Result<Four>, Result<Four>);
+
+fn answers_of<R: Reader>(section: &DebugStrOffsets<R>) -> Answers {
+    (lengths_of(section), offsets_of(section))
+}
+
+// The answers of a section of at most a hundred bytes, whose first position is this one.
+fn answers_at(bytes: &[u8], first: u8) -> Answers {
     let bytes = &bytes[..bytes.len().min(100)];
-    let reader = EndianSlice::with_first_id(bytes, RunTimeEndian::Little, ReaderOffsetId(100));
-    lengths_of(&DebugStrOffsets::from(reader))
+    let first = ReaderOffsetId(u64::from(first));
+    let reader = EndianSlice::with_first_id(bytes, RunTimeEndian::Little, first);
+    answers_of(&DebugStrOffsets::from(reader))
 }
 
 // No set follows a fault.
@@ -173,12 +187,12 @@ fn lengths_at_100(bytes: &[u8]) -> Result<[Result<Option<u64>>; 4]> {
 fn first_faults_are_returned(rt: HostRuntime) {
     for (bytes, fault) in SET_FAULTS {
         let wanted = [Err(*fault), Ok(None), Ok(None), Ok(None)];
-        same(&rt, lengths_at_100(bytes), Ok(wanted), bytes);
+        same(&rt, answers_at(bytes, 100).0, Ok(wanted), bytes);
     }
 }
 
 // What four calls return of the first set's offsets.
-fn offsets_of<R: Reader>(section: &DebugStrOffsets<R>) -> Result<[Result<Option<u64>>; 4]> {
+fn offsets_of<R: Reader>(section: &DebugStrOffsets<R>) -> Result<Four> {
     match section.headers()?.next()? {
         Some(header) => Ok(next_offsets(&mut header.entries()?)),
         None => Err(Error::NoEntryAtGivenOffset(0)),
@@ -186,31 +200,29 @@ fn offsets_of<R: Reader>(section: &DebugStrOffsets<R>) -> Result<[Result<Option<
 }
 
 // What four calls return of the sets.
-fn lengths_of<R: Reader>(section: &DebugStrOffsets<R>) -> Result<[Result<Option<u64>>; 4]> {
+fn lengths_of<R: Reader>(section: &DebugStrOffsets<R>) -> Result<Four> {
     Ok(next_lengths(&mut section.headers()?))
 }
 
 #[test]
 fn faults_end_a_set(rt: HostRuntime) {
-    let section = little_section(CUT_SET);
+    let (lengths, offsets) = answers_at(CUT_SET, 0);
     let cut = [Err(eof(8)), Ok(None), Ok(None), Ok(None)];
-    same(&rt, offsets_of(&section), Ok(cut), "offsets");
+    same(&rt, offsets, Ok(cut), "offsets");
     let sets = [Ok(Some(6)), Ok(None), Ok(None), Ok(None)];
-    same(&rt, lengths_of(&section), Ok(sets), "sets");
+    same(&rt, lengths, Ok(sets), "sets");
 }
 
 // The offsets that a walk finds, each by its set's base and its index.
 #[test]
 fn entries_are_found_by_their_index(rt: HostRuntime) {
-    let section = little_section(TWO_SETS);
     for (format, base, index, wanted) in [
         (Format::Dwarf32, 8, 0, 1000),
         (Format::Dwarf32, 8, 1, 1001),
         (Format::Dwarf64, 32, 0, 1000),
     ] {
-        let (base, index) = (DebugStrOffsetsBase(base), DebugStrOffsetsIndex(index));
-        let offset = section.get_str_offset(format, base, index);
-        same(&rt, offset, Ok(DebugStrOffset(wanted)), (base, index));
+        let offset = offset_at(TWO_SETS, RunTimeEndian::Little, format, base, index);
+        same(&rt, offset, Ok(wanted), (base, index));
     }
 }
 
@@ -220,8 +232,8 @@ fn check_clones<R: Reader + Clone>(rt: &impl Abort, section: &DebugStrOffsets<R>
     same(rt, next_length(&mut headers), Ok(Some(12)), "headers");
     let mut copy = headers.clone()?;
     let left = [Ok(Some(12)), Ok(None), Ok(None), Ok(None)];
-    let found = [next_lengths(&mut headers), next_lengths(&mut copy)];
-    same(rt, found, [left; 2], "headers");
+    same_four(rt, next_lengths(&mut headers), left, "headers");
+    same_four(rt, next_lengths(&mut copy), left, "a copy of headers");
     Ok(())
 }
 
@@ -230,8 +242,7 @@ fn check_cloned_set<R: Reader + Clone + PartialEq>(
     section: &DebugStrOffsets<R>,
 ) -> Result<()> {
     let mut headers = section.headers()?;
-    let first = headers.next()?.ok_or(Error::NoEntryAtGivenOffset(0))?;
-    let second = headers.next()?.ok_or(Error::NoEntryAtGivenOffset(16))?;
+    let (first, second) = (next_header(&mut headers)?, next_header(&mut headers)?);
     let copy = first.clone()?;
     let are_equal = (first == copy, first == second);
     same(rt, are_equal, (true, false), "a header");
@@ -239,16 +250,23 @@ fn check_cloned_set<R: Reader + Clone + PartialEq>(
     same(rt, next_offset(&mut entries), Ok(Some(1000)), "entries");
     let mut copy = entries.clone()?;
     let left = [Ok(Some(1001)), Ok(None), Ok(None), Ok(None)];
-    let found = [next_offsets(&mut entries), next_offsets(&mut copy)];
-    same(rt, found, [left; 2], "entries");
+    same_four(rt, next_offsets(&mut entries), left, "entries");
+    same_four(rt, next_offsets(&mut copy), left, "a copy of entries");
     Ok(())
+}
+
+fn check_all_clones<R: Reader + Clone + PartialEq>(
+    rt: &impl Abort,
+    section: &DebugStrOffsets<R>,
+) -> Result<()> {
+    check_clones(rt, section)?;
+    check_cloned_set(rt, section)
 }
 
 #[test]
 fn clones_go_on_alike(rt: HostRuntime) {
     let section = little_section(TWO_SETS);
-    same(&rt, check_clones(&rt, &section), Ok(()), "sets");
-    same(&rt, check_cloned_set(&rt, &section), Ok(()), "offsets");
+    same(&rt, check_all_clones(&rt, &section), Ok(()), "clones");
 }
 
 // A section whose reader counts in 32 bits and whose clones may go so deep.
@@ -257,28 +275,26 @@ fn large_offset(mem: Global, depth: u8) -> Result<DebugStrOffsets<OwnedReader<Li
     Ok(OwnedReader::new(mem, bytes, LittleEndian, depth).into())
 }
 
-fn lengths(mem: Global, depth: u8) -> Result<[Result<Option<u64>>; 4]> {
-    lengths_of(&large_offset(mem, depth)?)
-}
-
-fn offsets(mem: Global, depth: u8) -> Result<[Result<Option<u64>>; 4]> {
-    offsets_of(&large_offset(mem, depth)?)
+fn large_answers(mem: Global, depth: u8) -> Result<Answers> {
+    Ok(answers_of(&large_offset(mem, depth)?))
 }
 
 // An iterator that returned an error has no other item.
 #[test]
-fn refused_clones_and_offsets_end_a_walk(rt: HostRuntime) {
+fn refused_clones_and_offsets_end_a_walk(rt: HostRuntime) -> std::result::Result<(), Fail> {
     let (mem, refused) = (rt.alloc(), Error::OutOfMemory);
+    let (two, three) = (large_answers(mem, 2)?, large_answers(mem, 3)?);
     let ended = [Err(refused), Ok(None), Ok(None), Ok(None)];
     let whole = [Ok(Some(12)), Ok(None), Ok(None), Ok(None)];
     let large = [Err(Error::UnsupportedOffset), Ok(None), Ok(None), Ok(None)];
     for (found, wanted, what) in [
-        (lengths(mem, 0), Err(refused), "sets, no clone"),
-        (lengths(mem, 1), Ok(ended), "sets, one clone"),
-        (lengths(mem, 2), Ok(whole), "sets, two clones"),
-        (offsets(mem, 2), Err(refused), "offsets, two clones"),
-        (offsets(mem, 3), Ok(large), "offsets, three clones"),
+        (large_answers(mem, 0)?.0, Err(refused), "sets, no clone"),
+        (large_answers(mem, 1)?.0, Ok(ended), "sets, one clone"),
+        (two.0, Ok(whole), "sets, two clones"),
+        (two.1, Err(refused), "offsets, two clones"),
+        (three.1, Ok(large), "offsets, three clones"),
     ] {
         same(&rt, found, wanted, what);
     }
+    Ok(())
 }

@@ -16,7 +16,14 @@ fn string(bytes: &[u8], offset: usize) -> Result<(&[u8], u64)> {
 }
 
 fn line_string(bytes: &[u8], offset: usize) -> Result<(&[u8], u64)> {
-    let string = DebugLineStr::new(bytes, LittleEndian).get_str(DebugLineStrOffset(offset))?;
+    line_string_in(&DebugLineStr::new(bytes, LittleEndian), offset)
+}
+
+fn line_string_in<'a>(
+    section: &DebugLineStr<EndianSlice<'a, LittleEndian>>,
+    offset: usize,
+) -> Result<(&'a [u8], u64)> {
+    let string = section.get_str(DebugLineStrOffset(offset))?;
     Ok((string.slice(), string.offset_id().0))
 }
 
@@ -38,24 +45,24 @@ fn strings_end_at_a_zero_byte(rt: HostRuntime) {
     }
 }
 
-#[test]
-fn positions_begin_at_the_first(rt: HostRuntime) -> std::result::Result<(), Fail> {
+// The position of a string of a section whose first position is 100.
+fn position_at(offset: usize) -> Result<u64> {
     let reader = EndianSlice::with_first_id(b"one\0two", BigEndian, ReaderOffsetId(100));
-    let strings = DebugStr::from(reader);
-    let one = strings.get_str(DebugStrOffset(0))?;
-    same(&rt, one.offset_id().0, 100, "one");
-    for (offset, position) in [(4usize, 104), (8, 100)] {
-        let fault = strings.get_str(DebugStrOffset(offset)).err();
-        same(&rt, fault, Some(eof(position)), offset);
+    let string = DebugStr::from(reader).get_str(DebugStrOffset(offset))?;
+    Ok(string.offset_id().0)
+}
+
+#[test]
+fn positions_begin_at_the_first(rt: HostRuntime) {
+    for (offset, wanted) in [(0, Ok(100)), (4, Err(eof(104))), (8, Err(eof(100)))] {
+        same(&rt, position_at(offset), wanted, offset);
     }
-    let none: DebugLineStr<EndianSlice<'_, LittleEndian>> = DebugLineStr::default();
-    let fault = none.get_str(DebugLineStrOffset(0)).err();
-    same(&rt, fault, Some(eof(0)), "no bytes");
-    Ok(())
+    let string = line_string_in(&DebugLineStr::default(), 0);
+    same(&rt, string, Err(eof(0)), "no bytes");
 }
 
 // The offset that an index names.
-fn offset_at(
+pub(super) fn offset_at(
     bytes: &[u8],
     order: RunTimeEndian,
     format: Format,

@@ -155,8 +155,16 @@ static STRICT: &[(&[u8], u8, Result<&str>)] = &[
     ),
 ];
 
+fn strict_table(
+    mem: Global,
+    section: &DebugAbbrev<EndianSlice<'_, LittleEndian>>,
+    offset: u8,
+) -> Result<Abbreviations> {
+    strict_table_in(mem, section, offset)
+}
+
 fn strict_text(mem: Global, bytes: &[u8], offset: u8) -> Result<String> {
-    let table = strict_table_in(mem, &DebugAbbrev::new(bytes, LittleEndian), offset)?;
+    let table = strict_table(mem, &DebugAbbrev::new(bytes, LittleEndian), offset)?;
     Ok(shown(mem, &table)?)
 }
 
@@ -169,7 +177,7 @@ fn strict_tables_are_closed(rt: HostRuntime) {
         }
     }
     let reader = EndianSlice::with_first_id(ENDED, LittleEndian, ReaderOffsetId(100));
-    let table = strict_table_in(rt.alloc(), &DebugAbbrev::from(reader), 0);
+    let table = strict_table(rt.alloc(), &DebugAbbrev::from(reader), 0);
     same(&rt, table.err(), Some(unterminated(105)), "at 100");
 }
 
@@ -239,8 +247,15 @@ fn first_faults_are_returned(rt: HostRuntime) {
     }
 }
 
+// The fault of a table of at most a hundred bytes, the first of them at position 100.
+fn far_fault(mem: Global, bytes: &[u8], offset: u8) -> Option<Error> {
+    let bytes = &bytes[..bytes.len().min(100)];
+    let reader = EndianSlice::with_first_id(bytes, BigEndian, ReaderOffsetId(100));
+    table_in(mem, &DebugAbbrev::from(reader), offset).err()
+}
+
 #[test]
-fn positions_begin_at_the_first(rt: HostRuntime) -> std::result::Result<(), Fail> {
+fn positions_begin_at_the_first(rt: HostRuntime) {
     let rows: [(&[u8], u8, Error); 4] = [
         (b"\x80", 0, eof(101)),
         (ENDED, 6, eof(100)),
@@ -248,10 +263,13 @@ fn positions_begin_at_the_first(rt: HostRuntime) -> std::result::Result<(), Fail
         (b"\0\x01\x11\x02", 1, children(2)),
     ];
     for (bytes, offset, wanted) in rows {
-        let reader = EndianSlice::with_first_id(bytes, BigEndian, ReaderOffsetId(100));
-        let table = table_in(rt.alloc(), &DebugAbbrev::from(reader), offset);
-        same(&rt, table.err(), Some(wanted), bytes);
+        let fault = far_fault(rt.alloc(), bytes, offset);
+        same(&rt, fault, Some(wanted), bytes);
     }
+}
+
+#[test]
+fn default_sections_have_no_bytes(rt: HostRuntime) -> std::result::Result<(), Fail> {
     let none: DebugAbbrev<EndianSlice<'_, RunTimeEndian>> = DebugAbbrev::default();
     let table = table_in(rt.alloc(), &none, 0)?;
     same(&rt, (table.is_empty(), table.len()), (true, 0), "no bytes");
