@@ -23,8 +23,9 @@ pub fn string(mem: Global, section: &[u8], offset: u64) -> Result<Vec<u8>, Error
     Ok(text)
 }
 
-/// Returns what [`string`] returns, in the memory of the section itself. The bytes of the string are moved to its front,
-/// and the line's end takes the place of the zero behind them.
+/// Returns what [`string`] returns, in the memory of the section itself.
+///
+/// The string is moved to the front, and the line's end takes the place of the zero behind it.
 ///
 /// # Errors
 ///

@@ -12,7 +12,8 @@ use std::marker::Model;
 /// A number as the key of an ordered map, in the order of numbers.
 ///
 /// A search in a map goes on from a key to the next as long as the sought one is greater. So that is
-/// what a comparison looks at first, while one of plain numbers begins with their equality.
+/// what a comparison looks at first, and all that it does inline. One of plain numbers begins with
+/// their equality.
 #[derive(Clone, Copy)]
 pub(crate) struct Key(pub u64);
 
@@ -73,15 +74,15 @@ impl Ord for Key {
         if self.0 > other.0 {
             Ordering::Greater
         } else {
-            where_it_ends(self.0, other.0)
+            not_greater(self.0, other.0)
         }
     }
 }
 
-// The order of a number and the first one that isn't below it. A search asks once in each node, so this
-// is a call: inlined, it is computed for each key.
+// The order of a key that isn't greater. A search ends there, once in each node, so this is a call. Inlined,
+// it would be computed for each key.
 #[inline(never)]
-fn where_it_ends(key: u64, other: u64) -> Ordering
+fn not_greater(key: u64, other: u64) -> Ordering
     requires { key ≤ other }
     ensures { result ≡ nat_cmp key other }
 {

@@ -1,6 +1,5 @@
-use Rattle.std.proofs.Common.{rules, ◌≡◌, ◌<◌, ◌+◌, get_or}
-use Rattle.dwarf_reader_core.specs.Input.{Input, Takes}
-use Rattle.dwarf_reader_core.specs.Leb128.{TakesEncoding}
+use Rattle.std.proofs.Common.{rules, ◌≡◌, ◌<◌, get_or}
+use Rattle.dwarf_reader_core.specs.Input.{Input}
 use Rattle.dwarf_reader_core.proofs.Reading.{encoding_found}
 use Rattle.dwarf_reader_core.proofs.endian_slice.EndianSliceReader.skip_leb128.Goals as goal
 
