@@ -65,7 +65,9 @@ pub big_number-bytes_high_first : (k x : ℕ) → big_number (bytes_high_first k
 big_number-bytes_high_first zero x = omega arith
 big_number-bytes_high_first (suc k) x =
     let split = mod-split x 256 (256 ^ k) (omega arith) (pow_pos256 k) in
-    rw (big_number-cons (byte_at k x) (bytes_high_first k x), length-bytes_high_first k x, big_number-bytes_high_first k x, byte_at-pow k x, pow-succ' 256 k, split) refl
+    let first = big_number-cons (byte_at k x) (bytes_high_first k x) in
+    let others = big_number-bytes_high_first k x in
+    rw (first, length-bytes_high_first k x, others, byte_at-pow k x, pow-succ' 256 k, split) refl
 
 -- the number of k bytes of x from byte i upward, the lowest first
 pub little_number-bytes_low_first : (i k x : ℕ) → little_number (bytes_low_first i k x) ≡ x / 256 ^ i % 256 ^ k

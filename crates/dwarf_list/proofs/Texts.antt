@@ -100,8 +100,11 @@ module _ (laws : AreLaws) where
   exactly_one_run_result : (c : Option Command) (input : List ℕ) → HasOne (IsRunResult c input)
   exactly_one_run_result None input = (Err Usage, refl, only_usage input)
   exactly_one_run_result (Some c) input =
-      let some = has_one_listing c input in
-      (run_result_of some.0, run_result_of_listing c input some.0 some.1, λ other h. only_run_result c input some.0 other some.1 h)
+      let some = has_one_listing c input in (
+        run_result_of some.0,
+        run_result_of_listing c input some.0 some.1,
+        λ other h. only_run_result c input some.0 other some.1 h,
+      )
 
   to_text : (words : List (List ℕ)) (input : List ℕ) (result : RunResult)
       → IsRunResult (command_of words) input result → IsText words input result

@@ -5,13 +5,15 @@ ghost use Rattle.dwarf_list.specs.Listing.{Lists};
 
 use crate::command::Command;
 use dwarf_listing_core::{
-    abbreviations, abbreviations_strict, addresses, hex_line, into_string, string_offsets,
+    abbreviations, abbreviations_strict, addresses, hex_line, string_in_place, string_offsets,
 };
 use dwarf_read_core::Error;
 use dwarf_read_core::leb128::write::Leb128;
 use std::alloc::Global;
 
-/// Returns the text that a command prints of an input. A string becomes the text where it is.
+/// Returns the text that a command prints of an input.
+///
+/// The text of a string is made in the memory of the input.
 ///
 /// # Errors
 ///
@@ -21,7 +23,7 @@ pub fn listing(mem: Global, command: Command, input: Vec<u8>) -> Result<Vec<u8>,
 {
     match command {
         Command::Abbrev(offset) => abbreviations(mem, &input, offset),
-        Command::Str(offset) => into_string(input, offset),
+        Command::Str(offset) => string_in_place(input, offset),
         Command::Addr(endian) => addresses(mem, &input, endian),
         Command::Uleb(value) => Ok(hex_line(mem, Leb128::unsigned(value).bytes())?),
         Command::Sleb(value) => Ok(hex_line(mem, Leb128::signed(value).bytes())?),

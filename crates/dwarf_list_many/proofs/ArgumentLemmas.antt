@@ -15,8 +15,9 @@ offsets_more texts text offsets offset so is named = (
 )
 
 -- words with a text behind the first two that is no offset are no arguments
-pub words_are_no_arguments : {S : Type 0} (bytes_of : S → List ℕ) (words : List S) (i : ℕ) (text : S) {kind : Kind} {offsets : List ℕ}
-    → i < length (take (length words - 2) (drop 2 words)) → text ≡ get_or (take (length words - 2) (drop 2 words)) i text
+pub words_are_no_arguments : {S : Type 0} (bytes_of : S → List ℕ) (words : List S) (i : ℕ) (text : S)
+    {kind : Kind} {offsets : List ℕ} → i < length (take (length words - 2) (drop 2 words))
+    → text ≡ get_or (take (length words - 2) (drop 2 words)) i text
     → (IsOffset (bytes_of text) → ⊥) → AreArguments (map bytes_of words) kind offsets → ⊥
 words_are_no_arguments bytes_of [] i text within same refused named = omega (arith, within)
 words_are_no_arguments bytes_of (a ∷ []) i text within same refused named = omega (arith, within)

@@ -1,9 +1,10 @@
--- The string at an offset of a section is a part of the section's bytes.
-use Rattle.std.proofs.Common.{◌≡◌, ◌+◌, ◌∷◌, ℕ, Ok, length, take, drop, ap, ◌∙◌}
+-- The string at an offset of a section is a part of the section's bytes, with a zero byte behind it.
+use Rattle.std.proofs.Common.{◌≡◌, ℕ, ◌+◌, ◌<◌, ◌≤◌, [], ◌∷◌, ◌++◌, Ok, length, take, drop, set, ap, ◌∙◌, arith, length-take}
 use Rattle.std.proofs.Math.Seq.{take-append_seam}
-use Rattle.std.proofs.lemmas.List.{drop-take}
+use Rattle.std.proofs.lemmas.List.{drop-take, drop-append-le, length-append, length-drop, take_more_set}
 use Rattle.dwarf_read_core.specs.Input.{Input}
 use Rattle.dwarf_read_core.specs.Strings.{StringAt, string}
+use Rattle.dwarf_listing_core.specs.Lines.{line}
 
 -- its bytes are those from the offset on, as many as it has
 pub string-is_part : {section : Input} {offset : ℕ} {found : Input} → StringAt section offset (Ok found)
@@ -12,3 +13,22 @@ string-is_part {section} {offset} (string bytes rest within split none) =
     drop-take offset (length bytes) section.bytes
     ∙ ap (take (length bytes)) split
     ∙ take-append_seam bytes (0 ∷ rest)
+
+-- the section goes on behind it
+pub string-ends_inside : {section : Input} {offset : ℕ} {found : Input} → StringAt section offset (Ok found)
+    → offset + length found.bytes < length section.bytes
+string-ends_inside {section} {offset} (string bytes rest within split none) =
+    let long : length (drop offset section.bytes) ≡ length (bytes ++ 0 ∷ rest) = ap length split in
+    omega (arith, long, length-drop offset section.bytes, length-append bytes (0 ∷ rest))
+
+-- with a line's end in the place of the byte behind it, it is a line
+pub string-becomes_line : {section : Input} {offset : ℕ} {found : Input} → StringAt section offset (Ok found)
+    → drop offset (take (offset + length found.bytes + 1) (set section.bytes (offset + length found.bytes) 10))
+    ≡ line found.bytes
+string-becomes_line {section} {offset} {found} is =
+    let end = offset + length found.bytes in
+    let inside = string-ends_inside is in
+    let reached : offset ≤ length (take end section.bytes) = omega (arith, inside, length-take end section.bytes) in
+    ap (drop offset) (take_more_set section.bytes end 10 inside)
+    ∙ drop-append-le offset (take end section.bytes) (10 ∷ []) reached
+    ∙ ap (λ bytes. bytes ++ 10 ∷ []) (string-is_part is)

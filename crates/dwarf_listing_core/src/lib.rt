@@ -11,6 +11,6 @@ mod lines;
 mod sets;
 mod tables;
 
-pub use lines::{hex_line, into_string, string};
+pub use lines::{hex_line, string, string_in_place};
 pub use sets::{addresses, string_offsets};
 pub use tables::{abbreviations, abbreviations_strict};

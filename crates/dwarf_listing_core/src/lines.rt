@@ -1,6 +1,6 @@
 //! Single lines: a string of a section, and bytes in hexadecimal.
 
-ghost use Rattle.std.specs.Prelude.{◌≡◌, ◌++◌, IfOk, OnOk, string_bytes};
+ghost use Rattle.std.specs.Prelude.{◌≡◌, ◌++◌, IfOk, IsErrOf, OnOk, string_bytes};
 ghost use Rattle.dwarf_listing_core.specs.Lines.{ListsString, hex_byte, hex_text, line};
 ghost use Rattle.dwarf_listing_core.specs.Listing.{ReturnsText};
 
@@ -23,22 +23,23 @@ pub fn string(mem: Global, section: &[u8], offset: u64) -> Result<Vec<u8>, Error
     Ok(text)
 }
 
-/// Returns what [`string`] returns, in the memory of the section itself.
+/// Returns the text that [`string`] returns, in the memory of the section.
 ///
-/// The string is moved to the front, and the line's end takes the place of the zero behind it.
+/// The line's end takes the place of the zero behind the string, which is then moved to the front.
 ///
 /// # Errors
 ///
-/// That of [`DebugStr::get_str`], or `OutOfMemory`.
-pub fn into_string(mut section: Vec<u8>, offset: u64) -> Result<Vec<u8>, Error>
-    ensures { ReturnsText (ListsString section.items offset) result }
+/// That of [`DebugStr::get_str`]. No memory is needed.
+pub fn string_in_place(mut section: Vec<u8>, offset: u64) -> Result<Vec<u8>, Error>
+    ensures answer { ReturnsText (ListsString section.items offset) result }
+    ensures memory { IsErrOf result Error.OutOfMemory → ⊥ }
 {
     let debug_str = DebugStr::new(&section, LittleEndian);
     let start = offset as usize;
-    let len = debug_str.get_str(DebugStrOffset(start))?.slice().len();
-    section.truncate(start + len);
+    let end = start + debug_str.get_str(DebugStrOffset(start))?.slice().len();
+    section[end] = b'\n';
+    section.truncate(end + 1);
     drop(section.drain(..start));
-    section.push(b'\n')?;
     Ok(section)
 }
 

@@ -164,7 +164,17 @@ module _ {A : Type 0} {n : ℕ} {f : Layout A} (size : HasSize n f) where
 
 -- a part has as many bytes as are consumed
 pub part_covers : (n : ℕ) → Covers 0 (λ unit. length unit.bytes) (part n)
-part_covers n = record { all = λ old unit new r. omega (arith, same_length r.1.left, length-drop n old.bytes, r.1.enough, same_length r.0, length-take-le n old.bytes r.1.enough) }
+part_covers n = record {
+  all = λ old unit new r. let enough = r.1.enough in
+      omega (
+        arith,
+        enough,
+        same_length r.0,
+        length-take-le n old.bytes enough,
+        same_length r.1.left,
+        length-drop n old.bytes,
+      );
+}
 
 -- ---- exactly one outcome
 

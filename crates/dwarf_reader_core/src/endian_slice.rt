@@ -451,8 +451,8 @@ impl<'input, Endian: Endianity> Reader for EndianSlice<'input, Endian> {
         Ok(*byte)
     }
 
-    // Behind a first byte that goes on, the last one is found by its index: one number is counted,
-    // where a read of each byte moves the slice.
+    // Most numbers have one byte. The last byte of a longer one is found by its index, since a read of
+    // each byte would move the slice as often.
     #[inline(always)]
     fn skip_leb128(&mut self) -> Result<()> {
         let first = self.read_u8()?;

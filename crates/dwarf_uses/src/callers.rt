@@ -98,7 +98,8 @@ pub fn string_by_index<R: Reader>(
     base: DebugStrOffsetsBase<R::Offset>,
     index: DebugStrOffsetsIndex<R::Offset>,
 ) -> Result<R>
-    ensures ok { let place = slot (R.Offset.value base.0) (R.Offset.value index.0) (word_size format) in
+    ensures ok { let width = word_size format in
+        let place = slot (R.Offset.value base.0) (R.Offset.value index.0) width in
         IfOk result (λ string. (offset : ℕ)
         × WordAt R.Offset.GREATEST (R.view (debug_str_offsets_reader offsets.now)) place (Ok offset)
         × StringAt (R.view (debug_str_reader strings.now)) offset (Ok (R.view string))) }

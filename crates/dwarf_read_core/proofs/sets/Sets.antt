@@ -113,7 +113,10 @@ module _ {H : Type 0} (header : Layout H) (greatest offset : ℕ) (old : Input) 
       → (set header greatest offset).Fails old e
   unfolding set initial_length
   set_length_fails new (inl short) = inl (inl (new, short))
-  set_length_fails new (inr (inl reserved)) = inl (inr (reserved.number, new, reserved.taken, rw (le-ltb reserved.number 0xffff_fff0 reserved.low, lt-ltb reserved.number 0xffff_ffff reserved.high) reserved.fault))
+  set_length_fails new (inr (inl reserved)) =
+      let low = le-ltb reserved.number 0xffff_fff0 reserved.low in
+      let high = lt-ltb reserved.number 0xffff_ffff reserved.high in
+      inl (inr (reserved.number, new, reserved.taken, rw (low, high) reserved.fault))
   set_length_fails new (inr (inr (inl short))) =
       inl (inr (0xffff_ffff, after 4 old, short.begins, inl (new, short.rest)))
   set_length_fails new (inr (inr (inr unfit))) =

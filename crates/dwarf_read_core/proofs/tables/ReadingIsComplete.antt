@@ -126,7 +126,9 @@ value_fails : (end : ℕ) (name form bytes : List ℕ) (n : ℕ) (e : Error) →
     → specification_at end (name ++ (form ++ bytes)) ≡ Err e
 unfolding specification_at value_at
 value_fails end name form bytes n e is_name named is_form q =
-    rw (number_at-string unsigned16 end name (form ++ bytes) n is_name, number_at-string unsigned16 end form bytes implicit_const is_form, nonzero n named, q) refl
+    let read_name = number_at-string unsigned16 end name (form ++ bytes) n is_name in
+    let read_form = number_at-string unsigned16 end form bytes implicit_const is_form in
+    rw (read_name, read_form, nonzero n named, q) refl
 
 -- a number that is refused behind a beginning
 stops : {k : Kind} {front : List ℕ} (end : ℕ) (bytes : List ℕ) (e : Error) → IsBeginning front k

@@ -140,7 +140,10 @@ specification_again end bytes rest s is =
     let regrouped : bytes ++ rest ≡ is.name ++ (is.form ++ (is.value ++ rest)) = rw is.parts (simp append_assoc) in
     let named : eqb s.name 0 ≡ false = ne_eqb s.name 0 (let h = is.named in λ e. omega arith) in
     let formed : eqb s.form 0 ≡ false = ne_eqb s.form 0 (let h = is.formed in λ e. omega arith) in
-    ap (specification_at end) regrouped ∙ rw (number_at-string unsigned16 end is.name (is.form ++ (is.value ++ rest)) s.name is.is_name, number_at-string unsigned16 end is.form (is.value ++ rest) s.form is.is_form, named, formed, value_again end s.form is.value rest s.value is.is_value) refl
+    let name = number_at-string unsigned16 end is.name (is.form ++ (is.value ++ rest)) s.name is.is_name in
+    let form = number_at-string unsigned16 end is.form (is.value ++ rest) s.form is.is_form in
+    let value = value_again end s.form is.value rest s.value is.is_value in
+    ap (specification_at end) regrouped ∙ rw (name, form, named, formed, value) refl
 
 -- bytes of the null specification are read as the null one, whatever bytes follow
 pub null_again : (end : ℕ) (bytes rest : List ℕ) → IsNull bytes → specification_at end (bytes ++ rest) ≡ Ok (None, rest)

@@ -118,7 +118,10 @@ count_is (d ∷ ds) h =
 table_bound : {bytes : List ℕ} {t : Table} → IsTable bytes t
     → 5 * len t.by_code + 2 * attribute_count t.by_code ≤ length bytes
 table_bound (closed_by_null bytes zero_code rest ds are is) =
-    omega (arith, len_is ds are.distinct, count_is ds are.distinct, declarations_long bytes ds are.each, length-append (bytes ++ zero_code) rest, length-append bytes zero_code)
+    let counted = len_is ds are.distinct in
+    let attributed = count_is ds are.distinct in
+    let long = declarations_long bytes ds are.each in
+    omega (arith, counted, attributed, long, length-append (bytes ++ zero_code) rest, length-append bytes zero_code)
 table_bound (closed_by_end bytes ds are) =
     omega (arith, len_is ds are.distinct, count_is ds are.distinct, declarations_long bytes ds are.each)
 

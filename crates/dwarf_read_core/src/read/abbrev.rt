@@ -72,7 +72,11 @@ impl<'input, Endian: Endianity> DebugAbbrev<EndianSlice<'input, Endian>> {
     pub fn new(debug_abbrev_section: &'input [u8], endian: Endian) -> Self
         ensures { let reader = ⟦<EndianSlice<'input, Endian> as Reader>⟧ in
             reader.view (debug_abbrev_reader result)
-            ≡ record { bytes = debug_abbrev_section.now; position = 0; is_big = Endian.is_big endian } }
+            ≡ record {
+              bytes = debug_abbrev_section.now;
+              position = 0;
+              is_big = Endian.is_big endian;
+            } }
     {
         Self::from(EndianSlice::new(debug_abbrev_section, endian))
     }

@@ -52,8 +52,10 @@ pub(crate) fn skip_to_index<R: Reader>(
     input.skip(length_before(index, width)?)
 }
 
-/// Skips the bytes before the word with this index, as [`skip_to_index`] does for the width of a
-/// format's words.
+/// Skips the bytes before the word of a format with this index.
+///
+/// This is [`skip_to_index`] for words of that size. It needs no check of the product where the word
+/// is there.
 ///
 /// # Errors
 ///
@@ -80,7 +82,7 @@ pub(crate) fn skip_to_word<R: Reader>(
     let width = format.word_size();
     let words = input.len().into_u64() / u64::from(width);
     if index.into_u64() < words {
-        // The word is there, so the length before it doesn't wrap.
+        // The length before a word that is there doesn't wrap.
         return input.skip(R::Offset::from_u64(index.into_u64() * u64::from(width))?);
     }
     input.skip(length_before(index, width)?)

@@ -33,7 +33,11 @@ impl<'input, Endian: Endianity> DebugStr<EndianSlice<'input, Endian>> {
     pub fn new(debug_str_section: &'input [u8], endian: Endian) -> Self
         ensures { let reader = ⟦<EndianSlice<'input, Endian> as Reader>⟧ in
             reader.view (debug_str_reader result)
-            ≡ record { bytes = debug_str_section.now; position = 0; is_big = Endian.is_big endian } }
+            ≡ record {
+              bytes = debug_str_section.now;
+              position = 0;
+              is_big = Endian.is_big endian;
+            } }
     {
         Self::from(EndianSlice::new(debug_str_section, endian))
     }
@@ -236,7 +240,11 @@ impl<'input, Endian: Endianity> DebugLineStr<EndianSlice<'input, Endian>> {
     pub fn new(debug_line_str_section: &'input [u8], endian: Endian) -> Self
         ensures { let reader = ⟦<EndianSlice<'input, Endian> as Reader>⟧ in
             reader.view (debug_line_str_reader result)
-            ≡ record { bytes = debug_line_str_section.now; position = 0; is_big = Endian.is_big endian } }
+            ≡ record {
+              bytes = debug_line_str_section.now;
+              position = 0;
+              is_big = Endian.is_big endian;
+            } }
     {
         Self::from(EndianSlice::new(debug_line_str_section, endian))
     }

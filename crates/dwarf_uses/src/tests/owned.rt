@@ -147,7 +147,8 @@ fn second_address(mem: Global, depth: u8) -> Result<u64> {
     section.get_address(4, DebugAddrBase(8), DebugAddrIndex(1))
 }
 
-// Appends the addresses of all sets, up to the first fault.
+// Appends the addresses of all sets, up to the first fault. The one call at the owned reader, since each
+// such call is proved anew.
 fn append(addresses: &DebugAddr<Owned>, found: &mut Vec<u64>) -> Result<()> {
     walk(addresses, found)
 }

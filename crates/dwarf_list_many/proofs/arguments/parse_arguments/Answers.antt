@@ -14,5 +14,6 @@ loop-text-preserved c =
 
 pub returns-in_default-parse-clause-usage : goal.returns-in_default-parse-clause-usage
 returns-in_default-parse-clause-usage c = λ same kind offsets named.
+    let refused = rw c.as_str-in-loop-text.ensures.value at c.in_default-parse.ensures.value.0 in
     words_are_no_arguments string_bytes c.args.words.now c.loop-text.text-index c.text-item.result
-    c.loop-text-test.true c.text-item.is (rw c.as_str-in-loop-text.ensures.value at c.in_default-parse.ensures.value.0) named
+    c.loop-text-test.true c.text-item.is refused named

@@ -5,4 +5,8 @@ use Rattle.dwarf_listing_core.proofs.sets.push_address_set.Goals as goal
 
 pub returns-clause-ok : goal.returns-clause-ok
 returns-clause-ok g c =
-    with_header fixed address_line _ _ _ _ _ _ _ c.push_addresses.ensures.ok c.in_ok-entries.ensures.ok (rw (c.into_u64-offset.ensures.number, c.offset.ensures, c.into_u64-length.ensures.number, c.length.ensures, c.word_size.ensures, c.encoding-encoding.ensures) at c.in_ok-push_address_header.ensures)
+    let offset = c.into_u64-offset.ensures.number in
+    let length = c.into_u64-length.ensures.number in
+    with_header fixed address_line _ _ _ _ _ _ _ c.push_addresses.ensures.ok c.in_ok-entries.ensures.ok
+    (rw (offset, c.offset.ensures, length, c.length.ensures, c.word_size.ensures, c.encoding-encoding.ensures)
+    at c.in_ok-push_address_header.ensures)

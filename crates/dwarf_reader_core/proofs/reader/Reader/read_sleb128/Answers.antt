@@ -30,9 +30,12 @@ returns-then-not-has_continuation_bit-2-clause-ok g c =
     (view c.loop-index.self) c.loop-index.result = c.loop-index.invariant in
     let n = begun_next b c.in_ok-byte.ensures.ok in
     let last : c.in_ok-byte.byte < 128 = search rules in
-    let sign = is_sign c.has_sign_bit-then-not-has_continuation_bit-2.result _ c.has_sign_bit-then-not-has_continuation_bit-2.ensures in
+    let negative = c.has_sign_bit-then-not-has_continuation_bit-2.result in
+    let sign = is_sign negative _ c.has_sign_bit-then-not-has_continuation_bit-2.ensures in
+    let number = c.with_digit-result-in-loop-index.result in
+    let shift = 7 * c.loop-index.index + 7 in
     let fits : FitsSigned w64 c.with_sign-then-not-has_continuation_bit-2.result = search rules in
-    let value = signed_worth b n c.has_sign_bit-then-not-has_continuation_bit-2.result c.with_digit-result-in-loop-index.result (7 * c.loop-index.index + 7) sign c.with_digit-result-in-loop-index.ensures (omega arith) in
+    let value = signed_worth b n negative number shift sign c.with_digit-result-in-loop-index.ensures (omega arith) in
     rw to_z-of_z (begun_reads signed64 _ b n last (omega arith)
     (value ∙ sym c.with_sign-then-not-has_continuation_bit-2.ensures) (in_range_i64 _ fits))
 

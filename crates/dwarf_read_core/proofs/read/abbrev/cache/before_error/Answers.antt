@@ -4,5 +4,8 @@ use Rattle.dwarf_read_core.proofs.read.abbrev.cache.before_error.Goals as goal
 
 pub returns-in-Err-OutOfMemory-clause-some : goal.returns-in-Err-OutOfMemory-clause-some
 returns-in-Err-OutOfMemory-clause-some g c =
-    rw (← c.into_iter-item-iterator.ensures.into_iter_gives)
-    (first_item-of_want g.I.Iterator.next_gives c.into_iter-item-iterator.result c.loop-item.item-iterator _ c.loop-item.yielded c.loop-item.taken.items c.in-Some.item (search rules) c.loop-item.invariant.2 c.loop-item.yielded_by c.in-Some.ensures.steps)
+    let loop = c.loop-item in
+    let whole = c.into_iter-item-iterator in
+    rw (← whole.ensures.into_iter_gives)
+    (first_item-of_want g.I.Iterator.next_gives whole.result loop.item-iterator _ loop.yielded loop.taken.items
+    c.in-Some.item (search rules) loop.invariant.2 loop.yielded_by c.in-Some.ensures.steps)

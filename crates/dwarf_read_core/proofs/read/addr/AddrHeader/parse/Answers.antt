@@ -11,8 +11,9 @@ returns-in_err-length-clause-err g c =
 
 pub returns-in_err-unit-clause-err : goal.returns-in_err-unit-clause-err
 returns-in_err-unit-clause-err g c =
+    let length = c.in_ok-length.ensures in
     propagated-err _ _ c.from_residual-in_err-unit.ensures.1
-    (⊎_elim (λ short. inl (set_part_fails address_header _ _ _ _ _ c.in_ok-length.ensures.ok c.in_ok-length.ensures.in_range _ short))
+    (⊎_elim (λ short. inl (set_part_fails address_header _ _ _ _ _ length.ok length.in_range _ short))
     (λ want. inr want.0) c.in_err-unit.ensures.err)
 
 pub returns-in_err-version-clause-err : goal.returns-in_err-version-clause-err

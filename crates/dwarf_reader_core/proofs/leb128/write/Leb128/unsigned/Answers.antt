@@ -10,16 +10,15 @@ use Rattle.dwarf_reader_core.proofs.leb128.write.Leb128.unsigned.Goals as goal
 pub invariant_of-result : goal.invariant_of-result
 invariant_of-result c =
     let digit = c.low_bits_of_u64-digit.result in
-    IsPadded-last _ _ digit c.digits.invariant.has_room
-    (c.digits.invariant.completes (digit ∷ []) (unsigned_last_of-is_least c.digits.rest digit c.if-rest-eq0.true c.low_bits_of_u64-digit.ensures)).is_spelled
+    let least = unsigned_last_of-is_least c.digits.rest digit c.if-rest-eq0.true c.low_bits_of_u64-digit.ensures in
+    IsPadded-last _ _ digit c.digits.invariant.has_room (c.digits.invariant.completes (digit ∷ []) least).is_spelled
 
 pub returns-then-rest-eq0-clause-shortest : goal.returns-then-rest-eq0-clause-shortest
 returns-then-rest-eq0-clause-shortest c =
     let digit = c.low_bits_of_u64-digit.result in
+    let least = unsigned_last_of-is_least c.digits.rest digit c.if-rest-eq0.true c.low_bits_of_u64-digit.ensures in
     IsShortest-from unsigned64 _ _
-    (rw (take-placed _ _ digit c.digits.invariant.has_room)
-    (c.digits.invariant.completes (digit ∷ [])
-    (unsigned_last_of-is_least c.digits.rest digit c.if-rest-eq0.true c.low_bits_of_u64-digit.ensures)))
+    (rw (take-placed _ _ digit c.digits.invariant.has_room) (c.digits.invariant.completes (digit ∷ []) least))
 
 pub returns-then-rest-eq0-clause-read : goal.returns-then-rest-eq0-clause-read
 returns-then-rest-eq0-clause-read c rest =
@@ -30,7 +29,8 @@ pub digits-preserved : goal.digits-preserved
 digits-preserved c =
     let digit = c.low_bits_of_u64-digit.result in
     let byte = bit_or digit 128 in
-    let room = unsigned_more-has_room c.digits.len c.digits.rest c.digits.invariant.has_room.room c.digits.invariant.fits (omega arith) in
+    let before = c.digits.invariant in
+    let room = unsigned_more-has_room c.digits.len c.digits.rest before.has_room.room before.fits (omega arith) in
     record {
       completes = λ tail least. rw
           (take-placed-append c.digits.bytes c.digits.len byte tail c.digits.invariant.has_room)
