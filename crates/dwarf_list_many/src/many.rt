@@ -13,6 +13,9 @@ use dwarf_read_core::Error;
 use std::alloc::{AllocError, Global};
 use std::io::Write;
 
+#[cfg(test)]
+mod tests;
+
 /// Writes what is listed at these offsets of a section, each below its title.
 ///
 /// # Errors

@@ -54,8 +54,8 @@ pub(crate) fn skip_to_index<R: Reader>(
 
 /// Skips the bytes before the word of a format with this index.
 ///
-/// This is [`skip_to_index`] for words of that size. It needs no check of the product where the word
-/// is there.
+/// This is [`skip_to_index`] for words of that size. It checks the product of index and size only
+/// where the word isn't there.
 ///
 /// # Errors
 ///

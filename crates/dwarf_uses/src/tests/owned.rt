@@ -147,8 +147,7 @@ fn second_address(mem: Global, depth: u8) -> Result<u64> {
     section.get_address(4, DebugAddrBase(8), DebugAddrIndex(1))
 }
 
-// Appends the addresses of all sets, up to the first fault. The one call at the owned reader, since each
-// such call is proved anew.
+// Appends the addresses of all sets of an owned section, up to the first fault.
 fn append(addresses: &DebugAddr<Owned>, found: &mut Vec<u64>) -> Result<()> {
     walk(addresses, found)
 }

@@ -155,7 +155,7 @@ static STRICT: &[(&[u8], u8, Result<&str>)] = &[
     ),
 ];
 
-// The one call at this reader, since each such call is proved anew.
+// The strict table of a section of bytes.
 fn strict_table(
     mem: Global,
     section: &DebugAbbrev<EndianSlice<'_, LittleEndian>>,
