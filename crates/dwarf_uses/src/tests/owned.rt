@@ -34,8 +34,11 @@ fn check_parts<R: Reader>(rt: &impl Abort, mem: Global, mut strings: R) -> Resul
     let one = strings.read_null_terminated_slice()?;
     same(rt, strings.offset_id().0, 4, "behind one");
     check_one(rt, mem, one)?;
-    let two = strings.split(R::Offset::from_u8(3))?;
+    let mut two = strings.split(R::Offset::from_u8(3))?;
     same(rt, two.to_slice()?.as_slice(), b"two".as_slice(), "two");
+    same(rt, two.read_sleb128()?, -12, "t");
+    two.skip_leb128()?;
+    same(rt, two.offset_id().0, 6, "behind w");
     Ok(())
 }
 
@@ -45,6 +48,7 @@ fn check_one<R: Reader>(rt: &impl Abort, mem: Global, mut one: R) -> Result<()> 
     let part = one.split(R::Offset::from_u8(1));
     same(rt, part.err(), Some(Error::OutOfMemory), "one");
     same(rt, one.offset_id().0, 0, "one");
+    same(rt, one.to_string()?.as_str(), "one", "one");
     same(rt, one.to_string_lossy(mem)?.as_str(), "one", "one");
     same(rt, read_u8_array::<_, 3>(&mut one)?, *b"one", "one");
     Ok(())
