@@ -451,8 +451,8 @@ impl<'input, Endian: Endianity> Reader for EndianSlice<'input, Endian> {
         Ok(*byte)
     }
 
-    // Most numbers have one byte. The last byte of a longer one is found by its index, since to read
-    // byte by byte would move the slice for each.
+    // Most numbers have one byte. The last byte of a longer one is found by its index, since reading
+    // one byte at a time would move the slice each time.
     #[inline(always)]
     fn skip_leb128(&mut self) -> Result<()> {
         let first = self.read_u8()?;
