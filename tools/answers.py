@@ -13,7 +13,7 @@ two characters:
     dC      a repeated code C
 
 For each prefix and each length the FNV-1a checksum of all answers is printed. The test
-short_tables_are_read_as_computed of dwarf_uses has these numbers.
+short_tables_are_read_as_computed of dwarf_tests has these numbers.
 """
 import itertools
 

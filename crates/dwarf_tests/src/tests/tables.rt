@@ -4,9 +4,8 @@ use super::worked::{ENDED, FIVE, IMPLICIT, SIX, THREE, UNIT};
 use super::{end_requests, eof, same};
 use dwarf_read_core::constants::*;
 use dwarf_read_core::{
-    Abbreviations, AttributeSpecification, BigEndian, DebugAbbrev, DebugAbbrevOffset, Encoding,
-    EndianSlice, Error, Format, LittleEndian, Reader, ReaderOffset, ReaderOffsetId, Result,
-    RunTimeEndian,
+    Abbreviations, AttributeSpecification, DebugAbbrev, DebugAbbrevOffset, Encoding, EndianSlice,
+    Error, Format, LittleEndian, Reader, ReaderOffset, ReaderOffsetId, Result,
 };
 use std::alloc::{AllocError, Global};
 use std::process::Abort;
@@ -20,20 +19,36 @@ fn unterminated(position: u64) -> Error {
     Error::UnterminatedAbbreviations(ReaderOffsetId(position))
 }
 
-fn table_in<R: Reader>(mem: Global, section: &DebugAbbrev<R>, offset: u8) -> Result<Abbreviations> {
-    section.abbreviations(mem, DebugAbbrevOffset(R::Offset::from_u8(offset)))
+type Section<'a> = DebugAbbrev<EndianSlice<'a, LittleEndian>>;
+
+// How a table is read: up to the end of the section, or up to a code of value 0.
+#[derive(Clone, Copy)]
+enum Mode {
+    Lenient,
+    Strict,
 }
 
-fn table_at(mem: Global, bytes: &[u8], offset: u8) -> Result<Abbreviations> {
-    table_in(mem, &DebugAbbrev::new(bytes, LittleEndian), offset)
-}
-
-fn strict_table_in<R: Reader>(
+fn table_of<R: Reader>(
     mem: Global,
     section: &DebugAbbrev<R>,
     offset: u8,
+    mode: Mode,
 ) -> Result<Abbreviations> {
-    section.abbreviations_strict(mem, DebugAbbrevOffset(R::Offset::from_u8(offset)))
+    let offset = DebugAbbrevOffset(R::Offset::from_u8(offset));
+    match mode {
+        Mode::Lenient => section.abbreviations(mem, offset),
+        Mode::Strict => section.abbreviations_strict(mem, offset),
+    }
+}
+
+// A call at a concrete reader takes long to prove, so there is one for all tables.
+fn table_in(mem: Global, section: &Section<'_>, offset: u8, mode: Mode) -> Result<Abbreviations> {
+    table_of(mem, section, offset, mode)
+}
+
+fn table_at(mem: Global, bytes: &[u8], offset: u8) -> Result<Abbreviations> {
+    let section = DebugAbbrev::new(bytes, LittleEndian);
+    table_in(mem, &section, offset, Mode::Lenient)
 }
 
 // A table by rising code, and a `.` where a code of value 0 closes it.
@@ -155,17 +170,9 @@ static STRICT: &[(&[u8], u8, Result<&str>)] = &[
     ),
 ];
 
-// The strict table of a section of bytes.
-fn strict_table(
-    mem: Global,
-    section: &DebugAbbrev<EndianSlice<'_, LittleEndian>>,
-    offset: u8,
-) -> Result<Abbreviations> {
-    strict_table_in(mem, section, offset)
-}
-
 fn strict_text(mem: Global, bytes: &[u8], offset: u8) -> Result<String> {
-    let table = strict_table(mem, &DebugAbbrev::new(bytes, LittleEndian), offset)?;
+    let section = DebugAbbrev::new(bytes, LittleEndian);
+    let table = table_in(mem, &section, offset, Mode::Strict)?;
     Ok(shown(mem, &table)?)
 }
 
@@ -178,7 +185,7 @@ fn strict_tables_are_closed(rt: HostRuntime) {
         }
     }
     let reader = EndianSlice::with_first_id(ENDED, LittleEndian, ReaderOffsetId(100));
-    let table = strict_table(rt.alloc(), &DebugAbbrev::from(reader), 0);
+    let table = table_in(rt.alloc(), &DebugAbbrev::from(reader), 0, Mode::Strict);
     same(&rt, table.err(), Some(unterminated(105)), "at 100");
 }
 
@@ -251,8 +258,8 @@ fn first_faults_are_returned(rt: HostRuntime) {
 // The fault of a table of at most a hundred bytes, the first of them at position 100.
 fn far_fault(mem: Global, bytes: &[u8], offset: u8) -> Option<Error> {
     let bytes = &bytes[..bytes.len().min(100)];
-    let reader = EndianSlice::with_first_id(bytes, BigEndian, ReaderOffsetId(100));
-    table_in(mem, &DebugAbbrev::from(reader), offset).err()
+    let reader = EndianSlice::with_first_id(bytes, LittleEndian, ReaderOffsetId(100));
+    table_in(mem, &DebugAbbrev::from(reader), offset, Mode::Lenient).err()
 }
 
 #[test]
@@ -271,8 +278,8 @@ fn positions_begin_at_the_first(rt: HostRuntime) {
 
 #[test]
 fn default_sections_have_no_bytes(rt: HostRuntime) -> std::result::Result<(), Fail> {
-    let none: DebugAbbrev<EndianSlice<'_, RunTimeEndian>> = DebugAbbrev::default();
-    let table = table_in(rt.alloc(), &none, 0)?;
+    let none: Section<'_> = DebugAbbrev::default();
+    let table = table_in(rt.alloc(), &none, 0, Mode::Lenient)?;
     same(&rt, (table.is_empty(), table.len()), (true, 0), "no bytes");
     Ok(())
 }

@@ -3,31 +3,44 @@
 use super::worked::{STRINGS, twenty_words};
 use super::{eof, same};
 use dwarf_read_core::{
-    BigEndian, DebugLineStr, DebugLineStrOffset, DebugStr, DebugStrOffset, DebugStrOffsets,
+    DebugLineStr, DebugLineStrOffset, DebugStr, DebugStrOffset, DebugStrOffsets,
     DebugStrOffsetsBase, DebugStrOffsetsIndex, EndianSlice, Error, Format, LittleEndian, Reader,
     ReaderOffsetId, Result, RunTimeEndian,
 };
 use std::test::Fail;
 
+type Slice<'a> = EndianSlice<'a, LittleEndian>;
+
+// The strings of both sections at one offset.
+fn strings_of<R: Reader>(
+    strings: &DebugStr<R>,
+    lines: &DebugLineStr<R>,
+    offset: R::Offset,
+) -> (Result<R>, Result<R>) {
+    (
+        strings.get_str(DebugStrOffset(offset)),
+        lines.get_str(DebugLineStrOffset(offset)),
+    )
+}
+
 // The bytes of a string, and its position.
-fn string(bytes: &[u8], offset: usize) -> Result<(&[u8], u64)> {
-    let string = DebugStr::new(bytes, LittleEndian).get_str(DebugStrOffset(offset))?;
+type Place<'a> = Result<(&'a [u8], u64)>;
+
+fn place_of(string: Result<Slice<'_>>) -> Place<'_> {
+    let string = string?;
     Ok((string.slice(), string.offset_id().0))
 }
 
-fn line_string(bytes: &[u8], offset: usize) -> Result<(&[u8], u64)> {
-    line_string_in(&DebugLineStr::new(bytes, LittleEndian), offset)
-}
-
-fn line_string_in<'a>(
-    section: &DebugLineStr<EndianSlice<'a, LittleEndian>>,
+fn places_in<'a>(
+    strings: &DebugStr<Slice<'a>>,
+    lines: &DebugLineStr<Slice<'a>>,
     offset: usize,
-) -> Result<(&'a [u8], u64)> {
-    let string = section.get_str(DebugLineStrOffset(offset))?;
-    Ok((string.slice(), string.offset_id().0))
+) -> (Place<'a>, Place<'a>) {
+    let (string, line) = strings_of(strings, lines, offset);
+    (place_of(string), place_of(line))
 }
 
-static PLACES: &[(&[u8], usize, Result<(&[u8], u64)>)] = &[
+static PLACES: &[(&[u8], usize, Place<'static>)] = &[
     (STRINGS, 0, Ok((b"one", 0))),
     (STRINGS, 4, Ok((b"two", 4))),
     (STRINGS, 6, Ok((b"o", 6))),
@@ -40,25 +53,25 @@ static PLACES: &[(&[u8], usize, Result<(&[u8], u64)>)] = &[
 #[test]
 fn strings_end_at_a_zero_byte(rt: HostRuntime) {
     for (bytes, offset, wanted) in PLACES {
-        same(&rt, string(bytes, *offset), *wanted, offset);
-        same(&rt, line_string(bytes, *offset), *wanted, offset);
+        let strings = DebugStr::new(bytes, LittleEndian);
+        let lines = DebugLineStr::new(bytes, LittleEndian);
+        let found = places_in(&strings, &lines, *offset);
+        same(&rt, found, (*wanted, *wanted), offset);
     }
-}
-
-// The position of a string of a section whose first position is 100.
-fn position_at(offset: usize) -> Result<u64> {
-    let reader = EndianSlice::with_first_id(b"one\0two", BigEndian, ReaderOffsetId(100));
-    let string = DebugStr::from(reader).get_str(DebugStrOffset(offset))?;
-    Ok(string.offset_id().0)
 }
 
 #[test]
 fn positions_begin_at_the_first(rt: HostRuntime) {
-    for (offset, wanted) in [(0, Ok(100)), (4, Err(eof(104))), (8, Err(eof(100)))] {
-        same(&rt, position_at(offset), wanted, offset);
+    let reader = EndianSlice::with_first_id(b"one\0two", LittleEndian, ReaderOffsetId(100));
+    let (strings, no_lines) = (DebugStr::from(reader), DebugLineStr::default());
+    for (offset, wanted, fault) in [
+        (0, Ok((b"one".as_slice(), 100)), eof(0)),
+        (4, Err(eof(104)), eof(0)),
+        (8, Err(eof(100)), eof(0)),
+    ] {
+        let found = places_in(&strings, &no_lines, offset);
+        same(&rt, found, (wanted, Err(fault)), offset);
     }
-    let string = line_string_in(&DebugLineStr::default(), 0);
-    same(&rt, string, Err(eof(0)), "no bytes");
 }
 
 // The offset that an index names.

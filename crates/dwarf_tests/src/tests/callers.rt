@@ -2,13 +2,13 @@
 
 use super::same;
 use super::worked::{FOUR_ADDRESSES, STRINGS, THREE, TWO_SETS, UNIT};
-use crate::callers::{addresses_in, string_by_index, table_lengths, table_text, tag_of};
 use dwarf_read_core::constants::{DW_TAG_compile_unit, DwTag};
 use dwarf_read_core::{
     Abbreviations, DebugAbbrev, DebugAbbrevOffset, DebugAddr, DebugStr, DebugStrOffsets,
     DebugStrOffsetsBase, DebugStrOffsetsIndex, EndianSlice, Format, LittleEndian, Reader,
     ReaderOffset, Result,
 };
+use dwarf_uses::callers::{addresses_in, string_by_index, table_lengths, table_text, tag_of};
 use std::alloc::Global;
 use std::process::Abort;
 use std::test::Fail;

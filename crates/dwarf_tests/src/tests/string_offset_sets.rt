@@ -3,12 +3,12 @@
 use super::strings::offset_at;
 use super::worked::twenty_words;
 use super::{Four, eof, same, same_four};
-use crate::OwnedReader;
 use dwarf_read_core::{
     DebugStrOffsets, EndianSlice, Error, Format, LittleEndian, Reader, ReaderOffset,
     ReaderOffsetId, Result, RunTimeEndian, StrOffsetsEntryIter, StrOffsetsHeader,
     StrOffsetsHeaderIter,
 };
+use dwarf_uses::OwnedReader;
 use std::alloc::Global;
 use std::process::Abort;
 use std::test::Fail;

@@ -3,12 +3,12 @@
 use super::addresses::{lengths_of, walk};
 use super::worked::{FOUR_ADDRESSES, STRINGS, TWO_SETS, UNIT};
 use super::{end_requests, eof, same};
-use crate::OwnedReader;
 use dwarf_read_core::{
     DebugAbbrev, DebugAbbrevOffset, DebugAddr, DebugAddrBase, DebugAddrIndex, DebugStr,
     DebugStrOffset, DebugStrOffsets, DebugStrOffsetsBase, DebugStrOffsetsIndex, EndianSlice, Error,
     Format, LittleEndian, Reader, ReaderOffset, Result, read_u8_array,
 };
+use dwarf_uses::OwnedReader;
 use std::alloc::Global;
 use std::fmt::Debug;
 use std::process::Abort;
@@ -131,10 +131,6 @@ fn first_code<R: Reader>(mem: Global, section: &DebugAbbrev<R>) -> Result<Option
     }
 }
 
-fn code_in_table(mem: Global, depth: u8) -> Result<Option<u64>> {
-    first_code(mem, &DebugAbbrev::from(owned(mem, UNIT, depth)?))
-}
-
 // The first three bytes of a string, and its position.
 fn string_at<R: Reader>(section: &DebugStr<R>, offset: u8) -> Result<([u8; 3], u64)> {
     let mut string = section.get_str(DebugStrOffset(R::Offset::from_u8(offset)))?;
@@ -142,13 +138,49 @@ fn string_at<R: Reader>(section: &DebugStr<R>, offset: u8) -> Result<([u8; 3], u
     Ok((read_u8_array::<_, 3>(&mut string)?, position))
 }
 
-fn second_string(mem: Global, depth: u8) -> Result<([u8; 3], u64)> {
-    string_at(&DebugStr::from(owned(mem, STRINGS, depth)?), 4)
+// The second address of the first set.
+fn second_address<R: Reader>(section: &DebugAddr<R>) -> Result<u64> {
+    let (base, index) = (R::Offset::from_u8(8), R::Offset::from_u8(1));
+    section.get_address(4, DebugAddrBase(base), DebugAddrIndex(index))
 }
 
-fn second_address(mem: Global, depth: u8) -> Result<u64> {
-    let section = addresses(mem, TWO_SETS, depth)?;
-    section.get_address(4, DebugAddrBase(8), DebugAddrIndex(1))
+// How many addresses all sets have.
+fn count_of_addresses<R: Reader>(mem: Global, section: &DebugAddr<R>) -> Result<usize> {
+    let mut found = Vec::new(mem);
+    walk(section, &mut found)?;
+    Ok(found.len())
+}
+
+// What a call of each kind returns.
+#[derive(Drop)]
+struct Answers {
+    code: Result<Option<u64>>,
+    string: Result<([u8; 3], u64)>,
+    address: Result<u64>,
+    count: Result<usize>,
+}
+
+fn answers_of<R: Reader>(
+    mem: Global,
+    tables: &DebugAbbrev<R>,
+    strings: &DebugStr<R>,
+    addresses: &DebugAddr<R>,
+) -> Answers {
+    Answers {
+        code: first_code(mem, tables),
+        string: string_at(strings, 4),
+        address: second_address(addresses),
+        count: count_of_addresses(mem, addresses),
+    }
+}
+
+// The answers where clones may go so deep. A call at a concrete reader takes long to prove, so there is one
+// for all kinds.
+fn answers_at(mem: Global, depth: u8) -> Result<Answers> {
+    let tables = DebugAbbrev::from(owned(mem, UNIT, depth)?);
+    let strings = DebugStr::from(owned(mem, STRINGS, depth)?);
+    let addresses = addresses(mem, TWO_SETS, depth)?;
+    Ok(answers_of(mem, &tables, &strings, &addresses))
 }
 
 // Appends the addresses of all sets of an owned section, up to the first fault.
@@ -156,34 +188,24 @@ fn append(addresses: &DebugAddr<Owned>, found: &mut Vec<u64>) -> Result<()> {
     walk(addresses, found)
 }
 
-// How many addresses all sets have.
-fn count_of_addresses(mem: Global, depth: u8) -> Result<usize> {
-    let mut found = Vec::new(mem);
-    append(&addresses(mem, TWO_SETS, depth)?, &mut found)?;
-    Ok(found.len())
-}
-
-// What a call returns where clones may go 0, 1, 2 and 3 deep.
-macro_rules! at_depths {
-    ($mem:expr, $call:ident) => {
-        &[
-            $call($mem, 0),
-            $call($mem, 1),
-            $call($mem, 2),
-            $call($mem, 3),
-        ]
-    };
-}
-
 #[test]
-fn refused_clones_are_returned(rt: HostRuntime) {
+fn refused_clones_are_returned(rt: HostRuntime) -> std::result::Result<(), Fail> {
     let mem = rt.alloc();
-    check_depths(&rt, at_depths!(mem, code_in_table), Some(1), "a table");
-    let two = (*b"two", 4);
-    check_depths(&rt, at_depths!(mem, second_string), two, "a string");
-    let address = 0xdead_beef;
-    check_depths(&rt, at_depths!(mem, second_address), address, "an address");
-    check_depths(&rt, at_depths!(mem, count_of_addresses), 4, "sets");
+    let (none, one, two, three) = (
+        answers_at(mem, 0)?,
+        answers_at(mem, 1)?,
+        answers_at(mem, 2)?,
+        answers_at(mem, 3)?,
+    );
+    let codes = [none.code, one.code, two.code, three.code];
+    check_depths(&rt, &codes, Some(1), "a table");
+    let strings = [none.string, one.string, two.string, three.string];
+    check_depths(&rt, &strings, (*b"two", 4), "a string");
+    let addresses = [none.address, one.address, two.address, three.address];
+    check_depths(&rt, &addresses, 0xdead_beef, "an address");
+    let counts = [none.count, one.count, two.count, three.count];
+    check_depths(&rt, &counts, 4, "sets");
+    Ok(())
 }
 
 // The error that is returned in place of the first set's addresses.

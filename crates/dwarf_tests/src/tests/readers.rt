@@ -1,11 +1,11 @@
 //! Readers: numbers of a fixed width, lengths, positions, parts and texts.
 
 use super::{end_requests, eof, hash_of, little, same};
-use crate::parts::split_ten;
 use dwarf_read_core::{
     BigEndian, EndianSlice, Error, Format, LittleEndian, Reader, ReaderOffsetId, Result,
     RunTimeEndian, read_u8_array,
 };
+use dwarf_uses::parts::split_ten;
 use std::process::Abort;
 use std::test::Fail;
 

@@ -120,40 +120,24 @@ static WRITTEN_SIGNED: &[(i64, &[u8])] = &[
     ),
 ];
 
-// What a reading returns, and how many bytes it consumes.
-fn unsigned(bytes: &[u8]) -> (Result<u64>, u64) {
-    let mut input = little(bytes);
-    (read::unsigned(&mut input), input.offset_id().0)
+// What a reading of each kind returns, and how many bytes it consumes.
+#[derive(Drop)]
+struct Readings {
+    unsigned: (Result<u64>, u64),
+    short: (Result<u16>, u64),
+    signed: (Result<i64>, u64),
+    skipped: (Result<()>, u64),
+    in_a_row: [Result<u64>; 3],
 }
 
-fn short(bytes: &[u8]) -> (Result<u16>, u64) {
-    let mut input = little(bytes);
-    (read::u16(&mut input), input.offset_id().0)
-}
-
-fn signed(bytes: &[u8]) -> (Result<i64>, u64) {
-    let mut input = little(bytes);
-    (read::signed(&mut input), input.offset_id().0)
-}
-
-fn skipped(bytes: &[u8]) -> (Result<()>, u64) {
-    let mut input = little(bytes);
-    (read::skip(&mut input), input.offset_id().0)
-}
-
-#[test]
-fn numbers_are_read(rt: HostRuntime) {
-    for (bytes, wanted, consumed) in UNSIGNED {
-        same(&rt, unsigned(bytes), (*wanted, *consumed), bytes);
-    }
-    for (bytes, wanted, consumed) in SHORT {
-        same(&rt, short(bytes), (*wanted, *consumed), bytes);
-    }
-    for (bytes, wanted, consumed) in SIGNED {
-        same(&rt, signed(bytes), (*wanted, *consumed), bytes);
-    }
-    for (bytes, wanted, consumed) in SKIPPED {
-        same(&rt, skipped(bytes), (*wanted, *consumed), bytes);
+fn readings_of<R: Reader + Copy>(input: R) -> Readings {
+    let (mut unsigned, mut short, mut signed, mut skipped) = (input, input, input, input);
+    Readings {
+        unsigned: (read::unsigned(&mut unsigned), unsigned.offset_id().0),
+        short: (read::u16(&mut short), short.offset_id().0),
+        signed: (read::signed(&mut signed), signed.offset_id().0),
+        skipped: (read::skip(&mut skipped), skipped.offset_id().0),
+        in_a_row: three_numbers(input),
     }
 }
 
@@ -165,15 +149,27 @@ fn three_numbers<R: Reader>(mut input: R) -> [Result<u64>; 3] {
     ]
 }
 
+// A call at a concrete reader takes long to prove, so there is one for all kinds.
+fn read_all(bytes: &[u8]) -> Readings {
+    readings_of(little(bytes))
+}
+
 #[test]
-fn numbers_are_read_one_behind_the_other(rt: HostRuntime) {
-    let wanted = [Ok(130), Ok(1), Err(eof(3))];
-    same(
-        &rt,
-        three_numbers(little(&[0x82, 0x01, 0x01])),
-        wanted,
-        "three",
-    );
+fn numbers_are_read(rt: HostRuntime) {
+    for (bytes, wanted, consumed) in UNSIGNED {
+        same(&rt, read_all(bytes).unsigned, (*wanted, *consumed), bytes);
+    }
+    for (bytes, wanted, consumed) in SHORT {
+        same(&rt, read_all(bytes).short, (*wanted, *consumed), bytes);
+    }
+    for (bytes, wanted, consumed) in SIGNED {
+        same(&rt, read_all(bytes).signed, (*wanted, *consumed), bytes);
+    }
+    for (bytes, wanted, consumed) in SKIPPED {
+        same(&rt, read_all(bytes).skipped, (*wanted, *consumed), bytes);
+    }
+    let in_a_row = read_all(&[0x82, 0x01, 0x01]).in_a_row;
+    same(&rt, in_a_row, [Ok(130), Ok(1), Err(eof(3))], "in a row");
 }
 
 #[test]
@@ -204,12 +200,12 @@ fn written_numbers_are_read(rt: HostRuntime) {
     for value in 0..1025u64 {
         let written = Leb128::unsigned(value);
         let wanted = (Ok(value), written.len() as u64);
-        same(&rt, unsigned(&padded(&written)), wanted, value);
+        same(&rt, read_all(&padded(&written)).unsigned, wanted, value);
     }
     for value in (-513..513i64).chain([i64::MIN]) {
         let written = Leb128::signed(value);
         let wanted = (Ok(value), written.len() as u64);
-        same(&rt, signed(&padded(&written)), wanted, value);
+        same(&rt, read_all(&padded(&written)).signed, wanted, value);
     }
 }
 
@@ -218,8 +214,9 @@ fn written_numbers_are_read(rt: HostRuntime) {
 fn bytes_carry_seven_bits(rt: HostRuntime) {
     for digit in 0..127u8 {
         let wide = u64::from(digit);
-        same(&rt, unsigned(&[digit]), (Ok(wide), 1), digit);
-        same(&rt, unsigned(&[digit + 128, 0]), (Ok(wide), 2), digit);
+        same(&rt, read_all(&[digit]).unsigned, (Ok(wide), 1), digit);
+        let padded = read_all(&[digit + 128, 0]).unsigned;
+        same(&rt, padded, (Ok(wide), 2), digit);
         for number in [65536 + wide, 65536 * wide + wide + 128] {
             let written = Leb128::unsigned(number);
             same(&rt, written.bytes().first(), Some(&(digit + 128)), number);

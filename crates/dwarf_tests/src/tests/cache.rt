@@ -4,7 +4,7 @@ use super::worked::ENDED;
 use super::{end_requests, eof, same};
 use dwarf_read_core::{
     AbbreviationsCache, AbbreviationsCacheStrategy, DebugAbbrev, DebugAbbrevOffset, EndianSlice,
-    Error, LittleEndian, Result,
+    Error, LittleEndian, Reader, ReaderOffset, Result,
 };
 use std::alloc::Global;
 use std::process::Abort;
@@ -68,11 +68,21 @@ static OFFSETS: &[Wanted] = &[
     Ok(DebugAbbrevOffset(7)),
 ];
 
+// Keeps the table at 0 of a section at 5.
+fn set_at_five<R: Reader>(
+    mem: Global,
+    cache: &mut AbbreviationsCache,
+    section: &DebugAbbrev<R>,
+) -> Result<()> {
+    let (zero, five) = (R::Offset::from_u8(0), R::Offset::from_u8(5));
+    let table = section.abbreviations(mem, DebugAbbrevOffset(zero))?;
+    cache.set::<R>(DebugAbbrevOffset(five), Rc::new(mem, table)?)
+}
+
 // Keeps a table with the code 9 at 5.
 fn set_nine(mem: Global, cache: &mut AbbreviationsCache) -> Result<()> {
     let nine = DebugAbbrev::new(&[0x09, 0x11, 0x00, 0x00, 0x00], LittleEndian);
-    let table = nine.abbreviations(mem, DebugAbbrevOffset(0))?;
-    cache.set::<Slice<'_>>(DebugAbbrevOffset(5), Rc::new(mem, table)?)
+    set_at_five(mem, cache, &nine)
 }
 
 #[test]

@@ -161,32 +161,48 @@ static RANGES: &[(u32, u32, Result<(&[u8], u64)>)] = &[
     (1, u32::MAX, Err(Error::UnexpectedEof(ReaderOffsetId(1)))),
 ];
 
-// The bytes and the position of a range of a section.
-fn range<S: Section<Slice<'static>> + Drop>(
+// Ends the test where a range of a section has other bytes, another position or another fault.
+fn check_range<R: Reader, S: Section<R> + Drop>(
+    rt: &impl Abort,
     section: &S,
-    offset: u32,
-    size: u32,
-) -> Result<(&'static [u8], u64)> {
-    let part = section.dwp_range(offset, size)?;
-    Ok((part.reader().slice(), part.reader().offset_id().0))
+    (offset, size, wanted): (u32, u32, Result<(&[u8], u64)>),
+) -> Result<()> {
+    match section.dwp_range(offset, size) {
+        Ok(part) => {
+            let (bytes, position) = (part.reader().to_slice()?, part.reader().offset_id().0);
+            same(rt, Ok((bytes.as_slice(), position)), wanted, offset);
+        }
+        Err(error) => same(rt, Err(error), wanted, offset),
+    }
+    Ok(())
 }
 
-fn check_section<S: Section<Slice<'static>> + Drop>(rt: &impl Abort, id: SectionId) {
+fn check_section<R: Reader, S: Section<R> + Drop>(
+    rt: &impl Abort,
+    reader: R,
+    id: SectionId,
+) -> Result<()> {
     same(rt, S::id(), id, id);
     same(rt, S::section_name(), id.name(), id);
-    let section = S::from(little(b"0123456789"));
-    for (offset, size, wanted) in RANGES {
-        same(rt, range(&section, *offset, *size), *wanted, (id, offset));
+    let section = S::from(reader);
+    for row in RANGES {
+        check_range::<R, S>(rt, &section, *row)?;
     }
+    Ok(())
+}
+
+fn check_sections<R: Reader + Copy>(rt: &impl Abort, reader: R) -> Result<()> {
+    check_section::<R, DebugAbbrev<R>>(rt, reader, SectionId::DebugAbbrev)?;
+    check_section::<R, DebugAddr<R>>(rt, reader, SectionId::DebugAddr)?;
+    check_section::<R, DebugStr<R>>(rt, reader, SectionId::DebugStr)?;
+    check_section::<R, DebugStrOffsets<R>>(rt, reader, SectionId::DebugStrOffsets)?;
+    check_section::<R, DebugLineStr<R>>(rt, reader, SectionId::DebugLineStr)
 }
 
 #[test]
 fn sections_have_identifiers_and_ranges(rt: HostRuntime) {
-    check_section::<DebugAbbrev<Slice<'static>>>(&rt, SectionId::DebugAbbrev);
-    check_section::<DebugAddr<Slice<'static>>>(&rt, SectionId::DebugAddr);
-    check_section::<DebugStr<Slice<'static>>>(&rt, SectionId::DebugStr);
-    check_section::<DebugStrOffsets<Slice<'static>>>(&rt, SectionId::DebugStrOffsets);
-    check_section::<DebugLineStr<Slice<'static>>>(&rt, SectionId::DebugLineStr);
+    let checked = check_sections(&rt, little(b"0123456789"));
+    same(&rt, checked, Ok(()), "ten bytes");
 }
 
 // A loader that has strings alone.
