@@ -38,11 +38,6 @@ fn same<T: PartialEq + Debug + Drop, W: Debug + Copy>(rt: &impl Abort, got: T, w
 // What four calls of an iterator's `next` return.
 type Four = [Result<Option<u64>>; 4];
 
-// The same of four answers. A test that calls this one has fewer types to prove.
-fn same_four(rt: &impl Abort, got: Four, wanted: Four, what: &str) {
-    same(rt, got, wanted, what);
-}
-
 // The error that bytes are missing at a position.
 fn eof(position: u64) -> Error {
     eof!(position)

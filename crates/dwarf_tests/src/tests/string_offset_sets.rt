@@ -2,7 +2,7 @@
 
 use super::strings::offset_at;
 use super::worked::twenty_words;
-use super::{Four, eof, same, same_four};
+use super::{Four, eof, same};
 use dwarf_read_core::{
     DebugStrOffsets, EndianSlice, Error, Format, LittleEndian, Reader, ReaderOffset,
     ReaderOffsetId, Result, RunTimeEndian, StrOffsetsEntryIter, StrOffsetsHeader,
@@ -226,47 +226,26 @@ fn entries_are_found_by_their_index(rt: HostRuntime) {
     }
 }
 
-// A clone goes on where its original does, and neither moves the other.
-fn check_clones<R: Reader + Clone>(rt: &impl Abort, section: &DebugStrOffsets<R>) -> Result<()> {
-    let mut headers = section.headers()?;
-    same(rt, next_length(&mut headers), Ok(Some(12)), "headers");
-    let mut copy = headers.clone()?;
-    let left = [Ok(Some(12)), Ok(None), Ok(None), Ok(None)];
-    same_four(rt, next_lengths(&mut headers), left, "headers");
-    same_four(rt, next_lengths(&mut copy), left, "a copy of headers");
-    Ok(())
-}
-
-fn check_cloned_set<R: Reader + Clone + PartialEq>(
-    rt: &impl Abort,
+// What copies of the iterators return: the lengths of a section's sets, and the offsets of a copy of the
+// first set. Between them, whether that copy equals the set.
+fn answers_of_copies<R: Reader + Clone + PartialEq>(
     section: &DebugStrOffsets<R>,
-) -> Result<()> {
-    let mut headers = section.headers()?;
-    let (first, second) = (next_header(&mut headers)?, next_header(&mut headers)?);
+) -> Result<(Four, bool, Four)> {
+    let headers = section.headers()?;
+    let lengths = next_lengths(&mut headers.clone()?);
+    let first = next_header(&mut headers.clone()?)?;
     let copy = first.clone()?;
-    let are_equal = (first == copy, first == second);
-    same(rt, are_equal, (true, false), "a header");
-    let mut entries = first.entries()?;
-    same(rt, next_offset(&mut entries), Ok(Some(1000)), "entries");
-    let mut copy = entries.clone()?;
-    let left = [Ok(Some(1001)), Ok(None), Ok(None), Ok(None)];
-    same_four(rt, next_offsets(&mut entries), left, "entries");
-    same_four(rt, next_offsets(&mut copy), left, "a copy of entries");
-    Ok(())
-}
-
-fn check_all_clones<R: Reader + Clone + PartialEq>(
-    rt: &impl Abort,
-    section: &DebugStrOffsets<R>,
-) -> Result<()> {
-    check_clones(rt, section)?;
-    check_cloned_set(rt, section)
+    let entries = copy.entries()?;
+    let offsets = next_offsets(&mut entries.clone()?);
+    Ok((lengths, copy == first, offsets))
 }
 
 #[test]
-fn clones_go_on_alike(rt: HostRuntime) {
-    let section = little_section(TWO_SETS);
-    same(&rt, check_all_clones(&rt, &section), Ok(()), "clones");
+fn copies_are_read_alike(rt: HostRuntime) {
+    let lengths = [Ok(Some(12)), Ok(Some(12)), Ok(None), Ok(None)];
+    let offsets = [Ok(Some(1000)), Ok(Some(1001)), Ok(None), Ok(None)];
+    let copies = answers_of_copies(&little_section(TWO_SETS));
+    same(&rt, copies, Ok((lengths, true, offsets)), "copies");
 }
 
 // A section whose reader counts in 32 bits and whose clones may go so deep.
