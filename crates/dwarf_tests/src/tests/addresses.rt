@@ -353,8 +353,8 @@ fn cut_sets_end_early(rt: HostRuntime) {
     }
 }
 
-// What copies of the iterators return: the lengths of a section's sets, and the addresses of a copy of the
-// first set. Between them, whether that copy equals the set.
+// What a copied iterator over sets returns, whether a copy of the first set equals it, and what a copied
+// iterator over that set's addresses returns.
 fn answers_of_copies<R: Reader + Clone + PartialEq>(
     section: &DebugAddr<R>,
 ) -> Result<(Four, bool, Four)> {

@@ -226,8 +226,8 @@ fn entries_are_found_by_their_index(rt: HostRuntime) {
     }
 }
 
-// What copies of the iterators return: the lengths of a section's sets, and the offsets of a copy of the
-// first set. Between them, whether that copy equals the set.
+// What a copied iterator over sets returns, whether a copy of the first set equals it, and what a copied
+// iterator over that set's offsets returns.
 fn answers_of_copies<R: Reader + Clone + PartialEq>(
     section: &DebugStrOffsets<R>,
 ) -> Result<(Four, bool, Four)> {
