@@ -3,12 +3,20 @@
 `rt` proves the libraries below a crate again, unless it has built them itself for that. The scripts that
 follow `rt ci` run the prover over the libraries that it leaves.
 """
+import glob
 import os
+import re
 import shutil
 import subprocess
+import sys
 
 ROOT = os.path.dirname(os.path.dirname(os.path.realpath(__file__)))
 PARTS = ("src", "specs", "proofs")
+# The kit that `tools/ci` was written for.
+KIT = "rattle-kit-13b logic dac8208d650f15bf"
+# Where the gate's proofs keep what they have checked of each crate, if the gate runs.
+KEPT = os.environ.get("GATE_KEPT")
+TEST = re.compile(r"^ *#\[test\]", re.M)
 
 
 def libraries_of_crates():
@@ -32,6 +40,56 @@ def below(crate):
         if library in CRATES:
             found += [it for it in [*below(library), library] if it not in found]
     return found
+
+
+def sources(crate):
+    """The texts of a crate's source files."""
+    for path in sorted(glob.glob(f"{ROOT}/crates/{crate}/src/**/*.rt", recursive=True)):
+        with open(path, encoding="utf-8") as file:
+            yield file.read()
+
+
+def has_text(crate, text):
+    """Whether a text is in a source of a crate."""
+    return any(text in it for it in sources(crate))
+
+
+def tests_in(crate):
+    """How many tests the sources of a crate have."""
+    return sum(len(TEST.findall(it)) for it in sources(crate))
+
+
+def wrong_bodies_of_the_gate():
+    """How many edits in wrong-bodies say that the gate tries them."""
+    found = 0
+    for path in glob.glob(f"{ROOT}/wrong-bodies/**/*", recursive=True):
+        if os.path.isfile(path):
+            with open(path, encoding="utf-8", errors="replace") as file:
+                found += file.readline().startswith("# refused in the gate by ")
+    return found
+
+
+def kept(crate):
+    """The folder of what the gate's proof of a crate has checked, or None."""
+    return f"{KEPT}/{crate}" if KEPT and os.path.isdir(f"{KEPT}/{crate}") else None
+
+
+def lanes(memory):
+    """How many commands that take so much memory the machine has processors and room for, at least one."""
+    processors = len(os.sched_getaffinity(0))
+    try:
+        with open("/proc/meminfo", encoding="utf-8") as file:
+            free = int(re.search(r"MemAvailable:\s+(\d+) kB", file.read())[1]) * 1024
+    except (OSError, TypeError):
+        return processors
+    return max(1, min(processors, free // memory))
+
+
+def measured(step=""):
+    """The words to put before a command, so that it adds a line to the file $GATE_STEPS with the processor seconds that
+    it took. Without a name the step is that of the crate which the command checks. No words if there is no such file."""
+    file = os.environ.get("GATE_STEPS")
+    return [sys.executable, "-IS", f"{ROOT}/tools/measured.py", file, step] if file else []
 
 
 def library(crate):
