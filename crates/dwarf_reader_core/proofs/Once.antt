@@ -1,14 +1,16 @@
--- What is taken from bytes, or refused, is the only thing that can be.
-use Rattle.std.proofs.Common.{◌≡◌, ℕ, ◌<◌, ◌+◌, length, take, refl, sym, ap, ◌∙◌, arith, inl, inr, ⊎_elim, List}
+-- Something is taken from bytes, or refused, and it is the only thing that can be.
+use Rattle.std.proofs.Common.{◌≡◌, ◌≢◌, ℕ, zero, suc, ◌<◌, ◌+◌, ◌^◌, length, take, refl, sym, ap, subst, ◌∙◌, arith, ◌⊎◌, inl, inr, ⊎_elim, List, [], ◌∷◌, All}
 use Rattle.std.proofs.lemmas.List.{length-take-le, get_or-take}
+use Rattle.std.proofs.lemmas.List.Elements.{All-nil, All-cons, All-take}
 use Rattle.std.proofs.lemmas.Bool.{cases_lt}
 use Rattle.dwarf_base_core.specs.declared.common.Format.{Format}
 use Rattle.dwarf_base_core.specs.declared.common.Format.TheVariants.{Dwarf32, Dwarf64}
 use Rattle.dwarf_base_core.specs.declared.error.Error.{Error}
-use Rattle.dwarf_base_core.specs.declared.error.Error.TheVariants.{UnknownReservedLength}
+use Rattle.dwarf_base_core.specs.declared.error.Error.TheVariants.{UnknownReservedLength, UnsupportedOffset}
+use Rattle.dwarf_base_core.specs.Number.{number_of, NumberIsBounded}
 use Rattle.dwarf_reader_core.specs.Input.{Input, after, first, IsFirst, TakesNumber, TakesString}
-use Rattle.dwarf_reader_core.specs.Faults.{Lacks}
-use Rattle.dwarf_reader_core.specs.InitialLength.{TakesLength, RefusesLength}
+use Rattle.dwarf_reader_core.specs.Faults.{EndsBefore, IsNoOffset, Lacks, end_fault}
+use Rattle.dwarf_reader_core.specs.InitialLength.{BeginsDwarf64, IsReservedLength, TakesLength, RefusesLength}
 
 -- a byte stands first at one place
 not_before : (byte : ℕ) (bytes : List ℕ) (i j : ℕ) → IsFirst byte bytes i → IsFirst byte bytes j → i < j → ⊥
@@ -33,6 +35,39 @@ one_string old s t x y a b =
 -- bytes that have a string don't lack the zero byte
 pub string_or_none : (old s x : Input) (e : Error) → TakesString old s x → Lacks 0 old e → ⊥
 string_or_none old s x e a b = b.none a.len 0 a.ends.within a.ends.here
+
+-- bytes lack the zero byte, or it is first at a place
+zero_or_none : (bytes : List ℕ) → All (λ b. b ≢ 0) bytes ⊎ ((index : ℕ) × IsFirst 0 bytes index)
+zero_or_none [] = inl (All-nil (λ b. b ≢ 0))
+zero_or_none (zero ∷ bytes) =
+    inr (0, record { within = omega arith; here = refl; before = All-nil (λ b. b ≢ 0) })
+zero_or_none (suc b ∷ bytes) =
+    elim (zero_or_none bytes) [
+      | inl none ↦ inl (All-cons (λ b. b ≢ 0) (suc b) bytes (λ e. omega arith) none)
+      | inr found ↦
+          inr (
+            suc found.0,
+            record {
+              within = omega (arith, found.1.within);
+              here = found.1.here;
+              before = All-cons (λ b. b ≢ 0) (suc b) (take found.0 bytes) (λ e. omega arith) found.1.before;
+            },
+          )
+    ]
+
+-- bytes begin with a string, or lack the zero byte
+abbrev pub HasString : Input → Type 0
+HasString old = ((s : Input) × (x : Input) × TakesString old s x) ⊎ ((e : Error) × Lacks 0 old e)
+
+pub some_string : (old : Input) → HasString old
+some_string old =
+    elim (zero_or_none old.bytes) [
+      | inl none ↦ inr (end_fault old, record { none = none; fault = refl })
+      | inr found ↦
+          let taken : TakesString old (first found.0 old) (after (found.0 + 1) old) =
+          record { len = found.0; ends = found.1; is = refl; left = refl } in
+          inl (first found.0 old, after (found.0 + 1) old, taken)
+    ]
 
 -- the number at the front is one, and so is what remains
 same_number : (n : ℕ) (old : Input) (a b : ℕ) (x y : Input) → TakesNumber n old a x → TakesNumber n old b y
@@ -90,3 +125,53 @@ one_fault greatest old x y d e (inr (inr (inr a))) (inr (inr (inl b))) =
     absurd (omega (arith, b.rest.short, a.rest.taken.enough))
 one_fault greatest old x y d e (inr (inr (inr a))) (inr (inr (inr b))) =
     (a.rest.fault ∙ sym b.rest.fault, a.rest.taken.left ∙ sym b.rest.taken.left)
+
+-- bytes begin with an initial length, or have an error
+abbrev pub HasLength : ℕ → Input → Type 0
+HasLength greatest old =
+    ((n : ℕ) × (f : Format) × (x : Input) × TakesLength greatest old n f x)
+    ⊎ ((e : Error) × (x : Input) × RefusesLength greatest old e x)
+
+-- they do behind the first four bytes of the 64-bit format
+length_behind : (greatest : ℕ) (old : Input) → BeginsDwarf64 old → HasLength greatest old
+length_behind greatest old begins =
+    let rest = after 4 old in
+    let len = number_of rest.is_big (take 8 rest.bytes) in
+    ⊎_elim
+    (λ short.
+    let ends : EndsBefore 8 rest (end_fault rest) rest = record { short = short; fault = refl; left = refl } in
+    inr (end_fault rest, rest, inr (inr (inl (record { begins = begins; rest = ends })))))
+    (λ enough.
+    let taken : TakesNumber 8 rest len (after 8 rest) = record { enough = enough; is = refl; left = refl } in
+    ⊎_elim
+    (λ over.
+    let none : IsNoOffset greatest 8 rest UnsupportedOffset (after 8 rest) =
+    record { number = len; taken = taken; over = over; fault = refl } in
+    inr (UnsupportedOffset, after 8 rest, inr (inr (inr (record { begins = begins; rest = none })))))
+    (λ within. inl (len, Dwarf64, after 8 rest, (begins, taken, within)))
+    (cases_lt greatest len))
+    (cases_lt (length rest.bytes) 8)
+
+-- they do if they are bytes, whose number is bounded
+pub some_length : NumberIsBounded → (greatest : ℕ) (old : Input) → All (λ b. b < 256) old.bytes
+    → HasLength greatest old
+some_length bounded greatest old bytes =
+    let word = number_of old.is_big (take 4 old.bytes) in
+    ⊎_elim
+    (λ short. inr (end_fault old, old, inl (record { short = short; fault = refl; left = refl })))
+    (λ enough.
+    let taken : TakesNumber 4 old word (after 4 old) = record { enough = enough; is = refl; left = refl } in
+    let below : word < 256 ^ 4 = subst (λ (n : ℕ). word < 256 ^ n) (length-take-le 4 old.bytes enough)
+    (bounded old.is_big (take 4 old.bytes) (All-take (λ b. b < 256) 4 old.bytes bytes)) in
+    ⊎_elim
+    (λ low. inl (word, Dwarf32, after 4 old, (taken, low)))
+    (λ high.
+    ⊎_elim
+    (λ reserved.
+    let refused : IsReservedLength old (UnknownReservedLength word) (after 4 old) =
+    record { number = word; taken = taken; low = high; high = reserved; fault = refl } in
+    inr (UnknownReservedLength word, after 4 old, inr (inl refused)))
+    (λ above. length_behind greatest old (record { enough = enough; is = omega arith; left = refl }))
+    (cases_lt word 0xffff_ffff))
+    (cases_lt word 0xffff_fff0))
+    (cases_lt (length old.bytes) 4)

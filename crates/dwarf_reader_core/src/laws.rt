@@ -1,6 +1,6 @@
 //! Laws of the definitions that the contracts cite.
 
-ghost use Rattle.std.specs.Prelude.{◌≡◌, ◌≤◌, ◌++◌, ℕ, List, length, IsTrue};
+ghost use Rattle.std.specs.Prelude.{◌≡◌, ◌<◌, ◌≤◌, ◌⊎◌, ◌++◌, ℕ, All, List, length, IsTrue};
 ghost use Rattle.dwarf_base_core.specs.declared.common.Format.{Format};
 ghost use Rattle.dwarf_base_core.specs.declared.error.Error.{Error};
 ghost use Rattle.dwarf_reader_core.specs.Input.{Input, TakesString};
@@ -9,6 +9,8 @@ ghost use Rattle.dwarf_reader_core.specs.InitialLength.{TakesLength, RefusesLeng
 ghost use Rattle.dwarf_reader_core.specs.Leb128.{unsigned64, unsigned16, signed64, HasNumber, HasOutcome, IsEncoding, Kind, Number, is_in_range, limit};
 ghost use Rattle.dwarf_reader_core.specs.Once.{HasOne};
 ghost use Rattle.dwarf_reader_core.specs.Shortest.{Encodes, IsShortest};
+
+use dwarf_base_core::laws::numbers_of_bytes;
 
 /// Bytes begin with one number of each kind, or end before one does, or are bad, and exactly one of
 /// these holds.
@@ -37,14 +39,16 @@ pub fn written_is_read()
         → HasNumber k (bytes ++ rest) number (length bytes) }
 {}
 
-/// Bytes begin with one string, or have no zero byte.
+/// Bytes begin with one string, or have no zero byte, and exactly one of these holds.
 pub fn one_string()
     ensures taken { (old s t x y : Input) → TakesString old s x → TakesString old t y
         → (s ≡ t) × (x ≡ y) }
     ensures either { (old s x : Input) (e : Error) → TakesString old s x → Lacks 0 old e → ⊥ }
+    ensures some { (old : Input) → ((s : Input) × (x : Input) × TakesString old s x)
+        ⊎ ((e : Error) × Lacks 0 old e) }
 {}
 
-/// Bytes begin with one initial length, or have one error.
+/// Bytes begin with one initial length, or have one error, and exactly one of these holds.
 pub fn one_length()
     ensures taken { (greatest m n : ℕ) (old x y : Input) (f g : Format)
         → TakesLength greatest old m f x → TakesLength greatest old n g y
@@ -53,4 +57,9 @@ pub fn one_length()
         → RefusesLength greatest old d x → RefusesLength greatest old e y → (d ≡ e) × (x ≡ y) }
     ensures either { (greatest n : ℕ) (old x y : Input) (f : Format) (e : Error)
         → TakesLength greatest old n f x → RefusesLength greatest old e y → ⊥ }
-{}
+    ensures some { (greatest : ℕ) (old : Input) → All (λ b. b < 256) old.bytes
+        → ((n : ℕ) × (f : Format) × (x : Input) × TakesLength greatest old n f x)
+        ⊎ ((e : Error) × (x : Input) × RefusesLength greatest old e x) }
+{
+    numbers_of_bytes();
+}
