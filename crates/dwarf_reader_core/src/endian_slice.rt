@@ -101,9 +101,10 @@ impl<'input, Endian: Endianity> EndianSlice<'input, Endian> {
     /// Returns a reader of these bytes, at position 0.
     #[inline]
     pub fn new(slice: &'input [u8], endian: Endian) -> EndianSlice<'input, Endian>
-        ensures { let reader = ⟦<EndianSlice<'input, Endian> as Reader>⟧ in
+        ensures view { let reader = ⟦<EndianSlice<'input, Endian> as Reader>⟧ in
             reader.view result
             ≡ record { bytes = slice.now; position = 0; is_big = Endian.is_big endian } }
+        ensures order { ⟦<EndianSlice<'input, Endian> as Reader>⟧.order result ≡ endian }
     {
         EndianSlice {
             slice,
@@ -123,9 +124,10 @@ impl<'input, Endian: Endianity> EndianSlice<'input, Endian> {
         first: ReaderOffsetId,
     ) -> EndianSlice<'input, Endian>
         requires { first.0 + length slice.now < 2 ^ 64 }
-        ensures { let reader = ⟦<EndianSlice<'input, Endian> as Reader>⟧ in
+        ensures view { let reader = ⟦<EndianSlice<'input, Endian> as Reader>⟧ in
             reader.view result
             ≡ record { bytes = slice.now; position = first.0; is_big = Endian.is_big endian } }
+        ensures order { ⟦<EndianSlice<'input, Endian> as Reader>⟧.order result ≡ endian }
     {
         EndianSlice {
             slice,
@@ -160,6 +162,10 @@ impl<'input, Endian: Endianity> EndianSlice<'input, Endian> {
             ≡ first idx (⟦<EndianSlice<'input, Endian> as Reader>⟧.view self.now) }
         ensures rest { ⟦<EndianSlice<'input, Endian> as Reader>⟧.view result.1
             ≡ after idx (⟦<EndianSlice<'input, Endian> as Reader>⟧.view self.now) }
+        ensures front_order { let reader = ⟦<EndianSlice<'input, Endian> as Reader>⟧ in
+            reader.order result.0 ≡ reader.order self.now }
+        ensures rest_order { let reader = ⟦<EndianSlice<'input, Endian> as Reader>⟧ in
+            reader.order result.1 ≡ reader.order self.now }
     {
         (self.range_to(..idx), self.range_from(idx..))
     }
@@ -236,9 +242,11 @@ impl<'input, Endian: Endianity> EndianSlice<'input, Endian> {
         requires ordered { range.start ≤ range.end }
         requires within { let reader = ⟦<EndianSlice<'input, Endian> as Reader>⟧ in
             range.end ≤ length (reader.view self.now).bytes }
-        ensures { let reader = ⟦<EndianSlice<'input, Endian> as Reader>⟧ in
+        ensures view { let reader = ⟦<EndianSlice<'input, Endian> as Reader>⟧ in
             reader.view result
             ≡ first (range.end - range.start) (after range.start (reader.view self.now)) }
+        ensures order { let reader = ⟦<EndianSlice<'input, Endian> as Reader>⟧ in
+            reader.order result ≡ reader.order self.now }
     {
         EndianSlice {
             slice: &self.slice[range.start..range.end],
@@ -254,8 +262,10 @@ impl<'input, Endian: Endianity> EndianSlice<'input, Endian> {
     pub fn range_from(&self, range: RangeFrom<usize>) -> EndianSlice<'input, Endian>
         requires { let reader = ⟦<EndianSlice<'input, Endian> as Reader>⟧ in
             range.start ≤ length (reader.view self.now).bytes }
-        ensures { ⟦<EndianSlice<'input, Endian> as Reader>⟧.view result
+        ensures view { ⟦<EndianSlice<'input, Endian> as Reader>⟧.view result
             ≡ after range.start (⟦<EndianSlice<'input, Endian> as Reader>⟧.view self.now) }
+        ensures order { let reader = ⟦<EndianSlice<'input, Endian> as Reader>⟧ in
+            reader.order result ≡ reader.order self.now }
     {
         self.range(range.start..self.slice.len())
     }
@@ -267,8 +277,10 @@ impl<'input, Endian: Endianity> EndianSlice<'input, Endian> {
     pub fn range_to(&self, range: RangeTo<usize>) -> EndianSlice<'input, Endian>
         requires { let reader = ⟦<EndianSlice<'input, Endian> as Reader>⟧ in
             range.end ≤ length (reader.view self.now).bytes }
-        ensures { ⟦<EndianSlice<'input, Endian> as Reader>⟧.view result
+        ensures view { ⟦<EndianSlice<'input, Endian> as Reader>⟧.view result
             ≡ first range.end (⟦<EndianSlice<'input, Endian> as Reader>⟧.view self.now) }
+        ensures order { let reader = ⟦<EndianSlice<'input, Endian> as Reader>⟧ in
+            reader.order result ≡ reader.order self.now }
     {
         self.range(0..range.end)
     }
@@ -298,6 +310,8 @@ impl<'input, Endian: Endianity> Reader for EndianSlice<'input, Endian> {
     ghost clone_is_free = { true };
 
     ghost view = { λ s. record { bytes = s.slice.now; position = s.end - length s.slice.now; is_big = Endian.is_big s.endian } };
+
+    ghost order = { λ s. s.endian };
 
     ghost within = { λ s. record { positions = Prim.omega (arith, s.starts, s.ends); lengths = Prim.omega (arith, s.starts, s.ends); bytes = s.bytes } };
 

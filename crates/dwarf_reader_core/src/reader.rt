@@ -55,6 +55,9 @@ pub trait Reader: Debug + Drop + Sized {
 
     ghost view: { Self → Input };
 
+    // the byte order itself, of which `view` has whether the highest byte comes first
+    ghost order: { Self → Self.Endian };
+
     /// Returns whether clones allocate no memory, as [`CLONE_IS_FREE`](Reader::CLONE_IS_FREE) says.
     ///
     /// The checker proves what this call returns. It proves nothing of a constant, so a program
@@ -69,11 +72,13 @@ pub trait Reader: Debug + Drop + Sized {
     /// [`Error::OutOfMemory`] if memory runs out.
     fn try_clone(&self) -> Result<Self>
         ensures ok { IfOk result (λ clone. view clone ≡ view self.now) }
-        ensures err { IfErr result (WantsMemory clone_is_free) };
+        ensures err { IfErr result (WantsMemory clone_is_free) }
+        ensures order { IfOk result (λ clone. order clone ≡ order self.now) };
 
     /// Returns the byte order.
     fn endian(&self) -> Self::Endian
-        ensures { Self.Endian.is_big result ≡ (view self.now).is_big };
+        ensures is_big { Self.Endian.is_big result ≡ (view self.now).is_big }
+        ensures order { result ≡ order self.now };
 
     /// Returns the number of bytes that remain.
     fn len(&self) -> Self::Offset
@@ -81,7 +86,8 @@ pub trait Reader: Debug + Drop + Sized {
 
     /// Drops all bytes that remain. The position is unchanged.
     fn empty(&mut self)
-        ensures { view self.new ≡ first 0 (view self.old) };
+        ensures left { view self.new ≡ first 0 (view self.old) }
+        ensures order { order self.new ≡ order self.old };
 
     /// Keeps only the first `len` bytes.
     ///
@@ -92,7 +98,8 @@ pub trait Reader: Debug + Drop + Sized {
         ensures ok { OnOk result (view self.new ≡ first (Self.Offset.value len) (view self.old)) }
         ensures enough { OnOk result (Self.Offset.value len ≤ length (view self.old).bytes) }
         ensures err { IfErr result
-            (λ e. EndsBefore (Self.Offset.value len) (view self.old) e (view self.new)) };
+            (λ e. EndsBefore (Self.Offset.value len) (view self.old) e (view self.new)) }
+        ensures order { order self.new ≡ order self.old };
 
     /// Returns how many bytes the position is behind that of `base`.
     ///
@@ -131,7 +138,8 @@ pub trait Reader: Debug + Drop + Sized {
     fn skip(&mut self, len: Self::Offset) -> Result<()>
         ensures ok { OnOk result (Takes (Self.Offset.value len) (view self.old) (view self.new)) }
         ensures err { IfErr result
-            (λ e. EndsBefore (Self.Offset.value len) (view self.old) e (view self.new)) };
+            (λ e. EndsBefore (Self.Offset.value len) (view self.old) e (view self.new)) }
+        ensures order { order self.new ≡ order self.old };
 
     /// Consumes `len` bytes, and returns a reader of them that begins at their position.
     ///
@@ -147,7 +155,9 @@ pub trait Reader: Debug + Drop + Sized {
         ensures ok { OnOk result (Takes (Self.Offset.value len) (view self.old) (view self.new)) }
         ensures err { IfErr result
             (λ e. EndsBefore (Self.Offset.value len) (view self.old) e (view self.new)
-            ⊎ (WantsMemory clone_is_free e × (view self.new ≡ view self.old))) };
+            ⊎ (WantsMemory clone_is_free e × (view self.new ≡ view self.old))) }
+        ensures part_order { IfOk result (λ part. order part ≡ order self.old) }
+        ensures order { order self.new ≡ order self.old };
 
     /// Returns all bytes that remain, and consumes none.
     ///
@@ -193,7 +203,8 @@ pub trait Reader: Debug + Drop + Sized {
         ensures ok { OnOk result (Takes (length buf.old) (view self.old) (view self.new)) }
         ensures err { IfErr result
             (λ e. EndsBefore (length buf.old) (view self.old) e (view self.new)) }
-        ensures unchanged { OnErr result (buf.new ≡ buf.old) };
+        ensures unchanged { OnErr result (buf.new ≡ buf.old) }
+        ensures order { order self.new ≡ order self.old };
 
     /// Returns whether no bytes remain.
     #[inline]
@@ -213,6 +224,7 @@ pub trait Reader: Debug + Drop + Sized {
     fn read_u8(&mut self) -> Result<u8>
         ensures ok { IfOk result (λ byte. TakesByte (view self.old) byte (view self.new)) }
         ensures err { IfErr result (λ e. EndsBefore 1 (view self.old) e (view self.new)) }
+        ensures order { order self.new ≡ order self.old }
     {
         let mut bytes = [0; 1];
         self.read_slice(&mut bytes)?;
@@ -228,6 +240,7 @@ pub trait Reader: Debug + Drop + Sized {
     fn read_i8(&mut self) -> Result<i8>
         ensures ok { IfOk result (λ x. TakesSigned 1 (view self.old) x (view self.new)) }
         ensures err { IfErr result (λ e. EndsBefore 1 (view self.old) e (view self.new)) }
+        ensures order { order self.new ≡ order self.old }
     {
         Ok(self.read_u8()?.cast_signed())
     }
@@ -241,6 +254,7 @@ pub trait Reader: Debug + Drop + Sized {
     fn read_u16(&mut self) -> Result<u16>
         ensures ok { IfOk result (λ x. TakesNumber 2 (view self.old) x (view self.new)) }
         ensures err { IfErr result (λ e. EndsBefore 2 (view self.old) e (view self.new)) }
+        ensures order { order self.new ≡ order self.old }
     {
         let mut bytes = [0; 2];
         self.read_slice(&mut bytes)?;
@@ -256,6 +270,7 @@ pub trait Reader: Debug + Drop + Sized {
     fn read_i16(&mut self) -> Result<i16>
         ensures ok { IfOk result (λ x. TakesSigned 2 (view self.old) x (view self.new)) }
         ensures err { IfErr result (λ e. EndsBefore 2 (view self.old) e (view self.new)) }
+        ensures order { order self.new ≡ order self.old }
     {
         let mut bytes = [0; 2];
         self.read_slice(&mut bytes)?;
@@ -271,6 +286,7 @@ pub trait Reader: Debug + Drop + Sized {
     fn read_u32(&mut self) -> Result<u32>
         ensures ok { IfOk result (λ x. TakesNumber 4 (view self.old) x (view self.new)) }
         ensures err { IfErr result (λ e. EndsBefore 4 (view self.old) e (view self.new)) }
+        ensures order { order self.new ≡ order self.old }
     {
         let mut bytes = [0; 4];
         self.read_slice(&mut bytes)?;
@@ -286,6 +302,7 @@ pub trait Reader: Debug + Drop + Sized {
     fn read_i32(&mut self) -> Result<i32>
         ensures ok { IfOk result (λ x. TakesSigned 4 (view self.old) x (view self.new)) }
         ensures err { IfErr result (λ e. EndsBefore 4 (view self.old) e (view self.new)) }
+        ensures order { order self.new ≡ order self.old }
     {
         let mut bytes = [0; 4];
         self.read_slice(&mut bytes)?;
@@ -301,6 +318,7 @@ pub trait Reader: Debug + Drop + Sized {
     fn read_u64(&mut self) -> Result<u64>
         ensures ok { IfOk result (λ x. TakesNumber 8 (view self.old) x (view self.new)) }
         ensures err { IfErr result (λ e. EndsBefore 8 (view self.old) e (view self.new)) }
+        ensures order { order self.new ≡ order self.old }
     {
         let mut bytes = [0; 8];
         self.read_slice(&mut bytes)?;
@@ -316,6 +334,7 @@ pub trait Reader: Debug + Drop + Sized {
     fn read_i64(&mut self) -> Result<i64>
         ensures ok { IfOk result (λ x. TakesSigned 8 (view self.old) x (view self.new)) }
         ensures err { IfErr result (λ e. EndsBefore 8 (view self.old) e (view self.new)) }
+        ensures order { order self.new ≡ order self.old }
     {
         let mut bytes = [0; 8];
         self.read_slice(&mut bytes)?;
@@ -331,6 +350,7 @@ pub trait Reader: Debug + Drop + Sized {
     fn read_u128(&mut self) -> Result<u128>
         ensures ok { IfOk result (λ x. TakesNumber 16 (view self.old) x (view self.new)) }
         ensures err { IfErr result (λ e. EndsBefore 16 (view self.old) e (view self.new)) }
+        ensures order { order self.new ≡ order self.old }
     {
         let mut bytes = [0; 16];
         self.read_slice(&mut bytes)?;
@@ -347,6 +367,7 @@ pub trait Reader: Debug + Drop + Sized {
         requires { n ≤ 8 }
         ensures ok { IfOk result (λ x. TakesNumber n (view self.old) x (view self.new)) }
         ensures err { IfErr result (λ e. EndsBefore n (view self.old) e (view self.new)) }
+        ensures order { order self.new ≡ order self.old }
     {
         let mut bytes = [0; 8];
         let bytes = &mut bytes[..n];
@@ -369,6 +390,8 @@ pub trait Reader: Debug + Drop + Sized {
             (λ string. TakesString (view self.old) (view string) (view self.new)) }
         ensures err { IfErr result (λ e. Lacks 0 (view self.old) e ⊎ WantsMemory clone_is_free e) }
         ensures unchanged { OnErr result (view self.new ≡ view self.old) }
+        ensures string_order { IfOk result (λ string. order string ≡ order self.old) }
+        ensures order { order self.new ≡ order self.old }
     {
         let len = self.find(0)?;
         let string = self.split(len)?;
@@ -386,6 +409,7 @@ pub trait Reader: Debug + Drop + Sized {
     fn skip_leb128(&mut self) -> Result<()>
         ensures ok { OnOk result (TakesEncoding (view self.old) (view self.new)) }
         ensures err { IfErr result (λ e. LacksEncoding (view self.old) e (view self.new)) }
+        ensures order { order self.new ≡ order self.old }
     {
         loop {
             let byte = self.read_u8()?;
@@ -408,6 +432,7 @@ pub trait Reader: Debug + Drop + Sized {
         ensures ok { IfOk result (λ v. ReadsNumber unsigned64 (view self.old) v (view self.new)) }
         ensures err { IfErr result
             (λ e. RefusesNumber unsigned64 (view self.old) e (view self.new)) }
+        ensures order { order self.new ≡ order self.old }
     {
         // Most numbers have one byte.
         let first = self.read_u8()?;
@@ -440,6 +465,7 @@ pub trait Reader: Debug + Drop + Sized {
         ensures ok { IfOk result (λ v. ReadsNumber unsigned64 (view self.old) v (view self.new)) }
         ensures err { IfErr result (λ e. RefusesNumber unsigned64 (view self.old) e (view self.new)
             ⊎ IsOver (2 ^ 32) (view self.old) e (view self.new)) }
+        ensures order { order self.new ≡ order self.old }
     {
         let value = self.read_uleb128()?;
         u32::try_from(value).map_err(|_| Error::BadUnsignedLeb128)
@@ -458,6 +484,7 @@ pub trait Reader: Debug + Drop + Sized {
         ensures ok { IfOk result (λ v. ReadsNumber unsigned16 (view self.old) v (view self.new)) }
         ensures err { IfErr result
             (λ e. RefusesNumber unsigned16 (view self.old) e (view self.new)) }
+        ensures order { order self.new ≡ order self.old }
     {
         let first = self.read_u8()?;
         if !has_continuation_bit(first) {
@@ -488,6 +515,7 @@ pub trait Reader: Debug + Drop + Sized {
     fn read_sleb128(&mut self) -> Result<i64>
         ensures ok { IfOk result (λ v. ReadsNumber signed64 (view self.old) v (view self.new)) }
         ensures err { IfErr result (λ e. RefusesNumber signed64 (view self.old) e (view self.new)) }
+        ensures order { order self.new ≡ order self.old }
     {
         let first = self.read_u8()?;
         let mut result = with_digit(0, first, 0);
@@ -527,6 +555,7 @@ pub trait Reader: Debug + Drop + Sized {
         ensures in_range { IfOk result (λ found. Self.Offset.value found.0 ≤ Self.Offset.GREATEST) }
         ensures err { IfErr result
             (λ e. RefusesLength Self.Offset.GREATEST (view self.old) e (view self.new)) }
+        ensures order { order self.new ≡ order self.old }
     {
         const FIRST_RESERVED: u32 = 0xffff_fff0;
         const DWARF_64: u32 = 0xffff_ffff;
@@ -556,6 +585,7 @@ pub trait Reader: Debug + Drop + Sized {
         ensures err { IfErr result
             (λ e. EndsBefore 1 (view self.old) e (view self.new)
             ⊎ IsNoAddressSize (view self.old) e (view self.new)) }
+        ensures order { order self.new ≡ order self.old }
     {
         match self.read_u8()? {
             size @ (1 | 2 | 4 | 8) => Ok(size),
@@ -577,6 +607,7 @@ pub trait Reader: Debug + Drop + Sized {
             (λ address. TakesNumber size (view self.old) address (view self.new)
             × IsTrue (is_number_size size)) }
         ensures err { IfErr result (λ e. RefusesAddress size (view self.old) e (view self.new)) }
+        ensures order { order self.new ≡ order self.old }
     {
         match size {
             1 => Ok(self.read_u8()? as u64),
@@ -602,6 +633,7 @@ pub trait Reader: Debug + Drop + Sized {
         ensures err { IfErr result
             (λ e. EndsBefore (word_size format) (view self.old) e (view self.new) ⊎ IsNoOffset
             Self.Offset.GREATEST (word_size format) (view self.old) e (view self.new)) }
+        ensures order { order self.new ≡ order self.old }
     {
         let word = match format {
             Format::Dwarf32 => self.read_u32()? as u64,
@@ -624,6 +656,7 @@ pub trait Reader: Debug + Drop + Sized {
         ensures err { IfErr result
             (λ e. EndsBefore (word_size format) (view self.old) e (view self.new) ⊎ IsNoOffset
             Self.Offset.GREATEST (word_size format) (view self.old) e (view self.new)) }
+        ensures order { order self.new ≡ order self.old }
     {
         self.read_word(format)
     }
@@ -642,6 +675,7 @@ pub trait Reader: Debug + Drop + Sized {
         ensures err { IfErr result
             (λ e. EndsBefore (word_size format) (view self.old) e (view self.new) ⊎ IsNoOffset
             Self.Offset.GREATEST (word_size format) (view self.old) e (view self.new)) }
+        ensures order { order self.new ≡ order self.old }
     {
         self.read_word(format)
     }
@@ -661,6 +695,7 @@ pub trait Reader: Debug + Drop + Sized {
         ensures in_range { IfOk result (λ x. Self.Offset.value x ≤ Self.Offset.GREATEST) }
         ensures err { IfErr result
             (λ e. RefusesOffset Self.Offset.GREATEST size (view self.old) e (view self.new)) }
+        ensures order { order self.new ≡ order self.old }
     {
         let number = match size {
             1 => self.read_u8()? as u64,
@@ -686,6 +721,7 @@ pub fn read_u8_array<R: Reader, const N: usize>(r: &mut R) -> Result<[u8; N]>
     ensures filled { IfOk result (λ bytes. bytes ≡ take N (R.view r.old).bytes) }
     ensures ok { OnOk result (Takes N (R.view r.old) (R.view r.new)) }
     ensures err { IfErr result (λ e. EndsBefore N (R.view r.old) e (R.view r.new)) }
+    ensures order { R.order r.new ≡ R.order r.old }
 {
     let mut bytes = [0; N];
     r.read_slice(&mut bytes)?;

@@ -4,7 +4,8 @@
 //!
 //! - the calls that have no body in the trait, each under the trait's contract;
 //! - `view`, which says what contracts see of a reader: the bytes that remain, the position of the
-//!   first of them, and the byte order;
+//!   first of them, and whether the highest byte of a number comes first;
+//! - `order`, which is the byte order itself;
 //! - ghost fields for what holds of every reader of the type, and `within`, which shows from them
 //!   that positions stay below 2^64 and lengths are offsets;
 //! - a lemma where a contract doesn't follow by itself. Here `truncate` needs one: bytes that were
@@ -117,6 +118,8 @@ impl<Endian: Endianity> Reader for OwnedReader<Endian> {
       position = r.position;
       is_big = Endian.is_big r.endian;
     } };
+
+    ghost order = { λ r. r.endian };
 
     ghost within = { λ r. record {
       positions = Prim.omega (arith, length-drop r.start r.bytes.items, r.positions, r.starts);

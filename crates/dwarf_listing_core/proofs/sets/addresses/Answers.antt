@@ -5,7 +5,7 @@ use Rattle.dwarf_listing_core.proofs.sets.addresses.Goals as goal
 
 pub loop-text-init : goal.loop-text-init
 loop-text-init c =
-    let same = rw (c.from-debug_addr.ensures, c.new.ensures) at c.in_ok-headers.ensures.ok in
+    let same = rw (c.from-debug_addr.ensures, c.new.ensures.view) at c.in_ok-headers.ensures.ok in
     rw c.new-text.ensures.items (no_sets_listed address_listing _ _ same)
 
 pub loop-text-preserved : goal.loop-text-preserved

@@ -8,24 +8,27 @@ use Rattle.std.proofs.lemmas.Bool.{le-leb, lt-leb}
 use Rattle.dwarf_reader_core.proofs.endian_slice.EndianSliceReader.read_sleb128.Goals as goal
 
 pub with_digit-result-requires-in-loop-index-clause-below : goal.with_digit-result-requires-in-loop-index-clause-below
-with_digit-result-requires-in-loop-index-clause-below g c = begun_below c.loop-index.invariant
+with_digit-result-requires-in-loop-index-clause-below g c = begun_below c.loop-index.invariant.begun
 
 pub loop-index-preserved : goal.loop-index-preserved
 loop-index-preserved g c =
-    let n = begun_next c.loop-index.invariant c.in_ok-byte.ensures.ok in
+    let n = begun_next c.loop-index.invariant.begun c.in_ok-byte.ensures.ok in
     let more : 128 ≤ c.in_ok-byte.byte = search rules in
-    rw c.with_digit-result-in-loop-index.ensures (begun_more c.loop-index.invariant n more)
+    record {
+      begun = rw c.with_digit-result-in-loop-index.ensures (begun_more c.loop-index.invariant.begun n more);
+      order = search rules;
+    }
 
 pub with_sign-requires-then-not-has_continuation_bit-2-clause-below : goal.with_sign-requires-then-not-has_continuation_bit-2-clause-below
 with_sign-requires-then-not-has_continuation_bit-2-clause-below g c =
-    let n = begun_next c.loop-index.invariant c.in_ok-byte.ensures.ok in
+    let n = begun_next c.loop-index.invariant.begun c.in_ok-byte.ensures.ok in
     let turn : 7 * c.loop-index.index + 7 ≡ 7 * (c.loop-index.index + 1) = omega arith in
     rw (c.with_digit-result-in-loop-index.ensures, turn)
-    (next_below c.loop-index.invariant n (c.loop-index.index + 1) (omega arith))
+    (next_below c.loop-index.invariant.begun n (c.loop-index.index + 1) (omega arith))
 
 pub returns-then-not-has_continuation_bit-2-clause-ok : goal.returns-then-not-has_continuation_bit-2-clause-ok
 returns-then-not-has_continuation_bit-2-clause-ok g c =
-    let b = c.loop-index.invariant in
+    let b = c.loop-index.invariant.begun in
     let n = begun_next b c.in_ok-byte.ensures.ok in
     let last : c.in_ok-byte.byte < 128 = search rules in
     let negative = c.has_sign_bit-then-not-has_continuation_bit-2.result in
@@ -40,7 +43,7 @@ returns-then-not-has_continuation_bit-2-clause-ok g c =
 pub returns-in-0-clause-ok : goal.returns-in-0-clause-ok
 returns-in-0-clause-ok g c =
     let nine : c.loop-index.index ≡ 9 = omega arith in
-    let b = begun_at nine c.loop-index.invariant in
+    let b = begun_at nine c.loop-index.invariant.begun in
     let n = begun_next b c.in_ok-byte-2.ensures.ok in
     let zero : c.in_ok-byte-2.byte ≡ 0 = c.in-0.is in
     let fits : FitsSigned w64 c.with_sign-in-0.result = search rules in
@@ -51,7 +54,7 @@ returns-in-0-clause-ok g c =
 pub returns-in-127-clause-ok : goal.returns-in-127-clause-ok
 returns-in-127-clause-ok g c =
     let nine : c.loop-index.index ≡ 9 = omega arith in
-    let b = begun_at nine c.loop-index.invariant in
+    let b = begun_at nine c.loop-index.invariant.begun in
     let n = begun_next b c.in_ok-byte-2.ensures.ok in
     let ones : c.in_ok-byte-2.byte ≡ 127 = c.in-127.is in
     let fits : FitsSigned w64 c.with_sign-in-127.result = search rules in
@@ -64,7 +67,7 @@ returns-in-127-clause-ok g c =
 pub returns-in_default-clause-err : goal.returns-in_default-clause-err
 returns-in_default-clause-err g c =
     let nine : c.loop-index.index ≡ 9 = omega arith in
-    let b = begun_at nine c.loop-index.invariant in
+    let b = begun_at nine c.loop-index.invariant.begun in
     let n = begun_next b c.in_ok-byte-2.ensures.ok in
     let nonzero : c.in_ok-byte-2.byte ≢ 0 = search rules in
     let other : c.in_ok-byte-2.byte ≢ 127 = search rules in
@@ -80,13 +83,13 @@ returns-in_default-clause-err g c =
 pub with_sign-requires-in-0-clause-below : goal.with_sign-requires-in-0-clause-below
 with_sign-requires-in-0-clause-below g c =
     let nine : c.loop-index.index ≡ 9 = omega arith in
-    let b = begun_at nine c.loop-index.invariant in
+    let b = begun_at nine c.loop-index.invariant.begun in
     begun_below b
 
 pub with_sign-requires-in-127-clause-below : goal.with_sign-requires-in-127-clause-below
 with_sign-requires-in-127-clause-below g c =
     let nine : c.loop-index.index ≡ 9 = omega arith in
-    let b = begun_at nine c.loop-index.invariant in
+    let b = begun_at nine c.loop-index.invariant.begun in
     begun_below b
 
 pub returns-then-not-has_continuation_bit-clause-ok : goal.returns-then-not-has_continuation_bit-clause-ok

@@ -1,9 +1,9 @@
-use Rattle.std.proofs.Common.{◌-◌, length}
+use Rattle.std.proofs.Common.{◌≡◌, ◌-◌, length}
 use Rattle.dwarf_reader_core.specs.Input.{Input}
 use Rattle.dwarf_reader_core.proofs.Reading.{Begun}
 use Rattle.dwarf_reader_core.proofs.endian_slice.EndianSliceReader.read_uleb128.Given as goal
 
--- as many bytes as the index says were taken, and the number goes on
+-- as many bytes as the index says were taken, the number goes on, and the byte order is the same
 abbrev pub invariant-loop-index : goal.invariant-loop-index
 invariant-loop-index g l =
     let old : Input = record {
@@ -16,4 +16,4 @@ invariant-loop-index g l =
       position = l.self.end - length l.self.slice.now;
       is_big = g.Endian.Endianity.is_big l.self.endian;
     } in
-    Begun old l.index mid l.result
+    record { begun : Begun old l.index mid l.result; order : l.self.endian ≡ l.fn.self.endian }

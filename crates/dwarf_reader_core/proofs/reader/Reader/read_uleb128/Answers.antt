@@ -6,20 +6,23 @@ use Rattle.dwarf_reader_core.proofs.Reading.{Begun, begun_none, begun_below, beg
 use Rattle.dwarf_reader_core.proofs.reader.Reader.read_uleb128.Goals as goal
 
 pub with_digit-result-requires-in-loop-index-clause-below : goal.with_digit-result-requires-in-loop-index-clause-below
-with_digit-result-requires-in-loop-index-clause-below g c = begun_below c.loop-index.invariant
+with_digit-result-requires-in-loop-index-clause-below g c = begun_below c.loop-index.invariant.begun
 
 pub loop-index-preserved : goal.loop-index-preserved
 loop-index-preserved g c =
-    let n = begun_next c.loop-index.invariant c.in_ok-byte.ensures.ok in
+    let n = begun_next c.loop-index.invariant.begun c.in_ok-byte.ensures.ok in
     let more : 128 ≤ c.in_ok-byte.byte = search rules in
-    rw c.with_digit-result-in-loop-index.ensures (begun_more c.loop-index.invariant n more)
+    record {
+      begun = rw c.with_digit-result-in-loop-index.ensures (begun_more c.loop-index.invariant.begun n more);
+      order = search rules;
+    }
 
 pub returns-then-not-has_continuation_bit-2-clause-ok : goal.returns-then-not-has_continuation_bit-2-clause-ok
 returns-then-not-has_continuation_bit-2-clause-ok g c =
-    let n = begun_next c.loop-index.invariant c.in_ok-byte.ensures.ok in
+    let n = begun_next c.loop-index.invariant.begun c.in_ok-byte.ensures.ok in
     let last : c.in_ok-byte.byte < 128 = search rules in
-    let e = begun_ends c.loop-index.invariant n last in
-    begun_reads unsigned64 _ c.loop-index.invariant n last (omega arith)
+    let e = begun_ends c.loop-index.invariant.begun n last in
+    begun_reads unsigned64 _ c.loop-index.invariant.begun n last (omega arith)
     (e.worth ∙ sym c.with_digit-result-in-loop-index.ensures) (search rules)
 
 pub returns-then-byte-gt-MAX_TENTH_BYTE-clause-err : goal.returns-then-byte-gt-MAX_TENTH_BYTE-clause-err
@@ -27,7 +30,7 @@ returns-then-byte-gt-MAX_TENTH_BYTE-clause-err g c =
     let view = g.Self.Reader.view in
     let nine : c.loop-index.index ≡ 9 = omega arith in
     let b : Begun (view c.args.self.now) 9 (view c.loop-index.self) c.loop-index.result = rw
-    (← nine) c.loop-index.invariant in
+    (← nine) c.loop-index.invariant.begun in
     let n = begun_next b c.in_ok-byte-2.ensures.ok in
     begun_bad unsigned64 b n refl (λ last e has. omega (arith, e.worth, ltb-true _ _ has))
 
@@ -36,7 +39,7 @@ returns-clause-ok g c =
     let view = g.Self.Reader.view in
     let nine : c.loop-index.index ≡ 9 = omega arith in
     let b : Begun (view c.args.self.now) 9 (view c.loop-index.self) c.loop-index.result = rw
-    (← nine) c.loop-index.invariant in
+    (← nine) c.loop-index.invariant.begun in
     let n = begun_next b c.in_ok-byte-2.ensures.ok in
     let last : c.in_ok-byte-2.byte < 128 = omega arith in
     let e = begun_ends b n last in

@@ -1,11 +1,15 @@
-use Rattle.std.proofs.Common.{ℕ, length}
+use Rattle.std.proofs.Common.{◌≡◌, ℕ, length}
 use Rattle.dwarf_reader_core.proofs.Reading.{Begun}
 use Rattle.dwarf_reader_core.proofs.reader.Reader.skip_leb128.Given as goal
 
--- some bytes were taken, and the number goes on
+-- some bytes were taken, the number goes on, and the byte order is the same
 abbrev pub invariant-loop-byte : goal.invariant-loop-byte
 invariant-loop-byte g l =
-    let view = g.Self.Reader.view in (k : ℕ) × (worth : ℕ) × Begun (view l.fn.self) k (view l.self) worth
+    let view = g.Self.Reader.view in
+    record {
+      begun : (k : ℕ) × (worth : ℕ) × Begun (view l.fn.self) k (view l.self) worth;
+      order : g.Self.Reader.order l.self ≡ g.Self.Reader.order l.fn.self;
+    }
 
 abbrev pub decreases-loop-byte : goal.decreases-loop-byte
 decreases-loop-byte g l = length (g.Self.Reader.view l.self).bytes

@@ -10,4 +10,4 @@ returns-in-Ok-clause-first g c =
 pub returns-in-Err-clause-first : goal.returns-in-Err-clause-first
 returns-in-Err-clause-first g c =
     rw (← c.self.view_is) (inl (address_fault _ _ _ c.self.inside.encoding.sized
-    (search rules) c.in-Err.ensures.err (ap (λ (i : Input). i.bytes) c.empty.ensures)))
+    (search rules) c.in-Err.ensures.err (ap (λ (i : Input). i.bytes) c.empty.ensures.left)))

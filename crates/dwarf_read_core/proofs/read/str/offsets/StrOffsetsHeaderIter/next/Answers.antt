@@ -31,7 +31,7 @@ returns-in-Err-clause-first g c =
     rw (← c.self.view_is)
     (set_refused string_offsets_header-is _
     (record { offset = g.R.Offset.ReaderOffset.value c.self.inside.offset; rest = g.R.Reader.view c.self.inside.input })
-    _ _ (search rules) c.in-Err.ensures.err (ap (λ (i : Input). i.bytes) c.empty.ensures))
+    _ _ (search rules) c.in-Err.ensures.err (ap (λ (i : Input). i.bytes) c.empty.ensures.left))
 
 pub returns-in-Err-clause-stable : goal.returns-in-Err-clause-stable
 returns-in-Err-clause-stable g c = λ settled more.
