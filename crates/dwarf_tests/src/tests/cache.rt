@@ -108,6 +108,35 @@ fn tables_are_kept_or_read_afresh(rt: HostRuntime) -> std::result::Result<(), Fa
     Ok(())
 }
 
+// Whether two calls of `get` return one table, and not two that are alike.
+fn is_shared(
+    cache: &AbbreviationsCache,
+    section: &DebugAbbrev<Slice<'_>>,
+    offset: usize,
+) -> Result<bool> {
+    let first = cache.get(section, DebugAbbrevOffset(offset))?;
+    let second = cache.get(section, DebugAbbrevOffset(offset))?;
+    Ok(Rc::ptr_eq(&first, &second))
+}
+
+// `get` itself keeps nothing, so a table that wasn't kept before is read at each call.
+#[test]
+fn kept_tables_are_shared(rt: HostRuntime) -> std::result::Result<(), Fail> {
+    let mem = rt.alloc();
+    let mut cache = AbbreviationsCache::new(mem);
+    let strategy = AbbreviationsCacheStrategy::All;
+    populate(&mut cache, strategy, &one(), &[Ok(DebugAbbrevOffset(0))])?;
+    set_nine(mem, &mut cache)?;
+    for (offset, wanted, what) in [
+        (0, true, "populated"),
+        (5, true, "set"),
+        (4, false, "read by get alone"),
+    ] {
+        same(&rt, is_shared(&cache, &one(), offset), Ok(wanted), what);
+    }
+    Ok(())
+}
+
 #[test]
 fn nothing_is_asked_behind_an_error(rt: HostRuntime) -> std::result::Result<(), Fail> {
     let mut offsets = [

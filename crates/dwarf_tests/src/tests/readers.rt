@@ -5,7 +5,7 @@ use dwarf_read_core::{
     BigEndian, EndianSlice, Error, Format, LittleEndian, Reader, ReaderOffsetId, Result,
     RunTimeEndian, read_u8_array,
 };
-use dwarf_uses::parts::split_ten;
+use dwarf_uses::parts::{clone_is_equal, split_ten};
 use std::process::Abort;
 use std::test::Fail;
 
@@ -205,6 +205,7 @@ fn parts_are_cut(rt: HostRuntime) {
     same(&rt, found, (Some(1), None), "found in the middle");
     let wanted = (front.slice(), rest.slice());
     same(&rt, split_ten(TEN), wanted, "three and seven");
+    same(&rt, clone_is_equal(&rest), Ok(true), "a clone of the rest");
 }
 
 #[test]
