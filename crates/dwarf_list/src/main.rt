@@ -3,22 +3,15 @@
 
 #![tactic(auto)]
 
-mod command;
-mod fault;
-mod laws;
-mod listing;
-mod number;
-mod run;
-mod words;
-
-use fault::{Fault, exit_code};
+use dwarf_listing_core::fault::{Fault, exit_code};
+use dwarf_listing_core::run::run;
+use dwarf_listing_core::words::command_line;
 use std::process::ExitCode;
-use words::command_line;
 
 fn list(rt: &HostRuntime) -> Result<(), Fault> {
     let mem = rt.alloc();
     let words = command_line(mem, rt)?;
-    run::run(mem, &words, &mut rt.stdin(), &mut rt.stdout())
+    run(mem, &words, &mut rt.stdin(), &mut rt.stdout())
 }
 
 fn main(rt: HostRuntime) -> ExitCode {

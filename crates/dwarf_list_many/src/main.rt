@@ -12,26 +12,15 @@
 
 #![tactic(auto)]
 
-mod arguments;
-mod fault;
-mod many;
-
-use arguments::parse_arguments;
-use fault::Fault;
-use many::write_all_at;
-use std::env;
-use std::io::Read;
+use dwarf_listing_core::many::fault::ManyFault;
+use dwarf_listing_core::many::run_many;
+use dwarf_listing_core::words::command_line;
 use std::process::ExitCode;
 
-fn list(rt: &HostRuntime) -> Result<(), Fault> {
+fn list(rt: &HostRuntime) -> Result<(), ManyFault> {
     let mem = rt.alloc();
-    let words: Vec<String> = env::args(rt).map_err(|_| Fault::Usage)?.collect(mem)?;
-    let (kind, offsets) = parse_arguments(mem, &words)?;
-    let mut section = Vec::new(mem);
-    rt.stdin()
-        .read_to_end(&mut section)
-        .map_err(|_| Fault::Read)?;
-    write_all_at(mem, kind, &section, &offsets, &mut rt.stdout())
+    let words = command_line(mem, rt)?;
+    run_many(mem, &words, &mut rt.stdin(), &mut rt.stdout())
 }
 
 fn main(rt: HostRuntime) -> ExitCode {

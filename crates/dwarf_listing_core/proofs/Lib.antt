@@ -1,5 +1,9 @@
+pub mod ArgumentLemmas
+pub mod Commands
 pub mod Hexadecimal
+pub mod Numbers
 pub mod OneText
 pub mod SetLines
 pub mod SetTexts
 pub mod StringLines
+pub mod Texts

@@ -1,4 +1,11 @@
+pub mod Arguments
+pub mod Command
+pub mod Fault
 pub mod Lines
 pub mod Listing
+pub mod Many
+pub mod ManyFault
+pub mod Number
 pub mod Sets
 pub mod Tables
+pub mod Text

@@ -1,10 +1,12 @@
 //! Laws over the definitions: each function has one as its contract, and does nothing.
 
-ghost use Rattle.std.specs.Prelude.{ℕ, List};
+ghost use Rattle.std.specs.Prelude.{◌≡◌, ℕ, List, Result};
 ghost use Rattle.dwarf_read_core.specs.Once.{HasOne};
+ghost use Rattle.dwarf_read_core.specs.declared.Error.{Error};
 ghost use Rattle.dwarf_listing_core.specs.Lines.{ListsString};
 ghost use Rattle.dwarf_listing_core.specs.Sets.{ListsAddresses, ListsStringOffsets};
 ghost use Rattle.dwarf_listing_core.specs.Tables.{ListsStrictTable, ListsTable};
+ghost use Rattle.dwarf_listing_core.specs.Text.{IsText, Lists};
 
 use dwarf_read_core::laws;
 
@@ -25,4 +27,15 @@ pub fn exactly_one_listing()
     laws::exactly_one_list_of_entries();
     laws::exactly_one_list_of_offset_sets();
     laws::exactly_one_list_of_string_offsets();
+}
+
+/// The arguments and the bytes of an input have exactly one text, or one error. A command lists one
+/// text of an input at most, or has one error.
+pub fn exactly_one_text()
+    ensures text { (words : List (List ℕ)) (input : List ℕ) → HasOne (IsText words input) }
+    ensures listing { (command : _) (input : List ℕ) (one other : Result (List ℕ) Error)
+        → Lists command input one → Lists command input other → other ≡ one }
+{
+    exactly_one_listing();
+    laws::exactly_one_shortest();
 }

@@ -1,15 +1,27 @@
-//! The text of listings: what a program prints of a section of abbreviation tables, strings,
-//! addresses or string offsets.
+//! The text of listings, and the programs `dwarf_list` and `dwarf_list_many` but for their `main`.
 //!
-//! Each function takes the bytes of a whole section and returns the lines, or the section's first
-//! error. The text is built whole before it is returned.
+//! The functions at the root take the bytes of a whole section of abbreviation tables, strings,
+//! addresses or string offsets. They return the lines, or the section's first error. The text is
+//! built whole before it is returned.
+//!
+//! [`run::run`] is a whole run of `dwarf_list`, and [`many::run_many`] one of `dwarf_list_many`.
+//! Both take the words that [`words::command_line`] returns.
 
 #![tactic(auto)]
 
+pub mod arguments;
+pub mod command;
+pub mod fault;
+pub mod input;
 pub mod laws;
 mod lines;
+pub mod listing;
+pub mod many;
+pub mod number;
+pub mod run;
 mod sets;
 mod tables;
+pub mod words;
 
 pub use lines::{hex_line, string, string_in_place};
 pub use sets::{addresses, string_offsets};

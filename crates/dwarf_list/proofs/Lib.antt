@@ -1,3 +1,0 @@
-pub mod Commands
-pub mod Numbers
-pub mod Texts

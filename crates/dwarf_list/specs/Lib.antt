@@ -1,4 +1,0 @@
-pub mod Command
-pub mod Fault
-pub mod Listing
-pub mod Number

@@ -1,0 +1,59 @@
+-- What `parse` makes of digits.
+use Rattle.std.proofs.Common.{◌≡◌, ℕ, Bool, true, false, ◌+◌, ◌<◌, ◌≤◌, List, length, drop, ◌^◌, ℤ, pos, neg_ℤ, Option, Some, None, rules, refl, ◌∙◌, arith, Result, Ok, Err}
+use Rattle.std.proofs.lemmas.Bool.Decides.{nat_tests}
+use Rattle.std.proofs.lemmas.Grind.{common_steps}
+use Rattle.std.proofs.lemmas.Str.Parse.{IsNumeralModel, numerals_by_value, parse_digits, parse_signed_digits, parse_signed_minus}
+use Rattle.std.specs.Int.{w64}
+use Rattle.std.specs.Option.{option_map}
+use Rattle.std.specs.Result.{result_ok, OkIff}
+use Rattle.std.specs.Str.Parse.{digits_value, ParsesSigned, ParsesUnsigned, starts_with_minus}
+use Rattle.dwarf_listing_core.specs.Number.{is_all_digits, number_below, signed_of, unsigned_of, without_minus}
+
+-- the test and the value are those of `parse`
+numerals : IsNumeralModel (λ text. is_all_digits text ≡ true) (digits_value 10)
+numerals = numerals_by_value _ (search rules)
+
+-- a number that is parsed exactly where the digits are in range
+below_by_cases : {T E : Type 0} → (sign : ℕ → T) (limit : ℕ) (text : List ℕ) (parsed : Result T E)
+    → is_all_digits text ≡ true → OkIff parsed ((0 < length text) × (digits_value 10 text < limit))
+    (sign (digits_value 10 text)) → result_ok parsed ≡ option_map sign (number_below limit text)
+below_by_cases sign limit text (Ok n) digits told = grind (arith, common_steps, nat_tests)
+below_by_cases sign limit text (Err e) digits told = grind (arith, common_steps, nat_tests)
+
+-- an option stays the same where its number is mapped to itself
+same_option : (o : Option ℕ) → option_map (λ n. n) o ≡ o
+same_option None = refl
+same_option (Some n) = refl
+
+-- a text of digits is parsed as the number that it gives
+pub parsed_unsigned : {E : Type 0} → (text : List ℕ) (parsed : Result ℕ E) → ParsesUnsigned 64 10 text parsed
+    → is_all_digits text ≡ true → result_ok parsed ≡ unsigned_of text
+parsed_unsigned text parsed told digits =
+    below_by_cases (λ n. n) (2 ^ 64) text parsed digits (parse_digits numerals 64 text parsed told digits)
+    ∙ same_option (unsigned_of text)
+
+-- a number at most a limit is below the next
+below_next : {T E : Type 0} → (parsed : Result T E) (text : List ℕ) (limit : ℕ) (value : T)
+    → is_all_digits text ≡ true → OkIff parsed
+    ((is_all_digits text ≡ true) × (0 < length text) × (digits_value 10 text ≤ limit)) value
+    → OkIff parsed ((0 < length text) × (digits_value 10 text < limit + 1)) value
+below_next (Ok n) text limit value digits told = ((told.0.1, omega arith), told.1)
+below_next (Err e) text limit value digits told = λ inside. told (digits, inside.0, omega arith)
+
+-- a text of digits behind an optional minus is parsed as its signed number, whether the minus stands there or not
+signed_by_sign : {E : Type 0} → (text : List ℕ) (parsed : Result ℤ E) → ParsesSigned w64 10 text parsed
+    → is_all_digits (without_minus text) ≡ true → (minus : Bool) → starts_with_minus text ≡ minus
+    → result_ok parsed ≡ signed_of text
+signed_by_sign text parsed told digits true sign =
+    let rest = rw sign at digits in
+    rw sign (below_by_cases (λ n. neg_ℤ (pos n)) (2 ^ 63 + 1) (drop 1 text) parsed rest
+    (below_next parsed (drop 1 text) (2 ^ 63) _ rest
+    (parse_signed_minus numerals w64 text parsed told (grind arith))))
+signed_by_sign text parsed told digits false sign =
+    let whole = rw sign at digits in
+    rw sign (below_by_cases pos (2 ^ 63) text parsed whole (parse_signed_digits numerals w64 text parsed told whole))
+
+-- so is one with a minus before it
+pub parsed_signed : {E : Type 0} → (text : List ℕ) (parsed : Result ℤ E) → ParsesSigned w64 10 text parsed
+    → is_all_digits (without_minus text) ≡ true → result_ok parsed ≡ signed_of text
+parsed_signed text parsed told digits = signed_by_sign text parsed told digits (starts_with_minus text) refl

@@ -1,0 +1,48 @@
+use Rattle.std.proofs.Common.{◌≡◌, ◌<◌, ℕ, suc, List, [], ◌++◌, length, take, drop, get_or, Err, sym, ap, ◌∙◌, drop-cons}
+use Rattle.std.proofs.lemmas.List.{take-append-drop, take_more}
+use Rattle.std.proofs.lemmas.Result.{err_from_is_err_and}
+use Rattle.std.proofs.KnownBytes.{Appends-nil, Appends-trans}
+use Rattle.dwarf_read_core.specs.declared.Error.{Error}
+use Rattle.dwarf_listing_core.specs.declared.arguments.Kind.{Kind}
+use Rattle.dwarf_listing_core.specs.Many.{EndsAt, ListsAll, ListsOne, nothing, one_more}
+use Rattle.dwarf_listing_core.proofs.many.write_all_at.Goals as goal
+
+-- the first error is that of the next offset
+first_error : {kind : Kind} {section : List ℕ} {offset : ℕ} {error : Error} {text : List ℕ} (offsets : List ℕ) (i : ℕ)
+    → i < length offsets → ListsAll kind section (take i offsets) text → offset ≡ get_or offsets i 0
+    → ListsOne kind section (get_or offsets i 0) (Err error) → EndsAt kind section offsets offset error text
+first_error {kind} {section} {offset} {error} offsets i within listed same fails = record {
+  before = take i offsets;
+  after = drop (suc i) offsets;
+  place = rw same (sym (take-append-drop i offsets)
+      ∙ ap (λ rest. take i offsets ++ rest) (drop-cons offsets i 0 within));
+  listed = listed;
+  fails = rw same fails;
+}
+
+pub loop-offset-init : goal.loop-offset-init
+loop-offset-init g c = ([], nothing, Appends-nil _)
+
+pub loop-offset-preserved : goal.loop-offset-preserved
+loop-offset-preserved g c =
+    let offsets = c.args.offsets.now in
+    let i = c.loop-offset.offset-index in
+    let before = c.loop-offset.invariant in
+    let one = c.in_ok-write_at.ensures.ok in (
+      _,
+      rw (take_more offsets i 0 c.loop-offset-test.true) (one_more _ _ _ _ before.1 one.1),
+      Appends-trans _ _ _ _ _ before.2 one.2,
+    )
+
+pub returns-in_err-write_at-clause-first : goal.returns-in_err-write_at-clause-first
+returns-in_err-write_at-clause-first g c offset error failed =
+    let p = err_from_is_err_and c.from_residual.result c.from_residual.ensures.1 in
+    let before = c.loop-offset.invariant in
+    let returned = p.1 in
+    let same = p.2 in
+    let at = c.in_err-write_at.ensures.at offset error cc in
+    let i = c.loop-offset.offset-index in (
+      before.0,
+      first_error c.args.offsets.now i c.loop-offset-test.true before.1 at.0 at.2,
+      rw at.1 before.2,
+    )

@@ -1,0 +1,10 @@
+use Rattle.std.proofs.Common.{List, ℕ, take}
+use Rattle.std.specs.Io.KnownBytes.{Appends}
+use Rattle.dwarf_listing_core.specs.Many.{ListsAll}
+use Rattle.dwarf_listing_core.proofs.many.write_all_at.Given as goal
+
+-- what is written so far is what is listed at the offsets so far
+abbrev pub invariant-loop-offset : goal.invariant-loop-offset
+invariant-loop-offset g l =
+    (text : List ℕ) × ListsAll l.kind l.section (take l.offset-index l.offsets) text
+    × Appends (g.O.Write.contents l.initial.output) (g.O.Write.contents l.output) text

@@ -1,0 +1,36 @@
+-- What the program writes.
+use Rattle.std.specs.Prelude.{◌≡◌, ℕ, List, Result, Ok, Err, None, IsSomeAnd}
+use Rattle.dwarf_read_core.specs.declared.Error.{Error}
+use Rattle.dwarf_read_core.specs.Leb128.{Kind, Number, unsigned64, signed64}
+use Rattle.dwarf_read_core.specs.Shortest.{IsShortest}
+use Rattle.dwarf_listing_core.specs.Lines.{ListsString, hex_text, line}
+use Rattle.dwarf_listing_core.specs.Sets.{ListsAddresses, ListsStringOffsets}
+use Rattle.dwarf_listing_core.specs.Tables.{ListsStrictTable, ListsTable}
+use Rattle.dwarf_listing_core.specs.Command.{command_of}
+use Rattle.dwarf_listing_core.specs.declared.command.Command.{Command}
+use Rattle.dwarf_listing_core.specs.declared.command.Command.TheVariants.{Abbrev, Str, Addr, Uleb, Sleb, AbbrevStrict, StrOffsets}
+use Rattle.dwarf_listing_core.specs.declared.fault.Fault.{Fault}
+use Rattle.dwarf_listing_core.specs.declared.fault.Fault.TheVariants.{Section, Usage, Read, Write}
+
+-- the shortest encoding of a number, in hexadecimal; there is no error
+abbrev pub ListsNumber : (k : Kind) → Number k → Result (List ℕ) Error → Type 0
+ListsNumber k number (Ok text) = (bytes : List ℕ) × IsShortest k number bytes × (text ≡ line (hex_text bytes))
+ListsNumber k number (Err error) = ⊥
+
+-- the text that a command prints of an input, or the error of the section
+abbrev pub Lists : Command → List ℕ → Result (List ℕ) Error → Type 0
+Lists (Abbrev offset) input = ListsTable input offset
+Lists (Str offset) input = ListsString input offset
+Lists (Addr endian) input = ListsAddresses endian input
+Lists (Uleb value) input = ListsNumber unsigned64 value
+Lists (Sleb value) input = ListsNumber signed64 value
+Lists (AbbrevStrict offset) input = ListsStrictTable input offset
+Lists (StrOffsets endian) input = ListsStringOffsets endian input
+
+-- the text that the arguments request of an input, or the error
+abbrev pub IsText : List (List ℕ) → List ℕ → Result (List ℕ) Fault → Type 0
+IsText words input (Ok text) = IsSomeAnd (command_of words) (λ command. Lists command input (Ok text))
+IsText words input (Err (Section error)) = IsSomeAnd (command_of words) (λ command. Lists command input (Err error))
+IsText words input (Err Usage) = command_of words ≡ None
+IsText words input (Err Read) = ⊥
+IsText words input (Err Write) = ⊥

@@ -1,0 +1,42 @@
+//! Numbers of the command line: ASCII digits, and before a signed one an optional minus.
+
+ghost use Rattle.std.specs.Prelude.{◌≡◌};
+ghost use Rattle.dwarf_listing_core.specs.Number.{is_all_digits, signed_of, unsigned_of, without_minus};
+
+/// Returns the number below 2^64 that one or more ASCII digits are, with any count of leading
+/// zeros.
+pub fn parse_unsigned(text: &str) -> Option<u64>
+    ensures { result ≡ unsigned_of text.now }
+{
+    if is_all_digits(text.as_bytes()) {
+        text.parse().ok()
+    } else {
+        None
+    }
+}
+
+/// Returns the same from -2^63 to 2^63 - 1, with or without a minus.
+pub fn parse_signed(text: &str) -> Option<i64>
+    ensures { result ≡ signed_of text.now }
+{
+    if is_all_digits(without_minus(text.as_bytes())) {
+        text.parse().ok()
+    } else {
+        None
+    }
+}
+
+fn is_all_digits(text: &[u8]) -> bool
+    ensures { result ≡ is_all_digits text.now }
+{
+    text.iter().all(|byte| byte.is_ascii_digit())
+}
+
+fn without_minus(text: &[u8]) -> &[u8]
+    ensures { result.now ≡ without_minus text.now }
+{
+    match text {
+        [b'-', digits @ ..] => digits,
+        _ => text,
+    }
+}

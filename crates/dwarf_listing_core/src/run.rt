@@ -1,0 +1,74 @@
+//! The whole of a run: arguments, input, result, output.
+
+ghost use Rattle.std.specs.Prelude.{◌≡◌, ◌≢◌, List, ℕ, ◌↔◌, Ok, Err, IfErr, OnOk, IfSome, map, string_bytes};
+ghost use Rattle.std.specs.Io.KnownBytes.{Appends, IsAtEnd};
+ghost use Rattle.dwarf_read_core.specs.declared.Error.TheVariants.{OutOfMemory};
+ghost use Rattle.dwarf_listing_core.specs.Command.{IsUsage, ReadsInput};
+ghost use Rattle.dwarf_listing_core.specs.Text.{IsText};
+
+#[cfg(test)]
+mod tests;
+
+use crate::command::{parse_command, reads_input};
+use crate::fault::Fault;
+use crate::input::read_input;
+use crate::listing::listing;
+use std::alloc::Global;
+use std::io::{Read, Write};
+
+/// Does what the arguments request.
+///
+/// The arguments are parsed first. Then the input is read to its end, if the command lists a part of
+/// it, and the whole text is built, written and flushed.
+///
+/// # Errors
+///
+/// - `Usage` if the arguments name no command. Nothing is read then.
+/// - `Read` if the input can't be read.
+/// - `Section` if what the command lists is malformed, with the first error, or if memory runs out.
+/// - `Write` if the output can't be written. A part of the text may be written then; after any
+///   other error nothing is.
+pub fn run<I: Read, O: Write>(
+    mem: Global,
+    words: &[String],
+    input: &mut I,
+    output: &mut O,
+) -> Result<(), Fault>
+    // What was written, and nothing else.
+    ensures written { OnOk result (IfSome (I.remaining input.old) (λ bytes. (text : List ℕ)
+        × IsText (map string_bytes words.now) bytes (Ok text)
+        × Appends (O.contents output.old) (O.contents output.new) text)) }
+    ensures unwritten { IfErr result (λ fault. fault ≢ Fault.Write → output.new ≡ output.old) }
+    ensures unread { ¬ ReadsInput (map string_bytes words.now) → input.new ≡ input.old }
+    ensures end { OnOk result
+        (ReadsInput (map string_bytes words.now) → IsAtEnd (I.remaining input.new)) }
+
+    // When each error is returned.
+    ensures usage { (result ≡ Err Fault.Usage) ↔ IsUsage (map string_bytes words.now) }
+    ensures section { (error : _) → result ≡ Err (Fault.Section error) → error ≢ OutOfMemory
+        → IfSome (I.remaining input.old) (λ bytes.
+        IsText (map string_bytes words.now) bytes (Err (Fault.Section error))) }
+    ensures read { result ≡ Err Fault.Read → ReadsInput (map string_bytes words.now) }
+    ensures write { result ≡ Err Fault.Write → IfSome (I.remaining input.old) (λ bytes.
+        (text : List ℕ) × IsText (map string_bytes words.now) bytes (Ok text)) }
+{
+    let command = parse_command(words).ok_or(Fault::Usage)?;
+    let bytes = if reads_input(command) {
+        read_input(mem, input)?
+    } else {
+        Vec::new(mem)
+    };
+    let text = listing(mem, command, bytes)?;
+    write_output(output, &text)
+}
+
+fn write_output<O: Write>(output: &mut O, text: &[u8]) -> Result<(), Fault>
+    ensures written { OnOk result
+        (Appends (O.contents output.old) (O.contents output.new) text.now) }
+    ensures fault { IfErr result (λ fault. fault ≡ Fault.Write) }
+{
+    if output.write_all(text).is_err() || output.flush().is_err() {
+        return Err(Fault::Write);
+    }
+    Ok(())
+}

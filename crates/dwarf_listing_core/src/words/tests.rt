@@ -1,0 +1,52 @@
+use super::command_line;
+use crate::fault::Fault;
+use std::alloc::Global;
+use std::env::{Env, FillError};
+use std::test::Fail;
+
+// A system that gives these words, the program's name first.
+#[derive(Drop)]
+pub(crate) struct Given<'list, 'word>(pub(crate) &'list [&'word [u8]]);
+
+impl Env for Given<'_, '_> {
+    fn arg(&self, i: usize, buf: &mut [u8]) -> Result<usize, FillError> {
+        let word = self.0.get(i).ok_or(FillError::NotPresent)?;
+        if buf.len() < word.len() {
+            return Err(FillError::TooLong);
+        }
+        buf[..word.len()].copy_from_slice(word);
+        Ok(word.len())
+    }
+
+    fn var(&self, _name: &str, _buf: &mut [u8]) -> Result<usize, FillError> {
+        Err(FillError::NotPresent)
+    }
+
+    fn var_at(&self, _i: usize, _buf: &mut [u8]) -> Result<usize, FillError> {
+        Err(FillError::NotPresent)
+    }
+}
+
+// The words that are taken from a system, each with a `;` behind it.
+fn taken(mem: Global, given: &[&[u8]]) -> Result<String, Fault> {
+    let mut text = String::new(mem);
+    for word in command_line(mem, &Given(given))?.iter() {
+        text.push_str(word.as_str())?;
+        text.push(';')?;
+    }
+    Ok(text)
+}
+
+#[test]
+fn words_of_the_system(rt: HostRuntime) -> Result<(), Fail> {
+    let mem = rt.alloc();
+    assert_eq!(rt; taken(mem, &[])?.as_str(), "");
+    assert_eq!(rt; taken(mem, &[b"dwarf_list"])?.as_str(), "");
+    let table = taken(mem, &[b"dwarf_list", b"abbrev", b"0"])?;
+    assert_eq!(rt; table.as_str(), "abbrev;0;");
+    let renamed = taken(mem, &[b"caf\xe9/dwarf_list", b"str", b"5"])?;
+    assert_eq!(rt; renamed.as_str(), "str;5;");
+    let unreadable = taken(mem, &[b"dwarf_list", b"abbrev", b"\xe9"]);
+    assert_eq!(rt; unreadable.err(), Some(Fault::Usage));
+    Ok(())
+}
