@@ -4,6 +4,9 @@ ghost use Rattle.std.specs.Prelude.{◌≡◌, ◌%◌, ◌↔◌, IsTrue, ℕ, 
 ghost use Rattle.dwarf_reader_core.specs.Leb128.{unsigned64, signed64, IsEncoding, HasNumber};
 ghost use Rattle.dwarf_reader_core.specs.Shortest.{IsShortest, IsShortestLength};
 
+#[cfg(test)]
+mod tests;
+
 use super::CONTINUATION_BIT;
 use std::marker::Model;
 

@@ -1,0 +1,19 @@
+//! The seven bits of a byte, which no public call tells alone.
+
+use super::low_bits_of_u64;
+use crate::leb128::low_bits_of_byte;
+
+// What stands above the seven bits changes nothing.
+#[test]
+fn seven_bits_are_taken(rt: HostRuntime) {
+    for digit in 0..127u8 {
+        let number = u64::from(digit);
+        let found = [
+            low_bits_of_byte(digit),
+            low_bits_of_byte(digit + 128),
+            low_bits_of_u64(65536 + number),
+            low_bits_of_u64(65536 * number + number + 128),
+        ];
+        assert_eq!(rt; found, [digit; 4]);
+    }
+}
