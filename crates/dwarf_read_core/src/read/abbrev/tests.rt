@@ -176,7 +176,9 @@ fn entries_of_a_table_are_parsed(rt: HostRuntime) -> std::result::Result<(), Fai
         assert_eq!(rt; declaration(entry), wanted, "{bytes:?}");
         assert_eq!(rt; input.slice().len(), bytes.len().min(4), "{bytes:?}");
     }
-    let input = &mut slice(b"\x02\x2e\0\0\0\x01\x11\x01\x25\x0e\0\0\0\x05\x06\x07\x08");
+    let bytes =
+        b"\x01\x02\x03\x04\x02\x2e\0\x03\x08\0\0\x01\x11\x01\x25\x0e\x13\x05\0\0\0\x05\x06\x07\x08";
+    let input = &mut slice(&bytes[4..]);
     let table = Abbreviations::parse(mem, input)?;
     assert_eq!(rt;
         (table.len(), input.slice()),
