@@ -93,7 +93,6 @@ fn tables_are_kept_or_read_afresh(rt: HostRuntime) -> std::result::Result<(), Fa
     let strategy = AbbreviationsCacheStrategy::Duplicates;
     populate(&mut cache, strategy, &one(), OFFSETS)?;
     check(&rt, &cache, Ok(0), Ok(0), "duplicates");
-    same(&rt, code_at(&cache, &one(), 7), Err(eof(0)), "7, once");
     let strategy = AbbreviationsCacheStrategy::All;
     populate(&mut cache, strategy, &one(), OFFSETS)?;
     check(&rt, &cache, Ok(1), Ok(0), "all");
@@ -133,6 +132,41 @@ fn kept_tables_are_shared(rt: HostRuntime) -> std::result::Result<(), Fail> {
         (4, false, "read by get alone"),
     ] {
         same(&rt, is_shared(&cache, &one(), offset), Ok(wanted), what);
+    }
+    Ok(())
+}
+
+// A section that has no code at 0, the code 2 at 5, and bytes at 7. So none of its results there is
+// that of the section with one declaration.
+fn other() -> DebugAbbrev<Slice<'static>> {
+    DebugAbbrev::new(b"\0\0\0\0\0\x02\x11\0\0\0", LittleEndian)
+}
+
+// What is kept at 0, 5 and 7 is as it was read. What isn't kept is read from the other section.
+#[test]
+fn offsets_are_kept_if_they_occur_often_enough(rt: HostRuntime) -> std::result::Result<(), Fail> {
+    let mut cache = AbbreviationsCache::new(rt.alloc());
+    let rows = [
+        (None, [Ok(0), Ok(2), Ok(0)]),
+        (
+            Some(AbbreviationsCacheStrategy::Duplicates),
+            [Ok(0), Ok(0), Ok(0)],
+        ),
+        (
+            Some(AbbreviationsCacheStrategy::All),
+            [Ok(1), Ok(0), Err(eof(0))],
+        ),
+    ];
+    for (strategy, wanted) in rows {
+        if let Some(strategy) = strategy {
+            populate(&mut cache, strategy, &one(), OFFSETS)?;
+        }
+        let found = [
+            code_at(&cache, &other(), 0),
+            code_at(&cache, &other(), 5),
+            code_at(&cache, &other(), 7),
+        ];
+        same(&rt, found, wanted, strategy);
     }
     Ok(())
 }

@@ -4,14 +4,16 @@ use super::addresses::{lengths_of, walk};
 use super::worked::{FOUR_ADDRESSES, STRINGS, TWO_SETS, UNIT};
 use super::{end_requests, eof, same};
 use dwarf_read_core::{
-    DebugAbbrev, DebugAbbrevOffset, DebugAddr, DebugAddrBase, DebugAddrIndex, DebugStr,
-    DebugStrOffset, DebugStrOffsets, DebugStrOffsetsBase, DebugStrOffsetsIndex, EndianSlice, Error,
-    Format, LittleEndian, Reader, ReaderOffset, Result, read_u8_array,
+    Abbreviations, AbbreviationsCache, AbbreviationsCacheStrategy, DebugAbbrev, DebugAbbrevOffset,
+    DebugAddr, DebugAddrBase, DebugAddrIndex, DebugStr, DebugStrOffset, DebugStrOffsets,
+    DebugStrOffsetsBase, DebugStrOffsetsIndex, EndianSlice, Error, Format, LittleEndian, Reader,
+    ReaderOffset, Result, Section, read_u8_array,
 };
 use dwarf_uses::OwnedReader;
 use std::alloc::Global;
 use std::fmt::Debug;
 use std::process::Abort;
+use std::rc::Rc;
 use std::test::Fail;
 
 type Owned = OwnedReader<LittleEndian>;
@@ -122,13 +124,43 @@ fn check_depths<T: PartialEq + Debug + Copy>(
     assert!(rt; !is_refused, "{what} at any depth");
 }
 
-// The first code of the table at 0.
-fn first_code<R: Reader>(mem: Global, section: &DebugAbbrev<R>) -> Result<Option<u64>> {
-    let table = section.abbreviations(mem, DebugAbbrevOffset(R::Offset::from_u8(0)))?;
-    match table.iter().next() {
+// The first code of the table at 0: as it is read, as it is read strictly, from a cache that keeps
+// nothing, and from one that keeps it.
+fn first_codes<R: Reader>(mem: Global, section: &DebugAbbrev<R>) -> [Result<Option<u64>>; 4] {
+    let offset = DebugAbbrevOffset(R::Offset::from_u8(0));
+    [
+        first_code(section.abbreviations(mem, offset)),
+        first_code(section.abbreviations_strict(mem, offset)),
+        shared_code(AbbreviationsCache::new(mem).get(section, offset)),
+        kept_code(mem, section, offset),
+    ]
+}
+
+fn first_code(table: Result<Abbreviations>) -> Result<Option<u64>> {
+    match table?.iter().next() {
         Some(abbreviation) => Ok(Some(abbreviation.code())),
         None => Ok(None),
     }
+}
+
+fn shared_code(table: Result<Rc<Abbreviations>>) -> Result<Option<u64>> {
+    match table?.iter().next() {
+        Some(abbreviation) => Ok(Some(abbreviation.code())),
+        None => Ok(None),
+    }
+}
+
+fn kept_code<R: Reader>(
+    mem: Global,
+    section: &DebugAbbrev<R>,
+    offset: DebugAbbrevOffset<R::Offset>,
+) -> Result<Option<u64>> {
+    let mut cache = AbbreviationsCache::new(mem);
+    let mut offsets = Vec::new(mem);
+    offsets.push(offset)?;
+    let units = offsets.iter().map(|offset| Ok(*offset));
+    cache.populate(AbbreviationsCacheStrategy::All, section, units)?;
+    shared_code(cache.get(section, offset))
 }
 
 // The first three bytes of a string, and its position.
@@ -144,6 +176,13 @@ fn second_address<R: Reader>(section: &DebugAddr<R>) -> Result<u64> {
     section.get_address(4, DebugAddrBase(base), DebugAddrIndex(index))
 }
 
+// How many bytes a part of a section has, and the position of the first.
+fn range_of<R: Reader>(section: &DebugStr<R>) -> Result<(u64, u64)> {
+    let part = section.dwp_range(4, 3)?;
+    let reader = part.reader();
+    Ok((reader.len().into_u64(), reader.offset_id().0))
+}
+
 // How many addresses all sets have.
 fn count_of_addresses<R: Reader>(mem: Global, section: &DebugAddr<R>) -> Result<usize> {
     let mut found = Vec::new(mem);
@@ -154,8 +193,9 @@ fn count_of_addresses<R: Reader>(mem: Global, section: &DebugAddr<R>) -> Result<
 // What a call of each kind returns.
 #[derive(Drop)]
 struct Answers {
-    code: Result<Option<u64>>,
+    codes: [Result<Option<u64>>; 4],
     string: Result<([u8; 3], u64)>,
+    range: Result<(u64, u64)>,
     address: Result<u64>,
     count: Result<usize>,
 }
@@ -167,8 +207,9 @@ fn answers_of<R: Reader>(
     addresses: &DebugAddr<R>,
 ) -> Answers {
     Answers {
-        code: first_code(mem, tables),
+        codes: first_codes(mem, tables),
         string: string_at(strings, 4),
+        range: range_of(strings),
         address: second_address(addresses),
         count: count_of_addresses(mem, addresses),
     }
@@ -197,10 +238,19 @@ fn refused_clones_are_returned(rt: HostRuntime) -> std::result::Result<(), Fail>
         answers_at(mem, 2)?,
         answers_at(mem, 3)?,
     );
-    let codes = [none.code, one.code, two.code, three.code];
-    check_depths(&rt, &codes, Some(1), "a table");
+    for (index, what) in ["lenient", "strict", "fresh", "kept"].iter().enumerate() {
+        let codes = [
+            none.codes[index],
+            one.codes[index],
+            two.codes[index],
+            three.codes[index],
+        ];
+        check_depths(&rt, &codes, Some(1), what);
+    }
     let strings = [none.string, one.string, two.string, three.string];
     check_depths(&rt, &strings, (*b"two", 4), "a string");
+    let ranges = [none.range, one.range, two.range, three.range];
+    check_depths(&rt, &ranges, (3, 4), "a range");
     let addresses = [none.address, one.address, two.address, three.address];
     check_depths(&rt, &addresses, 0xdead_beef, "an address");
     let counts = [none.count, one.count, two.count, three.count];

@@ -79,6 +79,7 @@ static WALKS: &[(&[u8], (&[Place], &[u64], Result<()>))] = &[
         (&[(0, 12, Format::Dwarf32)], &[1000, 1001], Err(eof!(16))),
     ),
     (CUT_SET, (&[(0, 6, Format::Dwarf32)], &[], Err(eof!(8)))),
+    (b"\x03\0\0\0\x05\0\0", (&[], &[], Err(eof!(6)))),
     (
         &LARGE_OFFSET,
         (&[(0, 12, Format::Dwarf64)], &[1 << 32], Ok(())),
@@ -99,9 +100,14 @@ const TWENTY: &[u64] = &[
 
 #[test]
 fn twenty_offsets_are_walked(rt: HostRuntime) -> std::result::Result<(), Fail> {
-    for (format, length) in [(Format::Dwarf32, 84), (Format::Dwarf64, 164)] {
-        let bytes = twenty_words(rt.alloc(), format, true)?;
-        let section = DebugStrOffsets::from(EndianSlice::new(&bytes, RunTimeEndian::Big));
+    for (format, length, endian) in [
+        (Format::Dwarf32, 84, RunTimeEndian::Little),
+        (Format::Dwarf32, 84, RunTimeEndian::Big),
+        (Format::Dwarf64, 164, RunTimeEndian::Little),
+        (Format::Dwarf64, 164, RunTimeEndian::Big),
+    ] {
+        let bytes = twenty_words(rt.alloc(), format, endian == RunTimeEndian::Big)?;
+        let section = DebugStrOffsets::from(EndianSlice::new(&bytes, endian));
         let places = [(0, length, format)];
         let wanted = (places.as_slice(), TWENTY, Ok(()));
         check_walk(&rt, rt.alloc(), &section, wanted);
