@@ -10,8 +10,8 @@
 
 /// A table of the names of constants: `names![DW_ORD_row_major, DW_ORD_col_major]`.
 ///
-/// The constants are structs round a number, by rising value, and no two of them have the same. A
-/// caller proves this where the table is used.
+/// The constants are structs round a number. Their values have to rise, so that no two are the same; the prover
+/// checks that where the table is made.
 #[macro_export]
 macro_rules! names {
     ($($constant:ident),* $(,)?) => {

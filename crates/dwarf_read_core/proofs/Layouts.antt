@@ -1,13 +1,14 @@
 -- Laws of layouts: exactly one outcome, the front of the bytes, how many are consumed, and appended bytes.
 use Rattle.std.proofs.Common.{◌≡◌, ℕ, ◌+◌, ◌-◌, ◌<◌, ◌≤◌, take, drop, Bool, true, false, List, [], ◌∷◌, ◌++◌, length, Result, Ok, Err, refl, sym, ap, subst, ◌∙◌, arith, inl, inr, slice_index}
 use Rattle.std.proofs.lemmas.Bool.{cases_lt}
-use Rattle.std.proofs.lemmas.List.{length-append, length-drop, length-take-le, take-append-le, drop-append-le, drop-drop}
+use Rattle.std.proofs.lemmas.List.{length-append, length-drop, length-take-le, take-append-le, drop-append-le}
 use Rattle.std.specs.Prelude.{IfErr}
 use Rattle.dwarf_base_core.specs.declared.error.Error.{Error}
 use Rattle.dwarf_base_core.specs.Number.{number_of}
 use Rattle.dwarf_reader_core.specs.Faults.{end_fault}
 use Rattle.dwarf_reader_core.specs.Input.{Input, after, first as first_of_input, Takes}
 use Rattle.dwarf_reader_core.specs.Once.{HasOne}
+use Rattle.dwarf_reader_core.proofs.Reading.{after-after}
 use Rattle.dwarf_read_core.specs.Appended.{followed_by, IsNoEof}
 use Rattle.dwarf_read_core.specs.Layout.{Layout, fixed, byte, part, pure, refuse, when◌then◌else◌, check, ◌>>=◌, inside, At, value, refused}
 
@@ -268,16 +269,6 @@ module _ {A B : Type 0} {p : Layout A} {f : A → Layout B} (first : IsDefinite 
           (next.0, then-whole old x mid is next.0 next.1, λ r h. next.2 r (then-behind old x mid only r h))
 
 -- ---- the front of the bytes
-
--- what remains after m bytes, and then after n, remains after both
-pub after-after : (m n : ℕ) (old : Input) → after m (after n old) ≡ after (n + m) old
-after-after m n old = λ i. record { bytes = bytes i; position = place i; is_big = old.is_big }
-  where
-    bytes : drop m (drop n old.bytes) ≡ drop (n + m) old.bytes
-    bytes = drop-drop m n old.bytes
-
-    place : (old.position + n) + m ≡ old.position + (n + m)
-    place = omega arith
 
 -- what remains is as long as what was there, without what was consumed
 pub rest-length : (n : ℕ) (old new : Input) → Takes n old new → length new.bytes ≡ length old.bytes - n

@@ -7,12 +7,13 @@ use Rattle.dwarf_base_core.specs.declared.error.Error.TheVariants.{UnsupportedOf
 use Rattle.dwarf_reader_core.specs.Faults.{EndsBefore, IsNoOffset, RefusesAddress, is_number_size}
 use Rattle.dwarf_reader_core.specs.Input.{Input, after, first, Takes, TakesNumber}
 use Rattle.dwarf_reader_core.specs.Once.{HasOne}
+use Rattle.dwarf_reader_core.proofs.Reading.{after-after}
 use Rattle.dwarf_read_core.specs.Appended.{followed_by, IsNoEof}
 use Rattle.dwarf_read_core.specs.Entries.{string_offset}
 use Rattle.dwarf_read_core.specs.Layout.{value, refused}
 use Rattle.dwarf_read_core.specs.Lookups.{AnswersBy, StaysBy}
 use Rattle.dwarf_read_core.specs.Words.{Slot, distance, place, IsPlaced, Misplaced, to_slot, word, address, WordAt, AddressAt}
-use Rattle.dwarf_read_core.proofs.Layouts.{IsDefinite, IsStable, At-exactly_one, At-more, sized_definite, sized_stable, fixed_size, part_size, check_definite, check_stable, then_definite, then_stable, after-after, rest-length}
+use Rattle.dwarf_read_core.proofs.Layouts.{IsDefinite, IsStable, At-exactly_one, At-more, sized_definite, sized_stable, fixed_size, part_size, check_definite, check_stable, then_definite, then_stable, rest-length}
 use Rattle.dwarf_read_core.proofs.lookups.Returned.{answer-stays, propagated-answer}
 use Rattle.dwarf_read_core.proofs.sets.Entries.{string_offset-definite, string_offset-stable}
 
