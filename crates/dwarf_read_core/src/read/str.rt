@@ -56,6 +56,8 @@ impl<R: Reader> DebugStr<R> {
     pub fn get_str(&self, offset: DebugStrOffset<R::Offset>) -> Result<R>
         ensures answer { let section = R.view (debug_str_reader self.now) in
             AnswersBy (StringAt section (R.Offset.value offset.0)) R.view R.clone_is_free result }
+        ensures order { let order = R.order (debug_str_reader self.now) in
+            IfOk result (λ string. R.order string ≡ order) }
 
         // Appended bytes don't change the result, unless it is an `UnexpectedEof`.
         ensures stable { let section = R.view (debug_str_reader self.now) in
@@ -263,6 +265,8 @@ impl<R: Reader> DebugLineStr<R> {
     pub fn get_str(&self, offset: DebugLineStrOffset<R::Offset>) -> Result<R>
         ensures answer { let section = R.view (debug_line_str_reader self.now) in
             AnswersBy (StringAt section (R.Offset.value offset.0)) R.view R.clone_is_free result }
+        ensures order { let order = R.order (debug_line_str_reader self.now) in
+            IfOk result (λ string. R.order string ≡ order) }
 
         // Appended bytes don't change the result, unless it is an `UnexpectedEof`.
         ensures stable { let section = R.view (debug_line_str_reader self.now) in
@@ -324,8 +328,9 @@ impl<R> From<R> for DebugLineStr<R> {
 #[inline]
 #[tactic(auto, using(crate::proofs::lookups::Strings::string_outside))]
 fn string_at<R: Reader>(section: &R, offset: R::Offset) -> Result<R>
-    ensures { AnswersBy (StringAt (R.view section.now) (R.Offset.value offset))
+    ensures answer { AnswersBy (StringAt (R.view section.now) (R.Offset.value offset))
         R.view R.clone_is_free result }
+    ensures order { IfOk result (λ string. R.order string ≡ R.order section.now) }
 {
     let input = &mut section.try_clone()?;
     input.skip(offset)?;
