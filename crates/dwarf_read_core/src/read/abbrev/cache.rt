@@ -100,9 +100,9 @@ impl AbbreviationsCache {
     /// error in place of a table, the error is kept. The caller has to make sure that `next` may be
     /// called on `units`, and that its items end.
     ///
-    /// The contract knows the offsets by the ghost member `next_gives` of the iterator's type. If the
-    /// type leaves this member at the default of the standard library, which allows any items, the
-    /// contract doesn't say which offsets are kept. What is kept at an offset is then still the
+    /// The contract knows the offsets by the ghost member `next_gives` of the iterator's type. If
+    /// the type leaves this member at the default of the standard library, which allows any items,
+    /// the contract doesn't say which offsets are kept. What is kept at an offset is then still the
     /// section's result there.
     ///
     /// # Errors
