@@ -54,6 +54,16 @@ def has_text(crate, text):
     return any(text in it for it in sources(crate))
 
 
+def lines_of_tests(crate):
+    """How many lines the files of a crate's tests have."""
+    found = 0
+    for path in glob.glob(f"{ROOT}/crates/{crate}/src/**/*.rt", recursive=True):
+        if re.search(r"/tests(\.rt|/)", path):
+            with open(path, encoding="utf-8") as file:
+                found += file.read().count("\n")
+    return found
+
+
 def tests_in(crate):
     """How many tests the sources of a crate have."""
     return sum(len(TEST.findall(it)) for it in sources(crate))
