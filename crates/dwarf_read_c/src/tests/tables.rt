@@ -125,4 +125,8 @@ fn refused_memory(rt: HostRuntime) {
     let status = dwarf_table_measure(rt.alloc(), TABLE, 0, &mut m, &mut fault);
     let wanted = if status == 0 { (2, 7) } else { (7, 18) };
     same(&rt, (m.abbreviations, fault.kind), wanted, status);
+    // One request more: if it is refused, each one before it was refused in an earlier run.
+    if Vec::from_slice(rt.alloc(), &[0u8]).is_err() {
+        let _ = println!(rt; "every request was refused");
+    }
 }
