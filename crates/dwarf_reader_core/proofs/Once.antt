@@ -59,6 +59,7 @@ zero_or_none (suc b ∷ bytes) =
 abbrev pub HasString : Input → Type 0
 HasString old = ((s : Input) × (x : Input) × TakesString old s x) ⊎ ((e : Error) × Lacks 0 old e)
 
+-- every input begins with a string, or lacks the zero byte
 pub some_string : (old : Input) → HasString old
 some_string old =
     elim (zero_or_none old.bytes) [
