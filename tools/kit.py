@@ -13,7 +13,7 @@ import sys
 ROOT = os.path.dirname(os.path.dirname(os.path.realpath(__file__)))
 PARTS = ("src", "specs", "proofs")
 # The kit that `tools/ci` was written for.
-KIT = "rattle-kit-13b logic dac8208d650f15bf"
+KIT = "rattle-kit-13f logic dac8208d650f15bf"
 # Where the gate's proofs keep what they have checked of each crate, if the gate runs.
 KEPT = os.environ.get("GATE_KEPT")
 TEST = re.compile(r"^ *#\[test\]", re.M)
@@ -67,6 +67,15 @@ def lines_of_tests(crate):
 def tests_in(crate):
     """How many tests the sources of a crate have."""
     return sum(len(TEST.findall(it)) for it in sources(crate))
+
+
+def worked_cases():
+    """How many worked cases of dwarf_list there are (`tools/cases`)."""
+    found = 0
+    for path in glob.glob(f"{ROOT}/crates/dwarf_list/cases/*.md"):
+        with open(path, encoding="utf-8") as file:
+            found += len(re.findall(r"^\$ dwarf_list\b", file.read(), re.M))
+    return found
 
 
 def wrong_bodies_of_the_gate():
