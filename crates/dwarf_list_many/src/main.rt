@@ -1,26 +1,66 @@
-//! `dwarf_list_many` lists many parts of one section from one process: `abbrev OFFSET..` for
-//! abbreviation tables, `str OFFSET..` for strings.
+//! `dwarf_list_many` lists many parts of one section from one process: `abbrev SECTION [OFFSETS]`
+//! for abbreviation tables, `str SECTION [OFFSETS]` for strings.
 //!
-//! It reads a whole section from standard input. For each offset in turn it writes a title,
-//! `table 0xOFFSET:` on a line of its own or `0xOFFSET: ` before a string, and then the lines that
-//! `dwarf_list` writes of that offset. The offsets of the arguments are decimal.
+//! `SECTION` and `OFFSETS` name files, or standard input by `-`, and without `OFFSETS` these come
+//! from standard input. The offsets are decimal, one a line. For each offset in turn the program
+//! writes a title, `table 0xOFFSET:` on a line of its own or `0xOFFSET: ` before a string, and then
+//! the lines that `dwarf_list` writes of that offset.
 //!
-//! The first error ends the run. What comes before it is written, and the error is printed to
-//! standard error with its offset. The exit statuses are those of `dwarf_list`. An operating system
-//! limits the length of all arguments, so a caller with tens of thousands of offsets passes them in
-//! portions.
+//! The first error ends the run. What comes before an error at an offset is written, and the error
+//! is printed to standard error with its offset. Nothing is written if a line is no offset. The exit
+//! statuses are those of `dwarf_list`.
 
 #![tactic(auto)]
 
+use dwarf_listing_core::arguments::{STANDARD_INPUT, parse_arguments};
+use dwarf_listing_core::fault::Fault;
 use dwarf_listing_core::many::fault::ManyFault;
 use dwarf_listing_core::many::run_many;
 use dwarf_listing_core::words::command_line;
+use std::fs::File;
+use std::io;
+use std::io::{BufWriter, Read, Stdin};
 use std::process::ExitCode;
+
+// How many bytes are written at once.
+const BUFFER: usize = 65536;
+
+// What the section or the offsets are read from.
+#[derive(Drop)]
+enum Input {
+    Standard(Stdin),
+    Named(File),
+}
+
+impl Read for Input {
+    fn read(&mut self, buf: &mut [u8]) -> io::Result<usize> {
+        match self {
+            Input::Standard(stdin) => stdin.read(buf),
+            Input::Named(file) => file.read(buf),
+        }
+    }
+}
+
+fn open(rt: &HostRuntime, name: &str, fault: ManyFault) -> Result<Input, ManyFault> {
+    if name == STANDARD_INPUT {
+        return Ok(Input::Standard(rt.stdin()));
+    }
+    match File::open(rt, name) {
+        Ok(file) => Ok(Input::Named(file)),
+        Err(error) => Err(ManyFault::of_opening(&error, fault)),
+    }
+}
 
 fn list(rt: &HostRuntime) -> Result<(), ManyFault> {
     let mem = rt.alloc();
     let words = command_line(mem, rt)?;
-    run_many(mem, &words, &mut rt.stdin(), &mut rt.stdout())
+    let named = parse_arguments(&words).ok_or(Fault::Usage)?;
+    let mut section = open(rt, named.section, ManyFault::ReadSection)?;
+    let mut offsets = open(rt, named.offsets, ManyFault::ReadOffsets)?;
+    let Ok(mut output) = BufWriter::with_capacity(mem, BUFFER, rt.stdout()) else {
+        return Err(ManyFault::Other(Fault::out_of_memory()));
+    };
+    run_many(mem, named.kind, &mut section, &mut offsets, &mut output)
 }
 
 fn main(rt: HostRuntime) -> ExitCode {

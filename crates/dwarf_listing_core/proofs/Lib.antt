@@ -1,7 +1,7 @@
-pub mod ArgumentLemmas
 pub mod Commands
 pub mod Hexadecimal
 pub mod Numbers
+pub mod OffsetLemmas
 pub mod OneText
 pub mod SetLines
 pub mod SetTexts

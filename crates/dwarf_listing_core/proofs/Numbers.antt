@@ -1,11 +1,17 @@
 -- What `parse` makes of digits.
-use Rattle.std.proofs.Common.{◌≡◌, ℕ, Bool, true, false, ◌+◌, ◌<◌, ◌≤◌, List, length, drop, ◌^◌, ℤ, pos, neg_ℤ, Option, Some, None, rules, refl, ◌∙◌, arith, Result, Ok, Err}
+use Rattle.std.proofs.Common.{◌≡◌, ℕ, Bool, true, false, cond, ◌&&◌, ◌+◌, ◌<◌, ◌≤◌, List, [], ◌∷◌, length, drop, get_or, ◌^◌, ℤ, pos, neg_ℤ, Option, Some, None, rules, refl, ◌∙◌, arith, Result, Ok, Err}
 use Rattle.std.proofs.lemmas.Bool.Decides.{nat_tests}
 use Rattle.std.proofs.lemmas.Grind.{common_steps}
+use Rattle.std.proofs.lemmas.List.Sums.{AllPass-from_list_all}
+use Rattle.std.proofs.lemmas.Str.{IsUtf8-from_ascii}
+use Rattle.std.proofs.lemmas.Str.Ascii.{IsAscii-from_all}
 use Rattle.std.proofs.lemmas.Str.Parse.{IsNumeralModel, numerals_by_value, parse_digits, parse_signed_digits, parse_signed_minus}
+use Rattle.std.specs.Char.{is_ascii_digit}
 use Rattle.std.specs.Int.{w64}
+use Rattle.std.specs.List.{All}
 use Rattle.std.specs.Option.{option_map}
 use Rattle.std.specs.Result.{result_ok, OkIff}
+use Rattle.std.specs.Str.{IsUtf8}
 use Rattle.std.specs.Str.Parse.{digits_value, ParsesSigned, ParsesUnsigned, starts_with_minus}
 use Rattle.dwarf_listing_core.specs.Number.{is_all_digits, number_below, signed_of, unsigned_of, without_minus}
 
@@ -57,3 +63,26 @@ signed_by_sign text parsed told digits false sign =
 pub parsed_signed : {E : Type 0} → (text : List ℕ) (parsed : Result ℤ E) → ParsesSigned w64 10 text parsed
     → is_all_digits (without_minus text) ≡ true → result_ok parsed ≡ signed_of text
 parsed_signed text parsed told digits = signed_by_sign text parsed told digits (starts_with_minus text) refl
+
+-- a digit is below 128
+below_by_test : (byte : ℕ) → is_ascii_digit byte ≡ true → byte < 128
+below_by_test byte digit = grind (arith, common_steps, nat_tests)
+
+-- digits are below 128
+digits_are_ascii : (text : List ℕ) → is_all_digits text ≡ true → All (λ byte. byte < 128) text
+digits_are_ascii text digits k d within =
+    below_by_test (get_or text k d) (AllPass-from_list_all is_ascii_digit text digits k d within)
+
+-- a test that fails leaves no number
+none_by_test : (some digits below : Bool) (value : ℕ) → digits ≡ false
+    → None ≡ cond (some && digits && below) (Some value) None
+none_by_test true digits below value not = rw not refl
+none_by_test false digits below value not = refl
+
+-- bytes that are no text are no number
+pub not_text : (text : List ℕ) → (IsUtf8 text → ⊥) → None ≡ unsigned_of text
+not_text text no_text = by_test (is_all_digits text) refl
+  where
+    by_test : (digits : Bool) → is_all_digits text ≡ digits → None ≡ unsigned_of text
+    by_test true are = absurd (no_text (IsUtf8-from_ascii text (IsAscii-from_all text (digits_are_ascii text are))))
+    by_test false are = none_by_test _ (is_all_digits text) _ _ are

@@ -1,7 +1,7 @@
--- The arguments that name many offsets.
-use Rattle.std.specs.Prelude.{◌≡◌, ℕ, List, ◌∷◌, Option, Some, None, if◌then◌else◌, map, codes}
+-- The arguments that name a section and where its offsets are.
+use Rattle.std.specs.Prelude.{◌≡◌, ℕ, ◌&&◌, List, [], ◌∷◌, Option, Some, None, if◌then◌else◌, codes}
+use Rattle.std.specs.Option.{option_map}
 use Rattle.std.specs.Str.{bytes_eq}
-use Rattle.dwarf_listing_core.specs.Number.{unsigned_of}
 use Rattle.dwarf_listing_core.specs.declared.arguments.Kind.{Kind}
 use Rattle.dwarf_listing_core.specs.declared.arguments.Kind.TheVariants.{Tables, Strings}
 
@@ -12,10 +12,18 @@ kind_of name =
     else if bytes_eq name (codes "str") then Some Strings
     else None
 
--- the words are a kind's name and offsets
-pub record AreArguments (words : List (List ℕ)) (kind : Kind) (offsets : List ℕ) : Type 0 where
-  pub name : List ℕ
-  pub texts : List (List ℕ)
-  pub parts : words ≡ name ∷ texts
-  pub names_kind : kind_of name ≡ Some kind
-  pub values : map unsigned_of texts ≡ map (λ offset. Some offset) offsets
+-- the name of standard input
+abbrev pub standard_input : List ℕ
+standard_input = codes "-"
+
+-- a kind, and the names of the section and of the offsets, which aren't both standard input
+abbrev pub named_arguments : List ℕ → List ℕ → List ℕ → Option (Kind × List ℕ × List ℕ)
+named_arguments name section offsets =
+    if bytes_eq section standard_input && bytes_eq offsets standard_input then None
+    else option_map (λ kind. (kind, section, offsets)) (kind_of name)
+
+-- what the arguments name; without a third word the offsets are standard input
+abbrev pub arguments_of : List (List ℕ) → Option (Kind × List ℕ × List ℕ)
+arguments_of (name ∷ section ∷ []) = named_arguments name section standard_input
+arguments_of (name ∷ section ∷ offsets ∷ []) = named_arguments name section offsets
+arguments_of _ = None

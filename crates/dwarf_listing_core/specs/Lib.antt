@@ -6,6 +6,7 @@ pub mod Listing
 pub mod Many
 pub mod ManyFault
 pub mod Number
+pub mod Offsets
 pub mod Sets
 pub mod Tables
 pub mod Text

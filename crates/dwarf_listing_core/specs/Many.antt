@@ -1,9 +1,13 @@
 -- What the program of many offsets writes.
-use Rattle.std.specs.Prelude.{◌≡◌, ℕ, List, [], ◌∷◌, ◌++◌, Result, Ok, Err, codes}
+use Rattle.std.specs.Prelude.{◌≡◌, ℕ, List, [], ◌∷◌, ◌++◌, Option, IfSome, Result, Ok, Err, codes}
+use Rattle.std.specs.Io.Buffered.{writer_buffer, writer_contents}
+use Rattle.std.specs.Io.KnownBytes.{Appends}
+use Rattle.std.specs.declared.alloc.Global.{Global}
+use Rattle.std.specs.declared.io.buffered.BufWriter.{BufWriter}
 use Rattle.dwarf_read_core.specs.declared.Error.{Error}
 use Rattle.dwarf_read_core.specs.ErrorText.{hexadecimal}
-use Rattle.dwarf_listing_core.specs.Arguments.{AreArguments}
 use Rattle.dwarf_listing_core.specs.Lines.{ListsString, line}
+use Rattle.dwarf_listing_core.specs.Offsets.{AreOffsets}
 use Rattle.dwarf_listing_core.specs.Tables.{ListsTable}
 use Rattle.dwarf_listing_core.specs.declared.arguments.Kind.{Kind}
 use Rattle.dwarf_listing_core.specs.declared.arguments.Kind.TheVariants.{Tables, Strings}
@@ -33,17 +37,21 @@ pub record EndsAt (kind : Kind) (section offsets : List ℕ) (offset : ℕ) (err
   pub listed : ListsAll kind section before text
   pub fails : ListsOne kind section offset (Err error)
 
--- the text that the arguments request of a section
-abbrev pub IsManyText : List (List ℕ) → List ℕ → List ℕ → Type 0
-IsManyText words section text =
-    (kind : Kind) × (offsets : List ℕ) × AreArguments words kind offsets × ListsAll kind section offsets text
+-- the text that the offsets on these lines request of a section
+abbrev pub IsManyText : Kind → List ℕ → List (List ℕ) → List ℕ → Type 0
+IsManyText kind section lines text =
+    (offsets : List ℕ) × AreOffsets lines offsets × ListsAll kind section offsets text
 
--- the first offset with an error, among those that the arguments name, and the text before it
-abbrev pub EndsManyAt : List (List ℕ) → List ℕ → ℕ → Error → List ℕ → Type 0
-EndsManyAt words section offset error text =
-    (kind : Kind) × (offsets : List ℕ) × AreArguments words kind offsets
-    × EndsAt kind section offsets offset error text
+-- the first of the offsets on these lines with an error, and the text of those before it
+abbrev pub EndsManyAt : Kind → List ℕ → List (List ℕ) → ℕ → Error → List ℕ → Type 0
+EndsManyAt kind section lines offset error text =
+    (offsets : List ℕ) × AreOffsets lines offsets × EndsAt kind section offsets offset error text
 
--- the arguments are no kind and offsets
-abbrev pub IsManyUsage : List (List ℕ) → Type 0
-IsManyUsage words = (kind : Kind) (offsets : List ℕ) → AreArguments words kind offsets → ⊥
+-- where the bytes of a section and of its offsets are known, they have this property
+abbrev pub IfKnown : Option (List ℕ) → Option (List ℕ) → (List ℕ → List ℕ → Type 0) → Type 0
+IfKnown section offsets Holds = IfSome section (λ bytes. IfSome offsets (λ lines. Holds bytes lines))
+
+-- the text was written behind what was there, and nothing is left in the buffer
+abbrev pub WritesOut : {W : Type 0} → (W → Option (List ℕ)) → BufWriter W Global → BufWriter W Global → List ℕ → Type 0
+WritesOut contents old new text =
+    Appends (writer_contents contents old) (writer_contents contents new) text × (writer_buffer new ≡ [])

@@ -1,20 +1,42 @@
 -- What the program of many offsets says of an error.
-use Rattle.std.specs.Prelude.{ℕ, List, ◌++◌, codes}
+use Rattle.std.specs.Prelude.{◌≡◌, ◌⊎◌, ℕ, List, ◌++◌, ⊤, codes, decimal}
 use Rattle.dwarf_read_core.specs.ErrorText.{error_text, hexadecimal}
-use Rattle.dwarf_listing_core.specs.Fault.{fault_status, fault_text}
+use Rattle.dwarf_listing_core.specs.Fault.{IsMemoryFault, fault_status, fault_text}
 use Rattle.dwarf_listing_core.specs.declared.fault.Fault.TheVariants.{Section, Usage, Read, Write}
 use Rattle.dwarf_listing_core.specs.declared.many.fault.ManyFault.{ManyFault}
-use Rattle.dwarf_listing_core.specs.declared.many.fault.ManyFault.TheVariants.{At, Other}
+use Rattle.dwarf_listing_core.specs.declared.many.fault.ManyFault.TheVariants.{At, Line, ReadSection, ReadOffsets, Other}
 
 -- the line on standard error, without its end
 abbrev pub many_fault_text : ManyFault → List ℕ
 many_fault_text (At offset error) = codes "error at 0x" ++ hexadecimal offset ++ codes ": " ++ error_text error
-many_fault_text (Other Usage) = codes "usage: dwarf_list_many abbrev OFFSET.. | str OFFSET.."
+many_fault_text (Line number) = codes "error: line " ++ decimal number ++ codes " of the offsets is no offset"
+many_fault_text ReadSection = codes "error: cannot read the section"
+many_fault_text ReadOffsets = codes "error: cannot read the offsets"
+many_fault_text (Other Usage) = codes "usage: dwarf_list_many abbrev|str SECTION [OFFSETS]"
 many_fault_text (Other (Section error)) = fault_text (Section error)
 many_fault_text (Other Read) = fault_text Read
 many_fault_text (Other Write) = fault_text Write
 
--- the exit status
+-- the exit status: 1 for what is malformed, 3 for an input that can't be read
 abbrev pub many_fault_status : ManyFault → ℕ
 many_fault_status (At _ _) = 1
+many_fault_status (Line _) = 1
+many_fault_status ReadSection = 3
+many_fault_status ReadOffsets = 3
 many_fault_status (Other fault) = fault_status fault
+
+-- an error of the offsets: a line that is none, or memory ran out
+abbrev pub IsOffsetsFault : ManyFault → Type 0
+IsOffsetsFault (At _ _) = ⊥
+IsOffsetsFault (Line _) = ⊤
+IsOffsetsFault ReadSection = ⊥
+IsOffsetsFault ReadOffsets = ⊥
+IsOffsetsFault (Other fault) = IsMemoryFault fault
+
+-- an error of writing listings: what is at an offset, the output, or memory ran out
+abbrev pub IsListingFault : ManyFault → Type 0
+IsListingFault (At _ _) = ⊤
+IsListingFault (Line _) = ⊥
+IsListingFault ReadSection = ⊥
+IsListingFault ReadOffsets = ⊥
+IsListingFault (Other fault) = (fault ≡ Write) ⊎ IsMemoryFault fault

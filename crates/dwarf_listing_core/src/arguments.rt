@@ -1,12 +1,7 @@
-//! The arguments that name many offsets.
+//! The arguments that name a section and where its offsets are.
 
-ghost use Rattle.std.specs.Prelude.{◌≡◌, ◌⊎◌, ℕ, List, Err, IfOk, IfErr, map, string_bytes};
-ghost use Rattle.dwarf_listing_core.specs.Arguments.{AreArguments};
-ghost use Rattle.dwarf_listing_core.specs.Fault.{IsMemoryFault};
-
-use crate::fault::Fault;
-use crate::number::parse_unsigned;
-use std::alloc::Global;
+ghost use Rattle.std.specs.Prelude.{◌≡◌, Some, None, MatchOption, map, string_bytes};
+ghost use Rattle.dwarf_listing_core.specs.Arguments.{arguments_of, kind_of, named_arguments};
 
 /// What is listed at each offset.
 #[derive(Clone, Copy, Debug, PartialEq, Eq)]
@@ -17,32 +12,62 @@ pub enum Kind {
     Strings,
 }
 
-/// Returns the kind and the offsets that the arguments name.
+/// The name of standard input.
+pub const STANDARD_INPUT: &str = "-";
+
+/// What is listed, and the names of the files that hold the section and the offsets.
+#[derive(Clone, Copy, Debug)]
+pub struct Arguments<'a> {
+    /// What is listed at each offset.
+    pub kind: Kind,
+    /// The file of the section, or [`STANDARD_INPUT`].
+    pub section: &'a str,
+    /// The file of the offsets, or [`STANDARD_INPUT`].
+    pub offsets: &'a str,
+}
+
+/// Returns what the arguments name: a kind, a section, and where its offsets are.
 ///
-/// # Errors
-///
-/// `Usage` if the arguments are no kind and decimal offsets, and `OutOfMemory` if memory runs out.
-pub fn parse_arguments(mem: Global, words: &[String]) -> Result<(Kind, Vec<u64>), Fault>
-    ensures ok { IfOk result
-        (λ named. AreArguments (map string_bytes words.now) named.0 named.1.items) }
-    ensures usage { result ≡ Err Fault.Usage → (kind : Kind) (offsets : List ℕ)
-        → AreArguments (map string_bytes words.now) kind offsets → ⊥ }
-    ensures err { IfErr result (λ fault. (fault ≡ Fault.Usage) ⊎ IsMemoryFault fault) }
+/// Without a third word the offsets are standard input. `None` is returned if the arguments are
+/// none of this, or if both inputs are standard input.
+pub fn parse_arguments(words: &[String]) -> Option<Arguments<'_>>
+    ensures { MatchOption result (arguments_of (map string_bytes words.now) ≡ None)
+        (λ named. arguments_of (map string_bytes words.now)
+        ≡ Some (named.kind, named.section.now, named.offsets.now)) }
 {
-    let [kind, texts @ ..] = words else {
-        return Err(Fault::Usage);
-    };
-    let kind = match kind.as_str() {
-        "abbrev" => Kind::Tables,
-        "str" => Kind::Strings,
-        _ => return Err(Fault::Usage),
-    };
-    let mut offsets = Vec::new(mem);
-    for text in texts {
-        let Some(offset) = parse_unsigned(text.as_str()) else {
-            return Err(Fault::Usage);
-        };
-        offsets.push(offset)?;
+    match words {
+        [name, section] => named_arguments(name.as_str(), section.as_str(), STANDARD_INPUT),
+        [name, section, offsets] => {
+            named_arguments(name.as_str(), section.as_str(), offsets.as_str())
+        }
+        _ => None,
     }
-    Ok((kind, offsets))
+}
+
+fn named_arguments<'a>(name: &str, section: &'a str, offsets: &'a str) -> Option<Arguments<'a>>
+    ensures { MatchOption result (named_arguments name.now section.now offsets.now ≡ None)
+        (λ named. named_arguments name.now section.now offsets.now
+        ≡ Some (named.kind, named.section.now, named.offsets.now)) }
+{
+    if section == STANDARD_INPUT && offsets == STANDARD_INPUT {
+        return None;
+    }
+    match kind_of(name) {
+        Some(kind) => Some(Arguments {
+            kind,
+            section,
+            offsets,
+        }),
+        None => None,
+    }
+}
+
+fn kind_of(name: &str) -> Option<Kind>
+    ensures { result ≡ kind_of name.now }
+{
+    match name {
+        "abbrev" => Some(Kind::Tables),
+        "str" => Some(Kind::Strings),
+        _ => None,
+    }
 }

@@ -18,6 +18,7 @@ mod lines;
 pub mod listing;
 pub mod many;
 pub mod number;
+pub mod offsets;
 pub mod run;
 mod sets;
 mod tables;

@@ -1,73 +1,114 @@
 //! A run over many offsets of one section: the lines at each offset, below their title.
 
-ghost use Rattle.std.specs.Prelude.{◌≡◌, ◌⊎◌, ◌++◌, ℕ, List, Ok, Err, IfSome, OnOk, map, string_bytes};
+ghost use Rattle.std.specs.Prelude.{◌≡◌, ◌⊎◌, ◌++◌, ℕ, List, Ok, Err, IfErr, IfSome, OnOk};
 ghost use Rattle.std.specs.Io.KnownBytes.{Appends, IsAtEnd};
 ghost use Rattle.dwarf_listing_core.specs.Fault.{IsMemoryFault};
 ghost use Rattle.dwarf_listing_core.specs.Listing.{ReturnsText};
-ghost use Rattle.dwarf_listing_core.specs.Many.{EndsAt, EndsManyAt, IsManyText, IsManyUsage, ListsAll, ListsOne, title};
+ghost use Rattle.dwarf_listing_core.specs.Many.{EndsAt, EndsManyAt, IfKnown, IsManyText, ListsAll, ListsOne, WritesOut, title};
+ghost use Rattle.dwarf_listing_core.specs.ManyFault.{IsListingFault};
+ghost use Rattle.dwarf_listing_core.specs.Offsets.{IsBadLine, lines_of};
 
-use crate::arguments::{Kind, parse_arguments};
+use crate::arguments::Kind;
 use crate::fault::Fault;
 use crate::input::read_input;
 use crate::lines::string;
+use crate::offsets::parse_offsets;
 use crate::tables::abbreviations;
 use dwarf_read_core::Error;
 use fault::ManyFault;
-use std::alloc::{AllocError, Global};
-use std::io::{Read, Write};
+use std::alloc::Global;
+use std::io;
+use std::io::{BufWriter, Read, Write};
 
 pub mod fault;
 #[cfg(test)]
 mod tests;
 
-/// Writes what is listed at each offset that the arguments name, below its title.
+/// Writes what is listed at each offset of a section, below its title.
 ///
-/// The arguments are parsed first. Then the whole input is read. Each listing is written as soon as
-/// it is made, and the output is flushed at the end.
+/// Both inputs are read to their ends, and all offsets are parsed: decimal numbers, one a line.
+/// Then each listing is written as soon as it is made. The output is flushed at the end, also
+/// before an error at an offset is returned.
 ///
 /// # Errors
 ///
-/// - `Usage` if the arguments are no kind and offsets. Nothing is read then.
-/// - `Read` if the input can't be read. Nothing is written then.
+/// - `ReadSection` and `ReadOffsets` if an input can't be read, and `Line` if a line is no offset.
+///   Nothing is written then.
 /// - `At` if what is at an offset is malformed, with the first error. What comes before it is
 ///   written.
-/// - `Section` if memory runs out, and `Write` if the output can't be written. A part of the text
-///   may be written then.
-pub fn run_many<I: Read, O: Write>(
+/// - `Other` if memory runs out or the output can't be written. A part of the text may be written
+///   then.
+pub fn run_many<S: Read, I: Read, O: Write + Drop>(
     mem: Global,
-    words: &[String],
-    input: &mut I,
-    output: &mut O,
+    kind: Kind,
+    section: &mut S,
+    offsets: &mut I,
+    output: &mut BufWriter<O>,
 ) -> Result<(), ManyFault>
     // What was written, and nothing else.
-    ensures written { OnOk result (IfSome (I.remaining input.old) (λ section. (text : List ℕ)
-        × IsManyText (map string_bytes words.now) section text
-        × Appends (O.contents output.old) (O.contents output.new) text)) }
-    ensures end { OnOk result (IsAtEnd (I.remaining input.new)) }
+    ensures written { OnOk result (IfKnown (S.remaining section.old) (I.remaining offsets.old)
+        (λ bytes input. (text : List ℕ) × IsManyText kind bytes (lines_of input) text
+        × WritesOut O.contents output.old output.new text)) }
+    ensures end { OnOk result
+        (IsAtEnd (S.remaining section.new) × IsAtEnd (I.remaining offsets.new)) }
 
     // When each error is returned.
     ensures first { (offset : ℕ) (error : _) → result ≡ Err (ManyFault.At offset error)
-        → IfSome (I.remaining input.old) (λ section. (text : List ℕ)
-        × EndsManyAt (map string_bytes words.now) section offset error text
-        × Appends (O.contents output.old) (O.contents output.new) text) }
-    ensures usage { result ≡ Err (ManyFault.Other Fault.Usage)
-        → IsManyUsage (map string_bytes words.now)
-        × (input.new ≡ input.old) × (output.new ≡ output.old) }
-    ensures read { result ≡ Err (ManyFault.Other Fault.Read) → output.new ≡ output.old }
-    ensures memory { (error : _) → result ≡ Err (ManyFault.Other (Fault.Section error))
-        → error ≡ Error.OutOfMemory }
+        → IfKnown (S.remaining section.old) (I.remaining offsets.old)
+        (λ bytes input. (text : List ℕ) × EndsManyAt kind bytes (lines_of input) offset error text
+        × WritesOut O.contents output.old output.new text) }
+    ensures line { (number : ℕ) → result ≡ Err (ManyFault.Line number)
+        → IfSome (I.remaining offsets.old) (λ input. IsBadLine (lines_of input) number)
+        × (output.new ≡ output.old) }
+    ensures read_section { result ≡ Err ManyFault.ReadSection → output.new ≡ output.old }
+    ensures read_offsets { result ≡ Err ManyFault.ReadOffsets → output.new ≡ output.old }
+    ensures other { (fault : _) → result ≡ Err (ManyFault.Other fault)
+        → (fault ≡ Fault.Write) ⊎ IsMemoryFault fault }
 {
-    let (kind, offsets) = parse_arguments(mem, words)?;
-    let section = read_input(mem, input)?;
+    let section = match read_input(mem, section) {
+        Ok(section) => section,
+        Err(error) => return Err(ManyFault::of_reading(error, ManyFault::ReadSection)),
+    };
+    let input = match read_input(mem, offsets) {
+        Ok(input) => input,
+        Err(error) => return Err(ManyFault::of_reading(error, ManyFault::ReadOffsets)),
+    };
+    let offsets = parse_offsets(mem, &input)?;
     write_all_at(mem, kind, &section, &offsets, output)
 }
 
-/// Writes what is listed at these offsets of a section, each below its title.
+/// Writes what is listed at these offsets of a section, each below its title, and flushes the
+/// output.
 ///
 /// # Errors
 ///
 /// The first error. If it is that of a table or a string, what comes before it is written.
-pub fn write_all_at<O: Write>(
+pub fn write_all_at<O: Write + Drop>(
+    mem: Global,
+    kind: Kind,
+    section: &[u8],
+    offsets: &[u64],
+    output: &mut BufWriter<O>,
+) -> Result<(), ManyFault>
+    ensures ok { OnOk result ((text : List ℕ) × ListsAll kind section.now offsets.now text
+        × WritesOut O.contents output.old output.new text) }
+    ensures first { (offset : ℕ) (error : _) → result ≡ Err (ManyFault.At offset error)
+        → (text : List ℕ) × EndsAt kind section.now offsets.now offset error text
+        × WritesOut O.contents output.old output.new text }
+    ensures err { IfErr result IsListingFault }
+{
+    let listed = write_each_at(mem, kind, section, offsets, output);
+    if let Err(ManyFault::Other(_)) = listed {
+        return listed;
+    }
+    // The text before an error at an offset is written too.
+    if output.flush().is_err() {
+        return Err(ManyFault::Other(Fault::Write));
+    }
+    listed
+}
+
+fn write_each_at<O: Write>(
     mem: Global,
     kind: Kind,
     section: &[u8],
@@ -79,14 +120,10 @@ pub fn write_all_at<O: Write>(
     ensures first { (offset : ℕ) (error : _) → result ≡ Err (ManyFault.At offset error)
         → (text : List ℕ) × EndsAt kind section.now offsets.now offset error text
         × Appends (O.contents output.old) (O.contents output.new) text }
-    ensures other { (fault : _) → result ≡ Err (ManyFault.Other fault)
-        → (fault ≡ Fault.Write) ⊎ IsMemoryFault fault }
+    ensures err { IfErr result IsListingFault }
 {
     for offset in offsets {
         write_at(mem, kind, section, *offset, output)?;
-    }
-    if output.flush().is_err() {
-        return Err(ManyFault::Other(Fault::Write));
     }
     Ok(())
 }
@@ -103,17 +140,14 @@ fn write_at<O: Write>(
     ensures at { (place : ℕ) (error : _) → result ≡ Err (ManyFault.At place error)
         → (place ≡ offset) × (output.new ≡ output.old)
         × ListsOne kind section.now offset (Err error) }
-    ensures other { (fault : _) → result ≡ Err (ManyFault.Other fault)
-        → (fault ≡ Fault.Write) ⊎ IsMemoryFault fault }
+    ensures err { IfErr result IsListingFault }
 {
     let lines = match lines_at(mem, kind, section, offset) {
         Ok(lines) => lines,
         Err(Error::OutOfMemory) => return Err(ManyFault::Other(Fault::out_of_memory())),
         Err(error) => return Err(ManyFault::At(offset, error)),
     };
-    let mut title = String::new(mem);
-    push_title(&mut title, kind, offset)?;
-    if output.write_all(title.as_bytes()).is_err() || output.write_all(&lines).is_err() {
+    if write_title(output, kind, offset).is_err() || output.write_all(&lines).is_err() {
         return Err(ManyFault::Other(Fault::Write));
     }
     Ok(())
@@ -128,11 +162,12 @@ fn lines_at(mem: Global, kind: Kind, section: &[u8], offset: u64) -> Result<Vec<
     }
 }
 
-fn push_title(text: &mut String, kind: Kind, offset: u64) -> Result<(), AllocError>
-    ensures { OnOk result (string_bytes text.new ≡ string_bytes text.old ++ title kind offset) }
+fn write_title<O: Write>(output: &mut O, kind: Kind, offset: u64) -> io::Result<()>
+    ensures { OnOk result
+        (Appends (O.contents output.old) (O.contents output.new) (title kind offset)) }
 {
     match kind {
-        Kind::Tables => writeln!(text, "table 0x{offset:x}:"),
-        Kind::Strings => write!(text, "0x{offset:x}: "),
+        Kind::Tables => writeln!(output, "table 0x{offset:x}:"),
+        Kind::Strings => write!(output, "0x{offset:x}: "),
     }
 }

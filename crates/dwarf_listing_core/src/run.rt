@@ -7,7 +7,7 @@ ghost use Rattle.dwarf_listing_core.specs.Command.{IsUsage, ReadsInput};
 ghost use Rattle.dwarf_listing_core.specs.Text.{IsText};
 
 #[cfg(test)]
-mod tests;
+pub(crate) mod tests;
 
 use crate::command::{parse_command, reads_input};
 use crate::fault::Fault;

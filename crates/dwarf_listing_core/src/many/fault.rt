@@ -1,29 +1,65 @@
 //! Why a run over many offsets ended early.
 
-ghost use Rattle.std.specs.Prelude.{◌≡◌};
+ghost use Rattle.std.specs.Prelude.{◌≡◌, ◌≢◌};
+ghost use Rattle.std.specs.IoError.{error_kind};
+ghost use Rattle.dwarf_listing_core.specs.Fault.{IsReadFault};
 ghost use Rattle.dwarf_listing_core.specs.ManyFault.{many_fault_status};
 
 use crate::fault::Fault;
 use dwarf_read_core::Error;
-use std::alloc::AllocError;
-use std::fmt;
+use std::alloc::{AllocError, AllocFailed};
+use std::io::ErrorKind;
+use std::{fmt, io};
 
 /// Why a run over many offsets ended early.
 #[derive(Clone, Copy, Debug, PartialEq, Eq)]
 pub enum ManyFault {
     /// What is at this offset has this error.
     At(u64, Error),
+    /// This line of the offsets, counted from 1, is no offset.
+    Line(u64),
+    /// The section can't be opened or read.
+    ReadSection,
+    /// The offsets can't be opened or read.
+    ReadOffsets,
     /// Another fault, of no offset.
     Other(Fault),
 }
 
 impl ManyFault {
-    /// Returns the exit status: 1 for what is at an offset, and else that of the other fault.
+    /// Returns the error of an input that can't be opened: the given one, unless memory ran out.
+    pub fn of_opening(error: &io::Error, fault: ManyFault) -> ManyFault
+        ensures memory { error_kind error.now ≡ ErrorKind.OutOfMemory
+            → result ≡ ManyFault.Other (Fault.Section Error.OutOfMemory) }
+        ensures other { error_kind error.now ≢ ErrorKind.OutOfMemory → result ≡ fault }
+    {
+        if error.kind() == ErrorKind::OutOfMemory {
+            ManyFault::Other(Fault::out_of_memory())
+        } else {
+            fault
+        }
+    }
+
+    /// Returns the error of an input that can't be read: the given one, unless memory ran out.
+    pub fn of_reading(error: Fault, fault: ManyFault) -> ManyFault
+        requires { IsReadFault error }
+        ensures memory { error ≢ Fault.Read → result ≡ ManyFault.Other (Fault.Section Error.OutOfMemory) }
+        ensures read { error ≡ Fault.Read → result ≡ fault }
+    {
+        match error {
+            Fault::Read => fault,
+            other => ManyFault::Other(other),
+        }
+    }
+
+    /// Returns the exit status: 1 for what is malformed, 3 for an input that can't be read, and else
+    /// that of the other fault.
     pub fn status(&self) -> u8
         ensures { result ≡ many_fault_status self.now }
     {
         match self {
-            ManyFault::At(..) => 1,
+            ManyFault::At(..) | ManyFault::Line(_) => 1,
+            ManyFault::ReadSection | ManyFault::ReadOffsets => 3,
             ManyFault::Other(fault) => fault.status(),
         }
     }
@@ -39,8 +75,13 @@ impl fmt::Display for ManyFault {
     fn fmt<W: fmt::Write>(&self, f: &mut fmt::Formatter<W>) -> fmt::Result {
         match self {
             ManyFault::At(offset, error) => write!(f, "error at 0x{offset:x}: {error}"),
+            ManyFault::Line(number) => {
+                write!(f, "error: line {number} of the offsets is no offset")
+            }
+            ManyFault::ReadSection => write!(f, "error: cannot read the section"),
+            ManyFault::ReadOffsets => write!(f, "error: cannot read the offsets"),
             ManyFault::Other(Fault::Usage) => {
-                write!(f, "usage: dwarf_list_many abbrev OFFSET.. | str OFFSET..")
+                write!(f, "usage: dwarf_list_many abbrev|str SECTION [OFFSETS]")
             }
             ManyFault::Other(fault) => write!(f, "{fault}"),
         }
@@ -67,6 +108,19 @@ impl From<AllocError> for ManyFault {
     ghost from_gives = { λ _ fault. fault ≡ Other (Section OutOfMemory) };
 
     fn from(_refused: AllocError) -> ManyFault {
+        ManyFault::Other(Fault::out_of_memory())
+    }
+}
+
+impl<T: Drop> From<AllocFailed<T>> for ManyFault {
+    ghost use Rattle.dwarf_listing_core.specs.declared.fault.Fault.TheVariants.{Section};
+    ghost use Rattle.dwarf_listing_core.specs.declared.many.fault.ManyFault.TheVariants.{Other};
+    ghost use Rattle.dwarf_read_core.specs.declared.Error.TheVariants.{OutOfMemory};
+    ghost use Rattle.std.specs.Prelude.{◌≡◌};
+
+    ghost from_gives = { λ _ fault. fault ≡ Other (Section OutOfMemory) };
+
+    fn from(_failed: AllocFailed<T>) -> ManyFault {
         ManyFault::Other(Fault::out_of_memory())
     }
 }

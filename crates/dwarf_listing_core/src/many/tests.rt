@@ -1,100 +1,231 @@
-//! Whole runs over tables and strings, with enough memory and where a request is refused.
+//! Whole runs over tables and strings, with enough memory and where a request is refused, and
+//! inputs and outputs that fail.
 
 use super::fault::ManyFault;
 use super::run_many;
+use crate::arguments::{Kind, parse_arguments};
 use crate::fault::Fault;
+use crate::run::tests::ends::{FailingReader, FailingWriter};
 use crate::words::command_line;
 use crate::words::tests::Given;
 use dwarf_read_core::{Error, ReaderOffsetId};
 use std::alloc::Global;
+use std::io::{BufWriter, ErrorKind};
 use std::process::Abort;
 use std::test::Fail;
 
-// The words of a system, a section, what is written, and how the run ends.
+// A section, its offsets, what is written, and how the run ends.
 type Run = (
-    &'static [&'static [u8]],
+    Kind,
+    &'static [u8],
     &'static [u8],
     &'static [u8],
     Result<(), ManyFault>,
 );
 
 const STRINGS: Run = (
-    &[b"dwarf_list_many", b"str", b"4", b"0", b"0008"],
+    Kind::Strings,
     b"one\0two\0\0",
+    b"4\n0\n0008",
     b"0x4: two\n0x0: one\n0x8: \n",
     Ok(()),
 );
 
-const CUT_STRING: Run = (
-    &[b"dwarf_list_many", b"str", b"0", b"4"],
-    b"one\0two",
-    b"0x0: one\n",
-    Err(ManyFault::At(4, Error::UnexpectedEof(ReaderOffsetId(4)))),
-);
-
 const TABLES: Run = (
-    &[b"dwarf_list_many", b"abbrev", b"0", b"5", b"6"],
+    Kind::Tables,
     b"\x01\x11\0\0\0",
+    b"0\n5\n6\n",
     b"table 0x0:\n1 DW_TAG_compile_unit no\ntable 0x5:\n",
     Err(ManyFault::At(6, Error::UnexpectedEof(ReaderOffsetId(0)))),
 );
 
-fn run_by(
-    mem: Global,
-    given: &[&[u8]],
-    mut section: &[u8],
-    output: &mut Vec<u8>,
-) -> Result<(), ManyFault> {
-    let words = command_line(mem, &Given(given))?;
-    run_many(mem, &words, &mut section, output)
+static RUNS: &[Run] = &[
+    STRINGS,
+    TABLES,
+    (Kind::Strings, b"one\0two", b"", b"", Ok(())),
+    (
+        Kind::Strings,
+        b"one\0two",
+        b"0\n4\n0\n",
+        b"0x0: one\n",
+        Err(ManyFault::At(4, Error::UnexpectedEof(ReaderOffsetId(4)))),
+    ),
+    // Nothing is written if a line is no offset.
+    (
+        Kind::Strings,
+        b"one\0",
+        b"0\n\n",
+        b"",
+        Err(ManyFault::Line(2)),
+    ),
+    (
+        Kind::Strings,
+        b"one\0",
+        b"0\r\n",
+        b"",
+        Err(ManyFault::Line(1)),
+    ),
+    (
+        Kind::Strings,
+        b"one\0",
+        b"9\n0\n+0\n",
+        b"",
+        Err(ManyFault::Line(3)),
+    ),
+    (
+        Kind::Strings,
+        b"one\0",
+        b"0x0",
+        b"",
+        Err(ManyFault::Line(1)),
+    ),
+    (
+        Kind::Strings,
+        b"one\0",
+        b"0 \n",
+        b"",
+        Err(ManyFault::Line(1)),
+    ),
+    (
+        Kind::Strings,
+        b"one\0",
+        b"0\n\xe9\n",
+        b"",
+        Err(ManyFault::Line(2)),
+    ),
+    (
+        Kind::Strings,
+        b"one\0",
+        b"18446744073709551616",
+        b"",
+        Err(ManyFault::Line(1)),
+    ),
+];
+
+// The buffer is shorter than the text, and all of the text leaves it.
+fn check(rt: &impl Abort, mem: Global, run: &Run) -> Result<(), Fail> {
+    let (kind, section, offsets, text, wanted) = run;
+    let mut output = BufWriter::with_capacity(mem, 16, Vec::new(mem))?;
+    let outcome = run_many(mem, *kind, &mut &**section, &mut &**offsets, &mut output);
+    let (written, left) = output.into_parts();
+    assert_eq!(rt;
+        (written.as_slice(), outcome),
+        (*text, *wanted),
+        "{offsets:?}"
+    );
+    assert_eq!(rt; left.len(), 0, "{offsets:?}");
+    Ok(())
 }
 
 #[test]
-fn lists_up_to_the_first_error(rt: HostRuntime) {
-    for (given, section, text, wanted) in [STRINGS, CUT_STRING, TABLES] {
-        let mut output = Vec::new(rt.alloc());
-        let outcome = run_by(rt.alloc(), given, section, &mut output);
-        assert_eq!(rt; (output.as_slice(), outcome), (text, wanted), "{given:?}");
+fn lists_up_to_the_first_error(rt: HostRuntime) -> Result<(), Fail> {
+    for run in RUNS {
+        check(&rt, rt.alloc(), run)?;
     }
+    Ok(())
 }
 
-// Words that are no kind and offsets.
-static REFUSED: &[&[&[u8]]] = &[
-    &[],
-    &[b"dwarf_list_many"],
-    &[b"dwarf_list_many", b"addr", b"0"],
-    &[b"dwarf_list_many", b"5"],
-    &[b"dwarf_list_many", b"str", b"+5"],
-    &[b"dwarf_list_many", b"abbrev", b"0", b"+5"],
-    &[b"dwarf_list_many", b"str", b"0", b"-5"],
-    &[b"dwarf_list_many", b"str", b"", b"0"],
-    &[b"dwarf_list_many", b"str", b" 5"],
-    &[b"dwarf_list_many", b"str", b"18446744073709551616"],
-    &[b"dwarf_list_many", b"str", b"\xe9"],
+// Arguments, and what they name.
+type Named = (
+    &'static [&'static [u8]],
+    Option<(Kind, &'static str, &'static str)>,
+);
+
+static NAMED: &[Named] = &[
+    (&[b"abbrev", b"x"], Some((Kind::Tables, "x", "-"))),
+    (&[b"str", b"x", b"-"], Some((Kind::Strings, "x", "-"))),
+    (&[b"str", b"-", b"x"], Some((Kind::Strings, "-", "x"))),
+    (&[b"str", b"x", b"x"], Some((Kind::Strings, "x", "x"))),
+    (&[], None),
+    (&[b"abbrev"], None),
+    (&[b"addr", b"x"], None),
+    (&[b"abbrev", b"-"], None),
+    (&[b"abbrev", b"-", b"-"], None),
+    (&[b"abbrev", b"x", b"-", b"0"], None),
 ];
 
 #[test]
-fn refuses_words(rt: HostRuntime) {
-    for given in REFUSED {
-        let mut output = Vec::new(rt.alloc());
-        let outcome = run_by(rt.alloc(), given, b"string\0", &mut output);
-        let wanted = Err(ManyFault::Other(Fault::Usage));
-        assert_eq!(rt; (output.len(), outcome), (0, wanted), "{given:?}");
+fn takes_names(rt: HostRuntime) -> Result<(), Fail> {
+    let mem = rt.alloc();
+    for (given, wanted) in NAMED {
+        let mut words = Vec::new(mem);
+        words.push(b"dwarf_list_many".as_slice())?;
+        words.extend_from_slice(given)?;
+        let words = command_line(mem, &Given(&words))?;
+        let named = parse_arguments(&words).map(|it| (it.kind, it.section, it.offsets));
+        assert_eq!(rt; named, *wanted, "{given:?}");
     }
+    Ok(())
 }
 
-// A run writes the whole text, or tells that memory ran out and writes a front of it. The words of
-// the system take memory too. `tools/fail-alloc` refuses each request.
+// Every call of an input may fail: that of each byte, and that which says there is no other.
+#[test]
+fn inputs_fail_at_each_call(rt: HostRuntime) -> Result<(), Fail> {
+    let mem = rt.alloc();
+    let (kind, section, offsets, text, _) = STRINGS;
+    for good_calls in 0..section.len() + 2 {
+        let mut bytes = FailingReader::new(section, good_calls, ErrorKind::OutOfMemory);
+        let mut lines = FailingReader::new(offsets, good_calls, ErrorKind::OutOfMemory);
+        let mut output = BufWriter::new(mem, Vec::new(mem))?;
+        let outcome = run_many(mem, kind, &mut bytes, &mut lines, &mut output);
+        let wanted = if good_calls <= section.len() {
+            (0, Err(ManyFault::ReadSection))
+        } else {
+            (text.len(), Ok(()))
+        };
+        assert_eq!(rt; (output.get_ref().len(), outcome), wanted);
+    }
+    for good_calls in 0..offsets.len() + 1 {
+        let mut lines = FailingReader::new(offsets, good_calls, ErrorKind::OutOfMemory);
+        let mut output = BufWriter::new(mem, Vec::new(mem))?;
+        let outcome = run_many(mem, kind, &mut &*section, &mut lines, &mut output);
+        let wanted = (0, Err(ManyFault::ReadOffsets));
+        assert_eq!(rt; (output.get_ref().len(), outcome), wanted);
+    }
+    Ok(())
+}
+
+// The text before an error at an offset is nine bytes, each written by a call of its own. Then the
+// output is flushed.
+#[test]
+fn outputs_fail_at_each_call(rt: HostRuntime) -> Result<(), Fail> {
+    let mem = rt.alloc();
+    let at = ManyFault::At(4, Error::UnexpectedEof(ReaderOffsetId(4)));
+    for good_calls in 0..11usize {
+        let writer = FailingWriter::new(good_calls, ErrorKind::OutOfMemory);
+        let mut output = BufWriter::with_capacity(mem, 4, writer)?;
+        let mut section = b"one\0two".as_slice();
+        let mut offsets = b"0\n4\n".as_slice();
+        let outcome = run_many(mem, Kind::Strings, &mut section, &mut offsets, &mut output);
+        let wanted = if good_calls < 10 {
+            ManyFault::Other(Fault::Write)
+        } else {
+            at
+        };
+        assert_eq!(rt; outcome, Err(wanted), "{good_calls}");
+    }
+    Ok(())
+}
+
+// A run writes the whole text, or tells that memory ran out and writes a front of it.
+// `tools/fail-alloc` refuses each request.
 fn check_refused<R: Abort + Print>(rt: &R, mem: Global, run: Run) -> Result<(), Fail> {
-    let (given, section, text, wanted) = run;
-    let Ok(mut output) = Vec::with_capacity(mem, 64) else {
+    let (kind, section, offsets, text, wanted) = run;
+    let Ok(room) = Vec::with_capacity(mem, 64) else {
         return Ok(());
     };
-    let outcome = run_by(mem, given, section, &mut output);
+    let Ok(mut output) = BufWriter::with_capacity(mem, 16, room) else {
+        return Ok(());
+    };
+    let outcome = run_many(mem, kind, &mut &*section, &mut &*offsets, &mut output);
+    let (written, left) = output.into_parts();
     if outcome == Err(ManyFault::Other(Fault::out_of_memory())) {
-        assert!(rt; text.starts_with(output.as_slice()), "{given:?}");
+        assert!(rt; text.starts_with(written.as_slice()), "{offsets:?}");
     } else {
-        assert_eq!(rt; (output.as_slice(), outcome), (text, wanted), "{given:?}");
+        assert_eq!(rt;
+            (written.as_slice(), left.len(), outcome),
+            (text, 0, wanted)
+        );
     }
     // The last request. Where it is refused, each one before it was refused in an earlier run.
     if Vec::from_slice(mem, &[0u8]).is_err() {
@@ -123,16 +254,22 @@ fn says_what_failed(rt: HostRuntime) -> Result<(), Fail> {
             1,
         ),
         (
+            ManyFault::Line(12),
+            "error: line 12 of the offsets is no offset",
+            1,
+        ),
+        (
             ManyFault::Other(Fault::out_of_memory()),
             "error: out of memory",
             1,
         ),
         (
             ManyFault::Other(Fault::Usage),
-            "usage: dwarf_list_many abbrev OFFSET.. | str OFFSET..",
+            "usage: dwarf_list_many abbrev|str SECTION [OFFSETS]",
             2,
         ),
-        (ManyFault::Other(Fault::Read), "error: cannot read input", 3),
+        (ManyFault::ReadSection, "error: cannot read the section", 3),
+        (ManyFault::ReadOffsets, "error: cannot read the offsets", 3),
         (
             ManyFault::Other(Fault::Write),
             "error: cannot write output",

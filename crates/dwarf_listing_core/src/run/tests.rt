@@ -9,7 +9,7 @@ use std::process::Abort;
 use std::test::Fail;
 
 mod cuts;
-mod ends;
+pub(crate) mod ends;
 mod long;
 mod memory;
 

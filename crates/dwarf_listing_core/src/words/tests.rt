@@ -50,3 +50,18 @@ fn words_of_the_system(rt: HostRuntime) -> Result<(), Fail> {
     assert_eq!(rt; unreadable.err(), Some(Fault::Usage));
     Ok(())
 }
+
+// `tools/fail-alloc` refuses each request.
+#[test]
+fn refused_memory_for_words(rt: HostRuntime) -> Result<(), Fail> {
+    let mem = rt.alloc();
+    match taken(mem, &[b"dwarf_list", b"abbrev", b"0"]) {
+        Ok(text) => assert_eq!(rt; text.as_str(), "abbrev;0;"),
+        Err(fault) => assert_eq!(rt; fault, Fault::out_of_memory()),
+    }
+    // The last request. Where it is refused, each one before it was refused in an earlier run.
+    if Vec::from_slice(mem, &[0u8]).is_err() {
+        println!(rt; "every request was refused")?;
+    }
+    Ok(())
+}

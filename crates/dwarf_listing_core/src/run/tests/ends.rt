@@ -44,10 +44,20 @@ impl Read for InterruptedReader<'_> {
 
 // A reader that gives one byte a call, and fails behind so many calls.
 #[derive(Drop)]
-struct FailingReader<'a> {
+pub(crate) struct FailingReader<'a> {
     bytes: &'a [u8],
     good_calls: usize,
     kind: ErrorKind,
+}
+
+impl<'a> FailingReader<'a> {
+    pub(crate) fn new(bytes: &'a [u8], good_calls: usize, kind: ErrorKind) -> FailingReader<'a> {
+        FailingReader {
+            bytes,
+            good_calls,
+            kind,
+        }
+    }
 }
 
 impl Read for FailingReader<'_> {
@@ -66,11 +76,7 @@ impl Read for FailingReader<'_> {
 fn inputs_fail_at_each_call(rt: HostRuntime) -> Result<(), Fail> {
     for kind in KINDS {
         for good_calls in 0..UNIT.len() + 2 {
-            let mut input = FailingReader {
-                bytes: UNIT,
-                good_calls,
-                kind: *kind,
-            };
+            let mut input = FailingReader::new(UNIT, good_calls, *kind);
             let wanted = if good_calls <= UNIT.len() {
                 Err(("error: cannot read input", 3))
             } else {
@@ -84,13 +90,21 @@ fn inputs_fail_at_each_call(rt: HostRuntime) -> Result<(), Fail> {
 
 // A writer that takes one byte a call, and fails behind so many calls. A flush is a call too.
 #[derive(Drop)]
-struct FailingWriter {
+pub(crate) struct FailingWriter {
     calls: usize,
     good_calls: usize,
     kind: ErrorKind,
 }
 
 impl FailingWriter {
+    pub(crate) fn new(good_calls: usize, kind: ErrorKind) -> FailingWriter {
+        FailingWriter {
+            calls: 0,
+            good_calls,
+            kind,
+        }
+    }
+
     fn call(&mut self) -> io::Result<()> {
         self.calls = self.calls.saturating_add(1);
         if self.calls > self.good_calls {
@@ -118,11 +132,7 @@ fn outputs_fail_at_each_call(rt: HostRuntime) -> Result<(), Fail> {
     let words = words(mem, &["str", "0"])?;
     for kind in KINDS {
         for good_calls in 0..6usize {
-            let mut output = FailingWriter {
-                calls: 0,
-                good_calls,
-                kind: *kind,
-            };
+            let mut output = FailingWriter::new(good_calls, *kind);
             let outcome = run(mem, &words, &mut b"one\0".as_slice(), &mut output);
             let wanted = if good_calls < 5 {
                 Err(("error: cannot write output", 3))

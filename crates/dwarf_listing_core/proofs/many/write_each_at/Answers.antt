@@ -5,7 +5,7 @@ use Rattle.std.proofs.KnownBytes.{Appends-nil, Appends-trans}
 use Rattle.dwarf_read_core.specs.declared.Error.{Error}
 use Rattle.dwarf_listing_core.specs.declared.arguments.Kind.{Kind}
 use Rattle.dwarf_listing_core.specs.Many.{EndsAt, ListsAll, ListsOne, nothing, one_more}
-use Rattle.dwarf_listing_core.proofs.many.write_all_at.Goals as goal
+use Rattle.dwarf_listing_core.proofs.many.write_each_at.Goals as goal
 
 -- the first error is that of the next offset
 first_error : {kind : Kind} {section : List ℕ} {offset : ℕ} {error : Error} {text : List ℕ} (offsets : List ℕ) (i : ℕ)

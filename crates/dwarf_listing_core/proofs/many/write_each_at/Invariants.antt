@@ -1,7 +1,7 @@
 use Rattle.std.proofs.Common.{List, ℕ, take}
 use Rattle.std.specs.Io.KnownBytes.{Appends}
 use Rattle.dwarf_listing_core.specs.Many.{ListsAll}
-use Rattle.dwarf_listing_core.proofs.many.write_all_at.Given as goal
+use Rattle.dwarf_listing_core.proofs.many.write_each_at.Given as goal
 
 -- what is written so far is what is listed at the offsets so far
 abbrev pub invariant-loop-offset : goal.invariant-loop-offset
