@@ -1,0 +1,262 @@
+"""What `tools/dwarf_elf` lists of the debug sections of a file, by the programs dwarf_list and dwarf_list_many."""
+import itertools
+import pathlib
+import re
+import shutil
+import subprocess
+import sys
+import tempfile
+
+from debug_file import Unlisted
+
+ROOT = pathlib.Path(__file__).resolve().parent.parent
+# Arguments of a process have a limit, which is two million bytes on Linux.
+PORTION = 5000
+# After so many errors in a section the rest of it isn't listed, since each takes a process.
+ERRORS = 1000
+SECTIONS = {
+    "abbrev": "debug_abbrev",
+    "str": "debug_str",
+    "line-str": "debug_line_str",
+    "addr": "debug_addr",
+    "str-offsets": "debug_str_offsets",
+}
+
+
+def program(name, *launcher):
+    """The words that run a program.
+
+    The launcher looks whether a source is newer than the program, which takes as long as a run.
+    """
+    built = ROOT / "crates" / name / "out" / name
+    return [built] if built.is_file() else [ROOT / "dwarf_list", *launcher]
+
+
+LIST = program("dwarf_list")
+MANY = program("dwarf_list_many", "--many")
+
+
+class Report:
+    """What was told on standard error, each line once, and the exit status by that."""
+
+    def __init__(self):
+        self.status, self.told = 0, set()
+
+    def say(self, text, status=1):
+        self.status = max(self.status, status)
+        if str(text) not in self.told:
+            self.told.add(str(text))
+            sys.stdout.flush()
+            print(f"dwarf_elf: {text}", file=sys.stderr, flush=True)
+
+
+def put(text):
+    sys.stdout.buffer.write(text.encode())
+
+
+def run(words, source, first=None):
+    """Runs a program with a file as its standard input, and passes its output on. A function may give another first
+    line. Returns the exit status, and the errors as one line."""
+    with open(source, "rb") as file, tempfile.TemporaryFile() as errors:
+        with subprocess.Popen(words, stdin=file, stdout=subprocess.PIPE, stderr=errors) as child:
+            try:
+                line = child.stdout.readline() if first else b""
+                sys.stdout.buffer.write(first(line) if line else b"")
+                shutil.copyfileobj(child.stdout, sys.stdout.buffer, 1 << 16)
+            except BaseException:
+                child.kill()
+                raise
+        errors.seek(0)
+        said = errors.read().decode(errors="replace").splitlines()
+    # A program that a signal ended couldn't tell why.
+    status = child.returncode if child.returncode >= 0 else 3
+    return status, "; ".join(said) or (f"the program ended with status {child.returncode}" if status else "")
+
+
+class Listing:
+    """The listing of a file by a command. The programs read each section from a file in a folder."""
+
+    def __init__(self, file, command, report, folder):
+        self.file, self.command, self.report = file, command, report
+        self.kind = command.replace("line-", "")
+        self.order = "le" if file.order == "little" else "be"
+        self.path = f"{folder}/section"
+        self.sections = file.named(SECTIONS[command])
+
+    def list(self, offset):
+        """Lists what is at an offset of each section, or everything."""
+        if not self.sections:
+            raise Unlisted(f"there is no section .{SECTIONS[self.command]}")
+        tables = self.file.tables() if self.command == "abbrev" and offset is None else {}
+        for section in self.sections:
+            try:
+                body = self.file.body(section)
+            except Unlisted as error:
+                self.report.say(error)
+                continue
+            if len(self.sections) > 1:
+                put(f"{section}:\n")
+            if offset is not None:
+                self.list_one(section, body, offset)
+            elif self.command == "abbrev":
+                self.list_tables(section, body, tables[section])
+            elif self.kind == "str":
+                self.list_all(section, body, lambda start, body=body: strings(body, start))
+            else:
+                self.list_sets(section, body)
+
+    def keep(self, body):
+        with open(self.path, "wb") as file:
+            file.write(body)
+
+    # Tables and strings.
+
+    def many(self, offsets):
+        """Lists what is at each of these offsets, up to the first error. Returns the exit status and the error."""
+        offsets = iter(offsets)
+        while some := [str(it) for it in itertools.islice(offsets, PORTION)]:
+            status, error = run([*MANY, self.kind, *some], self.path)
+            if status:
+                return status, error
+        return 0, ""
+
+    def list_all(self, section, body, offsets_from):
+        """Lists what is at all offsets, and goes on after an error. The function gives the offsets from one on."""
+        self.keep(body)
+        start = 0
+        for _ in range(ERRORS):
+            status, error = self.many(offsets_from(start))
+            if not status:
+                return
+            self.report.say(f"{section}: {error}", status)
+            place = re.search(r"error at 0x([0-9a-f]+): ", error)
+            if not place:
+                return
+            start = int(place[1], 16) + 1
+        self.report.say(f"{section}: after {ERRORS} errors the rest isn't listed")
+
+    def list_one(self, section, body, offset):
+        self.keep(body)
+        status, error = run([*LIST, self.kind, str(offset)], self.path)
+        if status:
+            self.report.say(f"{section} at 0x{offset:x}: {error}", status)
+
+    def list_tables(self, section, body, units):
+        """Lists the tables of a section, whose offsets come with the first unit that names each."""
+        for offset in sorted(units):
+            if offset > len(body):
+                end = f"past the end of {section} (0x{len(body):x} bytes)"
+                self.report.say(f"{units[offset]} names the table at 0x{offset:x}, {end}")
+        if not units:
+            self.report.say(f"no unit names a table of {section}")
+        inside = sorted(it for it in units if it <= len(body))
+        self.list_all(section, body, lambda start: (it for it in inside if it >= start))
+
+    # Sets.
+
+    def list_sets(self, section, body):
+        """Lists the sets of a section, one by one if they aren't all well formed."""
+        body = self.file.relocated(section, body)
+        units = self.file.units(section.family)
+        old = [it for it in units if it.version < 5]
+        if units and len(old) == len(units):
+            self.list_without_headers(section, body, units)
+            return
+        self.keep(body)
+        if run([*LIST, self.command, self.order], self.path)[0]:
+            why = "; the sets of split units of DWARF 4 have no header" if old else ""
+            self.list_each_set(section, body, why)
+
+    def list_each_set(self, section, body, why):
+        at = errors = 0
+        while at < len(body) and errors < ERRORS:
+            padding = self.file.zeros(section, body, at)
+            if padding:
+                at += padding
+                continue
+            name = f"the set at 0x{at:x} of {section}"
+            try:
+                length, _, begin = self.file.initial_length(body, at)
+            except Unlisted as error:
+                self.report.say(f"{name} {error}, and what follows isn't read{why}")
+                return
+            self.keep(body[at : begin + length])
+            status, error = run(
+                [*LIST, self.command, self.order],
+                self.path,
+                lambda line, at=at: line.replace(b"set 0:", b"set %d:" % at, 1),
+            )
+            if status:
+                errors += 1
+                self.report.say(f"{name}: {error}{why}", status)
+            at = begin + length
+        if errors == ERRORS:
+            self.report.say(f"{section}: after {ERRORS} errors the rest isn't listed")
+
+    def list_without_headers(self, section, body, units):
+        """Lists the sets of DWARF 4, which have no header: one, or in a package each contribution."""
+        is_addr = self.command == "addr"
+        sizes = sorted({it.address_size if is_addr else it.word for it in units})
+        what = "address size" if is_addr else "format"
+        names = " and ".join(str(it) if is_addr else f"{8 * it}-bit" for it in sizes)
+        if len(sizes) > 1 or sizes[0] not in (1, 2, 4, 8):
+            self.report.say(f"{section} has no headers, and isn't listed: the units' {what} is {names}")
+            return
+        self.report.say(f"{section} has no headers, as in DWARF 4, and is listed by the units' {what}, {names}", 0)
+        parts = [(0, len(body))]
+        if self.file.package and section.family[1]:
+            parts = self.file.package.contributions(section.base)
+        end = 0
+        for start, size in parts:
+            if start > end:
+                self.report.say(f"{section}: no row of the index has the bytes from 0x{end:x} to 0x{start:x}")
+            if start + size > len(body):
+                self.report.say(f"{section}: the contribution at 0x{start:x} is past the end")
+            self.list_entries(section, start, body[start : start + size], sizes[0])
+            end = max(end, start + size)
+        if end < len(body):
+            self.report.say(f"{section}: no row of the index has the bytes from 0x{end:x} on")
+
+    def list_entries(self, section, start, body, size):
+        """Lists entries without a header. The program gets one before them, and its line is replaced."""
+        rest = len(body) % size
+        if rest:
+            self.report.say(f"{section}: the last {rest} bytes of the set at 0x{start:x} are no whole entry")
+        body = body[: len(body) - rest]
+        is_addr = self.command == "addr"
+        fields = (5).to_bytes(2, self.file.order) + (bytes([size, 0]) if is_addr else b"\0\0")
+        # The format of a set of addresses says nothing of its entries.
+        width = 8 if is_addr else size
+        length = (len(fields) + len(body)).to_bytes(8, self.file.order)
+        if width == 8:
+            length = b"\xff\xff\xff\xff" + length
+        elif len(body) < 0xFFFFFF00:
+            length = length[:4] if self.order == "le" else length[4:]
+        else:
+            self.report.say(f"{section}: the set at 0x{start:x} is too long for the 32-bit format, and isn't listed")
+            return
+        self.keep(length + fields + body)
+        last = f"address size {size}" if is_addr else f"{8 * size}-bit"
+        line = f"set {start}: no header, {len(body)} bytes, {last}\n".encode()
+        status, error = run([*LIST, self.command, self.order], self.path, lambda _: line)
+        if status:
+            self.report.say(f"{section}: the set at 0x{start:x}: {error}", status)
+
+
+def strings(body, start):
+    """Where the strings of a section begin, from an offset on."""
+    at = (body.find(b"\0", start - 1) + 1 or len(body)) if start else 0
+    while at < len(body):
+        yield at
+        at = body.find(b"\0", at) + 1 or len(body)
+
+
+def list_sections(file, report):
+    """Lists the names and sizes of the sections, and tells of those that can't be read."""
+    for section in file.sections:
+        try:
+            size = len(file.body(section))
+        except Unlisted as error:
+            report.say(error)
+            size = 0
+        put(f"{section.name:28} {size:10}\n")
