@@ -160,6 +160,9 @@ class DebugFile:
         wanted = ask("the number of sections", self.elf.num_sections)
         if wanted > there:
             self.say(f"the file ends before {wanted - there} of its {wanted} section headers, at 0x{start:x}")
+        names = ask("the names of the sections", self.elf.get_shstrndx)
+        if names >= min(wanted, there):
+            raise Unlisted(f"the names of the sections are in section {names}, which the file lacks")
         return min(wanted, there)
 
     def add(self, number):
