@@ -3,7 +3,9 @@
  * an index, sets of addresses and of string offsets, abbreviation tables, names of constants, and texts
  * of errors. The section numbers are those of DWARF 5.
  *
- * Link libdwarf_read_c.a, and dwarf_read_heap.c or three functions of your own (see there).
+ * Link libdwarf_read.a, which `tools/install` installs. It has all calls, and the three functions of
+ * dwarf_read_heap.c through which they request memory; a program that defines all three is linked with
+ * its own. Without an installation, link libdwarf_read_c.a and dwarf_read_heap.c.
  *
  * WHAT A CALL DOES. It returns DWARF_OK, and then its outputs are written, or another status. A status
  * from 1 to 19 is the number of an error: the call has written it to the fault, with the position or
@@ -30,6 +32,15 @@
 #include <stdbool.h>
 #include <stddef.h>
 #include <stdint.h>
+
+/* The version of this header, which is that of the library too. */
+#define DWARF_READ_VERSION_MAJOR 0
+#define DWARF_READ_VERSION_MINOR 1
+#define DWARF_READ_VERSION_PATCH 0
+#define DWARF_READ_VERSION "0.1.0"
+
+/* So many places are enough for every name and every text of an error, and for a zero byte behind it. */
+#define DWARF_TEXT_ROOM 64
 
 #ifdef __cplusplus
 extern "C" {
@@ -179,8 +190,31 @@ uint32_t dwarf_table_read(const uint8_t *section, size_t len, size_t offset,
                           struct dwarf_attribute *attributes, size_t attribute_room,
                           struct dwarf_measure *measure, struct dwarf_fault *fault);
 
+/* Finds the abbreviation with a code among those of a table, which are by rising code as
+   dwarf_table_read writes them. Returns null if there is none. */
+static inline const struct dwarf_abbreviation *
+dwarf_table_find(const struct dwarf_abbreviation *abbreviations, size_t count, uint64_t code) {
+    /* The codes before it are smaller, and none is 0. So its index is less than its code, and is the code
+       less one in a table whose codes count from 1. */
+    size_t low = 0, high = code < count ? (size_t)code : count;
+    if (code != 0 && high == code && abbreviations[high - 1].code == code) {
+        return &abbreviations[high - 1];
+    }
+    while (low < high) {
+        size_t middle = low + (high - low) / 2;
+        if (abbreviations[middle].code < code) {
+            low = middle + 1;
+        } else {
+            high = middle;
+        }
+    }
+    return low < count && abbreviations[low].code == code ? &abbreviations[low] : NULL;
+}
+
 /*
  * NAMES AND TEXTS.
+ *
+ * dwarf_constants.h has the numbers by these names, as DW_TAG_label.
  *
  * Each call writes a name, as DW_TAG_label, or a text, with no zero byte behind it. `len` is how many
  * bytes it has. They return DWARF_OK; DWARF_NO_ROOM if there are fewer places, and then only `len` is
@@ -191,10 +225,49 @@ uint32_t dwarf_tag_name(uint16_t tag, char *name, size_t room, size_t *len);
 uint32_t dwarf_attribute_name(uint16_t attribute, char *name, size_t room, size_t *len);
 uint32_t dwarf_form_name(uint16_t form, char *name, size_t room, size_t *len);
 
-/* Writes the text of an error. 64 places are enough for every name and text. The call allocates memory,
-   and frees it before it returns. It returns DWARF_OUT_OF_MEMORY if there is none; then nothing is
-   written. It may not be called in a signal handler. */
+/* Writes the text of an error. The call allocates memory, and frees it before it returns. It returns
+   DWARF_OUT_OF_MEMORY if there is none; then nothing is written. It may not be called in a signal
+   handler. */
 uint32_t dwarf_fault_text(const struct dwarf_fault *fault, char *text, size_t room, size_t *len);
+
+/*
+ * THE SAME AS STRINGS OF C.
+ *
+ * Each of these four writes a name or a text with a zero byte behind it, and returns where it is. It
+ * returns null, and writes nothing, if the call above returns another status than DWARF_OK, or if there
+ * is no place for the zero byte.
+ */
+
+/* Puts the zero byte behind what a call has written to fewer places than there are. */
+static inline const char *dwarf_string_ended(uint32_t status, char *text, size_t room, size_t len) {
+    if (status != DWARF_OK || len >= room) {
+        return NULL;
+    }
+    text[len] = 0;
+    return text;
+}
+
+static inline const char *dwarf_tag_string(uint16_t tag, char *name, size_t room) {
+    size_t len = 0;
+    return dwarf_string_ended(dwarf_tag_name(tag, name, room - (room != 0), &len), name, room, len);
+}
+
+static inline const char *dwarf_attribute_string(uint16_t attribute, char *name, size_t room) {
+    size_t len = 0;
+    uint32_t status = dwarf_attribute_name(attribute, name, room - (room != 0), &len);
+    return dwarf_string_ended(status, name, room, len);
+}
+
+static inline const char *dwarf_form_string(uint16_t form, char *name, size_t room) {
+    size_t len = 0;
+    return dwarf_string_ended(dwarf_form_name(form, name, room - (room != 0), &len), name, room, len);
+}
+
+static inline const char *dwarf_fault_string(const struct dwarf_fault *fault, char *text, size_t room) {
+    size_t len = 0;
+    uint32_t status = dwarf_fault_text(fault, text, room - (room != 0), &len);
+    return dwarf_string_ended(status, text, room, len);
+}
 
 #ifdef __cplusplus
 }

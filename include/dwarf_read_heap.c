@@ -1,11 +1,16 @@
 /*
- * The three functions through which the library requests memory, over malloc, realloc and free. A
- * program may define them over another allocator instead. Then they have to be one allocator's,
- * and a block has to be aligned to each power of two up to 16 that divides its size.
+ * The three functions through which the library requests memory, over malloc, realloc and free. It
+ * compiles as C and as C++, and is a member of its own in the installed libdwarf_read.a. A program may
+ * define all three over another allocator instead; then this file isn't linked. They have to be one
+ * allocator's, and a block has to be aligned to each power of two up to 16 that divides its size.
  */
 #include <stdbool.h>
 #include <stddef.h>
 #include <stdlib.h>
+
+#ifdef __cplusplus
+extern "C" {
+#endif
 
 /* Whether there was memory, and the block. The pointer is never null. */
 struct tried {
@@ -17,7 +22,7 @@ struct tried rattle_alloc(size_t size, size_t align);
 struct tried rattle_realloc(void *block, size_t kept, size_t size, size_t align);
 void rattle_dealloc(void *block);
 
-static struct tried tried(void *block) {
+static struct tried tried_from(void *block) {
     static char none;
     struct tried result = {block != NULL, block != NULL ? block : &none};
     return result;
@@ -29,14 +34,18 @@ static size_t size_of(size_t size, size_t align) {
 }
 
 struct tried rattle_alloc(size_t size, size_t align) {
-    return tried(malloc(size_of(size, align)));
+    return tried_from(malloc(size_of(size, align)));
 }
 
 struct tried rattle_realloc(void *block, size_t kept, size_t size, size_t align) {
     (void)kept;
-    return tried(realloc(block, size_of(size, align)));
+    return tried_from(realloc(block, size_of(size, align)));
 }
 
 void rattle_dealloc(void *block) {
     free(block);
 }
+
+#ifdef __cplusplus
+}
+#endif
