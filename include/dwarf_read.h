@@ -249,7 +249,8 @@ static inline const char *dwarf_string_ended(uint32_t status, char *text, size_t
 
 static inline const char *dwarf_tag_string(uint16_t tag, char *name, size_t room) {
     size_t len = 0;
-    return dwarf_string_ended(dwarf_tag_name(tag, name, room - (room != 0), &len), name, room, len);
+    uint32_t status = dwarf_tag_name(tag, name, room - (room != 0), &len);
+    return dwarf_string_ended(status, name, room, len);
 }
 
 static inline const char *dwarf_attribute_string(uint16_t attribute, char *name, size_t room) {
@@ -260,7 +261,8 @@ static inline const char *dwarf_attribute_string(uint16_t attribute, char *name,
 
 static inline const char *dwarf_form_string(uint16_t form, char *name, size_t room) {
     size_t len = 0;
-    return dwarf_string_ended(dwarf_form_name(form, name, room - (room != 0), &len), name, room, len);
+    uint32_t status = dwarf_form_name(form, name, room - (room != 0), &len);
+    return dwarf_string_ended(status, name, room, len);
 }
 
 static inline const char *dwarf_fault_string(const struct dwarf_fault *fault, char *text, size_t room) {

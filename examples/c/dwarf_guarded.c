@@ -1,0 +1,392 @@
+/*
+ * Calls the library on every cut of the files that are named, with a page without access beside each buffer
+ * that is passed, beside each output, and beside each block that the library requests.
+ *
+ *     dwarf_guarded FILE..
+ *
+ * All of this is done twice: with that page right before the first byte, and right behind the last one. The
+ * section itself may only be read. So a call that touches a byte outside ends by a signal, and the program
+ * names it. On the other side of an output the bytes are compared with what they were. The status is 0 if no
+ * byte outside was touched.
+ *
+ * The program has the three functions by which the library requests memory, so it is an example of that, too.
+ * It compiles as C and as C++.
+ */
+#define _DEFAULT_SOURCE
+#include "dwarf_read.h"
+
+#include <signal.h>
+#include <stdio.h>
+#include <stdlib.h>
+#include <string.h>
+#include <sys/mman.h>
+#include <unistd.h>
+
+enum { PAGE = 4096, PAGES = 16, OUTPUTS = 5, SLACK = 64, BLOCKS = 64, FILLING = 0xa5 };
+
+/* Pages between two that have no access, and the bytes of them that a call is given. */
+struct guarded {
+    uint8_t *pages;
+    size_t size;
+    uint8_t *given;
+    size_t len;
+};
+
+static struct guarded section, outputs[OUTPUTS], blocks[BLOCKS];
+static bool is_at_end;
+static const char *call = "no call";
+static unsigned long calls;
+static size_t used;
+
+static void die(const char *what) {
+    printf("failed: %s: %s\n", call, what);
+    exit(1);
+}
+
+static void on_signal(int number) {
+    (void)number;
+    (void)!write(1, "failed: a byte outside was touched by ", 38);
+    (void)!write(1, call, strlen(call));
+    (void)!write(1, "\n", 1);
+    _exit(1);
+}
+
+/* Makes pages for so many bytes. Returns false if there is no memory. */
+static bool make(struct guarded *it, size_t len) {
+    size_t size = len == 0 ? (size_t)PAGE : (len + PAGE - 1) / PAGE * PAGE;
+    uint8_t *all = (uint8_t *)mmap(NULL, size + 2 * PAGE, PROT_NONE, MAP_PRIVATE | MAP_ANONYMOUS, -1, 0);
+    if (all == (uint8_t *)MAP_FAILED || mprotect(all + PAGE, size, PROT_READ | PROT_WRITE) != 0) {
+        return false;
+    }
+    it->pages = all + PAGE;
+    it->size = size;
+    return true;
+}
+
+/* Gives the last bytes of the pages, or the first ones. No byte is given at the end of the pages. */
+static void *give(struct guarded *it, size_t len) {
+    it->given = it->pages + (is_at_end || len == 0 ? it->size - len : 0);
+    it->len = len;
+    return it->given;
+}
+
+/*
+ * The functions through which the library requests memory.
+ */
+
+#ifdef __cplusplus
+extern "C" {
+#endif
+
+struct tried {
+    bool is_block;
+    void *block;
+};
+
+struct tried rattle_alloc(size_t size, size_t align);
+struct tried rattle_realloc(void *block, size_t kept, size_t size, size_t align);
+void rattle_dealloc(void *block);
+
+struct tried rattle_alloc(size_t size, size_t align) {
+    size_t at = 0;
+    while (at < BLOCKS && blocks[at].pages != NULL) {
+        at++;
+    }
+    if (at == BLOCKS || !make(&blocks[at], size)) {
+        die("no memory for a block");
+    }
+    /* A block at the end is aligned, so that up to `align - 1` bytes may be behind it. */
+    struct tried found = {true, give(&blocks[at], (size + align - 1) / align * align)};
+    memset(found.block, FILLING, size);
+    return found;
+}
+
+void rattle_dealloc(void *block) {
+    for (size_t at = 0; at < BLOCKS; at++) {
+        if (blocks[at].pages != NULL && blocks[at].given == block) {
+            munmap(blocks[at].pages - PAGE, blocks[at].size + 2 * PAGE);
+            blocks[at].pages = NULL;
+            return;
+        }
+    }
+    die("a block was freed that isn't one");
+}
+
+struct tried rattle_realloc(void *block, size_t kept, size_t size, size_t align) {
+    struct tried found = rattle_alloc(size, align);
+    memcpy(found.block, block, kept < size ? kept : size);
+    rattle_dealloc(block);
+    return found;
+}
+
+#ifdef __cplusplus
+}
+#endif
+
+/*
+ * Before and behind a call.
+ */
+
+/* Begins a call. */
+static void begin(const char *name) {
+    call = name;
+    used = 0;
+    calls++;
+}
+
+/* The next output of the call, of so many bytes. */
+static void *output(size_t len) {
+    struct guarded *it = &outputs[used++];
+    uint8_t *given = (uint8_t *)give(it, len);
+    memset(given, FILLING, len);
+    memset(given == it->pages ? given + len : given - SLACK, FILLING, SLACK);
+    return given;
+}
+
+/* Ends a call: the bytes beside its outputs are as they were, and all blocks are freed. */
+static void end(void) {
+    for (size_t at = 0; at < used; at++) {
+        const struct guarded *it = &outputs[at];
+        const uint8_t *beside = it->given == it->pages ? it->given + it->len : it->given - SLACK;
+        for (size_t i = 0; i < SLACK; i++) {
+            if (beside[i] != FILLING) {
+                die("a byte beside an output was changed");
+            }
+        }
+    }
+    for (size_t at = 0; at < BLOCKS; at++) {
+        if (blocks[at].pages != NULL) {
+            die("a block wasn't freed");
+        }
+    }
+}
+
+static struct dwarf_fault *fault(void) {
+    return (struct dwarf_fault *)output(sizeof(struct dwarf_fault));
+}
+
+/*
+ * The calls.
+ */
+
+static void call_numbers(const uint8_t *bytes, size_t len) {
+    begin("dwarf_uleb128");
+    uint64_t *value = (uint64_t *)output(sizeof *value);
+    dwarf_uleb128(bytes, len, value, (size_t *)output(sizeof(size_t)), fault());
+    end();
+    begin("dwarf_sleb128");
+    int64_t *number = (int64_t *)output(sizeof *number);
+    dwarf_sleb128(bytes, len, number, (size_t *)output(sizeof(size_t)), fault());
+    end();
+}
+
+static void call_lookups(const uint8_t *bytes, size_t len, size_t offset, bool is_big) {
+    static const size_t indexes[] = {0, 1, 2, SIZE_MAX / 8, SIZE_MAX};
+    static const uint8_t sizes[] = {0, 1, 2, 3, 4, 8};
+    begin("dwarf_string");
+    dwarf_string(bytes, len, offset, (size_t *)output(sizeof(size_t)), fault());
+    end();
+    for (size_t i = 0; i < sizeof indexes / sizeof *indexes; i++) {
+        for (int is_64 = 0; is_64 < 2; is_64++) {
+            begin("dwarf_str_offset");
+            size_t *found = (size_t *)output(sizeof *found);
+            dwarf_str_offset(bytes, len, is_big, is_64 == 1, offset, indexes[i], found, fault());
+            end();
+        }
+        for (size_t k = 0; k < sizeof sizes; k++) {
+            begin("dwarf_address");
+            uint64_t *found = (uint64_t *)output(sizeof *found);
+            dwarf_address(bytes, len, is_big, sizes[k], offset, indexes[i], found, fault());
+            end();
+        }
+    }
+}
+
+static void call_sets(const uint8_t *bytes, size_t len, size_t offset, bool is_big) {
+    begin("dwarf_address_set");
+    struct dwarf_set *set = (struct dwarf_set *)output(sizeof *set);
+    dwarf_address_set(bytes, len, is_big, offset, set, fault());
+    end();
+    begin("dwarf_str_offset_set");
+    set = (struct dwarf_set *)output(sizeof *set);
+    dwarf_str_offset_set(bytes, len, is_big, offset, set, fault());
+    end();
+}
+
+/* Reads a table into so many places, and looks for each code that there may be. */
+static void call_table_read(const uint8_t *bytes, size_t len, size_t offset, size_t room, size_t attribute_room) {
+    begin("dwarf_table_read");
+    struct dwarf_measure *measure = (struct dwarf_measure *)output(sizeof *measure);
+    struct dwarf_abbreviation *abbreviations = (struct dwarf_abbreviation *)output(room * sizeof *abbreviations);
+    struct dwarf_attribute *attributes = (struct dwarf_attribute *)output(attribute_room * sizeof *attributes);
+    uint32_t status = dwarf_table_read(bytes, len, offset, abbreviations, room, attributes, attribute_room, measure,
+                                       fault());
+    end();
+    if (status != DWARF_OK) {
+        return;
+    }
+    call = "dwarf_table_find";
+    size_t count = measure->abbreviations, found = 0;
+    for (uint64_t code = 0; code < 300; code++) {
+        const struct dwarf_abbreviation *it = dwarf_table_find(abbreviations, count, code);
+        if (it != NULL && it->code != code) {
+            die("it found another code");
+        }
+        found += it != NULL;
+    }
+    if (found != count || dwarf_table_find(abbreviations, count, UINT64_MAX) != NULL) {
+        die("it didn't find a code that is there");
+    }
+}
+
+static void call_tables(const uint8_t *bytes, size_t len, size_t offset) {
+    begin("dwarf_table_measure");
+    struct dwarf_measure *measure = (struct dwarf_measure *)output(sizeof *measure);
+    uint32_t status = dwarf_table_measure(bytes, len, offset, measure, fault());
+    end();
+    size_t count = status == DWARF_OK ? measure->abbreviations : 1;
+    size_t attributes = status == DWARF_OK ? measure->attributes : 1;
+    call_table_read(bytes, len, offset, count, attributes);
+    call_table_read(bytes, len, offset, count + 1, attributes + 1);
+    call_table_read(bytes, len, offset, count - (count != 0), attributes);
+    call_table_read(bytes, len, offset, count, attributes - (attributes != 0));
+}
+
+/* All calls on a section, of which each beginning is a section too. */
+static void call_on_cuts(const uint8_t *bytes, size_t len) {
+    for (size_t cut = 0; cut <= len; cut++) {
+        mprotect(section.pages, section.size, PROT_READ | PROT_WRITE);
+        memset(section.pages, FILLING, section.size);
+        const uint8_t *given = (const uint8_t *)memcpy(give(&section, cut), bytes, cut);
+        mprotect(section.pages, section.size, PROT_READ);
+        for (size_t at = 0; at <= cut + 2; at++) {
+            size_t offset = at <= cut + 1 ? at : SIZE_MAX;
+            if (offset <= cut) {
+                call_numbers(given + offset, cut - offset);
+            }
+            for (int is_big = 0; is_big < 2; is_big++) {
+                call_lookups(given, cut, offset, is_big == 1);
+                call_sets(given, cut, offset, is_big == 1);
+            }
+            call_tables(given, cut, offset);
+        }
+    }
+}
+
+/*
+ * The calls that write bytes, at every length of their room.
+ */
+
+typedef uint32_t name_call(uint16_t value, char *name, size_t room, size_t *len);
+typedef const char *string_call(uint16_t value, char *name, size_t room);
+
+/* A string has to be the name with a zero byte behind it, or null if there is no place for that byte. */
+static void check_string(const char *string, const char *places, size_t room, size_t len) {
+    if ((string != NULL) != (len < room) || (string != NULL && (string != places || strlen(string) != len))) {
+        die("it isn't the name");
+    }
+}
+
+static void call_names(name_call *name, string_call *string, const char *what) {
+    for (uint32_t value = 0; value <= UINT16_MAX; value++) {
+        begin(what);
+        size_t *len = (size_t *)output(sizeof *len);
+        uint32_t status = name((uint16_t)value, (char *)output(0), 0, len);
+        size_t all = status == DWARF_NO_NAME ? 0 : *len;
+        end();
+        if (status == DWARF_NO_NAME) {
+            continue;
+        }
+        for (size_t room = 0; room <= all + 2; room++) {
+            begin(what);
+            len = (size_t *)output(sizeof *len);
+            status = name((uint16_t)value, (char *)output(room), room, len);
+            end();
+            if (status != (room < all ? DWARF_NO_ROOM : DWARF_OK) || all >= DWARF_TEXT_ROOM) {
+                die("its status isn't that of its room");
+            }
+            begin(what);
+            char *places = (char *)output(room);
+            check_string(string((uint16_t)value, places, room), places, room, all);
+            end();
+        }
+    }
+}
+
+static void call_texts(void) {
+    static const uint64_t values[] = {0, 1, UINT32_MAX, UINT64_MAX};
+    for (size_t i = 0; i < sizeof values / sizeof *values; i++) {
+        for (uint32_t kind = 0; kind <= 20; kind++) {
+            for (size_t room = 0; room <= DWARF_TEXT_ROOM; room++) {
+                struct dwarf_fault it = {kind, values[i]};
+                begin("dwarf_fault_text");
+                const struct dwarf_fault *given = (struct dwarf_fault *)memcpy(output(sizeof it), &it, sizeof it);
+                size_t *len = (size_t *)output(sizeof *len);
+                uint32_t status = dwarf_fault_text(given, (char *)output(room), room, len);
+                size_t all = status == DWARF_NO_NAME ? SIZE_MAX : *len;
+                end();
+                begin("dwarf_fault_string");
+                given = (struct dwarf_fault *)memcpy(output(sizeof it), &it, sizeof it);
+                char *places = (char *)output(room);
+                check_string(dwarf_fault_string(given, places, room), places, room, all);
+                end();
+            }
+        }
+    }
+}
+
+static void call_writers(void) {
+    for (unsigned shift = 0; shift < 64; shift++) {
+        for (size_t room = 0; room <= 10; room++) {
+            begin("dwarf_uleb128_write");
+            size_t *len = (size_t *)output(sizeof *len);
+            dwarf_uleb128_write(UINT64_MAX >> shift, (uint8_t *)output(room), room, len);
+            end();
+            begin("dwarf_sleb128_write");
+            len = (size_t *)output(sizeof *len);
+            dwarf_sleb128_write(INT64_MIN / ((int64_t)1 << (shift % 63)), (uint8_t *)output(room), room, len);
+            end();
+        }
+    }
+}
+
+static size_t read_file(const char *path, uint8_t *bytes, size_t room) {
+    FILE *file = fopen(path, "rb");
+    size_t len = file != NULL ? fread(bytes, 1, room, file) : 0;
+    bool is_read = file != NULL && ferror(file) == 0 && fgetc(file) == EOF;
+    if (file != NULL) {
+        fclose(file);
+    }
+    if (!is_read) {
+        fprintf(stderr, "%s can't be read, or has more than %zu bytes\n", path, room);
+        exit(2);
+    }
+    return len;
+}
+
+int main(int argc, char **argv) {
+    static uint8_t bytes[2048];
+    bool is_made = make(&section, sizeof bytes);
+    for (size_t at = 0; at < OUTPUTS; at++) {
+        is_made = is_made && make(&outputs[at], (size_t)PAGES * PAGE);
+    }
+    if (argc < 2 || !is_made) {
+        fputs(is_made ? "usage: dwarf_guarded FILE..\n" : "error: out of memory\n", stderr);
+        return 2;
+    }
+    signal(SIGSEGV, on_signal);
+    signal(SIGBUS, on_signal);
+    for (int round = 0; round < 2; round++) {
+        is_at_end = round == 1;
+        for (int at = 1; at < argc; at++) {
+            call_on_cuts(bytes, read_file(argv[at], bytes, sizeof bytes));
+        }
+        call_names(dwarf_tag_name, dwarf_tag_string, "a name of a tag");
+        call_names(dwarf_attribute_name, dwarf_attribute_string, "a name of an attribute");
+        call_names(dwarf_form_name, dwarf_form_string, "a name of a form");
+        call_texts();
+        call_writers();
+    }
+    printf("%lu calls, and no byte outside was touched\n", calls);
+    return 0;
+}
