@@ -1,14 +1,63 @@
-//! Links the static library, from the folder that DWARF_READ_LIB names, or from where `rt lib` puts it.
+//! Links the static library. It is looked for in this order:
+//!
+//! - in the folder that `DWARF_READ_LIB` names;
+//! - where `pkg-config` says that `tools/install` has put it;
+//! - where `rt lib` and `tools/static-library` put it in the repository, if this crate is in a clone of it.
+//!
+//! An installed library has its allocation functions inside. The other one hasn't, and then this crate has them.
 
 use std::env;
-use std::path::PathBuf;
+use std::path::{Path, PathBuf};
+use std::process::Command;
+
+fn is_there(folder: &Path, library: &str) -> bool {
+    folder.join(format!("lib{library}.a")).is_file()
+}
+
+/// The folder of the installed library, if `pkg-config` knows of one that is no older than this crate.
+fn installed() -> Option<PathBuf> {
+    let command = env::var("PKG_CONFIG").unwrap_or("pkg-config".into());
+    let version = format!("--atleast-version={}", env!("CARGO_PKG_VERSION"));
+    let words = [version.as_str(), "--variable=libdir", "dwarf_read"];
+    // Without --atleast-version the first call would print the folder of an older library, too.
+    let is_new = Command::new(&command).args([words[0], words[2]]).status().ok()?.success();
+    let said = Command::new(&command).args(&words[1..]).output().ok()?;
+    let folder = PathBuf::from(String::from_utf8(said.stdout).ok()?.trim());
+    (is_new && is_there(&folder, "dwarf_read")).then_some(folder)
+}
+
+fn find() -> Option<PathBuf> {
+    if let Some(named) = env::var_os("DWARF_READ_LIB") {
+        return Some(named.into());
+    }
+    let built = Path::new(env!("CARGO_MANIFEST_DIR")).join("../../crates/dwarf_read_c/out");
+    installed().or_else(|| is_there(&built, "dwarf_read_c").then_some(built))
+}
 
 fn main() {
-    let root = PathBuf::from(env::var("CARGO_MANIFEST_DIR").unwrap()).join("../..");
-    let built = root.join("crates/dwarf_read_c/out");
-    let folder = env::var("DWARF_READ_LIB").map_or(built, PathBuf::from);
+    for name in ["DWARF_READ_LIB", "PKG_CONFIG", "PKG_CONFIG_PATH", "PKG_CONFIG_LIBDIR"] {
+        println!("cargo:rerun-if-env-changed={name}");
+    }
+    println!("cargo:rerun-if-changed=build.rs");
+    println!("cargo:rustc-check-cfg=cfg(has_heap)");
+    let target = env::var("TARGET").unwrap_or_default();
+    if !target.starts_with("x86_64-") || !target.contains("-linux-") {
+        panic!("the library is for Linux on x86-64, and not for {target}");
+    }
+    let Some(folder) = find() else {
+        panic!(
+            "there is no libdwarf_read.a: install it by `tools/install PREFIX` and let PKG_CONFIG_PATH name \
+             PREFIX/lib/pkgconfig, or let DWARF_READ_LIB name its folder"
+        );
+    };
+    let library = if is_there(&folder, "dwarf_read") { "dwarf_read" } else { "dwarf_read_c" };
+    if !is_there(&folder, library) {
+        panic!("{} has neither libdwarf_read.a nor libdwarf_read_c.a", folder.display());
+    }
+    if library == "dwarf_read_c" {
+        println!("cargo:rustc-cfg=has_heap");
+    }
     println!("cargo:rustc-link-search=native={}", folder.display());
-    println!("cargo:rustc-link-lib=static=dwarf_read_c");
-    println!("cargo:rerun-if-changed={}", folder.join("libdwarf_read_c.a").display());
-    println!("cargo:rerun-if-env-changed=DWARF_READ_LIB");
+    println!("cargo:rustc-link-lib=static={library}");
+    println!("cargo:rerun-if-changed={}", folder.join(format!("lib{library}.a")).display());
 }

@@ -1,8 +1,17 @@
-//! What the program uses of `include/dwarf_read.h`, which says what each call does.
+//! What this crate uses of `include/dwarf_read.h`, which says what each call does.
+//!
+//! A call is safe if what a caller promises there holds. So it is for each call of this crate: a slice is valid for
+//! as many items as its length says, all bytes of an output are initialized, and an output overlaps nothing, since
+//! it is borrowed mutably for the call.
+
+use crate::table::Attribute;
+
+pub const OK: u32 = 0;
+pub const END: u32 = 102;
 
 /// The error of a call.
 #[repr(C)]
-#[derive(Debug, Default, Clone, Copy)]
+#[derive(Debug, Default, Clone, Copy, PartialEq, Eq, Hash)]
 pub struct Fault {
     pub kind: u32,
     pub value: u64,
@@ -10,7 +19,7 @@ pub struct Fault {
 
 /// A set of addresses or of string offsets.
 #[repr(C)]
-#[derive(Debug, Default, Clone, Copy)]
+#[derive(Debug, Default, Clone, Copy, PartialEq, Eq, Hash)]
 pub struct Set {
     pub next: usize,
     pub unit_length: usize,
@@ -21,7 +30,7 @@ pub struct Set {
 
 /// How large a table is.
 #[repr(C)]
-#[derive(Debug, Default, Clone, Copy)]
+#[derive(Debug, Default, Clone, Copy, PartialEq, Eq, Hash)]
 pub struct Measure {
     pub abbreviations: usize,
     pub attributes: usize,
@@ -30,7 +39,7 @@ pub struct Measure {
 
 /// An abbreviation.
 #[repr(C)]
-#[derive(Debug, Default, Clone, Copy)]
+#[derive(Debug, Default, Clone, Copy, PartialEq, Eq, Hash)]
 pub struct Abbreviation {
     pub code: u64,
     pub tag: u16,
@@ -39,20 +48,13 @@ pub struct Abbreviation {
     pub attribute_count: usize,
 }
 
-/// An attribute of an abbreviation.
-#[repr(C)]
-#[derive(Debug, Default, Clone, Copy)]
-pub struct Attribute {
-    pub name: u16,
-    pub form: u16,
-    pub implicit_const: i64,
-}
-
-/// The type of both calls for sets.
-pub type SetCall =
-    unsafe extern "C" fn(*const u8, usize, bool, usize, &mut Set, &mut Fault) -> u32;
-
 unsafe extern "C" {
+    pub fn dwarf_uleb128(
+        bytes: *const u8, len: usize, value: &mut u64, number_len: &mut usize, fault: &mut Fault,
+    ) -> u32;
+    pub fn dwarf_sleb128(
+        bytes: *const u8, len: usize, value: &mut i64, number_len: &mut usize, fault: &mut Fault,
+    ) -> u32;
     pub fn dwarf_string(
         section: *const u8, len: usize, offset: usize, string_len: &mut usize, fault: &mut Fault,
     ) -> u32;

@@ -1,0 +1,96 @@
+//! Reads a section from standard input and writes a part of it, as the program `dwarf_list` does.
+//!
+//! ```text
+//! dwarf_show abbrev OFFSET       the abbreviation table at an offset of .debug_abbrev
+//! dwarf_show str OFFSET          the string at an offset of .debug_str
+//! dwarf_show addr le|be          the sets of addresses of a whole .debug_addr
+//! dwarf_show str-offsets le|be   the sets of string offsets of a whole .debug_str_offsets
+//! ```
+
+use dwarf_read::{Attribute, ByteOrder, Sets, Table};
+use std::error::Error;
+use std::io::{Read, Write};
+use std::process::ExitCode;
+
+type Result<T> = std::result::Result<T, Box<dyn Error>>;
+
+fn named(name: Option<String>, kind: &str, value: u16) -> String {
+    name.unwrap_or_else(|| format!("Unknown {kind}: {value}"))
+}
+
+fn attribute_line(attribute: &Attribute) -> String {
+    let name = named(dwarf_read::attribute_name(attribute.name()), "DwAt", attribute.name());
+    let form = named(dwarf_read::form_name(attribute.form()), "DwForm", attribute.form());
+    match attribute.implicit_const() {
+        Some(value) => format!("  {name} {form} {value}"),
+        None => format!("  {name} {form}"),
+    }
+}
+
+fn write_table(out: &mut impl Write, section: &[u8], offset: usize) -> Result<()> {
+    for it in &Table::read(section, offset)? {
+        let tag = named(dwarf_read::tag_name(it.tag()), "DwTag", it.tag());
+        let children = if it.has_children() { "yes" } else { "no" };
+        writeln!(out, "{} {tag} {children}", it.code())?;
+        for attribute in it.attributes() {
+            writeln!(out, "{}", attribute_line(attribute))?;
+        }
+    }
+    Ok(())
+}
+
+fn write_string(out: &mut impl Write, section: &[u8], offset: usize) -> Result<()> {
+    out.write_all(dwarf_read::string(section, offset)?)?;
+    Ok(out.write_all(b"\n")?)
+}
+
+// Addresses are hexadecimal.
+fn write_sets(out: &mut impl Write, sets: Sets, are_addresses: bool) -> Result<()> {
+    for set in sets {
+        let set = set?;
+        let (offset, length, bits) =
+            (set.offset(), set.unit_length(), if set.is_64() { 64 } else { 32 });
+        write!(out, "set {offset}: length {length}, {bits}-bit")?;
+        match are_addresses {
+            true => writeln!(out, ", address size {}", set.entry_size())?,
+            false => writeln!(out)?,
+        }
+        for entry in set.entries() {
+            match are_addresses {
+                true => writeln!(out, "  {:#x}", entry?)?,
+                false => writeln!(out, "  {}", entry?)?,
+            }
+        }
+    }
+    Ok(())
+}
+
+// Nothing is printed before it is known that there is no error.
+fn show(command: &str, word: &str) -> Result<()> {
+    let (mut section, mut out) = (Vec::new(), Vec::new());
+    std::io::stdin().read_to_end(&mut section)?;
+    let order = if word == "be" { ByteOrder::Big } else { ByteOrder::Little };
+    match command {
+        "abbrev" => write_table(&mut out, &section, word.parse()?)?,
+        "str" => write_string(&mut out, &section, word.parse()?)?,
+        "addr" => write_sets(&mut out, dwarf_read::address_sets(&section, order), true)?,
+        "str-offsets" => write_sets(&mut out, dwarf_read::str_offset_sets(&section, order), false)?,
+        _ => return Err(format!("no command {command}").into()),
+    }
+    Ok(std::io::stdout().write_all(&out)?)
+}
+
+fn main() -> ExitCode {
+    let words: Vec<String> = std::env::args().skip(1).collect();
+    let [command, word] = words.as_slice() else {
+        eprintln!("usage: dwarf_show abbrev OFFSET | str OFFSET | addr le|be | str-offsets le|be");
+        return ExitCode::from(2);
+    };
+    match show(command, word) {
+        Ok(()) => ExitCode::SUCCESS,
+        Err(error) => {
+            eprintln!("error: {error}");
+            ExitCode::FAILURE
+        }
+    }
+}

@@ -1,0 +1,147 @@
+//! The lowest layer of DWARF reading, proved: abbreviation tables, strings, string offsets, addresses and
+//! LEB128 numbers, the names of tags, attributes and forms, and the texts of errors.
+//!
+//! The library below is a port of that layer of gimli to Rattle, which is Rust with contracts: each of its
+//! functions is proved against its contract, on every input. This crate passes slices and returns `Result`.
+//! It has no state, and each call may be made from any number of threads.
+//!
+//! ```
+//! use dwarf_read::{Table, attribute_name, form_name, tag_name};
+//!
+//! # fn main() -> Result<(), dwarf_read::Error> {
+//! let section = [1, 0x11, 1, 3, 8, 0, 0, 0];
+//! let table = Table::read(&section, 0)?;
+//! let unit = table.get(1).unwrap();
+//! assert_eq!(tag_name(unit.tag()).as_deref(), Some("DW_TAG_compile_unit"));
+//! assert!(unit.has_children());
+//! let attribute = unit.attributes()[0];
+//! assert_eq!(attribute_name(attribute.name()).as_deref(), Some("DW_AT_name"));
+//! assert_eq!(form_name(attribute.form()).as_deref(), Some("DW_FORM_string"));
+//! # Ok(())
+//! # }
+//! ```
+//!
+//! # Linking
+//!
+//! `tools/install` of the repository installs the static library. `build.rs` finds it by `pkg-config`, or in the
+//! folder that the environment variable `DWARF_READ_LIB` names. It is for Linux on x86-64.
+#![warn(missing_docs)]
+
+mod error;
+#[cfg(has_heap)]
+mod heap;
+mod sets;
+mod sys;
+mod table;
+
+use error::check;
+pub use error::{Error, ErrorKind, Result};
+pub use sets::{Entries, Set, Sets, address_sets, str_offset_sets};
+pub use table::{Abbreviation, Abbreviations, Attribute, Table};
+
+/// In which order the bytes of a number are.
+#[derive(Debug, Clone, Copy, PartialEq, Eq, Hash)]
+pub enum ByteOrder {
+    /// The lowest byte is first.
+    Little,
+    /// The highest byte is first.
+    Big,
+}
+
+impl ByteOrder {
+    fn is_big(self) -> bool {
+        self == ByteOrder::Big
+    }
+}
+
+/// The unsigned LEB128 number that the bytes begin with, and how many bytes it has.
+///
+/// ```
+/// assert_eq!(dwarf_read::uleb128(&[0xb9, 0x64, 7]), Ok((12857, 2)));
+/// ```
+pub fn uleb128(bytes: &[u8]) -> Result<(u64, usize)> {
+    let (mut value, mut len) = (0, 0);
+    // SAFETY: see `sys`.
+    check(|fault| unsafe {
+        sys::dwarf_uleb128(bytes.as_ptr(), bytes.len(), &mut value, &mut len, fault)
+    })?;
+    Ok((value, len))
+}
+
+/// The signed LEB128 number that the bytes begin with, and how many bytes it has.
+///
+/// ```
+/// assert_eq!(dwarf_read::sleb128(&[0x56]), Ok((-42, 1)));
+/// ```
+pub fn sleb128(bytes: &[u8]) -> Result<(i64, usize)> {
+    let (mut value, mut len) = (0, 0);
+    // SAFETY: see `sys`.
+    check(|fault| unsafe {
+        sys::dwarf_sleb128(bytes.as_ptr(), bytes.len(), &mut value, &mut len, fault)
+    })?;
+    Ok((value, len))
+}
+
+/// The string at an offset of `.debug_str` or `.debug_line_str`, without the zero byte that ends it.
+///
+/// ```
+/// assert_eq!(dwarf_read::string(b"one\0two\0", 4), Ok(&b"two"[..]));
+/// ```
+pub fn string(section: &[u8], offset: usize) -> Result<&[u8]> {
+    let mut len = 0;
+    // SAFETY: see `sys`.
+    check(|fault| unsafe {
+        sys::dwarf_string(section.as_ptr(), section.len(), offset, &mut len, fault)
+    })?;
+    Ok(&section[offset..][..len])
+}
+
+/// The string offset at an index, among those that are in a row from `base` on. Each has eight bytes if
+/// `is_64` is set, and else four.
+pub fn str_offset(
+    section: &[u8], order: ByteOrder, is_64: bool, base: usize, index: usize,
+) -> Result<usize> {
+    let (bytes, len, is_big, mut offset) = (section.as_ptr(), section.len(), order.is_big(), 0);
+    // SAFETY: see `sys`.
+    check(|fault| unsafe {
+        sys::dwarf_str_offset(bytes, len, is_big, is_64, base, index, &mut offset, fault)
+    })?;
+    Ok(offset)
+}
+
+/// The address at an index, among those that are in a row from `base` on. Each has `size` bytes: 1, 2, 4 or 8.
+pub fn address(
+    section: &[u8], order: ByteOrder, size: u8, base: usize, index: usize,
+) -> Result<u64> {
+    let (bytes, len, is_big, mut address) = (section.as_ptr(), section.len(), order.is_big(), 0);
+    // SAFETY: see `sys`.
+    check(|fault| unsafe {
+        sys::dwarf_address(bytes, len, is_big, size, base, index, &mut address, fault)
+    })?;
+    Ok(address)
+}
+
+/// The name of a tag, if it has one.
+pub fn tag_name(tag: u16) -> Option<String> {
+    // SAFETY: `text` passes places that nothing else refers to.
+    text(|at, room, len| unsafe { sys::dwarf_tag_name(tag, at, room, len) })
+}
+
+/// The name of an attribute, if it has one.
+pub fn attribute_name(name: u16) -> Option<String> {
+    // SAFETY: `text` passes places that nothing else refers to.
+    text(|at, room, len| unsafe { sys::dwarf_attribute_name(name, at, room, len) })
+}
+
+/// The name of a form, if it has one.
+pub fn form_name(form: u16) -> Option<String> {
+    // SAFETY: `text` passes places that nothing else refers to.
+    text(|at, room, len| unsafe { sys::dwarf_form_name(form, at, room, len) })
+}
+
+// The name or text that a call writes, if there is one. None has more than 64 bytes.
+fn text(call: impl FnOnce(*mut u8, usize, &mut usize) -> u32) -> Option<String> {
+    let (mut bytes, mut len) = ([0; 64], 0);
+    let status = call(bytes.as_mut_ptr(), bytes.len(), &mut len);
+    (status == sys::OK).then(|| String::from_utf8_lossy(&bytes[..len]).into_owned())
+}

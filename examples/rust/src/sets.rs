@@ -1,0 +1,170 @@
+//! Sets of addresses and of string offsets.
+
+use crate::error::{Result, check};
+use crate::{ByteOrder, address, str_offset, sys};
+use std::iter::FusedIterator;
+
+#[derive(Debug, Clone, Copy, PartialEq, Eq)]
+enum Kind {
+    Addresses,
+    StrOffsets,
+}
+
+/// The sets of addresses of a whole `.debug_addr`.
+///
+/// ```
+/// # fn main() -> Result<(), dwarf_read::Error> {
+/// use dwarf_read::{ByteOrder, address_sets};
+///
+/// let section = [12, 0, 0, 0, 5, 0, 4, 0, 0x78, 0x56, 0x34, 0x12, 0xef, 0xbe, 0xad, 0xde];
+/// for set in address_sets(&section, ByteOrder::Little) {
+///     let addresses: Vec<u64> = set?.entries().collect::<Result<_, _>>()?;
+///     assert_eq!(addresses, [0x12345678, 0xdeadbeef]);
+/// }
+/// # Ok(())
+/// # }
+/// ```
+pub fn address_sets(section: &[u8], order: ByteOrder) -> Sets<'_> {
+    Sets { section, order, kind: Kind::Addresses, offset: Some(0) }
+}
+
+/// The sets of string offsets of a whole `.debug_str_offsets`.
+///
+/// ```
+/// # fn main() -> Result<(), dwarf_read::Error> {
+/// use dwarf_read::{ByteOrder, str_offset_sets};
+///
+/// let section = [8, 0, 0, 0, 5, 0, 0, 0, 0x2a, 0, 0, 0];
+/// let set = str_offset_sets(&section, ByteOrder::Little).next().unwrap()?;
+/// assert_eq!(set.get(0)?, 42);
+/// assert!(set.get(1).is_err());
+/// # Ok(())
+/// # }
+/// ```
+pub fn str_offset_sets(section: &[u8], order: ByteOrder) -> Sets<'_> {
+    Sets { section, order, kind: Kind::StrOffsets, offset: Some(0) }
+}
+
+/// The sets of a section, by rising offset. An error is the last item.
+#[derive(Debug, Clone)]
+pub struct Sets<'s> {
+    section: &'s [u8],
+    order: ByteOrder,
+    kind: Kind,
+    // Where the next set begins, unless there was an error or the end.
+    offset: Option<usize>,
+}
+
+impl<'s> Sets<'s> {
+    fn at(&self, offset: usize) -> Result<Option<Set<'s>>> {
+        let call = match self.kind {
+            Kind::Addresses => sys::dwarf_address_set,
+            Kind::StrOffsets => sys::dwarf_str_offset_set,
+        };
+        let (bytes, len, is_big) = (self.section.as_ptr(), self.section.len(), self.order.is_big());
+        let mut header = sys::Set::default();
+        // SAFETY: see `crate::sys`.
+        let status =
+            check(|fault| unsafe { call(bytes, len, is_big, offset, &mut header, fault) })?;
+        let Sets { order, kind, .. } = *self;
+        Ok((status == sys::OK).then(|| {
+            // Nothing behind the set is read.
+            let section = &self.section[..header.next];
+            Set { section, order, kind, offset, header }
+        }))
+    }
+}
+
+impl<'s> Iterator for Sets<'s> {
+    type Item = Result<Set<'s>>;
+
+    fn next(&mut self) -> Option<Self::Item> {
+        let offset = self.offset.take()?;
+        let found = self.at(offset).transpose()?;
+        self.offset = found.as_ref().ok().map(|set| set.header.next);
+        Some(found)
+    }
+}
+
+impl FusedIterator for Sets<'_> {}
+
+/// A set of addresses or of string offsets.
+#[derive(Debug, Clone, Copy, PartialEq, Eq)]
+pub struct Set<'s> {
+    section: &'s [u8],
+    order: ByteOrder,
+    kind: Kind,
+    offset: usize,
+    header: sys::Set,
+}
+
+impl<'s> Set<'s> {
+    /// The offset of the set in its section.
+    pub fn offset(&self) -> usize {
+        self.offset
+    }
+
+    /// The offset of its first entry in its section, which units name as their base.
+    pub fn base(&self) -> usize {
+        self.header.first_entry
+    }
+
+    /// How many bytes of the set follow its initial length.
+    pub fn unit_length(&self) -> usize {
+        self.header.unit_length
+    }
+
+    /// Whether the set is of the 64-bit format.
+    pub fn is_64(&self) -> bool {
+        self.header.word_size == 8
+    }
+
+    /// How many bytes an entry has.
+    pub fn entry_size(&self) -> u8 {
+        self.header.entry_size
+    }
+
+    /// The address or string offset at an index, from 0. It is an error if it isn't whole in the set.
+    pub fn get(&self, index: usize) -> Result<u64> {
+        let (base, size) = (self.header.first_entry, self.header.entry_size);
+        match self.kind {
+            Kind::Addresses => address(self.section, self.order, size, base, index),
+            Kind::StrOffsets => {
+                let offset = str_offset(self.section, self.order, self.is_64(), base, index)?;
+                Ok(offset as u64)
+            }
+        }
+    }
+
+    /// The entries of the set. An error is the last item: that the set's end cuts an entry.
+    pub fn entries(&self) -> Entries<'s> {
+        Entries { set: *self, index: Some(0) }
+    }
+}
+
+/// The entries of a set.
+#[derive(Debug, Clone)]
+pub struct Entries<'s> {
+    set: Set<'s>,
+    // The index of the next entry, unless there was an error.
+    index: Option<usize>,
+}
+
+impl Iterator for Entries<'_> {
+    type Item = Result<u64>;
+
+    fn next(&mut self) -> Option<Result<u64>> {
+        let index = self.index.take()?;
+        let header = &self.set.header;
+        // An entry that is cut counts too, so that reading it is an error.
+        let count = (header.next - header.first_entry).div_ceil(header.entry_size.into());
+        if index == count {
+            return None;
+        }
+        let entry = self.set.get(index);
+        self.index = entry.is_ok().then_some(index + 1);
+        Some(entry)
+    }
+}
+
+impl FusedIterator for Entries<'_> {}
