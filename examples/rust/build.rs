@@ -18,10 +18,9 @@ fn is_there(folder: &Path, library: &str) -> bool {
 fn installed() -> Option<PathBuf> {
     let command = env::var("PKG_CONFIG").unwrap_or("pkg-config".into());
     let version = format!("--atleast-version={}", env!("CARGO_PKG_VERSION"));
-    let words = [version.as_str(), "--variable=libdir", "dwarf_read"];
-    // Without --atleast-version the first call would print the folder of an older library, too.
-    let is_new = Command::new(&command).args([words[0], words[2]]).status().ok()?.success();
-    let said = Command::new(&command).args(&words[1..]).output().ok()?;
+    // Two calls, since pkg-config prints the folder of an older library, too.
+    let is_new = Command::new(&command).args([&version, "dwarf_read"]).status().ok()?.success();
+    let said = Command::new(&command).args(["--variable=libdir", "dwarf_read"]).output().ok()?;
     let folder = PathBuf::from(String::from_utf8(said.stdout).ok()?.trim());
     (is_new && is_there(&folder, "dwarf_read")).then_some(folder)
 }
@@ -34,30 +33,39 @@ fn find() -> Option<PathBuf> {
     installed().or_else(|| is_there(&built, "dwarf_read_c").then_some(built))
 }
 
-fn main() {
-    for name in ["DWARF_READ_LIB", "PKG_CONFIG", "PKG_CONFIG_PATH", "PKG_CONFIG_LIBDIR"] {
-        println!("cargo:rerun-if-env-changed={name}");
-    }
-    println!("cargo:rerun-if-changed=build.rs");
-    println!("cargo:rustc-check-cfg=cfg(has_heap)");
+/// Tells cargo how to link, or why that can't be.
+fn link() -> Result<(), String> {
     let target = env::var("TARGET").unwrap_or_default();
     if !target.starts_with("x86_64-") || !target.contains("-linux-") {
-        panic!("the library is for Linux on x86-64, and not for {target}");
+        return Err(format!("the library is for Linux on x86-64, and not for {target}"));
     }
-    let Some(folder) = find() else {
-        panic!(
-            "there is no libdwarf_read.a: install it by `tools/install PREFIX` and let PKG_CONFIG_PATH name \
-             PREFIX/lib/pkgconfig, or let DWARF_READ_LIB name its folder"
-        );
-    };
+    let folder = find().ok_or(
+        "there is no libdwarf_read.a: install it by `tools/install PREFIX` and let PKG_CONFIG_PATH name \
+         PREFIX/lib/pkgconfig, or let DWARF_READ_LIB name its folder",
+    )?;
     let library = if is_there(&folder, "dwarf_read") { "dwarf_read" } else { "dwarf_read_c" };
     if !is_there(&folder, library) {
-        panic!("{} has neither libdwarf_read.a nor libdwarf_read_c.a", folder.display());
+        return Err(format!(
+            "{} has neither libdwarf_read.a nor libdwarf_read_c.a",
+            folder.display()
+        ));
     }
     if library == "dwarf_read_c" {
-        println!("cargo:rustc-cfg=has_heap");
+        println!("cargo::rustc-cfg=has_heap");
     }
-    println!("cargo:rustc-link-search=native={}", folder.display());
-    println!("cargo:rustc-link-lib=static={library}");
-    println!("cargo:rerun-if-changed={}", folder.join(format!("lib{library}.a")).display());
+    println!("cargo::rustc-link-search=native={}", folder.display());
+    println!("cargo::rustc-link-lib=static={library}");
+    println!("cargo::rerun-if-changed={}", folder.join(format!("lib{library}.a")).display());
+    Ok(())
+}
+
+fn main() {
+    for name in ["DWARF_READ_LIB", "PKG_CONFIG", "PKG_CONFIG_PATH", "PKG_CONFIG_LIBDIR"] {
+        println!("cargo::rerun-if-env-changed={name}");
+    }
+    println!("cargo::rerun-if-changed=build.rs");
+    println!("cargo::rustc-check-cfg=cfg(has_heap)");
+    if let Err(why) = link() {
+        println!("cargo::error={why}");
+    }
 }
