@@ -9,6 +9,7 @@
  *
  * It compiles as C and as C++.
  */
+#include "dwarf_constants.h"
 #include "dwarf_read.h"
 
 #include <inttypes.h>
@@ -16,9 +17,7 @@
 #include <stdlib.h>
 #include <string.h>
 
-enum { IMPLICIT_CONST = 0x21 };
-
-typedef uint32_t name_call(uint16_t value, char *name, size_t room, size_t *len);
+typedef const char *name_call(uint16_t value, char *name, size_t room);
 
 struct bytes {
     uint8_t *items;
@@ -50,20 +49,18 @@ static struct bytes read_input(void) {
 }
 
 static int failed(const struct dwarf_fault *fault) {
-    char text[64];
-    size_t len;
-    if (dwarf_fault_text(fault, text, sizeof text, &len) == DWARF_OK) {
-        fprintf(stderr, "error: %.*s\n", (int)len, text);
+    char text[DWARF_TEXT_ROOM];
+    if (dwarf_fault_string(fault, text, sizeof text) != NULL) {
+        fprintf(stderr, "error: %s\n", text);
     }
     return 1;
 }
 
 /* Prints the name of a constant, or its number if it has none. */
 static void print_name(name_call *call, const char *type, uint16_t value) {
-    char name[64];
-    size_t len;
-    if (call(value, name, sizeof name, &len) == DWARF_OK) {
-        printf("%.*s", (int)len, name);
+    char name[DWARF_TEXT_ROOM];
+    if (call(value, name, sizeof name) != NULL) {
+        fputs(name, stdout);
     } else {
         printf("Unknown %s: %u", type, (unsigned)value);
     }
@@ -71,10 +68,10 @@ static void print_name(name_call *call, const char *type, uint16_t value) {
 
 static void print_attribute(const struct dwarf_attribute *attribute) {
     fputs("  ", stdout);
-    print_name(dwarf_attribute_name, "DwAt", attribute->name);
+    print_name(dwarf_attribute_string, "DwAt", attribute->name);
     putchar(' ');
-    print_name(dwarf_form_name, "DwForm", attribute->form);
-    if (attribute->form == IMPLICIT_CONST) {
+    print_name(dwarf_form_string, "DwForm", attribute->form);
+    if (attribute->form == DW_FORM_implicit_const) {
         printf(" %" PRId64, attribute->implicit_const);
     }
     putchar('\n');
@@ -100,7 +97,7 @@ static int show_table(struct bytes section, size_t offset) {
     for (size_t i = 0; i < count; i++) {
         const struct dwarf_abbreviation *it = &abbreviations[i];
         printf("%" PRIu64 " ", it->code);
-        print_name(dwarf_tag_name, "DwTag", it->tag);
+        print_name(dwarf_tag_string, "DwTag", it->tag);
         puts(it->has_children ? " yes" : " no");
         for (size_t k = 0; k < it->attribute_count; k++) {
             print_attribute(&attributes[it->first_attribute + k]);
