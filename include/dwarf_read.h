@@ -14,6 +14,8 @@
  *
  * A call keeps no pointer and has no state of its own, so any number of threads may call at once.
  *
+ * The calls that are declared here are proved. What is defined here in C is tested, and not proved.
+ *
  * WHAT THE CALLER PROMISES, which nothing checks:
  *
  *  - A pointer before a length points to as many items as the length says, which take less than 2^63
@@ -233,9 +235,9 @@ uint32_t dwarf_fault_text(const struct dwarf_fault *fault, char *text, size_t ro
 /*
  * THE SAME AS STRINGS OF C.
  *
- * Each of these four writes a name or a text with a zero byte behind it, and returns where it is. It
- * returns null, and writes nothing, if the call above returns another status than DWARF_OK, or if there
- * is no place for the zero byte.
+ * Each of these four writes a name or a text with a zero byte behind it, and returns the pointer to it.
+ * It returns null, and writes nothing, if the call above returns another status than DWARF_OK, or if
+ * there is no place for the zero byte.
  */
 
 /* Puts the zero byte behind what a call has written to fewer places than there are. */
