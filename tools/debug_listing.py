@@ -1,5 +1,4 @@
 """What `tools/dwarf_elf` lists of the debug sections of a file, by the programs dwarf_list and dwarf_list_many."""
-import itertools
 import pathlib
 import re
 import shutil
@@ -10,8 +9,6 @@ import tempfile
 from debug_file import Unlisted
 
 ROOT = pathlib.Path(__file__).resolve().parent.parent
-# Arguments of a process have a limit, which is two million bytes on Linux.
-PORTION = 5000
 # After so many errors in a section the rest of it isn't listed, since each takes a process.
 ERRORS = 1000
 SECTIONS = {
@@ -80,7 +77,7 @@ class Listing:
         self.file, self.command, self.report = file, command, report
         self.kind = command.replace("line-", "")
         self.order = "le" if file.order == "little" else "be"
-        self.path = f"{folder}/section"
+        self.path, self.offsets = f"{folder}/section", f"{folder}/offsets"
         self.sections = file.named(SECTIONS[command])
 
     def list(self, offset):
@@ -113,12 +110,9 @@ class Listing:
 
     def many(self, offsets):
         """Lists what is at each of these offsets, up to the first error. Returns the exit status and the error."""
-        offsets = iter(offsets)
-        while some := [str(it) for it in itertools.islice(offsets, PORTION)]:
-            status, error = run([*MANY, self.kind, *some], self.path)
-            if status:
-                return status, error
-        return 0, ""
+        with open(self.offsets, "w", encoding="ascii") as file:
+            file.writelines(f"{it}\n" for it in offsets)
+        return run([*MANY, self.kind, self.path], self.offsets)
 
     def list_all(self, section, body, offsets_from):
         """Lists what is at all offsets, and goes on after an error. The function gives the offsets from one on."""
