@@ -184,98 +184,9 @@ fn first_faults_of_sets_are_returned(rt: HostRuntime) {
     }
 }
 
-// A set's offset, its length, its address size and its format.
-type Header = (u64, u64, u8, Format);
-
 // The next header, where there has to be one.
 fn next_header<R: Reader>(headers: &mut AddrHeaderIter<R>) -> Result<AddrHeader<R>> {
     headers.next()?.ok_or(Error::NoEntryAtGivenOffset(0))
-}
-
-// The next set, and what four calls return of its addresses.
-fn next_set<R: Reader>(headers: &mut AddrHeaderIter<R>) -> Result<(Header, Four)> {
-    let header = next_header(headers)?;
-    let encoding = header.encoding();
-    let addresses = next_addresses(&mut header.entries()?);
-    let (offset, length) = (header.offset().0.into_u64(), header.length().into_u64());
-    Ok((
-        (offset, length, encoding.address_size, encoding.format),
-        addresses,
-    ))
-}
-
-// Bytes, whether the first position is 100, and the sets.
-static SETS: &[(&[u8], bool, &[(Header, &[Result<Option<u64>>])])] = &[
-    (b"", false, &[]),
-    (
-        b"\x04\0\0\0\x05\0\x08\0",
-        false,
-        &[((0, 4, 8, Format::Dwarf32), &[Ok(None); 4])],
-    ),
-    (
-        CUT_SET,
-        false,
-        &[(
-            (0, 9, 4, Format::Dwarf32),
-            &[Ok(Some(0x1234_5678)), Err(eof!(12)), Ok(None), Ok(None)],
-        )],
-    ),
-    (
-        CUT_SET,
-        true,
-        &[(
-            (0, 9, 4, Format::Dwarf32),
-            &[Ok(Some(0x1234_5678)), Err(eof!(112)), Ok(None), Ok(None)],
-        )],
-    ),
-    (
-        TWO_SETS,
-        true,
-        &[
-            (
-                (0, 12, 4, Format::Dwarf32),
-                &[
-                    Ok(Some(0x1234_5678)),
-                    Ok(Some(0xdead_beef)),
-                    Ok(None),
-                    Ok(None),
-                ],
-            ),
-            (
-                (16, 20, 8, Format::Dwarf64),
-                &[
-                    Ok(Some(0x1234_5678_9abc_def0)),
-                    Ok(Some(0xdead_beef_dead_beef)),
-                    Ok(None),
-                    Ok(None),
-                ],
-            ),
-        ],
-    ),
-];
-
-// Ends the test where a section has other sets.
-fn check_sets<R: Reader>(
-    rt: &impl Abort,
-    section: &DebugAddr<R>,
-    sets: &[(Header, &[Result<Option<u64>>])],
-) -> Result<()> {
-    let mut headers = section.headers()?;
-    for (wanted, addresses) in sets {
-        let (header, found) = next_set(&mut headers)?;
-        same(rt, header, *wanted, "a set");
-        same(rt, found.as_slice(), *addresses, "its addresses");
-    }
-    same(rt, next_lengths(&mut headers), [Ok(None); 4], "the end");
-    Ok(())
-}
-
-#[test]
-fn sets_are_walked(rt: HostRuntime) {
-    for (bytes, is_far, sets) in SETS {
-        let section = section_at(bytes, RunTimeEndian::Little, *is_far);
-        same(&rt, check_sets(&rt, &section, *sets), Ok(()), bytes);
-    }
 }
 
 // Appends the addresses of a set, up to the first fault.
@@ -325,6 +236,8 @@ fn sets_are_iterated(rt: HostRuntime) {
     let bytes = b"\0\0\0\x08\0\x05\x04\0\x12\x34\x56\x78";
     check_section(&rt, mem, bytes, big, &[0x1234_5678], Ok(()));
     check_section(&rt, mem, CUT_SET, little, &[0x1234_5678], Err(eof(12)));
+    let far = section_at(CUT_SET, little, true);
+    check_walk(&rt, mem, &far, &[0x1234_5678], Err(eof(112)));
 }
 
 #[test]

@@ -1,7 +1,6 @@
 //! The sets of string offsets.
 
 use super::strings::offset_at;
-use super::worked::twenty_words;
 use super::{Four, eof, same};
 use dwarf_read_core::{
     DebugStrOffsets, EndianSlice, Error, Format, LittleEndian, Reader, ReaderOffset,
@@ -91,28 +90,6 @@ fn sets_are_walked(rt: HostRuntime) {
     for (bytes, wanted) in WALKS {
         check_walk(&rt, rt.alloc(), &little_section(bytes), *wanted);
     }
-}
-
-const TWENTY: &[u64] = &[
-    1000, 1001, 1002, 1003, 1004, 1005, 1006, 1007, 1008, 1009, 1010, 1011, 1012, 1013, 1014, 1015,
-    1016, 1017, 1018, 1019,
-];
-
-#[test]
-fn twenty_offsets_are_walked(rt: HostRuntime) -> std::result::Result<(), Fail> {
-    for (format, length, endian) in [
-        (Format::Dwarf32, 84, RunTimeEndian::Little),
-        (Format::Dwarf32, 84, RunTimeEndian::Big),
-        (Format::Dwarf64, 164, RunTimeEndian::Little),
-        (Format::Dwarf64, 164, RunTimeEndian::Big),
-    ] {
-        let bytes = twenty_words(rt.alloc(), format, endian == RunTimeEndian::Big)?;
-        let section = DebugStrOffsets::from(EndianSlice::new(&bytes, endian));
-        let places = [(0, length, format)];
-        let wanted = (places.as_slice(), TWENTY, Ok(()));
-        check_walk(&rt, rt.alloc(), &section, wanted);
-    }
-    Ok(())
 }
 
 // What four calls return of a section's sets: of each its length.
