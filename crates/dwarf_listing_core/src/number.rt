@@ -15,16 +15,6 @@ pub fn parse_unsigned(text: &str) -> Option<u64>
     }
 }
 
-/// Returns the number that [`parse_unsigned`] returns, if the bytes are its digits.
-pub fn parse_digits(text: &[u8]) -> Option<u64>
-    ensures { result ≡ unsigned_of text.now }
-{
-    match str::from_utf8(text) {
-        Ok(text) => parse_unsigned(text),
-        Err(_) => None,
-    }
-}
-
 /// Returns the same from -2^63 to 2^63 - 1, with or without a minus.
 pub fn parse_signed(text: &str) -> Option<i64>
     ensures { result ≡ signed_of text.now }
@@ -33,6 +23,16 @@ pub fn parse_signed(text: &str) -> Option<i64>
         text.parse().ok()
     } else {
         None
+    }
+}
+
+/// Returns what [`parse_unsigned`] returns, of bytes that may be no text.
+pub fn parse_digits(text: &[u8]) -> Option<u64>
+    ensures { result ≡ unsigned_of text.now }
+{
+    match str::from_utf8(text) {
+        Ok(text) => parse_unsigned(text),
+        Err(_) => None,
     }
 }
 

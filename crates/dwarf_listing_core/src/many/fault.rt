@@ -43,7 +43,8 @@ impl ManyFault {
     /// Returns the error of an input that can't be read: the given one, unless memory ran out.
     pub fn of_reading(error: Fault, fault: ManyFault) -> ManyFault
         requires { IsReadFault error }
-        ensures memory { error ≢ Fault.Read → result ≡ ManyFault.Other (Fault.Section Error.OutOfMemory) }
+        ensures memory { error ≢ Fault.Read
+            → result ≡ ManyFault.Other (Fault.Section Error.OutOfMemory) }
         ensures read { error ≡ Fault.Read → result ≡ fault }
     {
         match error {
