@@ -25,6 +25,7 @@ mod owned;
 mod plain_types;
 mod readers;
 mod sections;
+mod shared;
 mod string_offset_sets;
 mod strings;
 mod tables;

@@ -1,14 +1,16 @@
-//! The library in use: a reader of one's own, and small callers.
+//! The library in use: readers of one's own, and small callers.
 //!
-//! Nothing here is part of the library. [`owned_reader`] is the example of a type that implements
-//! [`Reader`](dwarf_read_core::Reader), to start from if sections come from a mapped file, a
-//! shared buffer or a socket. [`callers`] has callers to start from. [`parts`] shows what a contract requires
-//! of a caller.
+//! Nothing here is part of the library. [`owned_reader`] and [`shared_reader`] are examples of a type
+//! that implements [`Reader`](dwarf_read_core::Reader), to start from if sections come from a mapped
+//! file, a shared buffer or a socket. [`callers`] has callers to start from. [`parts`] shows what a
+//! contract requires of a caller.
 
 #![tactic(auto)]
 
 pub mod callers;
 pub mod owned_reader;
 pub mod parts;
+pub mod shared_reader;
 
 pub use crate::owned_reader::OwnedReader;
+pub use crate::shared_reader::SharedReader;

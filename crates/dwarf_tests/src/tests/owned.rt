@@ -9,7 +9,7 @@ use dwarf_read_core::{
     DebugStrOffsetsBase, DebugStrOffsetsIndex, EndianSlice, Error, Format, LittleEndian, Reader,
     ReaderOffset, Result, Section, read_u8_array,
 };
-use dwarf_uses::OwnedReader;
+use dwarf_uses::{OwnedReader, SharedReader};
 use std::alloc::Global;
 use std::fmt::Debug;
 use std::process::Abort;
@@ -27,8 +27,14 @@ fn owned(mem: Global, bytes: &[u8], depth: u8) -> Result<Owned> {
 #[test]
 fn constants_tell_of_clones(rt: HostRuntime) {
     let of_slices = <EndianSlice<'_, LittleEndian> as Reader>::CLONE_IS_FREE;
-    let constants = (of_slices, <Owned as Reader>::CLONE_IS_FREE);
-    same(&rt, constants, (true, false), "slices and owned bytes");
+    let of_shared = <SharedReader<LittleEndian> as Reader>::CLONE_IS_FREE;
+    let constants = (of_slices, <Owned as Reader>::CLONE_IS_FREE, of_shared);
+    same(
+        &rt,
+        constants,
+        (true, false, false),
+        "slices, owned and shared bytes",
+    );
 }
 
 // Ends the test where the strings one and two aren't there, or one has a clone.
