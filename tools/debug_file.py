@@ -18,7 +18,6 @@ from elftools.elf.elffile import ELFFile
 from elftools.elf.relocation import RelocationHandler
 
 INFLATED_BYTES, INFLATED_TIMES = 1 << 28, 64
-ELFCOMPRESS_ZLIB = 1
 # A section's name: of early debug information that an object keeps for link-time optimization, compressed
 # by the linkers before SHF_COMPRESSED, and for the other half of a split object.
 NAME = re.compile(r"(\.gnu\.debuglto_)?\.(z?)(debug\w*)(\.dwo)?")
@@ -46,6 +45,40 @@ def ask(what, call, *words):
         return call(*words)
     except Exception as error:
         raise Unlisted(f"{what} can't be read: {reason(error)}") from error
+
+
+def by_zlib(raw, limit):
+    """At most so many of the bytes, and whether the compressed bytes end there."""
+    stream = zlib.decompressobj()
+    return stream.decompress(raw, limit), stream.eof
+
+
+def by_zstd(raw, limit):
+    """The same of the other compression. Python has it from 3.14 on, and else a library may be installed."""
+    try:
+        from compression import zstd
+
+        stream = zstd.ZstdDecompressor()
+        return stream.decompress(raw, limit), stream.eof
+    except ImportError:
+        import zstandard
+
+    reader = zstandard.ZstdDecompressor().stream_reader(io.BytesIO(raw))
+    return reader.read(limit), not reader.read(1)
+
+
+# By the numbers of the ELF specification.
+INFLATE = {1: by_zlib, 2: by_zstd}
+
+
+def ask_to_inflate(section, inflate, raw, limit):
+    try:
+        return inflate(raw, limit)
+    except ImportError as error:
+        how = "`apt-get install python3-zstandard` or `pip install zstandard` helps"
+        raise Unlisted(f"{section} is compressed by zstd, which this Python can't inflate: {how}") from error
+    except Exception as error:
+        raise Unlisted(f"{section} can't be inflated: {reason(error)}") from error
 
 
 @dataclass(eq=False)
@@ -205,26 +238,20 @@ class DebugFile:
             return self.inflated(section, raw[12:], int.from_bytes(raw[4:12], "big"))
         if not found.compressed:
             return raw
-        if int.from_bytes(raw[:4], self.order) != ELFCOMPRESS_ZLIB:
-            self.check_claim(section, raw, found.data_size)
-            return ask(f"{section}, which isn't compressed by zlib,", found.data)
-        return self.inflated(section, raw[self.elf.structs.Elf_Chdr.sizeof() :], found.data_size)
+        kind, raw = int.from_bytes(raw[:4], self.order), raw[self.elf.structs.Elf_Chdr.sizeof() :]
+        if kind not in INFLATE:
+            raise Unlisted(f"{section} can't be inflated: its compression type {kind} is unknown")
+        return self.inflated(section, raw, found.data_size, INFLATE[kind])
 
-    def check_claim(self, section, raw, size):
+    def inflated(self, section, raw, size, inflate=by_zlib):
+        """The bytes that are compressed, of which there are to be so many."""
         limit = max(INFLATED_BYTES, INFLATED_TIMES * len(raw))
         if size > limit:
             raise Unlisted(f"{section} claims {size} bytes in {len(raw)} compressed ones, and at most {limit} are read")
-
-    def inflated(self, section, raw, size):
-        """The bytes that are compressed by zlib, of which there are to be so many."""
-        self.check_claim(section, raw, size)
-        stream = zlib.decompressobj()
-        try:
-            body = stream.decompress(raw, size + 1)
-        except zlib.error as error:
-            raise Unlisted(f"{section} can't be inflated: {error}") from error
-        if len(body) != size or not stream.eof:
-            more = "more" if len(body) > size else f"{len(body)}"
+        # One byte more, to see whether there are too many.
+        body, is_whole = ask_to_inflate(section, inflate, raw, size + 1)
+        if len(body) != size or not is_whole:
+            more = "more" if len(body) > size else "other bytes" if len(body) == size else f"{len(body)}"
             self.say(f"{section} is to inflate to {size} bytes, and inflates to {more}")
         return body[:size]
 
@@ -373,7 +400,10 @@ class DebugFile:
             raise Unlisted(f"names a table, but there is no section {early}.debug_abbrev{split}")
         if len(sections) == 1:
             return sections[0]
-        number = ask("its relocation", self.target, unit.section, unit.table_place)
+        try:
+            number = ask("the relocation", self.target, unit.section, unit.table_place)
+        except Unlisted as error:
+            raise Unlisted(f"doesn't say where its table is: {error}") from error
         for section in sections:
             if section.number == number:
                 return section
