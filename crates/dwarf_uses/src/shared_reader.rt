@@ -59,8 +59,8 @@ impl<Endian: Endianity> SharedReader<Endian> {
 
     // The bytes that remain.
     fn rest(&self) -> &[u8]
-        ensures { result.now
-            ≡ take (self.now.end - self.now.start) (drop self.now.start (rc_slice_items self.now.bytes)) }
+        ensures { result.now ≡ take (self.now.end - self.now.start)
+            (drop self.now.start (rc_slice_items self.now.bytes)) }
     {
         &self.bytes.as_slice()[self.start..self.end]
     }
@@ -102,8 +102,17 @@ impl<Endian: Endianity> Reader for SharedReader<Endian> {
     ghost order = { λ r. r.endian };
 
     ghost within = { λ r. record {
-      positions = Prim.omega (arith, length-take (r.end - r.start) (drop r.start (rc_slice_items r.bytes)), r.ordered, r.positions);
-      lengths = Prim.omega (arith, length-take (r.end - r.start) (drop r.start (rc_slice_items r.bytes)), r.positions);
+      positions = Prim.omega (
+        arith,
+        r.ordered,
+        r.positions,
+        length-take (r.end - r.start) (drop r.start (rc_slice_items r.bytes)),
+      );
+      lengths = Prim.omega (
+        arith,
+        r.positions,
+        length-take (r.end - r.start) (drop r.start (rc_slice_items r.bytes)),
+      );
       bytes = All-take (λ b. b < 256) (r.end - r.start) (drop r.start (rc_slice_items r.bytes))
           (All-drop (λ b. b < 256) r.start (rc_slice_items r.bytes) r.are_bytes);
     } };
