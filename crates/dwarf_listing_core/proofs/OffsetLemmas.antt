@@ -2,8 +2,8 @@
 use Rattle.std.proofs.Common.{arith, ◌≡◌, ◌<◌, ◌≤◌, ◌+◌, ◌-◌, ℕ, Bool, true, false, cond, List, [], ◌∷◌, ◌++◌, length, take, drop, map, nat_eq, nat_lt, add_comm, add-one, Option, Some, None, refl, ap, sym, ◌∙◌}
 use Rattle.std.proofs.lemmas.Bool.Decides.{nat_tests}
 use Rattle.std.proofs.lemmas.Grind.{common_steps}
-use Rattle.std.proofs.lemmas.List.{drop_all, length-drop, length-map, map-append, take_all}
-use Rattle.std.specs.List.{after_first, before_first, onto_first, position, position_or_len}
+use Rattle.std.proofs.lemmas.List.{drop_all, length-drop, map-append, take_all}
+use Rattle.std.specs.List.{after_first, before_first, position, position_or_len}
 use Rattle.dwarf_listing_core.specs.Number.{unsigned_of}
 use Rattle.dwarf_listing_core.specs.Offsets.{AreOffsets, lines_of}
 

@@ -14,7 +14,7 @@
 
 ghost use Rattle.std.specs.Prelude.{◌≡◌, ◌+◌, ◌-◌, ◌≤◌, ◌<◌, ◌^◌, length, take, drop, All, false, IfOk, IfErr};
 ghost use Rattle.std.specs.Rc.{rc_slice_items};
-ghost use Rattle.std.proofs.Common.{arith, length-take, length-drop};
+ghost use Rattle.std.proofs.Common.{arith, length-take};
 ghost use Rattle.std.proofs.lemmas.List.Elements.{All-drop, All-take};
 ghost use Rattle.dwarf_read_core.specs.declared.Error.TheVariants.{OutOfMemory};
 

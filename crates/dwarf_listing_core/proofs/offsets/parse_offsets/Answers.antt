@@ -1,4 +1,4 @@
-use Rattle.std.proofs.Common.{List, [], ◌∷◌, ◌++◌, sym, ap, ◌∙◌, append_assoc}
+use Rattle.std.proofs.Common.{[], ◌∷◌, ◌++◌, sym, ap, ◌∙◌, append_assoc}
 use Rattle.dwarf_listing_core.proofs.OffsetLemmas.{offsets_more}
 use Rattle.dwarf_listing_core.specs.Offsets.{lines_of}
 use Rattle.dwarf_listing_core.proofs.offsets.parse_offsets.Goals as goal

@@ -1,4 +1,3 @@
-use Rattle.std.proofs.Common.{◌∙◌, sym}
 use Rattle.dwarf_listing_core.proofs.OffsetLemmas.{lines-at, lines-none}
 use Rattle.dwarf_listing_core.proofs.offsets.split_line.Goals as goal
 
