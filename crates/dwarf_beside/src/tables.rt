@@ -1,0 +1,155 @@
+//! Loops over abbreviation tables (DWARF 5, 7.5.3) and their cache.
+
+use dwarf_read_core::{
+    Abbreviation, Abbreviations, AbbreviationsCache, AbbreviationsCacheStrategy, DebugAbbrev,
+    DebugAbbrevOffset, EndianSlice, Error, LittleEndian, Result,
+};
+use std::alloc::Global;
+
+// What an error counts as, which no table has as many abbreviations as.
+const FAILED: u64 = 1 << 32;
+
+/// Reads the table at each offset, and returns how many abbreviations they have together. A table
+/// with an error counts as 2^32.
+#[unsafe(no_mangle)]
+pub extern "C" fn beside_tables(mem: Global, section: &[u8], offsets: &[u64]) -> u64 {
+    let section = DebugAbbrev::new(section, LittleEndian);
+    let mut sum: u64 = 0;
+    for offset in offsets {
+        match section.abbreviations(mem, DebugAbbrevOffset(*offset as usize)) {
+            Ok(table) => sum = sum.wrapping_add(table.len() as u64),
+            Err(_) => sum = sum.wrapping_add(FAILED),
+        }
+    }
+    sum
+}
+
+// A checksum with one number more.
+fn add(sum: u64, value: u64) -> u64 {
+    sum.wrapping_mul(31).wrapping_add(value)
+}
+
+// A checksum with an abbreviation more.
+fn add_abbreviation(sum: u64, abbreviation: &Abbreviation) -> u64 {
+    let mut sum = add(sum, abbreviation.code());
+    sum = add(sum, u64::from(abbreviation.tag().0));
+    sum = add(sum, u64::from(abbreviation.has_children()));
+    for attribute in abbreviation.attributes() {
+        sum = add(sum, u64::from(attribute.name().0));
+        sum = add(sum, u64::from(attribute.form().0));
+        sum = add(
+            sum,
+            attribute
+                .implicit_const_value()
+                .unwrap_or(0)
+                .cast_unsigned(),
+        );
+    }
+    sum
+}
+
+// A checksum of a table.
+fn sum_of(table: &Abbreviations) -> u64 {
+    let mut sum: u64 = 0;
+    for abbreviation in table.iter() {
+        sum = add_abbreviation(sum, abbreviation);
+    }
+    sum
+}
+
+/// Reads the table at `offset`, looks at all that it has, and returns a checksum of it, or 2^32 for
+/// an error.
+#[unsafe(no_mangle)]
+pub extern "C" fn beside_walk(mem: Global, section: &[u8], offset: u64) -> u64 {
+    let section = DebugAbbrev::new(section, LittleEndian);
+    match section.abbreviations(mem, DebugAbbrevOffset(offset as usize)) {
+        Ok(table) => sum_of(&table),
+        Err(_) => FAILED,
+    }
+}
+
+// The sum of the tags that are found.
+fn get_all(table: &Abbreviations, codes: u64) -> u64 {
+    let mut sum: u64 = 0;
+    for code in 0..codes {
+        if let Some(abbreviation) = table.get(code.wrapping_add(1)) {
+            sum = sum.wrapping_add(u64::from(abbreviation.tag().0));
+        }
+    }
+    sum
+}
+
+/// Looks up the codes from 1 to `codes`, so many times, in the table at `offset`. Returns the sum
+/// of the tags that are found, or 2^32 if no table is there.
+#[unsafe(no_mangle)]
+pub extern "C" fn beside_get_sum(
+    mem: Global,
+    section: &[u8],
+    offset: u64,
+    codes: u64,
+    rounds: u64,
+) -> u64 {
+    let section = DebugAbbrev::new(section, LittleEndian);
+    let Ok(table) = section.abbreviations(mem, DebugAbbrevOffset(offset as usize)) else {
+        return FAILED;
+    };
+    let mut sum: u64 = 0;
+    for _ in 0..rounds {
+        sum = sum.wrapping_add(get_all(&table, codes));
+    }
+    sum
+}
+
+// Fills a cache with the tables at these offsets.
+fn fill(
+    cache: &mut AbbreviationsCache,
+    section: &DebugAbbrev<EndianSlice<'_, LittleEndian>>,
+    offsets: &[u64],
+) -> Result<()> {
+    let units = offsets.iter().map(|offset| Ok::<_, Error>(DebugAbbrevOffset(*offset as usize)));
+    cache.populate(AbbreviationsCacheStrategy::All, section, units)
+}
+
+/// Fills a cache with the tables at these offsets. Returns 1, or 2^32 if memory runs out.
+#[unsafe(no_mangle)]
+pub extern "C" fn beside_populate(mem: Global, section: &[u8], offsets: &[u64]) -> u64 {
+    let section = DebugAbbrev::new(section, LittleEndian);
+    let mut cache = AbbreviationsCache::new(mem);
+    match fill(&mut cache, &section, offsets) {
+        Ok(()) => 1,
+        Err(_) => FAILED,
+    }
+}
+
+// The sum of the lengths that a cache returns.
+fn get_cached(
+    cache: &AbbreviationsCache,
+    section: &DebugAbbrev<EndianSlice<'_, LittleEndian>>,
+    offsets: &[u64],
+) -> u64 {
+    let mut sum: u64 = 0;
+    for offset in offsets {
+        match cache.get(section, DebugAbbrevOffset(*offset as usize)) {
+            Ok(table) => sum = sum.wrapping_add(table.len() as u64),
+            Err(_) => sum = sum.wrapping_add(FAILED),
+        }
+    }
+    sum
+}
+
+/// Fills a cache with the tables at these offsets, and returns how many abbreviations they have
+/// together as it returns each, so many times. A table with an error counts as 2^32. Returns 2^32
+/// if memory runs out.
+#[unsafe(no_mangle)]
+pub extern "C" fn beside_cached(mem: Global, section: &[u8], offsets: &[u64], rounds: u64) -> u64 {
+    let section = DebugAbbrev::new(section, LittleEndian);
+    let mut cache = AbbreviationsCache::new(mem);
+    if fill(&mut cache, &section, offsets).is_err() {
+        return FAILED;
+    }
+    let mut sum: u64 = 0;
+    for _ in 0..rounds {
+        sum = sum.wrapping_add(get_cached(&cache, &section, offsets));
+    }
+    sum
+}
