@@ -1,0 +1,311 @@
+//! Inputs that are made: what is well formed, what nearly is, and what isn't.
+
+use crate::question::{Kind, Question};
+
+/// A generator of numbers that a seed determines (splitmix64).
+pub struct Random(pub u64);
+
+impl Random {
+    pub fn next(&mut self) -> u64 {
+        self.0 = self.0.wrapping_add(0x9e37_79b9_7f4a_7c15);
+        let mut mixed = self.0;
+        mixed = (mixed ^ mixed >> 30).wrapping_mul(0xbf58_476d_1ce4_e5b9);
+        mixed = (mixed ^ mixed >> 27).wrapping_mul(0x94d0_49bb_1331_11eb);
+        mixed ^ mixed >> 31
+    }
+
+    pub fn below(&mut self, bound: usize) -> usize {
+        (self.next() % bound as u64) as usize
+    }
+
+    /// Whether a case of so many comes up.
+    fn one_of(&mut self, count: usize) -> bool {
+        self.below(count) == 0
+    }
+
+    fn pick<T: Copy>(&mut self, from: &[T]) -> T {
+        from[self.below(from.len())]
+    }
+
+    /// A number of any length, with many at the edges of a length.
+    fn number(&mut self) -> u64 {
+        let value = self.next() >> self.below(64);
+        match self.below(8) {
+            0 => (1 << self.below(64)) - 1,
+            1 => 1 << self.below(64),
+            2 => u64::MAX - self.below(3) as u64,
+            3 => self.below(3) as u64,
+            _ => value,
+        }
+    }
+
+    fn bytes(&mut self, count: usize) -> Vec<u8> {
+        (0..count).map(|_| self.next() as u8).collect()
+    }
+}
+
+fn put_unsigned(to: &mut Vec<u8>, mut value: u64) {
+    while value >= 128 {
+        to.push(value as u8 | 128);
+        value >>= 7;
+    }
+    to.push(value as u8);
+}
+
+fn put_signed(to: &mut Vec<u8>, mut value: i64) {
+    while !(-64..64).contains(&value) {
+        to.push(value as u8 | 128);
+        value >>= 7;
+    }
+    to.push(value as u8 & 0x7f);
+}
+
+/// Makes a number longer by bytes that say nothing.
+fn pad(random: &mut Random, to: &mut Vec<u8>, is_negative: bool) {
+    let last = to.len() - 1;
+    to[last] |= 128;
+    for _ in 0..random.below(3) {
+        to.push(if is_negative { 0xff } else { 0x80 });
+    }
+    to.push(if is_negative { 0x7f } else { 0 });
+}
+
+fn unsigned(random: &mut Random, to: &mut Vec<u8>, value: u64) {
+    put_unsigned(to, value);
+    if random.one_of(40) {
+        pad(random, to, false);
+    }
+}
+
+/// Bytes as those of a number of any length up to 13, also of one that doesn't end.
+fn digits(random: &mut Random) -> Vec<u8> {
+    let count = random.below(14);
+    let mut bytes = random.bytes(count);
+    for byte in bytes.iter_mut() {
+        *byte |= 128;
+        if random.one_of(6) {
+            *byte = random.pick(&[0x80, 0xff, 0x81, 0xfe, 0xc0, 0xbf]);
+        }
+    }
+    if count != 0 && !random.one_of(8) {
+        let end = random.pick(&[0, 1, 2, 3, 4, 0x3f, 0x40, 0x7e, 0x7f, 0x55]);
+        bytes[count - 1] = end;
+    }
+    // What is behind a number doesn't matter.
+    if random.one_of(4) {
+        let more = random.below(4);
+        bytes.extend(random.bytes(more));
+    }
+    bytes
+}
+
+/// The next code of a table, of a kind.
+fn code(random: &mut Random, kind: usize, index: u64, count: u64) -> u64 {
+    match kind {
+        0 => index + 1,
+        1 => count - index,
+        2 => (index + 1).wrapping_mul(0x1_0000_0001),
+        3 => random.number().max(1),
+        // Some are there twice.
+        _ => 1 + random.below(2 * count as usize + 1) as u64,
+    }
+}
+
+fn attribute(random: &mut Random, to: &mut Vec<u8>) {
+    let name = if random.one_of(20) { random.number() & 0xffff } else { random.below(0x8d) as u64 };
+    unsigned(random, to, name.max(1));
+    let form = if random.one_of(20) { random.number() & 0xffff } else { random.below(0x2d) as u64 };
+    let form = if random.one_of(6) { 0x21 } else { form.max(1) };
+    unsigned(random, to, form);
+    if form == 0x21 {
+        let value = random.number() as i64;
+        put_signed(to, value);
+        if random.one_of(20) {
+            pad(random, to, value < 0);
+        }
+    }
+}
+
+/// A table, and the codes of its declarations.
+fn table(random: &mut Random, to: &mut Vec<u8>) -> Vec<u64> {
+    let (kind, count) = (random.below(5), [1, 2, 3, 5, 9, 30][random.below(6)]);
+    let mut codes = Vec::new();
+    for index in 0..count {
+        let code = code(random, kind, index, count);
+        codes.push(code);
+        unsigned(random, to, code);
+        let tag = if random.one_of(20) { random.number() & 0xffff } else { random.below(0x4b) as u64 };
+        unsigned(random, to, tag.max(1));
+        to.push(random.below(2) as u8);
+        for _ in 0..random.pick(&[0, 1, 2, 3, 4, 5, 6, 7, 12]) {
+            attribute(random, to);
+        }
+        to.extend([0, 0]);
+    }
+    // (without a code of value 0, the end of the section closes the table)
+    if !random.one_of(4) {
+        unsigned(random, to, 0);
+    }
+    codes
+}
+
+/// Changes some bytes, or how many there are.
+fn mutate(random: &mut Random, bytes: &mut Vec<u8>) {
+    match random.below(8) {
+        0 | 1 => bytes.truncate(random.below(bytes.len() + 1)),
+        2 | 3 if !bytes.is_empty() => {
+            let at = random.below(bytes.len());
+            bytes[at] =
+                if random.one_of(2) { random.pick(&[0, 1, 2, 0x21, 0x7f, 0x80, 0xff]) } else { random.next() as u8 };
+        }
+        4 if !bytes.is_empty() => {
+            bytes.remove(random.below(bytes.len()));
+        }
+        5 => bytes.insert(random.below(bytes.len() + 1), random.pick(&[0, 1, 0x80, 0xff])),
+        6 => {
+            let more = random.below(12);
+            bytes.extend(random.bytes(more));
+        }
+        _ => {}
+    }
+}
+
+/// A section of tables or of short bytes of which tables are made, an offset, and codes that are in it.
+fn abbreviations(random: &mut Random) -> (Vec<u8>, usize, Vec<u64>) {
+    let (mut bytes, mut codes, mut offset) = (Vec::new(), Vec::new(), 0);
+    if random.one_of(4) {
+        let count = random.below(14);
+        let alphabet = [0, 0, 0, 1, 1, 2, 3, 0x21, 0x7f, 0x80, 0x81, 0xff];
+        bytes = (0..count).map(|_| random.pick(&alphabet)).collect();
+    } else {
+        for _ in 0..random.pick(&[1, 1, 1, 2, 3]) {
+            offset = bytes.len();
+            codes = table(random, &mut bytes);
+        }
+        mutate(random, &mut bytes);
+    }
+    if random.one_of(6) {
+        offset = random.below(bytes.len() + 3);
+    } else if random.one_of(100) {
+        offset = usize::MAX;
+    }
+    (bytes, offset, codes)
+}
+
+fn of_tables(random: &mut Random) -> (Question, Vec<u8>) {
+    let (bytes, offset, mut codes) = abbreviations(random);
+    let question = match random.below(8) {
+        0 | 1 => Question::Strict(offset),
+        2 | 3 => Question::Grown { before: random.below(bytes.len() + 1), offset },
+        4 => {
+            let more = codes.iter().map(|it| it.wrapping_add(1)).collect::<Vec<_>>();
+            codes.extend(more);
+            codes.extend([0, 1, u64::MAX, random.number()]);
+            Question::Found { offset, codes }
+        }
+        _ => Question::Table(offset),
+    };
+    (question, bytes)
+}
+
+/// A number that may be an offset or an index for so many bytes.
+fn place(random: &mut Random, len: usize) -> usize {
+    match random.below(8) {
+        0 => random.number() as usize,
+        1 => len + random.below(3),
+        2 => usize::MAX / random.pick(&[1, 2, 4, 8]) + random.below(2) * random.below(2),
+        3 => 0,
+        _ => random.below(len + 1),
+    }
+}
+
+fn of_lookups(random: &mut Random) -> (Question, Vec<u8>) {
+    let count = random.below(72);
+    let bytes = random.bytes(count);
+    let (base, is_big) = (place(random, count), random.one_of(2));
+    let index = if random.one_of(2) { random.below(10) } else { place(random, count) };
+    let question = if random.one_of(2) {
+        Question::StrOffset { is_big, is_64: random.one_of(2), base, index }
+    } else {
+        let size = if random.one_of(4) { random.next() as u8 >> random.below(8) } else { random.pick(&[1, 2, 4, 8]) };
+        Question::Address { is_big, size, base, index }
+    };
+    (question, bytes)
+}
+
+fn of_strings(random: &mut Random) -> (Question, Vec<u8>) {
+    let count = random.pick(&[0, 1, 7, 8, 9, 20, 64, 200]);
+    let mut bytes: Vec<u8> = random.bytes(count).iter().map(|it| (*it).max(1)).collect();
+    for _ in 0..random.below(4) {
+        if !bytes.is_empty() {
+            let at = random.below(bytes.len());
+            bytes[at] = 0;
+        }
+    }
+    let offset = place(random, count);
+    (Question::Text(offset), bytes)
+}
+
+fn put(to: &mut Vec<u8>, value: u64, size: usize, is_big: bool) {
+    let bytes = value.to_le_bytes();
+    to.extend((0..size).map(|i| bytes[if is_big { size - 1 - i } else { i }]));
+}
+
+/// A set, of either kind: the third and fourth byte behind the length are the two sizes, or padding.
+fn set(random: &mut Random, to: &mut Vec<u8>, is_big: bool) {
+    let size = if random.one_of(12) { random.below(20) } else { random.pick(&[1, 2, 4, 8, 8, 4]) };
+    let entries = random.below(5) * size + if random.one_of(6) { random.below(8) } else { 0 };
+    let mut length = 4 + entries as u64;
+    if random.one_of(12) {
+        length = random.number() & random.pick(&[7, 0xff, u64::MAX]);
+    }
+    if random.one_of(3) {
+        put(to, 0xffff_ffff, 4, is_big);
+        put(to, length, 8, is_big);
+    } else {
+        let reserved = 0xffff_fff0 + random.below(16) as u64;
+        put(to, if random.one_of(20) { reserved } else { length & 0xffff_ffff }, 4, is_big);
+    }
+    put(to, if random.one_of(12) { random.below(7) as u64 } else { 5 }, 2, is_big);
+    to.push(size as u8);
+    to.push(if random.one_of(12) { random.next() as u8 } else { 0 });
+    to.extend(random.bytes(entries));
+}
+
+fn of_sets(random: &mut Random) -> (Question, Vec<u8>) {
+    let (mut bytes, mut offset, kind) = (Vec::new(), 0, random.below(3));
+    // (all sets at once are in one order)
+    let is_big = kind != 2 && random.one_of(2);
+    for _ in 0..random.pick(&[1, 1, 2, 3]) {
+        offset = bytes.len();
+        set(random, &mut bytes, is_big);
+    }
+    if random.one_of(3) {
+        mutate(random, &mut bytes);
+    }
+    if random.one_of(6) {
+        offset = place(random, bytes.len());
+    }
+    let question = match kind {
+        0 => Question::AddressSet { is_big, offset },
+        1 => Question::StrOffsetSet { is_big, offset },
+        _ => Question::Addresses,
+    };
+    (question, bytes)
+}
+
+/// The next question and its bytes.
+pub fn next(random: &mut Random) -> (Question, Vec<u8>) {
+    match random.below(16) {
+        0..=3 => {
+            let kind = random.pick(&[Kind::Unsigned, Kind::Signed, Kind::Short, Kind::Skipped]);
+            (Question::Number(kind), digits(random))
+        }
+        4 => (Question::WrittenUnsigned(random.number()), vec![]),
+        5 => (Question::WrittenSigned(random.number() as i64), vec![]),
+        6 => of_strings(random),
+        7 | 8 => of_lookups(random),
+        9 | 10 => of_sets(random),
+        _ => of_tables(random),
+    }
+}

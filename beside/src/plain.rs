@@ -1,0 +1,317 @@
+//! A second reader, written from the text of the standard: DWARF 5, 7.4, 7.5.3, 7.26 and 7.27, and DWARF 4, 7.6.
+//!
+//! It is plain, and slow where that is plainer. It shares nothing with the library. The standard doesn't say which
+//! error a reader gives of bytes that are malformed, nor where; that is as the library's documentation says.
+
+use crate::question::{Answer, Declaration, Kind, Question, Set};
+use std::collections::BTreeMap;
+
+const UNEXPECTED_EOF: u32 = 1;
+const BAD_UNSIGNED: u32 = 2;
+const BAD_SIGNED: u32 = 3;
+const TAG_ZERO: u32 = 4;
+const CHILDREN: u32 = 5;
+const NAME_ZERO: u32 = 6;
+const FORM_ZERO: u32 = 7;
+const DUPLICATE: u32 = 8;
+const RESERVED_LENGTH: u32 = 9;
+const UNSUPPORTED_OFFSET: u32 = 10;
+const VERSION: u32 = 11;
+const ADDRESS_SIZE: u32 = 12;
+const SEGMENT_SIZE: u32 = 13;
+const UNTERMINATED: u32 = 19;
+
+const DW_FORM_IMPLICIT_CONST: u16 = 0x21;
+
+/// An error by its number, with its value or position.
+type Fault = (u32, u64);
+
+fn fault(kind: u32) -> Fault {
+    (kind, 0)
+}
+
+fn eof(at: usize) -> Fault {
+    (UNEXPECTED_EOF, at as u64)
+}
+
+/// Bytes that are read one after the other.
+struct Input<'a> {
+    bytes: &'a [u8],
+    at: usize,
+}
+
+impl Input<'_> {
+    fn byte(&mut self) -> Result<u8, Fault> {
+        let byte = *self.bytes.get(self.at).ok_or_else(|| eof(self.at))?;
+        self.at += 1;
+        Ok(byte)
+    }
+
+    /// The bytes of a number, of which the last one has a high bit of 0. They end behind the limit, if there is one.
+    fn digits(&mut self, limit: usize) -> Result<Vec<u8>, Fault> {
+        let mut digits = Vec::new();
+        while digits.len() < limit {
+            let byte = self.byte()?;
+            digits.push(byte);
+            if byte < 128 {
+                break;
+            }
+        }
+        Ok(digits)
+    }
+
+    /// An unsigned number (DWARF 4, 7.6): each byte has seven bits, the lowest first.
+    fn unsigned(&mut self, limit: usize, bits: u32) -> Result<u64, Fault> {
+        let digits = self.digits(limit)?;
+        let mut value: u128 = 0;
+        for (i, digit) in digits.iter().enumerate() {
+            value += u128::from(digit & 0x7f) << (7 * i);
+        }
+        let is_ended = digits.last().map_or(false, |it| *it < 128);
+        if is_ended && value < 1 << bits {
+            Ok(value as u64)
+        } else {
+            Err(fault(BAD_UNSIGNED))
+        }
+    }
+
+    fn long(&mut self) -> Result<u64, Fault> {
+        self.unsigned(10, 64)
+    }
+
+    fn short(&mut self) -> Result<u16, Fault> {
+        Ok(self.unsigned(3, 16)? as u16)
+    }
+
+    /// A signed number: bit 6 of the last byte says that the bits in front of it are ones.
+    fn signed(&mut self) -> Result<i64, Fault> {
+        let digits = self.digits(10)?;
+        let mut value: i128 = 0;
+        for (i, digit) in digits.iter().enumerate() {
+            value += i128::from(digit & 0x7f) << (7 * i);
+        }
+        if digits.last().map_or(false, |it| it & 0x40 != 0) {
+            value -= 1 << (7 * digits.len());
+        }
+        let is_ended = digits.last().map_or(false, |it| *it < 128);
+        let is_in_range = value >= i128::from(i64::MIN) && value <= i128::from(i64::MAX);
+        if is_ended && is_in_range {
+            Ok(value as i64)
+        } else {
+            Err(fault(BAD_SIGNED))
+        }
+    }
+
+    /// The number of so many bytes.
+    fn fixed(&mut self, size: usize, is_big: bool) -> Result<u64, Fault> {
+        if self.bytes.len() - self.at < size {
+            return Err(eof(self.at));
+        }
+        let mut value = 0;
+        for i in 0..size {
+            let index = if is_big { i } else { size - 1 - i };
+            value = value << 8 | u64::from(self.bytes[self.at + index]);
+        }
+        self.at += size;
+        Ok(value)
+    }
+}
+
+fn shown(result: Result<Answer, Fault>) -> Answer {
+    match result {
+        Ok(answer) => answer,
+        Err((kind, value)) => Answer::Fault { kind, value: Some(value), rest: None },
+    }
+}
+
+/// What the standard says.
+pub fn answer(question: &Question, bytes: &[u8]) -> Answer {
+    match question {
+        Question::Number(kind) => number(*kind, bytes),
+        Question::WrittenUnsigned(value) => written(i128::from(*value), false),
+        Question::WrittenSigned(value) => written(i128::from(*value), true),
+        Question::Table(offset) => shown(table(bytes, *offset).map(|(by_code, is_null)| Answer::Table {
+            declarations: by_code.into_iter().map(|it| it.1).collect(),
+            closed_by_null: Some(is_null),
+        })),
+        Question::Strict(offset) => shown(table(bytes, *offset).and_then(|(by_code, is_null)| {
+            if is_null {
+                Ok(Answer::Count(by_code.len()))
+            } else {
+                Err((UNTERMINATED, bytes.len() as u64))
+            }
+        })),
+        // A section that grew is read as if it had always been so.
+        Question::Grown { offset, .. } => shown(table(bytes, *offset).map(|it| Answer::Count(it.0.len()))),
+        Question::Found { offset, codes } => {
+            shown(table(bytes, *offset).map(|(by_code, _)| {
+                Answer::Tags(codes.iter().map(|it| by_code.get(it).map_or(0, |it| it.tag)).collect())
+            }))
+        }
+        Question::Text(offset) => shown(string(bytes, *offset)),
+        Question::StrOffset { is_big, is_64, base, index } => {
+            shown(slot(bytes, if *is_64 { 8 } else { 4 }, *base, *index, *is_big).map(Answer::Word))
+        }
+        Question::Address { is_big, size, base, index } => {
+            shown(slot(bytes, *size, *base, *index, *is_big).map(Answer::Word))
+        }
+        Question::AddressSet { is_big, offset } => shown(set(bytes, *is_big, *offset, true)),
+        Question::StrOffsetSet { is_big, offset } => shown(set(bytes, *is_big, *offset, false)),
+        Question::Addresses => Answer::Sum(addresses(bytes).unwrap_or(0)),
+    }
+}
+
+fn number(kind: Kind, bytes: &[u8]) -> Answer {
+    let mut input = Input { bytes, at: 0 };
+    let read = match kind {
+        Kind::Unsigned => input.long().map(i128::from),
+        Kind::Signed => input.signed().map(i128::from),
+        Kind::Short => input.short().map(i128::from),
+        Kind::Skipped => input.digits(usize::MAX).map(|_| 0),
+    };
+    let rest = bytes.len() - input.at;
+    match (read, kind) {
+        (Ok(_), Kind::Skipped) => Answer::Skipped { rest },
+        (Ok(value), _) => Answer::Number { value, rest },
+        (Err((kind, value)), _) => Answer::Fault { kind, value: Some(value), rest: Some(rest) },
+    }
+}
+
+/// The shortest bytes of a number: those that are read as it, with one digit more until it fits.
+fn written(value: i128, is_signed: bool) -> Answer {
+    let mut count: u32 = 1;
+    let fits = |count: u32| {
+        let (low, high) =
+            if is_signed { (-(1i128 << (7 * count - 1)), 1i128 << (7 * count - 1)) } else { (0, 1i128 << (7 * count)) };
+        low <= value && value < high
+    };
+    while !fits(count) {
+        count += 1;
+    }
+    let digit = |i: u32| (value >> (7 * i) & 0x7f) as u8 | if i + 1 < count { 0x80 } else { 0 };
+    Answer::Written((0..count).map(digit).collect())
+}
+
+/// The declarations of the table at an offset, and whether a code of value 0 closes it.
+fn table(bytes: &[u8], offset: usize) -> Result<(BTreeMap<u64, Declaration>, bool), Fault> {
+    if offset > bytes.len() {
+        return Err(eof(0));
+    }
+    let mut input = Input { bytes, at: offset };
+    let mut by_code = BTreeMap::new();
+    while input.at < bytes.len() {
+        let code = input.long()?;
+        if code == 0 {
+            return Ok((by_code, true));
+        }
+        let declared = declaration(&mut input, code)?;
+        if by_code.insert(code, declared).is_some() {
+            return Err((DUPLICATE, code));
+        }
+    }
+    Ok((by_code, false))
+}
+
+/// What follows a code (DWARF 5, 7.5.3).
+fn declaration(input: &mut Input, code: u64) -> Result<Declaration, Fault> {
+    let tag = input.short()?;
+    if tag == 0 {
+        return Err(fault(TAG_ZERO));
+    }
+    let children = input.byte()?;
+    if children > 1 {
+        return Err((CHILDREN, u64::from(children)));
+    }
+    let mut attributes = Vec::new();
+    loop {
+        let name = input.short()?;
+        let form = input.short()?;
+        match (name, form) {
+            (0, 0) => break,
+            (0, _) => return Err(fault(NAME_ZERO)),
+            (_, 0) => return Err(fault(FORM_ZERO)),
+            (_, DW_FORM_IMPLICIT_CONST) => attributes.push((name, form, input.signed()?)),
+            _ => attributes.push((name, form, 0)),
+        }
+    }
+    Ok(Declaration { code, tag, has_children: children == 1, attributes })
+}
+
+fn string(bytes: &[u8], offset: usize) -> Result<Answer, Fault> {
+    let from = bytes.get(offset..).ok_or_else(|| eof(0))?;
+    let len = from.iter().position(|it| *it == 0).ok_or_else(|| eof(offset))?;
+    Ok(Answer::Length(len))
+}
+
+/// The number at an index behind a base. Which sizes there are is asked once its place is known.
+fn slot(bytes: &[u8], size: u8, base: usize, index: usize, is_big: bool) -> Result<u64, Fault> {
+    if base > bytes.len() {
+        return Err(eof(0));
+    }
+    let distance = index as u128 * u128::from(size);
+    if distance >= 1 << 64 {
+        return Err(fault(UNSUPPORTED_OFFSET));
+    }
+    let at = base as u128 + distance;
+    if at > bytes.len() as u128 {
+        return Err(eof(base));
+    }
+    if ![1, 2, 4, 8].contains(&size) {
+        return Err((ADDRESS_SIZE, u64::from(size)));
+    }
+    Input { bytes, at: at as usize }.fixed(usize::from(size), is_big)
+}
+
+/// The header of a set of addresses (7.27) or of string offsets (7.26) at an offset.
+fn set(bytes: &[u8], is_big: bool, offset: usize, is_of_addresses: bool) -> Result<Answer, Fault> {
+    if offset > bytes.len() {
+        return Err(eof(0));
+    }
+    if offset == bytes.len() {
+        return Ok(Answer::End);
+    }
+    let mut input = Input { bytes, at: offset };
+    let (mut length, mut word_size) = (input.fixed(4, is_big)?, 4);
+    if length == 0xffff_ffff {
+        length = input.fixed(8, is_big)?;
+        word_size = 8;
+    } else if length >= 0xffff_fff0 {
+        return Err((RESERVED_LENGTH, length));
+    }
+    if length > (bytes.len() - input.at) as u64 {
+        return Err(eof(input.at));
+    }
+    let next = input.at + length as usize;
+    let mut unit = Input { bytes: &bytes[..next], at: input.at };
+    let version = unit.fixed(2, is_big)?;
+    if version != 5 {
+        return Err((VERSION, version));
+    }
+    let mut entry_size = word_size;
+    if is_of_addresses {
+        entry_size = unit.byte()?;
+        if ![1, 2, 4, 8].contains(&entry_size) {
+            return Err((ADDRESS_SIZE, u64::from(entry_size)));
+        }
+        let segment_size = unit.byte()?;
+        if segment_size != 0 {
+            return Err((SEGMENT_SIZE, u64::from(segment_size)));
+        }
+    } else {
+        unit.fixed(2, is_big)?;
+    }
+    Ok(Answer::Set(Set { next, unit_length: length as usize, first_entry: unit.at, word_size, entry_size }))
+}
+
+/// The sum of all addresses of all sets, whose byte order is little.
+fn addresses(bytes: &[u8]) -> Result<u64, Fault> {
+    let (mut sum, mut offset) = (0u64, 0);
+    while let Answer::Set(found) = set(bytes, false, offset, true)? {
+        let mut input = Input { bytes: &bytes[..found.next], at: found.first_entry };
+        while input.at < found.next {
+            sum = sum.wrapping_add(input.fixed(usize::from(found.entry_size), false)?);
+        }
+        offset = found.next;
+    }
+    Ok(sum)
+}

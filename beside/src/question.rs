@@ -1,0 +1,302 @@
+//! What is asked of each reader, and what it gives.
+
+use std::fmt;
+
+/// The errors by the numbers of `include/dwarf_read.h`.
+pub const ERRORS: [&str; 20] = [
+    "none",
+    "UnexpectedEof",
+    "BadUnsignedLeb128",
+    "BadSignedLeb128",
+    "AbbreviationTagZero",
+    "InvalidAbbreviationChildren",
+    "AttributeNameZero",
+    "AttributeFormZero",
+    "DuplicateAbbreviationCode",
+    "UnknownReservedLength",
+    "UnsupportedOffset",
+    "UnknownVersion",
+    "UnsupportedAddressSize",
+    "UnsupportedSegmentSize",
+    "UnsupportedOffsetSize",
+    "BadUtf8",
+    "AddressOverflow",
+    "UnsupportedRegister",
+    "OutOfMemory",
+    "UnterminatedAbbreviations",
+];
+
+/// The name of an error by its number.
+pub fn error_name(kind: u32) -> &'static str {
+    ERRORS.get(kind as usize).copied().unwrap_or("an error without a number")
+}
+
+/// The kinds of number that are read.
+#[derive(Debug, Clone, Copy, PartialEq)]
+pub enum Kind {
+    Unsigned,
+    Signed,
+    Short,
+    Skipped,
+}
+
+/// One question. All offsets are in bytes from the first byte of the input.
+#[derive(Debug, Clone, PartialEq)]
+pub enum Question {
+    /// The number that the bytes begin with.
+    Number(Kind),
+    /// The shortest bytes of a number.
+    WrittenUnsigned(u64),
+    WrittenSigned(i64),
+    /// The table at an offset.
+    Table(usize),
+    /// The same, if a code of value 0 closes it.
+    Strict(usize),
+    /// What a cache has at an offset that was filled from so many bytes, before the section grew.
+    Grown {
+        before: usize,
+        offset: usize,
+    },
+    /// The tags of these codes in the table at an offset.
+    Found {
+        offset: usize,
+        codes: Vec<u64>,
+    },
+    /// The string at an offset.
+    Text(usize),
+    /// The string offset at an index behind a base.
+    StrOffset {
+        is_big: bool,
+        is_64: bool,
+        base: usize,
+        index: usize,
+    },
+    /// The address at an index behind a base.
+    Address {
+        is_big: bool,
+        size: u8,
+        base: usize,
+        index: usize,
+    },
+    /// The header of the set at an offset.
+    AddressSet {
+        is_big: bool,
+        offset: usize,
+    },
+    StrOffsetSet {
+        is_big: bool,
+        offset: usize,
+    },
+    /// The sum of all addresses of all sets, or 0 for an error.
+    Addresses,
+}
+
+/// A declaration of a table.
+#[derive(Debug, Clone, PartialEq)]
+pub struct Declaration {
+    pub code: u64,
+    pub tag: u16,
+    pub has_children: bool,
+    /// The name, the form, and the value in the table itself or 0.
+    pub attributes: Vec<(u16, u16, i64)>,
+}
+
+/// The header of a set.
+#[derive(Debug, Clone, PartialEq)]
+pub struct Set {
+    pub next: usize,
+    pub unit_length: usize,
+    pub first_entry: usize,
+    pub word_size: u8,
+    pub entry_size: u8,
+}
+
+/// What a reader gives. `None` is what a reader doesn't tell.
+#[derive(Debug, Clone, PartialEq)]
+pub enum Answer {
+    Number {
+        value: i128,
+        rest: usize,
+    },
+    Skipped {
+        rest: usize,
+    },
+    Written(Vec<u8>),
+    Table {
+        declarations: Vec<Declaration>,
+        closed_by_null: Option<bool>,
+    },
+    /// How many declarations a table has.
+    Count(usize),
+    Tags(Vec<u16>),
+    /// How long a string is.
+    Length(usize),
+    Word(u64),
+    Set(Set),
+    /// There is no set, since the offset is the section's end.
+    End,
+    Sum(u64),
+    Fault {
+        kind: u32,
+        value: Option<u64>,
+        rest: Option<usize>,
+    },
+}
+
+fn same_if_told<T: PartialEq>(one: &Option<T>, other: &Option<T>) -> bool {
+    one.is_none() || other.is_none() || one == other
+}
+
+impl Answer {
+    /// Whether two readers tell the same, as far as both tell it.
+    pub fn agrees(&self, other: &Answer) -> bool {
+        match (self, other) {
+            (
+                Answer::Fault { kind, value, rest },
+                Answer::Fault { kind: other_kind, value: other_value, rest: other_rest },
+            ) => kind == other_kind && same_if_told(value, other_value) && same_if_told(rest, other_rest),
+            (
+                Answer::Table { declarations, closed_by_null },
+                Answer::Table { declarations: others, closed_by_null: other },
+            ) => declarations == others && same_if_told(closed_by_null, other),
+            _ => self == other,
+        }
+    }
+
+    /// What was reached: the error's name, or the kind of value.
+    pub fn reached(&self) -> &'static str {
+        match self {
+            Answer::Fault { kind, .. } => error_name(*kind),
+            Answer::Number { value, .. } if *value < 0 => "a number below 0",
+            Answer::Number { value, .. } if *value < 128 => "a number below 128",
+            Answer::Number { .. } => "a number from 128",
+            Answer::Skipped { .. } => "a number skipped",
+            Answer::Written(_) => "bytes of a number",
+            Answer::Table { closed_by_null: Some(false), .. } => "a table closed by the end",
+            Answer::Table { declarations, .. } if declarations.is_empty() => "a table without declarations",
+            Answer::Table { .. } => "a table closed by a null code",
+            Answer::Count(_) => "a length of a table",
+            Answer::Tags(tags) if tags.iter().all(|it| *it == 0) => "only codes that no declaration has",
+            Answer::Tags(_) => "a tag of a code",
+            Answer::Length(0) => "an empty string",
+            Answer::Length(_) => "a string",
+            Answer::Word(_) => "a word",
+            Answer::Set(_) => "a set",
+            Answer::End => "the end of the sets",
+            Answer::Sum(0) => "a sum that is 0",
+            Answer::Sum(_) => "a sum of addresses",
+        }
+    }
+}
+
+impl fmt::Display for Answer {
+    fn fmt(&self, to: &mut fmt::Formatter) -> fmt::Result {
+        match self {
+            Answer::Fault { kind, value, rest } => {
+                write!(to, "{}", error_name(*kind))?;
+                if let Some(value) = value {
+                    write!(to, ", {value}")?;
+                }
+                rest.map_or(Ok(()), |it| write!(to, ", {it} bytes remain"))
+            }
+            _ => write!(to, "{self:?}"),
+        }
+    }
+}
+
+fn order_name(is_big: bool) -> &'static str {
+    if is_big {
+        "big"
+    } else {
+        "little"
+    }
+}
+
+impl Question {
+    /// The first word by which it is asked again.
+    pub fn name(&self) -> &'static str {
+        match self {
+            Question::Number(Kind::Unsigned) => "unsigned",
+            Question::Number(Kind::Signed) => "signed",
+            Question::Number(Kind::Short) => "short",
+            Question::Number(Kind::Skipped) => "skipped",
+            Question::WrittenUnsigned(_) => "written-unsigned",
+            Question::WrittenSigned(_) => "written-signed",
+            Question::Table(_) => "table",
+            Question::Strict(_) => "strict",
+            Question::Grown { .. } => "grown",
+            Question::Found { .. } => "found",
+            Question::Text(_) => "string",
+            Question::StrOffset { .. } => "str-offset",
+            Question::Address { .. } => "address",
+            Question::AddressSet { .. } => "address-set",
+            Question::StrOffsetSet { .. } => "str-offset-set",
+            Question::Addresses => "addresses",
+        }
+    }
+
+    /// The words behind the first one.
+    pub fn words(&self) -> Vec<String> {
+        match self {
+            Question::Number(_) | Question::Addresses => vec![],
+            Question::WrittenUnsigned(value) => vec![value.to_string()],
+            Question::WrittenSigned(value) => vec![value.to_string()],
+            Question::Table(offset) | Question::Strict(offset) | Question::Text(offset) => vec![offset.to_string()],
+            Question::Grown { before, offset } => vec![before.to_string(), offset.to_string()],
+            Question::Found { offset, codes } => {
+                let codes: Vec<String> = codes.iter().map(|it| it.to_string()).collect();
+                vec![offset.to_string(), codes.join(",")]
+            }
+            Question::StrOffset { is_big, is_64, base, index } => {
+                let size = if *is_64 { "8" } else { "4" };
+                vec![order_name(*is_big).into(), size.into(), base.to_string(), index.to_string()]
+            }
+            Question::Address { is_big, size, base, index } => {
+                vec![order_name(*is_big).into(), size.to_string(), base.to_string(), index.to_string()]
+            }
+            Question::AddressSet { is_big, offset } | Question::StrOffsetSet { is_big, offset } => {
+                vec![order_name(*is_big).into(), offset.to_string()]
+            }
+        }
+    }
+
+    /// The question with these words, or `None` if they ask nothing.
+    pub fn from_words(words: &[&str]) -> Option<Question> {
+        let (name, words) = words.split_first()?;
+        let is_big = || match *words.first()? {
+            "big" => Some(true),
+            "little" => Some(false),
+            _ => None,
+        };
+        let number = |at: usize| words.get(at)?.parse::<usize>().ok();
+        let (question, count) = match *name {
+            "unsigned" => (Question::Number(Kind::Unsigned), 0),
+            "signed" => (Question::Number(Kind::Signed), 0),
+            "short" => (Question::Number(Kind::Short), 0),
+            "skipped" => (Question::Number(Kind::Skipped), 0),
+            "written-unsigned" => (Question::WrittenUnsigned(words.first()?.parse().ok()?), 1),
+            "written-signed" => (Question::WrittenSigned(words.first()?.parse().ok()?), 1),
+            "table" => (Question::Table(number(0)?), 1),
+            "strict" => (Question::Strict(number(0)?), 1),
+            "grown" => (Question::Grown { before: number(0)?, offset: number(1)? }, 2),
+            "found" => {
+                let codes = words.get(1)?.split(',').map(|it| it.parse().ok()).collect::<Option<_>>()?;
+                (Question::Found { offset: number(0)?, codes }, 2)
+            }
+            "string" => (Question::Text(number(0)?), 1),
+            "str-offset" => {
+                let is_64 = number(1)? == 8;
+                (Question::StrOffset { is_big: is_big()?, is_64, base: number(2)?, index: number(3)? }, 4)
+            }
+            "address" => {
+                let size = words.get(1)?.parse().ok()?;
+                (Question::Address { is_big: is_big()?, size, base: number(2)?, index: number(3)? }, 4)
+            }
+            "address-set" => (Question::AddressSet { is_big: is_big()?, offset: number(1)? }, 2),
+            "str-offset-set" => (Question::StrOffsetSet { is_big: is_big()?, offset: number(1)? }, 2),
+            "addresses" => (Question::Addresses, 0),
+            _ => return None,
+        };
+        (words.len() == count).then(|| question)
+    }
+}

@@ -1,0 +1,56 @@
+//! Makes an input smaller that shows a difference.
+
+use crate::question::Question;
+
+/// So many smaller inputs are tried.
+const TRIES: u32 = 3000;
+
+/// The question of the bytes without so many in front of its offset, if it has one.
+fn moved(question: &Question, by: usize) -> Option<Question> {
+    let mut moved = question.clone();
+    match &mut moved {
+        Question::Table(offset) | Question::Strict(offset) | Question::Text(offset) => {
+            *offset = offset.checked_sub(by)?
+        }
+        Question::Found { offset, .. }
+        | Question::AddressSet { offset, .. }
+        | Question::StrOffsetSet { offset, .. } => *offset = offset.checked_sub(by)?,
+        Question::Grown { before, offset } => {
+            *before = before.checked_sub(by)?;
+            *offset = offset.checked_sub(by)?;
+        }
+        Question::StrOffset { base, .. } | Question::Address { base, .. } => *base = base.checked_sub(by)?,
+        _ => {}
+    }
+    Some(moved)
+}
+
+/// A question and bytes that differ too, with as few bytes as are found.
+pub fn shrink(
+    question: &Question, bytes: &[u8], differs: &mut dyn FnMut(&Question, &[u8]) -> bool,
+) -> (Question, Vec<u8>) {
+    let (mut question, mut bytes, mut tries) = (question.clone(), bytes.to_vec(), 0);
+    let mut size = bytes.len();
+    while size > 0 {
+        let (mut from, mut is_smaller) = (bytes.len(), false);
+        while from > 0 && tries < TRIES {
+            let end = from;
+            from = from.saturating_sub(size);
+            let mut fewer = bytes[..from].to_vec();
+            fewer.extend(&bytes[end..]);
+            // With the bytes in front of the offset the offset moves; elsewhere it stays.
+            for candidate in [moved(&question, end - from), Some(question.clone())].iter().flatten() {
+                tries += 1;
+                if differs(candidate, &fewer) {
+                    question = candidate.clone();
+                    bytes = fewer;
+                    is_smaller = true;
+                    break;
+                }
+            }
+            from = from.min(bytes.len());
+        }
+        size = if is_smaller && size <= bytes.len() { size } else { size / 2 };
+    }
+    (question, bytes)
+}
