@@ -1,2 +1,3 @@
 pub mod Fault
 pub mod Sections
+pub mod Sums

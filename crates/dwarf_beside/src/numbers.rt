@@ -1,12 +1,19 @@
 //! Loops over LEB128 numbers (DWARF 5, 7.6).
 
+ghost use Rattle.std.specs.Prelude.{◌≢◌};
+ghost use Rattle.dwarf_read_core.specs.Leb128.{unsigned64, unsigned16, ReadsNumber};
+ghost use Rattle.dwarf_read_core.specs.Shortest.{IsShortestLength};
+ghost use Rattle.dwarf_beside.specs.Sums.{Adds, AddsAll, Counts, ReadsSigned};
+
 use dwarf_read_core::leb128::{read, write};
 use dwarf_read_core::{EndianSlice, LittleEndian, Reader};
 
 /// Reads the unsigned numbers that `bytes` are one after the other, and returns their sum modulo
 /// 2^64, or 0 if one of them is none.
 #[unsafe(no_mangle)]
-pub extern "C" fn beside_unsigned_sum(bytes: &[u8]) -> u64 {
+pub extern "C" fn beside_unsigned_sum(bytes: &[u8]) -> u64
+    ensures { result ≢ 0 → AddsAll (ReadsNumber unsigned64) bytes.now result }
+{
     let mut input = EndianSlice::new(bytes, LittleEndian);
     let mut sum: u64 = 0;
     for _ in 0..u64::MAX {
@@ -18,12 +25,14 @@ pub extern "C" fn beside_unsigned_sum(bytes: &[u8]) -> u64 {
             Err(_) => return 0,
         }
     }
-    sum
+    if input.is_empty() { sum } else { 0 }
 }
 
 /// The same of signed numbers.
 #[unsafe(no_mangle)]
-pub extern "C" fn beside_signed_sum(bytes: &[u8]) -> u64 {
+pub extern "C" fn beside_signed_sum(bytes: &[u8]) -> u64
+    ensures { result ≢ 0 → AddsAll ReadsSigned bytes.now result }
+{
     let mut input = EndianSlice::new(bytes, LittleEndian);
     let mut sum: u64 = 0;
     for _ in 0..u64::MAX {
@@ -35,12 +44,14 @@ pub extern "C" fn beside_signed_sum(bytes: &[u8]) -> u64 {
             Err(_) => return 0,
         }
     }
-    sum
+    if input.is_empty() { sum } else { 0 }
 }
 
 /// The same of numbers of at most 16 bits.
 #[unsafe(no_mangle)]
-pub extern "C" fn beside_short_sum(bytes: &[u8]) -> u64 {
+pub extern "C" fn beside_short_sum(bytes: &[u8]) -> u64
+    ensures { result ≢ 0 → AddsAll (ReadsNumber unsigned16) bytes.now result }
+{
     let mut input = EndianSlice::new(bytes, LittleEndian);
     let mut sum: u64 = 0;
     for _ in 0..u64::MAX {
@@ -52,13 +63,15 @@ pub extern "C" fn beside_short_sum(bytes: &[u8]) -> u64 {
             Err(_) => return 0,
         }
     }
-    sum
+    if input.is_empty() { sum } else { 0 }
 }
 
 /// Skips the numbers that `bytes` are one after the other, and returns how many there are, or 0 if
 /// the last one is cut.
 #[unsafe(no_mangle)]
-pub extern "C" fn beside_skipped_count(bytes: &[u8]) -> u64 {
+pub extern "C" fn beside_skipped_count(bytes: &[u8]) -> u64
+    ensures { result ≢ 0 → AddsAll Counts bytes.now result }
+{
     let mut input = EndianSlice::new(bytes, LittleEndian);
     let mut count: u64 = 0;
     for _ in 0..u64::MAX {
@@ -70,15 +83,17 @@ pub extern "C" fn beside_skipped_count(bytes: &[u8]) -> u64 {
             Err(_) => return 0,
         }
     }
-    count
+    if input.is_empty() { count } else { 0 }
 }
 
 /// Writes each number, and returns how many bytes they have together, modulo 2^64.
 #[unsafe(no_mangle)]
-pub extern "C" fn beside_written_sum(values: &[u64]) -> u64 {
-    let mut sum: u64 = 0;
+pub extern "C" fn beside_written_sum(values: &[u64]) -> usize
+    ensures { Adds (IsShortestLength unsigned64) values.now result }
+{
+    let mut sum: usize = 0;
     for value in values {
-        sum = sum.wrapping_add(write::Leb128::unsigned(*value).len() as u64);
+        sum = sum.wrapping_add(write::Leb128::unsigned(*value).len());
     }
     sum
 }

@@ -1,5 +1,10 @@
 //! Loops over strings, and over lookups by an index (DWARF 5, 7.26 and 7.27).
 
+ghost use Rattle.std.specs.Prelude.{◌≡◌, ◌≢◌, ◌^◌, ◌-◌, Ok};
+ghost use Rattle.dwarf_read_core.specs.Words.{AddressAt, WordAt, slot};
+ghost use Rattle.dwarf_beside.specs.Sections.{section_of};
+ghost use Rattle.dwarf_beside.specs.Sums.{Adds, HasText};
+
 use dwarf_read_core::{
     DebugAddr, DebugAddrBase, DebugAddrIndex, DebugStr, DebugStrOffset, DebugStrOffsets,
     DebugStrOffsetsBase, DebugStrOffsetsIndex, EndianSlice, Format, LittleEndian, Reader,
@@ -8,15 +13,14 @@ use dwarf_read_core::{
 /// Returns the sum of the addresses of eight bytes at these indexes, modulo 2^64, or 0 for an
 /// error.
 #[unsafe(no_mangle)]
-pub extern "C" fn beside_address_lookups(section: &[u8], base: u64, indices: &[u64]) -> u64 {
+pub extern "C" fn beside_address_lookups(section: &[u8], base: usize, indices: &[usize]) -> u64
+    ensures { let s = section_of section.now in result ≢ 0
+        → Adds (λ i n. AddressAt (2 ^ 64 - 1) s (slot base i 8) (Ok n)) indices.now result }
+{
     let section = DebugAddr::from(EndianSlice::new(section, LittleEndian));
     let mut sum: u64 = 0;
     for index in indices {
-        match section.get_address(
-            8,
-            DebugAddrBase(base as usize),
-            DebugAddrIndex(*index as usize),
-        ) {
+        match section.get_address(8, DebugAddrBase(base), DebugAddrIndex(*index)) {
             Ok(address) => sum = sum.wrapping_add(address),
             Err(_) => return 0,
         }
@@ -24,14 +28,17 @@ pub extern "C" fn beside_address_lookups(section: &[u8], base: u64, indices: &[u
     sum
 }
 
-/// Returns how long the strings at these offsets are together, or 0 for an error.
+/// Returns how long the strings at these offsets are together, modulo 2^64, or 0 for an error.
 #[unsafe(no_mangle)]
-pub extern "C" fn beside_strings(section: &[u8], offsets: &[u64]) -> u64 {
+pub extern "C" fn beside_strings(section: &[u8], offsets: &[usize]) -> usize
+    ensures { let s = section_of section.now in
+        result ≢ 0 → Adds (HasText s) offsets.now result }
+{
     let section = DebugStr::new(section, LittleEndian);
-    let mut sum: u64 = 0;
+    let mut sum: usize = 0;
     for offset in offsets {
-        match section.get_str(DebugStrOffset(*offset as usize)) {
-            Ok(text) => sum = sum.wrapping_add(text.len() as u64),
+        match section.get_str(DebugStrOffset(*offset)) {
+            Ok(text) => sum = sum.wrapping_add(text.len()),
             Err(_) => return 0,
         }
     }
@@ -41,16 +48,19 @@ pub extern "C" fn beside_strings(section: &[u8], offsets: &[u64]) -> u64 {
 /// Returns the sum of the string offsets of four bytes at these indexes, modulo 2^64, or 0 for an
 /// error.
 #[unsafe(no_mangle)]
-pub extern "C" fn beside_str_offset_lookups(section: &[u8], base: u64, indices: &[u64]) -> u64 {
+pub extern "C" fn beside_str_offset_lookups(section: &[u8], base: usize, indices: &[usize]) -> usize
+    ensures { let s = section_of section.now in result ≢ 0
+        → Adds (λ i n. WordAt (2 ^ 64 - 1) s (slot base i 4) (Ok n)) indices.now result }
+{
     let section = DebugStrOffsets::from(EndianSlice::new(section, LittleEndian));
-    let mut sum: u64 = 0;
+    let mut sum: usize = 0;
     for index in indices {
         match section.get_str_offset(
             Format::Dwarf32,
-            DebugStrOffsetsBase(base as usize),
-            DebugStrOffsetsIndex(*index as usize),
+            DebugStrOffsetsBase(base),
+            DebugStrOffsetsIndex(*index),
         ) {
-            Ok(offset) => sum = sum.wrapping_add(offset.0 as u64),
+            Ok(offset) => sum = sum.wrapping_add(offset.0),
             Err(_) => return 0,
         }
     }

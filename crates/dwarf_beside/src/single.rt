@@ -231,7 +231,8 @@ pub extern "C" fn beside_found(
     }
 }
 
-fn table_at(mem: Global, section: &[u8], offset: usize) -> Result<Abbreviations>
+// The table at an offset.
+pub(crate) fn table_at(mem: Global, section: &[u8], offset: usize) -> Result<Abbreviations>
     ensures { Answers result (section_of section.now) offset }
 {
     DebugAbbrev::new(section, LittleEndian).abbreviations(mem, DebugAbbrevOffset(offset))

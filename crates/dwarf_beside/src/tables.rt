@@ -1,5 +1,12 @@
 //! Loops over abbreviation tables (DWARF 5, 7.5.3) and their cache.
 
+ghost use Rattle.std.specs.Prelude.{◌≡◌, ◌≢◌, ◌⊎◌, Ok};
+ghost use Rattle.dwarf_read_core.specs.Answer.{Answer};
+ghost use Rattle.dwarf_read_core.specs.Grammar.{Table};
+ghost use Rattle.dwarf_beside.specs.Sections.{section_of};
+ghost use Rattle.dwarf_beside.specs.Sums.{Adds, CountsAs};
+
+use crate::single::table_at;
 use dwarf_read_core::{
     Abbreviation, Abbreviations, AbbreviationsCache, AbbreviationsCacheStrategy, DebugAbbrev,
     DebugAbbrevOffset, EndianSlice, Error, LittleEndian, Result,
@@ -7,21 +14,29 @@ use dwarf_read_core::{
 use std::alloc::Global;
 
 // What an error counts as, which no table has as many abbreviations as.
-const FAILED: u64 = 1 << 32;
+pub const FAILED: usize = 1 << 32;
 
 /// Reads the table at each offset, and returns how many abbreviations they have together. A table
 /// with an error counts as 2^32.
 #[unsafe(no_mangle)]
-pub extern "C" fn beside_tables(mem: Global, section: &[u8], offsets: &[u64]) -> u64 {
-    let section = DebugAbbrev::new(section, LittleEndian);
-    let mut sum: u64 = 0;
+pub extern "C" fn beside_tables(mem: Global, section: &[u8], offsets: &[usize]) -> usize
+    ensures { Adds (CountsAs (section_of section.now)) offsets.now result }
+{
+    let mut sum: usize = 0;
     for offset in offsets {
-        match section.abbreviations(mem, DebugAbbrevOffset(*offset as usize)) {
-            Ok(table) => sum = sum.wrapping_add(table.len() as u64),
-            Err(_) => sum = sum.wrapping_add(FAILED),
-        }
+        sum = sum.wrapping_add(counted(mem, section, *offset));
     }
     sum
+}
+
+// How many abbreviations the table at an offset has, or what an error counts as.
+fn counted(mem: Global, section: &[u8], offset: usize) -> usize
+    ensures { CountsAs (section_of section.now) offset result }
+{
+    match table_at(mem, section, offset) {
+        Ok(table) => table.len(),
+        Err(_) => FAILED,
+    }
 }
 
 // A checksum with one number more.
@@ -60,11 +75,13 @@ fn sum_of(table: &Abbreviations) -> u64 {
 /// Reads the table at `offset`, looks at all that it has, and returns a checksum of it, or 2^32 for
 /// an error.
 #[unsafe(no_mangle)]
-pub extern "C" fn beside_walk(mem: Global, section: &[u8], offset: u64) -> u64 {
-    let section = DebugAbbrev::new(section, LittleEndian);
-    match section.abbreviations(mem, DebugAbbrevOffset(offset as usize)) {
+pub extern "C" fn beside_walk(mem: Global, section: &[u8], offset: usize) -> u64
+    ensures { let s = section_of section.now in
+        result ≢ FAILED → (t : Table) × Answer s offset (Ok t) }
+{
+    match table_at(mem, section, offset) {
         Ok(table) => sum_of(&table),
-        Err(_) => FAILED,
+        Err(_) => FAILED as u64,
     }
 }
 
@@ -85,13 +102,15 @@ fn get_all(table: &Abbreviations, codes: u64) -> u64 {
 pub extern "C" fn beside_get_sum(
     mem: Global,
     section: &[u8],
-    offset: u64,
+    offset: usize,
     codes: u64,
     rounds: u64,
-) -> u64 {
-    let section = DebugAbbrev::new(section, LittleEndian);
-    let Ok(table) = section.abbreviations(mem, DebugAbbrevOffset(offset as usize)) else {
-        return FAILED;
+) -> u64
+    ensures { let s = section_of section.now in
+        result ≢ FAILED → (t : Table) × Answer s offset (Ok t) }
+{
+    let Ok(table) = table_at(mem, section, offset) else {
+        return FAILED as u64;
     };
     let mut sum: u64 = 0;
     for _ in 0..rounds {
@@ -104,15 +123,19 @@ pub extern "C" fn beside_get_sum(
 fn fill(
     cache: &mut AbbreviationsCache,
     section: &DebugAbbrev<EndianSlice<'_, LittleEndian>>,
-    offsets: &[u64],
+    offsets: &[usize],
 ) -> Result<()> {
-    let units = offsets.iter().map(|offset| Ok::<_, Error>(DebugAbbrevOffset(*offset as usize)));
+    let units = offsets
+        .iter()
+        .map(|offset| Ok::<_, Error>(DebugAbbrevOffset(*offset)));
     cache.populate(AbbreviationsCacheStrategy::All, section, units)
 }
 
 /// Fills a cache with the tables at these offsets. Returns 1, or 2^32 if memory runs out.
 #[unsafe(no_mangle)]
-pub extern "C" fn beside_populate(mem: Global, section: &[u8], offsets: &[u64]) -> u64 {
+pub extern "C" fn beside_populate(mem: Global, section: &[u8], offsets: &[usize]) -> usize
+    ensures { (result ≡ 1) ⊎ (result ≡ FAILED) }
+{
     let section = DebugAbbrev::new(section, LittleEndian);
     let mut cache = AbbreviationsCache::new(mem);
     match fill(&mut cache, &section, offsets) {
@@ -125,12 +148,12 @@ pub extern "C" fn beside_populate(mem: Global, section: &[u8], offsets: &[u64]) 
 fn get_cached(
     cache: &AbbreviationsCache,
     section: &DebugAbbrev<EndianSlice<'_, LittleEndian>>,
-    offsets: &[u64],
-) -> u64 {
-    let mut sum: u64 = 0;
+    offsets: &[usize],
+) -> usize {
+    let mut sum: usize = 0;
     for offset in offsets {
-        match cache.get(section, DebugAbbrevOffset(*offset as usize)) {
-            Ok(table) => sum = sum.wrapping_add(table.len() as u64),
+        match cache.get(section, DebugAbbrevOffset(*offset)) {
+            Ok(table) => sum = sum.wrapping_add(table.len()),
             Err(_) => sum = sum.wrapping_add(FAILED),
         }
     }
@@ -141,13 +164,18 @@ fn get_cached(
 /// together as it returns each, so many times. A table with an error counts as 2^32. Returns 2^32
 /// if memory runs out.
 #[unsafe(no_mangle)]
-pub extern "C" fn beside_cached(mem: Global, section: &[u8], offsets: &[u64], rounds: u64) -> u64 {
+pub extern "C" fn beside_cached(
+    mem: Global,
+    section: &[u8],
+    offsets: &[usize],
+    rounds: u64,
+) -> usize {
     let section = DebugAbbrev::new(section, LittleEndian);
     let mut cache = AbbreviationsCache::new(mem);
     if fill(&mut cache, &section, offsets).is_err() {
         return FAILED;
     }
-    let mut sum: u64 = 0;
+    let mut sum: usize = 0;
     for _ in 0..rounds {
         sum = sum.wrapping_add(get_cached(&cache, &section, offsets));
     }

@@ -1,0 +1,20 @@
+-- Sums that grow by one item.
+use Rattle.std.proofs.Common.{◌≡◌, ℕ, ◌+◌, ◌%◌, ◌^◌, ◌<◌, ◌≤◌, List, [], ◌∷◌, ◌++◌, length, take, sym, subst, ap, ◌∙◌, get_or}
+use Rattle.std.proofs.lemmas.List.{take_all, take_more}
+use Rattle.dwarf_beside.specs.Sums.{Adds, one_more}
+
+-- the items so far have their sum, and so have they with the next one
+pub adds_more :
+    {A : Type 0} {Is : A → ℕ → Type 0} (items : List A) (i : ℕ) (item : A) (sum n : ℕ) → i < length items →
+    get_or items i item ≡ item → Adds Is (take i items) sum → Is item n →
+    Adds Is (take (i + 1) items) ((sum + n) % 2 ^ 64)
+adds_more {A} {Is} items i item sum n within here adds is =
+    let more : take (i + 1) items ≡ take i items ++ item ∷ [] = take_more items i item within
+    ∙ ap (λ (x : A). take i items ++ x ∷ []) here in
+    subst (λ (l : List A). Adds Is l ((sum + n) % 2 ^ 64)) (sym more) (one_more (take i items) item sum n adds is)
+
+-- behind the last item it is the sum of all
+pub adds_all :
+    {A : Type 0} {Is : A → ℕ → Type 0} (items : List A) (i sum : ℕ) → length items ≤ i → Adds Is (take i items) sum →
+    Adds Is items sum
+adds_all {A} {Is} items i sum done adds = subst (λ (l : List A). Adds Is l sum) (take_all i items done) adds

@@ -1,0 +1,16 @@
+use Rattle.std.proofs.Common.{rules}
+use Rattle.dwarf_beside.specs.Sums.{nothing}
+use Rattle.dwarf_beside.proofs.SumLemmas.{adds_all, adds_more}
+use Rattle.dwarf_beside.proofs.sections.beside_address_lookups.Goals as goal
+
+pub loop-index-init : goal.loop-index-init
+loop-index-init c = nothing
+
+pub loop-index-preserved : goal.loop-index-preserved
+loop-index-preserved c =
+    let answer = rw (c.from-section.ensures, c.new.ensures.view) at c.in-Ok.ensures.answer in
+    adds_more c.args.indices.now c.loop-index.index-index _ c.loop-index.sum c.in-Ok.address c.loop-index-test.true
+    (search rules) c.loop-index.invariant answer
+
+pub returns : goal.returns
+returns c = λ _. adds_all c.args.indices.now c.loop-index.index-index c.loop-index.sum (search rules) c.loop-index.invariant
