@@ -79,7 +79,8 @@ fn unsigned(random: &mut Random, to: &mut Vec<u8>, value: u64) {
 
 /// Bytes as those of a number of any length up to 13, also of one that doesn't end.
 fn digits(random: &mut Random) -> Vec<u8> {
-    let count = random.below(14);
+    // (the limits are three bytes and ten)
+    let count = if random.one_of(2) { random.pick(&[2, 3, 4, 9, 10, 10, 11]) } else { random.below(14) };
     let mut bytes = random.bytes(count);
     for byte in bytes.iter_mut() {
         *byte |= 128;
@@ -263,8 +264,8 @@ fn set(random: &mut Random, to: &mut Vec<u8>, is_big: bool) {
         put(to, 0xffff_ffff, 4, is_big);
         put(to, length, 8, is_big);
     } else {
-        let reserved = 0xffff_fff0 + random.below(16) as u64;
-        put(to, if random.one_of(20) { reserved } else { length & 0xffff_ffff }, 4, is_big);
+        let reserved = random.pick(&[0xffff_ffef, 0xffff_fff0, 0xffff_fff1, 0xffff_fffe]);
+        put(to, if random.one_of(10) { reserved } else { length & 0xffff_ffff }, 4, is_big);
     }
     put(to, if random.one_of(12) { random.below(7) as u64 } else { 5 }, 2, is_big);
     to.push(size as u8);
