@@ -11,7 +11,6 @@ ghost use Rattle.dwarf_beside.specs.Fault.{Refuses};
 ghost use Rattle.dwarf_beside.specs.Sections.{HasLength, Lacks, LacksEnd, Reads, Skips, section_of, tag_in};
 
 use crate::fault::{Fault, told};
-use dwarf_read_core::leb128::read;
 use dwarf_read_core::{
     Abbreviations, AbbreviationsCache, AbbreviationsCacheStrategy, DebugAbbrev, DebugAbbrevOffset,
     EndianSlice, Error, LittleEndian, Reader, Result,
@@ -35,7 +34,7 @@ pub extern "C" fn beside_unsigned(
     ensures refused { result ≢ 0 → Refuses (Lacks unsigned64 bytes.now rest.new) result fault.new }
 {
     let mut input = EndianSlice::new(bytes, LittleEndian);
-    let found = read::unsigned(&mut input);
+    let found = input.read_uleb128();
     *rest = input.len();
     match found {
         Ok(number) => {
@@ -59,7 +58,7 @@ pub extern "C" fn beside_signed(
     ensures refused { result ≢ 0 → Refuses (Lacks signed64 bytes.now rest.new) result fault.new }
 {
     let mut input = EndianSlice::new(bytes, LittleEndian);
-    let found = read::signed(&mut input);
+    let found = input.read_sleb128();
     *rest = input.len();
     match found {
         Ok(number) => {
@@ -83,7 +82,7 @@ pub extern "C" fn beside_short(
     ensures refused { result ≢ 0 → Refuses (Lacks unsigned16 bytes.now rest.new) result fault.new }
 {
     let mut input = EndianSlice::new(bytes, LittleEndian);
-    let found = read::u16(&mut input);
+    let found = input.read_uleb128_u16();
     *rest = input.len();
     match found {
         Ok(number) => {
@@ -101,7 +100,7 @@ pub extern "C" fn beside_skipped(bytes: &[u8], rest: &mut usize, fault: &mut Fau
     ensures refused { result ≢ 0 → Refuses (LacksEnd bytes.now rest.new) result fault.new }
 {
     let mut input = EndianSlice::new(bytes, LittleEndian);
-    let found = read::skip(&mut input);
+    let found = input.skip_leb128();
     *rest = input.len();
     match found {
         Ok(()) => 0,
