@@ -44,7 +44,7 @@ impl Random {
     }
 }
 
-fn put_unsigned(to: &mut Vec<u8>, mut value: u64) {
+pub fn put_unsigned(to: &mut Vec<u8>, mut value: u64) {
     while value >= 128 {
         to.push(value as u8 | 128);
         value >>= 7;
@@ -52,7 +52,7 @@ fn put_unsigned(to: &mut Vec<u8>, mut value: u64) {
     to.push(value as u8);
 }
 
-fn put_signed(to: &mut Vec<u8>, mut value: i64) {
+pub fn put_signed(to: &mut Vec<u8>, mut value: i64) {
     while !(-64..64).contains(&value) {
         to.push(value as u8 | 128);
         value >>= 7;

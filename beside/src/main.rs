@@ -3,6 +3,7 @@
 //! `tools/beside` runs this program, and its documentation says what the words mean.
 
 mod made;
+mod measure;
 mod ours;
 mod plain;
 mod question;
@@ -29,6 +30,8 @@ struct Wanted {
     alone: Option<(Question, Vec<u8>)>,
     /// The command that asks a question alone, up to the question.
     again: String,
+    /// Measure in place of comparing: time, or calls to be counted.
+    measured: Option<bool>,
 }
 
 fn from_hexadecimal(text: &str) -> Option<Vec<u8>> {
@@ -46,7 +49,8 @@ fn question_of(text: &str) -> Option<(Question, Vec<u8>)> {
 }
 
 fn wanted(words: &mut dyn Iterator<Item = String>) -> Result<Wanted, String> {
-    let mut found = Wanted { seconds: 60.0, seed: 1, sections: vec![], alone: None, again: "beside --case".into() };
+    let mut found =
+        Wanted { seconds: 60.0, seed: 1, sections: vec![], alone: None, again: "beside --case".into(), measured: None };
     while let Some(word) = words.next() {
         let mut next = || words.next().ok_or(format!("{word} needs a word behind it"));
         match word.as_str() {
@@ -57,6 +61,8 @@ fn wanted(words: &mut dyn Iterator<Item = String>) -> Result<Wanted, String> {
                 let case = question_of(&text);
                 found.alone = Some(case.ok_or(format!("'{text}' is no question with bytes in hexadecimal behind it"))?);
             }
+            "--time" => found.measured = Some(true),
+            "--count" => found.measured = Some(false),
             "--again" => found.again = next()?,
             "--section" => {
                 let (name, kind, path) = (next()?, next()?, next()?);
@@ -148,12 +154,28 @@ fn compare(wanted: &Wanted) -> ExitCode {
     }
 }
 
+fn refused(why: &str) -> ExitCode {
+    eprintln!("beside: {why}");
+    ExitCode::from(2)
+}
+
+fn run(wanted: &Wanted) -> ExitCode {
+    match wanted.measured {
+        None => compare(wanted),
+        Some(is_timed) => match measure::measure(&measure::workloads(&wanted.sections), is_timed) {
+            Ok(()) => ExitCode::SUCCESS,
+            Err(why) => refused(&why),
+        },
+    }
+}
+
 fn main() -> ExitCode {
+    if std::env::args().nth(1).as_deref() == Some("--gimli") {
+        println!("{}", env!("GIMLI_VERSION"));
+        return ExitCode::SUCCESS;
+    }
     match wanted(&mut std::env::args().skip(1)) {
-        Ok(wanted) => compare(&wanted),
-        Err(why) => {
-            eprintln!("beside: {why}");
-            ExitCode::from(2)
-        }
+        Ok(wanted) => run(&wanted),
+        Err(why) => refused(&why),
     }
 }

@@ -1,0 +1,349 @@
+//! Measures the library beside gimli on equal inputs: time by turns, or one call of each side to be counted.
+//!
+//! The library's side is a call of `crates/dwarf_beside` that does the whole loop. What needs a walk over a table, a
+//! cache or a written number is left out, since gimli has no such call without its upper layers.
+
+use crate::made::{put_signed, put_unsigned, Random};
+use gimli::{
+    DebugAbbrev, DebugAbbrevOffset, DebugAddr, DebugAddrBase, DebugAddrIndex, DebugStr, DebugStrOffset,
+    DebugStrOffsets, DebugStrOffsetsBase, DebugStrOffsetsIndex, EndianSlice, Format, LittleEndian, Reader,
+};
+use std::hint::black_box;
+use std::os::raw::c_int;
+
+/// How many codes the tables have that are made.
+const CODES: u64 = 5000;
+const ROUNDS: u64 = 20;
+const NUMBERS: u64 = 1 << 17;
+const LOOKUPS: usize = 1 << 15;
+
+type Bytes = &'static [u8];
+type Places = &'static [usize];
+type Call = Box<dyn Fn() -> u64>;
+
+extern "C" {
+    fn beside_unsigned_sum(bytes: *const u8, len: usize) -> u64;
+    fn beside_signed_sum(bytes: *const u8, len: usize) -> u64;
+    fn beside_short_sum(bytes: *const u8, len: usize) -> u64;
+    fn beside_skipped_count(bytes: *const u8, len: usize) -> u64;
+    fn beside_tables(bytes: *const u8, len: usize, offsets: *const usize, count: usize) -> usize;
+    fn beside_get_sum(bytes: *const u8, len: usize, offset: usize, codes: u64, rounds: u64) -> u64;
+    fn beside_strings(bytes: *const u8, len: usize, offsets: *const usize, count: usize) -> usize;
+    fn beside_str_offset_lookups(
+        bytes: *const u8, len: usize, base: usize, indices: *const usize, count: usize,
+    ) -> usize;
+    fn beside_address_lookups(bytes: *const u8, len: usize, base: usize, indices: *const usize, count: usize) -> u64;
+}
+
+/// What is measured, once each side.
+pub struct Workload {
+    name: String,
+    operations: u64,
+    gimli: Call,
+    ours: Call,
+    /// Whether both sides return the same, which is looked at first.
+    is_same: bool,
+}
+
+fn numbers(name: &str, bytes: Bytes, gimli: fn(Bytes) -> u64, ours: NumberCall) -> Workload {
+    Workload {
+        name: name.into(),
+        operations: NUMBERS,
+        gimli: Box::new(move || gimli(bytes)),
+        ours: Box::new(move || unsafe { ours(bytes.as_ptr(), bytes.len()) }),
+        is_same: true,
+    }
+}
+
+type NumberCall = unsafe extern "C" fn(*const u8, usize) -> u64;
+
+macro_rules! sum_of {
+    ($name:ident, $read:expr) => {
+        #[inline(never)]
+        fn $name(bytes: Bytes) -> u64 {
+            let mut input = EndianSlice::new(bytes, LittleEndian);
+            let mut sum = 0u64;
+            while !Reader::is_empty(&input) {
+                sum = sum.wrapping_add($read(&mut input).unwrap());
+            }
+            sum
+        }
+    };
+}
+
+type Input = EndianSlice<'static, LittleEndian>;
+
+sum_of!(unsigned_sum, |it: &mut Input| gimli::leb128::read::unsigned(it));
+sum_of!(signed_sum, |it: &mut Input| gimli::leb128::read::signed(it).map(|it| it as u64));
+sum_of!(short_sum, |it: &mut Input| gimli::leb128::read::u16(it).map(u64::from));
+sum_of!(skipped_count, |it: &mut Input| gimli::leb128::read::skip(it).map(|()| 1));
+
+/// Reads all tables. How many declarations each has is not told by gimli.
+#[inline(never)]
+fn tables(section: Bytes, offsets: Places) -> u64 {
+    let section = DebugAbbrev::new(section, LittleEndian);
+    offsets.iter().filter(|it| black_box(section.abbreviations(DebugAbbrevOffset(**it))).is_ok()).count() as u64
+}
+
+#[inline(never)]
+fn get_sum(section: Bytes) -> u64 {
+    let table = DebugAbbrev::new(section, LittleEndian).abbreviations(DebugAbbrevOffset(0)).unwrap();
+    let mut sum = 0u64;
+    for _ in 0..ROUNDS {
+        for code in 1..=CODES {
+            if let Some(abbreviation) = table.get(black_box(code)) {
+                sum = sum.wrapping_add(abbreviation.tag().0.into());
+            }
+        }
+    }
+    sum
+}
+
+#[inline(never)]
+fn strings(section: Bytes, offsets: Places) -> u64 {
+    let section = DebugStr::new(section, LittleEndian);
+    let len = |it: &usize| Reader::len(&section.get_str(DebugStrOffset(*it)).unwrap());
+    offsets.iter().fold(0, |sum, it| sum + len(it) as u64)
+}
+
+#[inline(never)]
+fn str_offsets(section: Bytes, indices: Places) -> u64 {
+    let section = DebugStrOffsets::from(EndianSlice::new(section, LittleEndian));
+    let (format, base) = (Format::Dwarf32, DebugStrOffsetsBase(8));
+    let found = |it: &usize| section.get_str_offset(format, base, DebugStrOffsetsIndex(*it)).unwrap().0;
+    indices.iter().fold(0u64, |sum, it| sum.wrapping_add(found(it) as u64))
+}
+
+#[inline(never)]
+fn addresses(section: Bytes, indices: Places) -> u64 {
+    let section = DebugAddr::from(EndianSlice::new(section, LittleEndian));
+    let found = |it: &usize| section.get_address(8, DebugAddrBase(8), DebugAddrIndex(*it)).unwrap();
+    indices.iter().fold(0u64, |sum, it| sum.wrapping_add(found(it)))
+}
+
+/// A table with these codes, shaped as compilers' ones: 0 to 12 attributes, some with a value in the table.
+fn table(random: &mut Random, codes: impl Iterator<Item = u64>, to: &mut Vec<u8>) {
+    for code in codes {
+        put_unsigned(to, code);
+        put_unsigned(to, 1 + random.below(0x4a) as u64);
+        to.push(random.below(2) as u8);
+        for _ in 0..[0, 1, 2, 2, 3, 4, 4, 5, 6, 7, 8, 12][random.below(12)] {
+            let is_rare = random.below(20) == 0;
+            put_unsigned(to, (if is_rare { 0x2110 + random.below(8) } else { 1 + random.below(0x8c) }) as u64);
+            let form = [0x08, 0x0b, 0x0b, 0x0e, 0x0e, 0x13, 0x13, 0x17, 0x18, 0x19, 0x21, 0x21][random.below(12)];
+            put_unsigned(to, form);
+            if form == 0x21 {
+                put_signed(to, random.below(200) as i64 - 20);
+            }
+        }
+        to.extend([0, 0]);
+    }
+    to.push(0);
+}
+
+fn of_tables(name: &str, section: Vec<u8>, offsets: Vec<usize>, all: &mut Vec<Workload>) {
+    let (s, o): (Bytes, Places) = (section.leak(), offsets.leak());
+    let count = unsafe { beside_tables(s.as_ptr(), s.len(), o.as_ptr(), o.len()) } as u64;
+    all.push(Workload {
+        name: format!("a declaration of a table, {name}"),
+        operations: count,
+        gimli: Box::new(move || tables(s, o)),
+        ours: Box::new(move || unsafe { beside_tables(s.as_ptr(), s.len(), o.as_ptr(), o.len()) } as u64),
+        is_same: false,
+    });
+    if name.starts_with("codes that") {
+        all.push(Workload {
+            name: format!("`Abbreviations::get`, {name}"),
+            operations: CODES * ROUNDS,
+            gimli: Box::new(move || get_sum(s)),
+            ours: Box::new(move || unsafe { beside_get_sum(s.as_ptr(), s.len(), 0, CODES, ROUNDS) }),
+            is_same: true,
+        });
+    }
+}
+
+fn all_of_tables(random: &mut Random, all: &mut Vec<Workload>) {
+    let (mut rising, mut falling, mut far, mut small) = (vec![], vec![], vec![], vec![]);
+    table(random, 1..=CODES, &mut rising);
+    table(random, (1..=CODES).rev(), &mut falling);
+    table(random, (1..=CODES).map(|it| it * 0x1_0000_0001), &mut far);
+    let mut starts = vec![];
+    for _ in 0..400 {
+        starts.push(small.len());
+        let count = 5 + random.below(20) as u64;
+        table(random, 1..=count, &mut small);
+    }
+    of_tables("codes that rise from 1", rising, vec![0], all);
+    of_tables("codes that fall", falling, vec![0], all);
+    of_tables("codes far apart", far, vec![0], all);
+    of_tables("small tables", small, starts, all);
+}
+
+fn all_of_numbers(random: &mut Random, all: &mut Vec<Workload>) {
+    let (mut any, mut one, mut signed, mut one_signed, mut halves) = (vec![], vec![], vec![], vec![], vec![]);
+    for _ in 0..NUMBERS {
+        let value = random.next() >> random.below(64);
+        put_unsigned(&mut any, value);
+        let bound = if random.below(100) < 85 { 128 } else { 1 << 14 };
+        put_unsigned(&mut one, random.below(bound) as u64);
+        put_signed(&mut one_signed, random.below(bound) as i64 - bound as i64 / 2);
+        put_signed(&mut signed, if random.below(2) == 0 { value as i64 } else { (value as i64).wrapping_neg() });
+        put_unsigned(&mut halves, (random.below(1 << 16) >> random.below(16)) as u64);
+    }
+    let (any, one, halves): (Bytes, Bytes, Bytes) = (any.leak(), one.leak(), halves.leak());
+    let (signed, one_signed): (Bytes, Bytes) = (signed.leak(), one_signed.leak());
+    all.push(numbers("an unsigned number of any length", any, unsigned_sum, beside_unsigned_sum));
+    all.push(numbers("an unsigned number mostly of one byte", one, unsigned_sum, beside_unsigned_sum));
+    all.push(numbers("a signed number of any length", signed, signed_sum, beside_signed_sum));
+    all.push(numbers("a signed number mostly of one byte", one_signed, signed_sum, beside_signed_sum));
+    all.push(numbers("a number of 16 bits of any length", halves, short_sum, beside_short_sum));
+    all.push(numbers("a number of 16 bits mostly of one byte", one, short_sum, beside_short_sum));
+    all.push(numbers("a number skipped, of any length", any, skipped_count, beside_skipped_count));
+    all.push(numbers("a number skipped, mostly of one byte", one, skipped_count, beside_skipped_count));
+}
+
+fn all_of_lookups(random: &mut Random, all: &mut Vec<Workload>) {
+    let words: Vec<u8> = (0..1u32 << 18).flat_map(|it| it.wrapping_mul(2_654_435_761).to_le_bytes()).collect();
+    let s: Bytes = words.leak();
+    let mut indices =
+        |size| -> Places { (0..LOOKUPS).map(|_| random.below((s.len() - 8) / size)).collect::<Vec<_>>().leak() };
+    let (four, eight) = (indices(4), indices(8));
+    all.push(Workload {
+        name: "`get_str_offset`".into(),
+        operations: LOOKUPS as u64,
+        gimli: Box::new(move || str_offsets(s, four)),
+        ours: Box::new(move || unsafe {
+            beside_str_offset_lookups(s.as_ptr(), s.len(), 8, four.as_ptr(), four.len()) as u64
+        }),
+        is_same: true,
+    });
+    all.push(Workload {
+        name: "`get_address`".into(),
+        operations: LOOKUPS as u64,
+        gimli: Box::new(move || addresses(s, eight)),
+        ours: Box::new(move || unsafe { beside_address_lookups(s.as_ptr(), s.len(), 8, eight.as_ptr(), eight.len()) }),
+        is_same: true,
+    });
+}
+
+fn of_strings(name: &str, random: &mut Random, section: Vec<u8>, all: &mut Vec<Workload>) {
+    let s: Bytes = section.leak();
+    let ends = s.iter().enumerate().filter(|it| *it.1 == 0).map(|it| it.0 + 1);
+    let mut starts: Vec<usize> = std::iter::once(0).chain(ends).collect();
+    starts.pop();
+    if starts.is_empty() {
+        return;
+    }
+    let o: Places = (0..50_000).map(|_| starts[random.below(starts.len())]).collect::<Vec<_>>().leak();
+    all.push(Workload {
+        name: format!("`get_str`, {name}"),
+        operations: o.len() as u64,
+        gimli: Box::new(move || strings(s, o)),
+        ours: Box::new(move || unsafe { beside_strings(s.as_ptr(), s.len(), o.as_ptr(), o.len()) as u64 }),
+        is_same: true,
+    });
+}
+
+fn made_strings(random: &mut Random) -> Vec<u8> {
+    let mut text = vec![];
+    for _ in 0..40_000 {
+        for _ in 0..[4, 8, 8, 12, 20, 40, 90, 200][random.below(8)] {
+            text.push(b'a' + random.below(26) as u8);
+        }
+        text.push(0);
+    }
+    text
+}
+
+/// The workloads, of inputs that are made and of the string sections that are given.
+pub fn workloads(sections: &[(String, String, Vec<u8>)]) -> Vec<Workload> {
+    let (mut random, mut all) = (Random(88_172_645_463_325_252), vec![]);
+    all_of_tables(&mut random, &mut all);
+    all_of_numbers(&mut random, &mut all);
+    all_of_lookups(&mut random, &mut all);
+    let made = made_strings(&mut random);
+    of_strings("made-up strings", &mut random, made, &mut all);
+    for (name, kind, bytes) in sections {
+        if kind == "debug_str" {
+            let name = name.rsplit('/').next().unwrap_or_default();
+            of_strings(&format!("strings of {name}"), &mut random, bytes.clone(), &mut all);
+        }
+    }
+    all
+}
+
+/// The thread's own processor time in nanoseconds, so that other work of the machine isn't counted.
+fn processor_nanos() -> u64 {
+    extern "C" {
+        fn clock_gettime(clock: c_int, time: *mut [i64; 2]) -> c_int;
+    }
+    const CLOCK_THREAD_CPUTIME_ID: c_int = 3;
+    let mut time = [0; 2];
+    assert_eq!(unsafe { clock_gettime(CLOCK_THREAD_CPUTIME_ID, &mut time) }, 0);
+    time[0] as u64 * 1_000_000_000 + time[1] as u64
+}
+
+/// Nanoseconds of a call, which is repeated for three milliseconds.
+fn turn(call: &Call) -> f64 {
+    let (start, mut calls) = (processor_nanos(), 0);
+    loop {
+        black_box(call());
+        calls += 1;
+        let time = processor_nanos() - start;
+        if time >= 3_000_000 {
+            return time as f64 / f64::from(calls);
+        }
+    }
+}
+
+#[no_mangle]
+#[inline(never)]
+extern "C" fn gimli_counted(workload: &Workload) {
+    black_box((workload.gimli)());
+}
+
+#[no_mangle]
+#[inline(never)]
+extern "C" fn ours_counted(workload: &Workload) {
+    black_box((workload.ours)());
+}
+
+/// Nanoseconds of an operation of either side by turns, and the quarters and the middle of the ratios of neighbours.
+fn turns(workload: &Workload) -> String {
+    let (mut left, mut right, mut ratios) = (vec![], vec![], vec![]);
+    for sample in 0..31 {
+        let is_first = sample % 2 == 0;
+        let early = turn(if is_first { &workload.gimli } else { &workload.ours });
+        let late = turn(if is_first { &workload.ours } else { &workload.gimli });
+        let (gimli, ours) = if is_first { (early, late) } else { (late, early) };
+        left.push(gimli / workload.operations as f64);
+        right.push(ours / workload.operations as f64);
+        ratios.push(ours / gimli);
+    }
+    for list in [&mut left, &mut right, &mut ratios] {
+        list.sort_by(f64::total_cmp);
+    }
+    let at = |list: &[f64], part: usize| list[(list.len() - 1) * part / 4];
+    let (low, middle, high) = (at(&ratios, 1), at(&ratios, 2), at(&ratios, 3));
+    format!("{}\t{}\t{low}\t{middle}\t{high}", at(&left, 2), at(&right, 2))
+}
+
+/// Prints a line of each workload: its name, its operations, and if it is timed the nanoseconds of an operation of
+/// either side, and the lower quarter, the middle and the upper quarter of the ratios of neighbouring turns.
+pub fn measure(all: &[Workload], is_timed: bool) -> Result<(), String> {
+    for workload in all {
+        let (name, operations) = (&workload.name, workload.operations);
+        let (gimli, ours) = ((workload.gimli)(), (workload.ours)());
+        if workload.is_same && gimli != ours {
+            return Err(format!("{name}: gimli's sum is {gimli}, and the library's {ours}"));
+        }
+        if !is_timed {
+            gimli_counted(workload);
+            ours_counted(workload);
+            println!("{name}\t{operations}");
+            continue;
+        }
+        println!("{name}\t{operations}\t{}", turns(workload));
+    }
+    Ok(())
+}
