@@ -195,8 +195,9 @@ fn abbreviations(random: &mut Random) -> (Vec<u8>, usize, Vec<u64>) {
 
 fn of_tables(random: &mut Random) -> (Question, Vec<u8>) {
     let (bytes, offset, mut codes) = abbreviations(random);
-    let question = match random.below(8) {
+    let question = match random.below(9) {
         0 | 1 => Question::Strict(offset),
+        8 => Question::Cached((0..1 + random.below(5)).map(|_| random.pick(&[offset, offset, 0, 1])).collect()),
         2 | 3 => Question::Grown { before: random.below(bytes.len() + 1), offset },
         4 => {
             let more = codes.iter().map(|it| it.wrapping_add(1)).collect::<Vec<_>>();

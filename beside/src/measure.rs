@@ -1,7 +1,7 @@
 //! Measures the library beside gimli on equal inputs: time by turns, or one call of each side to be counted.
 //!
-//! The library's side is a call of `crates/dwarf_beside` that does the whole loop. What needs a walk over a table, a
-//! cache or a written number is left out, since gimli has no such call without its upper layers.
+//! The library's side is a call of `crates/dwarf_beside` that does the whole loop. What fills a cache from units
+//! is left out, since units belong to gimli's upper layers, and so are written numbers, which another feature has.
 
 use crate::made::{put_signed, put_unsigned, Random};
 use gimli::{
@@ -244,6 +244,75 @@ fn of_strings(name: &str, random: &mut Random, section: Vec<u8>, all: &mut Vec<W
     });
 }
 
+/// Sets with fewer than `most` addresses each. Each third set has addresses of four bytes.
+#[cfg(gimli_0_34)]
+fn made_sets(random: &mut Random, count: usize, most: usize) -> Vec<u8> {
+    let mut to = vec![];
+    for i in 0..count {
+        let (size, entries) = (if i % 3 == 0 { 4 } else { 8 }, random.below(most));
+        to.extend((4 + entries as u32 * size as u32).to_le_bytes());
+        to.extend([5, 0, size as u8, 0]);
+        for _ in 0..entries {
+            to.extend(&random.next().to_le_bytes()[..size]);
+        }
+    }
+    to
+}
+
+#[cfg(gimli_0_34)]
+#[inline(never)]
+fn headers_sum(section: Bytes) -> gimli::Result<u64> {
+    let mut sum = 0u64;
+    let mut headers = DebugAddr::from(EndianSlice::new(section, LittleEndian)).headers();
+    while let Some(header) = headers.next()? {
+        let size = header.encoding().address_size;
+        sum = sum.wrapping_add(header.length() as u64 + header.offset().0 as u64 + u64::from(size));
+    }
+    Ok(sum)
+}
+
+#[cfg(gimli_0_34)]
+#[inline(never)]
+fn addresses_sum(section: Bytes) -> gimli::Result<u64> {
+    let mut sum = 0u64;
+    let mut headers = DebugAddr::from(EndianSlice::new(section, LittleEndian)).headers();
+    while let Some(header) = headers.next()? {
+        let mut entries = header.entries();
+        while let Some(address) = entries.next()? {
+            sum = sum.wrapping_add(address);
+        }
+    }
+    Ok(sum)
+}
+
+#[cfg(gimli_0_34)]
+fn all_of_sets(random: &mut Random, all: &mut Vec<Workload>) {
+    extern "C" {
+        fn beside_headers(bytes: *const u8, len: usize) -> u64;
+        fn beside_addresses(bytes: *const u8, len: usize) -> u64;
+    }
+    for (name, count, most) in [("small sets", 20_000, 4), ("large sets", 300, 800)] {
+        let s: Bytes = made_sets(random, count, most).leak();
+        let section = DebugAddr::from(EndianSlice::new(s, LittleEndian));
+        let entries = section.headers().map(|it| it.unwrap().entries().count() as u64).sum();
+        let mut add = |what: &str, operations, gimli: fn(Bytes) -> gimli::Result<u64>, ours: NumberCall| {
+            all.push(Workload {
+                name: format!("{what} of {name}"),
+                operations,
+                gimli: Box::new(move || gimli(s).unwrap()),
+                ours: Box::new(move || unsafe { ours(s.as_ptr(), s.len()) }),
+                is_same: true,
+            })
+        };
+        add("a header", count as u64, headers_sum, beside_headers);
+        add("an address", entries, addresses_sum, beside_addresses);
+    }
+}
+
+/// (this gimli has no sets of addresses)
+#[cfg(not(gimli_0_34))]
+fn all_of_sets(_random: &mut Random, _all: &mut Vec<Workload>) {}
+
 fn made_strings(random: &mut Random) -> Vec<u8> {
     let mut text = vec![];
     for _ in 0..40_000 {
@@ -261,6 +330,7 @@ pub fn workloads(sections: &[(String, String, Vec<u8>)]) -> Vec<Workload> {
     all_of_tables(&mut random, &mut all);
     all_of_numbers(&mut random, &mut all);
     all_of_lookups(&mut random, &mut all);
+    all_of_sets(&mut random, &mut all);
     let made = made_strings(&mut random);
     of_strings("made-up strings", &mut random, made, &mut all);
     for (name, kind, bytes) in sections {

@@ -90,6 +90,7 @@ extern "C" {
         bytes: Byte, len: usize, offset: usize, codes: *const u64, code_count: usize, tags: *mut u16, tag_count: usize,
         fault: &mut RawFault,
     ) -> u32;
+    fn beside_cached(bytes: Byte, len: usize, offsets: *const usize, count: usize, rounds: u64) -> usize;
     fn beside_addresses(bytes: Byte, len: usize) -> u64;
 }
 
@@ -120,6 +121,11 @@ impl Ours {
                 beside_grown(bytes.as_ptr(), bytes.len(), *before, *offset, count, fault)
             }),
             Question::Found { offset, codes } => found(bytes, *offset, codes),
+            Question::Cached(offsets) => {
+                Answer::Sum(
+                    unsafe { beside_cached(bytes.as_ptr(), bytes.len(), offsets.as_ptr(), offsets.len(), 2) } as u64
+                )
+            }
             Question::Addresses => Answer::Sum(unsafe { beside_addresses(bytes.as_ptr(), bytes.len()) }),
             _ => lookup(question, bytes),
         }

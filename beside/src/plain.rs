@@ -143,6 +143,10 @@ pub fn answer(question: &Question, bytes: &[u8]) -> Answer {
         })),
         // A section that grew is read as if it had always been so.
         Question::Grown { offset, .. } => shown(table(bytes, *offset).map(|it| Answer::Count(it.0.len()))),
+        Question::Cached(offsets) => {
+            let length = |it: &usize| table(bytes, *it).map_or(1 << 32, |it| it.0.len() as u64);
+            Answer::Sum(2 * offsets.iter().map(length).sum::<u64>())
+        }
         Question::Found { offset, codes } => {
             shown(table(bytes, *offset).map(|(by_code, _)| {
                 Answer::Tags(codes.iter().map(|it| by_code.get(it).map_or(0, |it| it.tag)).collect())

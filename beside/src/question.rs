@@ -57,6 +57,8 @@ pub enum Question {
         before: usize,
         offset: usize,
     },
+    /// How many declarations a cache that was filled at these offsets has there, twice. An error counts as 2^32.
+    Cached(Vec<usize>),
     /// The tags of these codes in the table at an offset.
     Found {
         offset: usize,
@@ -184,7 +186,7 @@ impl Answer {
             Answer::Set(_) => "a set",
             Answer::End => "the end of the sets",
             Answer::Sum(0) => "a sum that is 0",
-            Answer::Sum(_) => "a sum of addresses",
+            Answer::Sum(_) => "a sum",
         }
     }
 }
@@ -202,6 +204,15 @@ impl fmt::Display for Answer {
             _ => write!(to, "{self:?}"),
         }
     }
+}
+
+/// Numbers as one word, and back.
+fn joined<T: fmt::Display>(numbers: &[T]) -> String {
+    numbers.iter().map(|it| it.to_string()).collect::<Vec<_>>().join(",")
+}
+
+fn parted<T: std::str::FromStr>(word: &str) -> Option<Vec<T>> {
+    word.split(',').map(|it| it.parse().ok()).collect()
 }
 
 fn order_name(is_big: bool) -> &'static str {
@@ -225,6 +236,7 @@ impl Question {
             Question::Table(_) => "table",
             Question::Strict(_) => "strict",
             Question::Grown { .. } => "grown",
+            Question::Cached(_) => "cached",
             Question::Found { .. } => "found",
             Question::Text(_) => "string",
             Question::StrOffset { .. } => "str-offset",
@@ -243,10 +255,8 @@ impl Question {
             Question::WrittenSigned(value) => vec![value.to_string()],
             Question::Table(offset) | Question::Strict(offset) | Question::Text(offset) => vec![offset.to_string()],
             Question::Grown { before, offset } => vec![before.to_string(), offset.to_string()],
-            Question::Found { offset, codes } => {
-                let codes: Vec<String> = codes.iter().map(|it| it.to_string()).collect();
-                vec![offset.to_string(), codes.join(",")]
-            }
+            Question::Cached(offsets) => vec![joined(offsets)],
+            Question::Found { offset, codes } => vec![offset.to_string(), joined(codes)],
             Question::StrOffset { is_big, is_64, base, index } => {
                 let size = if *is_64 { "8" } else { "4" };
                 vec![order_name(*is_big).into(), size.into(), base.to_string(), index.to_string()]
@@ -279,10 +289,8 @@ impl Question {
             "table" => (Question::Table(number(0)?), 1),
             "strict" => (Question::Strict(number(0)?), 1),
             "grown" => (Question::Grown { before: number(0)?, offset: number(1)? }, 2),
-            "found" => {
-                let codes = words.get(1)?.split(',').map(|it| it.parse().ok()).collect::<Option<_>>()?;
-                (Question::Found { offset: number(0)?, codes }, 2)
-            }
+            "cached" => (Question::Cached(parted(words.first()?)?), 1),
+            "found" => (Question::Found { offset: number(0)?, codes: parted(words.get(1)?)? }, 2),
             "string" => (Question::Text(number(0)?), 1),
             "str-offset" => {
                 let is_64 = number(1)? == 8;

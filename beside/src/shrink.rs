@@ -15,6 +15,11 @@ fn moved(question: &Question, by: usize) -> Option<Question> {
         Question::Found { offset, .. }
         | Question::AddressSet { offset, .. }
         | Question::StrOffsetSet { offset, .. } => *offset = offset.checked_sub(by)?,
+        Question::Cached(offsets) => {
+            for offset in offsets.iter_mut() {
+                *offset = offset.checked_sub(by)?;
+            }
+        }
         Question::Grown { before, offset } => {
             *before = before.checked_sub(by)?;
             *offset = offset.checked_sub(by)?;

@@ -112,13 +112,15 @@ impl Tally {
         println!("reached: {}", all.join(", "));
         let mut skipped = 0;
         if !HAS_SETS {
-            println!("left out: this gimli has no sets of addresses, which only the second reader has read");
+            println!("left out: this gimli has no sets of addresses, so the second reader alone had them");
             skipped += 1;
         }
         if self.theirs.is_strict {
             println!("this gimli wants the null code of a table, so it was compared with the strict reading");
         }
-        println!("no gimli reads strictly, grows a section, or reads sets of string offsets: so the second reader did");
+        println!(
+            "the second reader alone had strict readings, caches, growth, written numbers and sets of string offsets"
+        );
         println!(
             "{} inputs, of which gimli {} read {}: {} differences",
             self.inputs,

@@ -8,12 +8,12 @@ ghost use Rattle.dwarf_beside.specs.Sums.{Adds, CountsAs};
 
 use crate::single::table_at;
 use dwarf_read_core::{
-    Abbreviation, Abbreviations, AbbreviationsCache, AbbreviationsCacheStrategy, DebugAbbrev,
-    DebugAbbrevOffset, EndianSlice, Error, LittleEndian, Result,
+    Abbreviations, AbbreviationsCache, AbbreviationsCacheStrategy, DebugAbbrev, DebugAbbrevOffset,
+    EndianSlice, Error, LittleEndian, Result,
 };
 use std::alloc::Global;
 
-// What an error counts as, which no table has as many abbreviations as.
+// What an error counts as.
 pub const FAILED: usize = 1 << 32;
 
 /// Reads the table at each offset, and returns how many abbreviations they have together. A table
@@ -36,52 +36,6 @@ fn counted(mem: Global, section: &[u8], offset: usize) -> usize
     match table_at(mem, section, offset) {
         Ok(table) => table.len(),
         Err(_) => FAILED,
-    }
-}
-
-// A checksum with one number more.
-fn add(sum: u64, value: u64) -> u64 {
-    sum.wrapping_mul(31).wrapping_add(value)
-}
-
-// A checksum with an abbreviation more.
-fn add_abbreviation(sum: u64, abbreviation: &Abbreviation) -> u64 {
-    let mut sum = add(sum, abbreviation.code());
-    sum = add(sum, u64::from(abbreviation.tag().0));
-    sum = add(sum, u64::from(abbreviation.has_children()));
-    for attribute in abbreviation.attributes() {
-        sum = add(sum, u64::from(attribute.name().0));
-        sum = add(sum, u64::from(attribute.form().0));
-        sum = add(
-            sum,
-            attribute
-                .implicit_const_value()
-                .unwrap_or(0)
-                .cast_unsigned(),
-        );
-    }
-    sum
-}
-
-// A checksum of a table.
-fn sum_of(table: &Abbreviations) -> u64 {
-    let mut sum: u64 = 0;
-    for abbreviation in table.iter() {
-        sum = add_abbreviation(sum, abbreviation);
-    }
-    sum
-}
-
-/// Reads the table at `offset`, looks at all that it has, and returns a checksum of it, or 2^32 for
-/// an error.
-#[unsafe(no_mangle)]
-pub extern "C" fn beside_walk(mem: Global, section: &[u8], offset: usize) -> u64
-    ensures { let s = section_of section.now in
-        result ≢ FAILED → (t : Table) × Answer s offset (Ok t) }
-{
-    match table_at(mem, section, offset) {
-        Ok(table) => sum_of(&table),
-        Err(_) => FAILED as u64,
     }
 }
 
