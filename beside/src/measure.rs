@@ -8,7 +8,6 @@ use gimli::{
     DebugAbbrev, DebugAbbrevOffset, DebugAddr, DebugAddrBase, DebugAddrIndex, DebugStr, DebugStrOffset,
     DebugStrOffsets, DebugStrOffsetsBase, DebugStrOffsetsIndex, EndianSlice, Format, LittleEndian, Reader,
 };
-use std::hint::black_box;
 use std::os::raw::c_int;
 
 /// How many codes the tables have that are made.
@@ -33,6 +32,12 @@ extern "C" {
         bytes: *const u8, len: usize, base: usize, indices: *const usize, count: usize,
     ) -> usize;
     fn beside_address_lookups(bytes: *const u8, len: usize, base: usize, indices: *const usize, count: usize) -> u64;
+}
+
+/// Keeps the compiler from knowing a number. The standard library's function for it came with Rust 1.66.
+#[inline(always)]
+fn hidden(value: u64) -> u64 {
+    unsafe { std::ptr::read_volatile(&value) }
 }
 
 /// What is measured, once each side.
@@ -82,7 +87,7 @@ sum_of!(skipped_count, |it: &mut Input| gimli::leb128::read::skip(it).map(|()| 1
 #[inline(never)]
 fn tables(section: Bytes, offsets: Places) -> u64 {
     let section = DebugAbbrev::new(section, LittleEndian);
-    offsets.iter().filter(|it| black_box(section.abbreviations(DebugAbbrevOffset(**it))).is_ok()).count() as u64
+    offsets.iter().filter(|it| section.abbreviations(DebugAbbrevOffset(**it)).is_ok()).count() as u64
 }
 
 #[inline(never)]
@@ -91,7 +96,7 @@ fn get_sum(section: Bytes) -> u64 {
     let mut sum = 0u64;
     for _ in 0..ROUNDS {
         for code in 1..=CODES {
-            if let Some(abbreviation) = table.get(black_box(code)) {
+            if let Some(abbreviation) = table.get(hidden(code)) {
                 sum = sum.wrapping_add(abbreviation.tag().0.into());
             }
         }
@@ -357,7 +362,7 @@ fn processor_nanos() -> u64 {
 fn turn(call: &Call) -> f64 {
     let (start, mut calls) = (processor_nanos(), 0);
     loop {
-        black_box(call());
+        hidden(call());
         calls += 1;
         let time = processor_nanos() - start;
         if time >= 3_000_000 {
@@ -369,13 +374,13 @@ fn turn(call: &Call) -> f64 {
 #[no_mangle]
 #[inline(never)]
 extern "C" fn gimli_counted(workload: &Workload) {
-    black_box((workload.gimli)());
+    hidden((workload.gimli)());
 }
 
 #[no_mangle]
 #[inline(never)]
 extern "C" fn ours_counted(workload: &Workload) {
-    black_box((workload.ours)());
+    hidden((workload.ours)());
 }
 
 /// Nanoseconds of an operation of either side by turns, and the quarters and the middle of the ratios of neighbours.
