@@ -1,6 +1,6 @@
 //! Loops over strings, and over lookups by an index (DWARF 5, 7.26 and 7.27).
 
-ghost use Rattle.std.specs.Prelude.{◌≡◌, ◌≢◌, ◌^◌, ◌-◌, Ok};
+ghost use Rattle.std.specs.Prelude.{◌≢◌, ◌^◌, ◌-◌, Ok};
 ghost use Rattle.dwarf_read_core.specs.Words.{AddressAt, WordAt, slot};
 ghost use Rattle.dwarf_beside.specs.Sections.{section_of};
 ghost use Rattle.dwarf_beside.specs.Sums.{Adds, HasText};

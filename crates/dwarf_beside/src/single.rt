@@ -3,7 +3,6 @@
 ghost use Rattle.std.specs.Prelude.{◌≡◌, ◌≢◌, ◌≤◌, Ok, Err, length, map, IfOk, IfErr};
 ghost use Rattle.std.specs.FinMap as finite;
 ghost use Rattle.dwarf_read_core.specs.Answer.{Answer, Answers, AnswersStrictly, StrictAnswer};
-ghost use Rattle.dwarf_read_core.specs.Appended.{followed_by};
 ghost use Rattle.dwarf_read_core.specs.Cache.{IsFaithful, answer_of};
 ghost use Rattle.dwarf_read_core.specs.Grammar.{Table};
 ghost use Rattle.dwarf_read_core.specs.Leb128.{unsigned64, unsigned16, signed64};
