@@ -12,8 +12,8 @@ import sys
 
 ROOT = os.path.dirname(os.path.dirname(os.path.realpath(__file__)))
 PARTS = ("src", "specs", "proofs")
-# The kit that `tools/ci` was written for.
-KIT = "rattle-kit-13f logic dac8208d650f15bf"
+# The kits that `tools/ci` was written for. They have one logic, and prove the same.
+KITS = ("rattle-kit-13b logic dac8208d650f15bf", "rattle-kit-13f logic dac8208d650f15bf")
 # Where the gate's proofs keep what they have checked of each crate, if the gate runs.
 KEPT = os.environ.get("GATE_KEPT")
 TEST = re.compile(r"^ *#\[test\]", re.M)
