@@ -2,7 +2,7 @@
 use Rattle.std.specs.Prelude.{ℕ, ◌≡◌, ◌%◌, ◌⊎◌, IsTrue, List, [], ◌∷◌, bit_and, codes}
 use Rattle.dwarf_const_core.specs.Names.{is_among, text_of}
 
--- each value and its name, by rising value
+-- each value and its name, by rising value; tools/constants writes the rows from the declarations in src/
 unfoldable pub pointer_encoding_names : List (ℕ × List ℕ)
 pointer_encoding_names =
     (0x00, codes "DW_EH_PE_absptr") ∷

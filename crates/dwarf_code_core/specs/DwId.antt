@@ -2,7 +2,7 @@
 use Rattle.std.specs.Prelude.{ℕ, List, [], ◌∷◌, codes}
 use Rattle.dwarf_const_core.specs.Names.{text_of}
 
--- each value and its name, by rising value
+-- each value and its name, by rising value; tools/constants writes the rows from the declarations in src/
 unfoldable pub identifier_case_names : List (ℕ × List ℕ)
 identifier_case_names =
     (0x00, codes "DW_ID_case_sensitive") ∷

@@ -2,7 +2,7 @@
 use Rattle.std.specs.Prelude.{ℕ, List, [], ◌∷◌, codes}
 use Rattle.dwarf_const_core.specs.Names.{text_of}
 
--- each value and its name, by rising value
+-- each value and its name, by rising value; tools/constants writes the rows from the declarations in src/
 unfoldable pub line_extended_names : List (ℕ × List ℕ)
 line_extended_names =
     (0x01, codes "DW_LNE_end_sequence") ∷

@@ -2,7 +2,7 @@
 use Rattle.std.specs.Prelude.{ℕ, List, [], ◌∷◌, codes}
 use Rattle.dwarf_const_core.specs.Names.{text_of}
 
--- each value and its name, by rising value
+-- each value and its name, by rising value; tools/constants writes the rows from the declarations in src/
 unfoldable pub gdb_index_symbol_kind_names : List (ℕ × List ℕ)
 gdb_index_symbol_kind_names =
     (0x00, codes "GDB_INDEX_SYMBOL_KIND_NONE") ∷

@@ -11,8 +11,8 @@ use std::fmt;
 
 /// Who may use a declaration (DWARF 5, section 7.9).
 ///
-/// It prints as its name; a value without one, as 99, prints as `Unknown DwAccess: 99`. Either is
-/// padded as a text is.
+/// `Display` writes the name, or `Unknown DwAccess: 99` for a value without one, and honours width,
+/// fill and alignment.
 #[derive(Debug, Clone, Copy, PartialEq, Eq, Hash, PartialOrd, Ord)]
 pub struct DwAccess(pub u8);
 
@@ -23,6 +23,7 @@ pub const DW_ACCESS_protected: DwAccess = DwAccess(0x02);
 /// Open only to the class.
 pub const DW_ACCESS_private: DwAccess = DwAccess(0x03);
 
+// tools/constants writes this list from the declarations.
 const NAMES: Names = names![DW_ACCESS_public, DW_ACCESS_protected, DW_ACCESS_private,];
 
 impl DwAccess {

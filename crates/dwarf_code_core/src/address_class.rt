@@ -12,14 +12,15 @@ use std::fmt;
 /// How a pointer is to be followed. Each machine defines its own classes beside the one here (DWARF
 /// 5, section 7.13).
 ///
-/// It prints as its name; a value without one, as 99, prints as `Unknown DwAddr: 99`. Either is
-/// padded as a text is.
+/// `Display` writes the name, or `Unknown DwAddr: 99` for a value without one, and honours width,
+/// fill and alignment.
 #[derive(Debug, Clone, Copy, PartialEq, Eq, Hash, PartialOrd, Ord)]
 pub struct DwAddr(pub u64);
 
 /// No class: a plain address.
 pub const DW_ADDR_none: DwAddr = DwAddr(0x00);
 
+// tools/constants writes this list from the declarations.
 const NAMES: Names = names![DW_ADDR_none,];
 
 impl DwAddr {

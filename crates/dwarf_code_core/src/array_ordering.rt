@@ -11,8 +11,8 @@ use std::fmt;
 
 /// The order in which an array of several indices lies in memory (DWARF 5, section 7.17).
 ///
-/// It prints as its name; a value without one, as 99, prints as `Unknown DwOrd: 99`. Either is
-/// padded as a text is.
+/// `Display` writes the name, or `Unknown DwOrd: 99` for a value without one, and honours width,
+/// fill and alignment.
 #[derive(Debug, Clone, Copy, PartialEq, Eq, Hash, PartialOrd, Ord)]
 pub struct DwOrd(pub u8);
 
@@ -21,6 +21,7 @@ pub const DW_ORD_row_major: DwOrd = DwOrd(0x00);
 /// Columns lie together: the first index moves fastest.
 pub const DW_ORD_col_major: DwOrd = DwOrd(0x01);
 
+// tools/constants writes this list from the declarations.
 const NAMES: Names = names![DW_ORD_row_major, DW_ORD_col_major,];
 
 impl DwOrd {

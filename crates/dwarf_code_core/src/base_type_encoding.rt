@@ -11,8 +11,8 @@ use std::fmt;
 
 /// How a base type is represented (DWARF 5, section 7.8).
 ///
-/// It prints as its name; a value without one, as 99, prints as `Unknown DwAte: 99`. Either is
-/// padded as a text is.
+/// `Display` writes the name, or `Unknown DwAte: 99` for a value without one, and honours width,
+/// fill and alignment.
 #[derive(Debug, Clone, Copy, PartialEq, Eq, Hash, PartialOrd, Ord)]
 pub struct DwAte(pub u8);
 
@@ -69,6 +69,7 @@ pub const DW_ATE_lo_user: DwAte = DwAte(0x80);
 /// The last value open to vendors.
 pub const DW_ATE_hi_user: DwAte = DwAte(0xff);
 
+// tools/constants writes this list from the declarations.
 const NAMES: Names = names![
     DW_ATE_address,
     DW_ATE_boolean,

@@ -11,8 +11,8 @@ use std::fmt;
 
 /// An instruction that says how a call frame is restored (DWARF 5, section 7.24).
 ///
-/// It prints as its name; a value without one, as 99, prints as `Unknown DwCfa: 99`. Either is
-/// padded as a text is.
+/// `Display` writes the name, or `Unknown DwCfa: 99` for a value without one, and honours width,
+/// fill and alignment.
 #[derive(Debug, Clone, Copy, PartialEq, Eq, Hash, PartialOrd, Ord)]
 pub struct DwCfa(pub u8);
 
@@ -98,6 +98,7 @@ pub const DW_CFA_GNU_negative_offset_extended: DwCfa = DwCfa(0x2f);
 /// that of `DW_CFA_GNU_window_save`, and so is the name that it prints.
 pub const DW_CFA_AARCH64_negate_ra_state: DwCfa = DwCfa(0x2d);
 
+// tools/constants writes this list from the declarations.
 const NAMES: Names = names![
     DW_CFA_nop,
     DW_CFA_set_loc,

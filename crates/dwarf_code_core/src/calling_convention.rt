@@ -11,8 +11,8 @@ use std::fmt;
 
 /// How a subroutine is called, or values of a type are passed (DWARF 5, section 7.15).
 ///
-/// It prints as its name; a value without one, as 99, prints as `Unknown DwCc: 99`. Either is
-/// padded as a text is.
+/// `Display` writes the name, or `Unknown DwCc: 99` for a value without one, and honours width,
+/// fill and alignment.
 #[derive(Debug, Clone, Copy, PartialEq, Eq, Hash, PartialOrd, Ord)]
 pub struct DwCc(pub u8);
 
@@ -37,6 +37,7 @@ pub const DW_CC_lo_user: DwCc = DwCc(0x40);
 /// The last value open to vendors.
 pub const DW_CC_hi_user: DwCc = DwCc(0xff);
 
+// tools/constants writes this list from the declarations.
 const NAMES: Names = names![
     DW_CC_normal,
     DW_CC_program,

@@ -11,8 +11,8 @@ use std::fmt;
 
 /// Whether an entry has children (DWARF 5, section 7.5.3).
 ///
-/// It prints as its name; a value without one, as 99, prints as `Unknown DwChildren: 99`. Either is
-/// padded as a text is.
+/// `Display` writes the name, or `Unknown DwChildren: 99` for a value without one, and honours
+/// width, fill and alignment.
 #[derive(Debug, Clone, Copy, PartialEq, Eq, Hash, PartialOrd, Ord)]
 pub struct DwChildren(pub u8);
 
@@ -21,6 +21,7 @@ pub const DW_CHILDREN_no: DwChildren = DwChildren(0);
 /// The next entry is the first child.
 pub const DW_CHILDREN_yes: DwChildren = DwChildren(1);
 
+// tools/constants writes this list from the declarations.
 const NAMES: Names = names![DW_CHILDREN_no, DW_CHILDREN_yes,];
 
 impl DwChildren {

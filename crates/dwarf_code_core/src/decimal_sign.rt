@@ -11,8 +11,8 @@ use std::fmt;
 
 /// How a decimal number has its sign (DWARF 5, section 7.8).
 ///
-/// It prints as its name; a value without one, as 99, prints as `Unknown DwDs: 99`. Either is
-/// padded as a text is.
+/// `Display` writes the name, or `Unknown DwDs: 99` for a value without one, and honours width,
+/// fill and alignment.
 #[derive(Debug, Clone, Copy, PartialEq, Eq, Hash, PartialOrd, Ord)]
 pub struct DwDs(pub u8);
 
@@ -27,6 +27,7 @@ pub const DW_DS_leading_separate: DwDs = DwDs(0x04);
 /// A sign character after the digits.
 pub const DW_DS_trailing_separate: DwDs = DwDs(0x05);
 
+// tools/constants writes this list from the declarations.
 const NAMES: Names = names![
     DW_DS_unsigned,
     DW_DS_leading_overpunch,

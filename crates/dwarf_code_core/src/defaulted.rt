@@ -11,8 +11,8 @@ use std::fmt;
 
 /// Where a member function is defaulted, if it is (DWARF 5, section 7.20).
 ///
-/// It prints as its name; a value without one, as 99, prints as `Unknown DwDefaulted: 99`. Either
-/// is padded as a text is.
+/// `Display` writes the name, or `Unknown DwDefaulted: 99` for a value without one, and honours
+/// width, fill and alignment.
 #[derive(Debug, Clone, Copy, PartialEq, Eq, Hash, PartialOrd, Ord)]
 pub struct DwDefaulted(pub u8);
 
@@ -23,6 +23,7 @@ pub const DW_DEFAULTED_in_class: DwDefaulted = DwDefaulted(0x01);
 /// Defaulted outside the class.
 pub const DW_DEFAULTED_out_of_class: DwDefaulted = DwDefaulted(0x02);
 
+// tools/constants writes this list from the declarations.
 const NAMES: Names = names![
     DW_DEFAULTED_no,
     DW_DEFAULTED_in_class,

@@ -11,8 +11,8 @@ use std::fmt;
 
 /// What comes next in a list of discriminant values (DWARF 5, section 7.18).
 ///
-/// It prints as its name; a value without one, as 99, prints as `Unknown DwDsc: 99`. Either is
-/// padded as a text is.
+/// `Display` writes the name, or `Unknown DwDsc: 99` for a value without one, and honours width,
+/// fill and alignment.
 #[derive(Debug, Clone, Copy, PartialEq, Eq, Hash, PartialOrd, Ord)]
 pub struct DwDsc(pub u8);
 
@@ -21,6 +21,7 @@ pub const DW_DSC_label: DwDsc = DwDsc(0x00);
 /// The least and the greatest value of a range.
 pub const DW_DSC_range: DwDsc = DwDsc(0x01);
 
+// tools/constants writes this list from the declarations.
 const NAMES: Names = names![DW_DSC_label, DW_DSC_range,];
 
 impl DwDsc {

@@ -11,8 +11,8 @@ use std::fmt;
 
 /// The byte order of data (DWARF 5, section 7.8).
 ///
-/// It prints as its name; a value without one, as 99, prints as `Unknown DwEnd: 99`. Either is
-/// padded as a text is.
+/// `Display` writes the name, or `Unknown DwEnd: 99` for a value without one, and honours width,
+/// fill and alignment.
 #[derive(Debug, Clone, Copy, PartialEq, Eq, Hash, PartialOrd, Ord)]
 pub struct DwEnd(pub u8);
 
@@ -27,6 +27,7 @@ pub const DW_END_lo_user: DwEnd = DwEnd(0x40);
 /// The last value open to vendors.
 pub const DW_END_hi_user: DwEnd = DwEnd(0xff);
 
+// tools/constants writes this list from the declarations.
 const NAMES: Names = names![
     DW_END_default,
     DW_END_big,

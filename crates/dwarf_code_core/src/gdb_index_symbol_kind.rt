@@ -11,8 +11,8 @@ use std::fmt;
 
 /// What kind of symbol `.gdb_index` names (GDB's manual, "Index Section Format").
 ///
-/// It prints as its name; a value without one, as 99, prints as `Unknown GdbIndexSymbolKind: 99`.
-/// Either is padded as a text is.
+/// `Display` writes the name, or `Unknown GdbIndexSymbolKind: 99` for a value without one, and
+/// honours width, fill and alignment.
 #[derive(Debug, Clone, Copy, PartialEq, Eq, Hash, PartialOrd, Ord)]
 pub struct GdbIndexSymbolKind(pub u8);
 
@@ -33,6 +33,7 @@ pub const GDB_INDEX_SYMBOL_KIND_UNUSED6: GdbIndexSymbolKind = GdbIndexSymbolKind
 /// Not given a meaning.
 pub const GDB_INDEX_SYMBOL_KIND_UNUSED7: GdbIndexSymbolKind = GdbIndexSymbolKind(7);
 
+// tools/constants writes this list from the declarations.
 const NAMES: Names = names![
     GDB_INDEX_SYMBOL_KIND_NONE,
     GDB_INDEX_SYMBOL_KIND_TYPE,

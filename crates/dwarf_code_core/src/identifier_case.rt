@@ -11,8 +11,8 @@ use std::fmt;
 
 /// How a unit treats upper and lower case in names (DWARF 5, section 7.14).
 ///
-/// It prints as its name; a value without one, as 99, prints as `Unknown DwId: 99`. Either is
-/// padded as a text is.
+/// `Display` writes the name, or `Unknown DwId: 99` for a value without one, and honours width,
+/// fill and alignment.
 #[derive(Debug, Clone, Copy, PartialEq, Eq, Hash, PartialOrd, Ord)]
 pub struct DwId(pub u8);
 
@@ -25,6 +25,7 @@ pub const DW_ID_down_case: DwId = DwId(0x02);
 /// Case doesn't matter.
 pub const DW_ID_case_insensitive: DwId = DwId(0x03);
 
+// tools/constants writes this list from the declarations.
 const NAMES: Names = names![
     DW_ID_case_sensitive,
     DW_ID_up_case,

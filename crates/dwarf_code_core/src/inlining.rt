@@ -11,8 +11,8 @@ use std::fmt;
 
 /// Whether a subroutine was declared inline, and whether it was inlined (DWARF 5, section 7.16).
 ///
-/// It prints as its name; a value without one, as 99, prints as `Unknown DwInl: 99`. Either is
-/// padded as a text is.
+/// `Display` writes the name, or `Unknown DwInl: 99` for a value without one, and honours width,
+/// fill and alignment.
 #[derive(Debug, Clone, Copy, PartialEq, Eq, Hash, PartialOrd, Ord)]
 pub struct DwInl(pub u8);
 
@@ -25,6 +25,7 @@ pub const DW_INL_declared_not_inlined: DwInl = DwInl(0x02);
 /// Declared inline, and inlined.
 pub const DW_INL_declared_inlined: DwInl = DwInl(0x03);
 
+// tools/constants writes this list from the declarations.
 const NAMES: Names = names![
     DW_INL_not_inlined,
     DW_INL_inlined,

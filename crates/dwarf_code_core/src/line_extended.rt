@@ -11,8 +11,8 @@ use std::fmt;
 
 /// An extended opcode of a line number program (DWARF 5, section 7.22).
 ///
-/// It prints as its name; a value without one, as 99, prints as `Unknown DwLne: 99`. Either is
-/// padded as a text is.
+/// `Display` writes the name, or `Unknown DwLne: 99` for a value without one, and honours width,
+/// fill and alignment.
 #[derive(Debug, Clone, Copy, PartialEq, Eq, Hash, PartialOrd, Ord)]
 pub struct DwLne(pub u8);
 
@@ -35,6 +35,7 @@ pub const DW_LNE_lo_user: DwLne = DwLne(0x80);
 /// The last value open to vendors.
 pub const DW_LNE_hi_user: DwLne = DwLne(0xff);
 
+// tools/constants writes this list from the declarations.
 const NAMES: Names = names![
     DW_LNE_end_sequence,
     DW_LNE_set_address,

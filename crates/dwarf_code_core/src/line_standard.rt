@@ -11,8 +11,8 @@ use std::fmt;
 
 /// A standard opcode of a line number program (DWARF 5, section 7.22).
 ///
-/// It prints as its name; a value without one, as 99, prints as `Unknown DwLns: 99`. Either is
-/// padded as a text is.
+/// `Display` writes the name, or `Unknown DwLns: 99` for a value without one, and honours width,
+/// fill and alignment.
 #[derive(Debug, Clone, Copy, PartialEq, Eq, Hash, PartialOrd, Ord)]
 pub struct DwLns(pub u8);
 
@@ -44,6 +44,7 @@ pub const DW_LNS_set_epilogue_begin: DwLns = DwLns(0x0b);
 /// The instruction set is another one.
 pub const DW_LNS_set_isa: DwLns = DwLns(0x0c);
 
+// tools/constants writes this list from the declarations.
 const NAMES: Names = names![
     DW_LNS_copy,
     DW_LNS_advance_pc,

@@ -11,8 +11,8 @@ use std::fmt;
 
 /// What kind of entry of a location list follows (DWARF 5, section 7.7.3).
 ///
-/// It prints as its name; a value without one, as 99, prints as `Unknown DwLle: 99`. Either is
-/// padded as a text is.
+/// `Display` writes the name, or `Unknown DwLle: 99` for a value without one, and honours width,
+/// fill and alignment.
 #[derive(Debug, Clone, Copy, PartialEq, Eq, Hash, PartialOrd, Ord)]
 pub struct DwLle(pub u8);
 
@@ -40,6 +40,7 @@ pub const DW_LLE_start_length: DwLle = DwLle(0x08);
 /// Two view numbers for the entry that follows.
 pub const DW_LLE_GNU_view_pair: DwLle = DwLle(0x09);
 
+// tools/constants writes this list from the declarations.
 const NAMES: Names = names![
     DW_LLE_end_of_list,
     DW_LLE_base_addressx,

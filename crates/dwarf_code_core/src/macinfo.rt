@@ -12,8 +12,8 @@ use std::fmt;
 /// What kind of entry of `.debug_macinfo` follows (DWARF 4, section 7.22; DWARF 5 has
 /// `.debug_macro` in its place).
 ///
-/// It prints as its name; a value without one, as 99, prints as `Unknown DwMacinfo: 99`. Either is
-/// padded as a text is.
+/// `Display` writes the name, or `Unknown DwMacinfo: 99` for a value without one, and honours
+/// width, fill and alignment.
 #[derive(Debug, Clone, Copy, PartialEq, Eq, Hash, PartialOrd, Ord)]
 pub struct DwMacinfo(pub u8);
 
@@ -28,6 +28,7 @@ pub const DW_MACINFO_end_file: DwMacinfo = DwMacinfo(0x04);
 /// What a vendor adds.
 pub const DW_MACINFO_vendor_ext: DwMacinfo = DwMacinfo(0xff);
 
+// tools/constants writes this list from the declarations.
 const NAMES: Names = names![
     DW_MACINFO_define,
     DW_MACINFO_undef,

@@ -11,8 +11,8 @@ use std::fmt;
 
 /// What kind of entry of `.debug_macro` follows (DWARF 5, section 7.23).
 ///
-/// It prints as its name; a value without one, as 99, prints as `Unknown DwMacro: 99`. Either is
-/// padded as a text is.
+/// `Display` writes the name, or `Unknown DwMacro: 99` for a value without one, and honours width,
+/// fill and alignment.
 #[derive(Debug, Clone, Copy, PartialEq, Eq, Hash, PartialOrd, Ord)]
 pub struct DwMacro(pub u8);
 
@@ -45,6 +45,7 @@ pub const DW_MACRO_lo_user: DwMacro = DwMacro(0xe0);
 /// The last value open to vendors.
 pub const DW_MACRO_hi_user: DwMacro = DwMacro(0xff);
 
+// tools/constants writes this list from the declarations.
 const NAMES: Names = names![
     DW_MACRO_define,
     DW_MACRO_undef,

@@ -14,8 +14,8 @@ pub mod numbered;
 
 /// An operation of an expression, which works on a stack (DWARF 5, section 7.7.1).
 ///
-/// It prints as its name; a value without one, as 236, prints as `Unknown DwOp: 236`. Either is
-/// padded as a text is.
+/// `Display` writes the name, or `Unknown DwOp: 236` for a value without one, and honours width,
+/// fill and alignment.
 #[derive(Debug, Clone, Copy, PartialEq, Eq, Hash, PartialOrd, Ord)]
 pub struct DwOp(pub u8);
 
@@ -212,6 +212,7 @@ pub const DW_OP_GNU_variable_value: DwOp = DwOp(0xfd);
 /// A local, a global or a place on the operand stack.
 pub const DW_OP_WASM_location: DwOp = DwOp(0xed);
 
+// tools/constants writes this list from the declarations.
 const NAMES: Names = names![
     DW_OP_addr,
     DW_OP_deref,

@@ -13,8 +13,8 @@ use std::{fmt, ops};
 /// relative to in bits 4 to 6, and in bit 7 whether the pointer is elsewhere (Linux Standard
 /// Base Core 5.0, section 10.5.1).
 ///
-/// It prints as its name; a value without one, as 99, prints as `Unknown DwEhPe: 99`. Either is
-/// padded as a text is.
+/// `Display` writes the name, or `Unknown DwEhPe: 99` for a value without one, and honours width,
+/// fill and alignment.
 #[derive(Debug, Clone, Copy, PartialEq, Eq, Hash, PartialOrd, Ord)]
 pub struct DwEhPe(pub u8);
 
@@ -62,6 +62,7 @@ pub const DW_EH_PE_absptr: DwEhPe = DwEhPe(0x00);
 /// There is no pointer.
 pub const DW_EH_PE_omit: DwEhPe = DwEhPe(0xff);
 
+// tools/constants writes this list from the declarations.
 const NAMES: Names = names![
     DW_EH_PE_absptr,
     DW_EH_PE_uleb128,

@@ -11,8 +11,8 @@ use std::fmt;
 
 /// What kind of entry of a range list follows (DWARF 5, section 7.25).
 ///
-/// It prints as its name; a value without one, as 99, prints as `Unknown DwRle: 99`. Either is
-/// padded as a text is.
+/// `Display` writes the name, or `Unknown DwRle: 99` for a value without one, and honours width,
+/// fill and alignment.
 #[derive(Debug, Clone, Copy, PartialEq, Eq, Hash, PartialOrd, Ord)]
 pub struct DwRle(pub u8);
 
@@ -33,6 +33,7 @@ pub const DW_RLE_start_end: DwRle = DwRle(0x06);
 /// The first address and a length.
 pub const DW_RLE_start_length: DwRle = DwRle(0x07);
 
+// tools/constants writes this list from the declarations.
 const NAMES: Names = names![
     DW_RLE_end_of_list,
     DW_RLE_base_addressx,

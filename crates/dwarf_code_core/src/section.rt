@@ -11,8 +11,8 @@ use std::fmt;
 
 /// A section of a package file, in its index (DWARF 5, section 7.3.5.3).
 ///
-/// It prints as its name; a value without one, as 99, prints as `Unknown DwSect: 99`. Either is
-/// padded as a text is.
+/// `Display` writes the name, or `Unknown DwSect: 99` for a value without one, and honours width,
+/// fill and alignment.
 #[derive(Debug, Clone, Copy, PartialEq, Eq, Hash, PartialOrd, Ord)]
 pub struct DwSect(pub u32);
 
@@ -31,6 +31,7 @@ pub const DW_SECT_MACRO: DwSect = DwSect(7);
 /// `.debug_rnglists.dwo`.
 pub const DW_SECT_RNGLISTS: DwSect = DwSect(8);
 
+// tools/constants writes this list from the declarations.
 const NAMES: Names = names![
     DW_SECT_INFO,
     DW_SECT_ABBREV,

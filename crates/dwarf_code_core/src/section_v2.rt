@@ -12,8 +12,8 @@ use std::fmt;
 /// A section of a package file, in the index that GNU had before DWARF 5 (version 2 of the index,
 /// of GCC's proposal "DWARF Package File Format").
 ///
-/// It prints as its name; a value without one, as 99, prints as `Unknown DwSectV2: 99`. Either is
-/// padded as a text is.
+/// `Display` writes the name, or `Unknown DwSectV2: 99` for a value without one, and honours width,
+/// fill and alignment.
 #[derive(Debug, Clone, Copy, PartialEq, Eq, Hash, PartialOrd, Ord)]
 pub struct DwSectV2(pub u32);
 
@@ -34,6 +34,7 @@ pub const DW_SECT_V2_MACINFO: DwSectV2 = DwSectV2(7);
 /// `.debug_macro.dwo`.
 pub const DW_SECT_V2_MACRO: DwSectV2 = DwSectV2(8);
 
+// tools/constants writes this list from the declarations.
 const NAMES: Names = names![
     DW_SECT_V2_INFO,
     DW_SECT_V2_TYPES,

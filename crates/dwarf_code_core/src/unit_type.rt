@@ -11,8 +11,8 @@ use std::fmt;
 
 /// What kind of unit a header begins (DWARF 5, section 7.5.1).
 ///
-/// It prints as its name; a value without one, as 99, prints as `Unknown DwUt: 99`. Either is
-/// padded as a text is.
+/// `Display` writes the name, or `Unknown DwUt: 99` for a value without one, and honours width,
+/// fill and alignment.
 #[derive(Debug, Clone, Copy, PartialEq, Eq, Hash, PartialOrd, Ord)]
 pub struct DwUt(pub u8);
 
@@ -33,6 +33,7 @@ pub const DW_UT_lo_user: DwUt = DwUt(0x80);
 /// The last value open to vendors.
 pub const DW_UT_hi_user: DwUt = DwUt(0xff);
 
+// tools/constants writes this list from the declarations.
 const NAMES: Names = names![
     DW_UT_compile,
     DW_UT_type,

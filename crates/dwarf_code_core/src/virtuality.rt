@@ -11,8 +11,8 @@ use std::fmt;
 
 /// Whether a function or a base class is virtual (DWARF 5, section 7.11).
 ///
-/// It prints as its name; a value without one, as 99, prints as `Unknown DwVirtuality: 99`. Either
-/// is padded as a text is.
+/// `Display` writes the name, or `Unknown DwVirtuality: 99` for a value without one, and honours
+/// width, fill and alignment.
 #[derive(Debug, Clone, Copy, PartialEq, Eq, Hash, PartialOrd, Ord)]
 pub struct DwVirtuality(pub u8);
 
@@ -23,6 +23,7 @@ pub const DW_VIRTUALITY_virtual: DwVirtuality = DwVirtuality(0x01);
 /// Virtual, with no body of its own.
 pub const DW_VIRTUALITY_pure_virtual: DwVirtuality = DwVirtuality(0x02);
 
+// tools/constants writes this list from the declarations.
 const NAMES: Names = names![
     DW_VIRTUALITY_none,
     DW_VIRTUALITY_virtual,

@@ -11,8 +11,8 @@ use std::fmt;
 
 /// Who sees a declaration (DWARF 5, section 7.10).
 ///
-/// It prints as its name; a value without one, as 99, prints as `Unknown DwVis: 99`. Either is
-/// padded as a text is.
+/// `Display` writes the name, or `Unknown DwVis: 99` for a value without one, and honours width,
+/// fill and alignment.
 #[derive(Debug, Clone, Copy, PartialEq, Eq, Hash, PartialOrd, Ord)]
 pub struct DwVis(pub u8);
 
@@ -23,6 +23,7 @@ pub const DW_VIS_exported: DwVis = DwVis(0x02);
 /// Seen in other modules if it is named with its own.
 pub const DW_VIS_qualified: DwVis = DwVis(0x03);
 
+// tools/constants writes this list from the declarations.
 const NAMES: Names = names![DW_VIS_local, DW_VIS_exported, DW_VIS_qualified,];
 
 impl DwVis {

@@ -12,7 +12,7 @@ use Rattle.dwarf_const_core.specs.declared.language.TheConstants.{DW_LANG_Fortra
 use Rattle.dwarf_const_core.specs.declared.language.TheConstants.{DW_LANG_Fortran03, DW_LANG_Fortran08}
 use Rattle.dwarf_const_core.specs.Names.{is_among, text_of}
 
--- each value and its name, by rising value
+-- each value and its name, by rising value; tools/constants writes the rows from the declarations in src/
 unfoldable pub language_names : List (ℕ × List ℕ)
 language_names =
     (0x01, codes "DW_LANG_C89") ∷

@@ -17,8 +17,8 @@ pub mod vendor;
 
 /// What a value of an entry is about (DWARF 5, section 7.5.4).
 ///
-/// It prints as its name; a value without one, as 4660, prints as `Unknown DwAt: 4660`. Either is
-/// padded as a text is.
+/// `Display` writes the name, or `Unknown DwAt: 4660` for a value without one, and honours width,
+/// fill and alignment.
 #[derive(Debug, Clone, Copy, PartialEq, Eq, Hash, PartialOrd, Ord)]
 pub struct DwAt(pub u16);
 
@@ -188,6 +188,7 @@ pub const DW_AT_lo_user: DwAt = DwAt(0x2000);
 /// The last value open to vendors.
 pub const DW_AT_hi_user: DwAt = DwAt(0x3fff);
 
+// tools/constants writes this list from the declarations.
 const NAMES: Names = names![
     DW_AT_null,
     DW_AT_sibling,

@@ -10,8 +10,8 @@ use std::fmt;
 
 /// How the value of an attribute is encoded (DWARF 5, sections 7.5.5 and 7.5.6).
 ///
-/// It prints as its name; a value without one, as 4660, prints as `Unknown DwForm: 4660`. Either is
-/// padded as a text is.
+/// `Display` writes the name, or `Unknown DwForm: 4660` for a value without one, and honours width,
+/// fill and alignment.
 #[derive(Debug, Clone, Copy, PartialEq, Eq, Hash, PartialOrd, Ord)]
 pub struct DwForm(pub u16);
 
@@ -134,6 +134,7 @@ pub const DW_FORM_GNU_ref_alt: DwForm = DwForm(0x1f20);
 /// An offset into the supplementary file's `.debug_str`.
 pub const DW_FORM_GNU_strp_alt: DwForm = DwForm(0x1f21);
 
+// tools/constants writes this list from the declarations.
 const NAMES: Names = names![
     DW_FORM_null,
     DW_FORM_addr,

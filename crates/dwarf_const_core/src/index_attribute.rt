@@ -10,8 +10,8 @@ use std::fmt;
 
 /// What a value of an entry in `.debug_names` is about (DWARF 5, section 7.19).
 ///
-/// It prints as its name; a value without one, as 4660, prints as `Unknown DwIdx: 4660`. Either is
-/// padded as a text is.
+/// `Display` writes the name, or `Unknown DwIdx: 4660` for a value without one, and honours width,
+/// fill and alignment.
 #[derive(Debug, Clone, Copy, PartialEq, Eq, Hash, PartialOrd, Ord)]
 pub struct DwIdx(pub u16);
 
@@ -30,6 +30,7 @@ pub const DW_IDX_lo_user: DwIdx = DwIdx(0x2000);
 /// The last value open to vendors.
 pub const DW_IDX_hi_user: DwIdx = DwIdx(0x3fff);
 
+// tools/constants writes this list from the declarations.
 const NAMES: Names = names![
     DW_IDX_compile_unit,
     DW_IDX_type_unit,

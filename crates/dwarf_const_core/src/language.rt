@@ -10,8 +10,8 @@ use std::fmt;
 
 /// A source language (DWARF 5, section 7.12).
 ///
-/// It prints as its name; a value without one, as 4660, prints as `Unknown DwLang: 4660`. Either is
-/// padded as a text is.
+/// `Display` writes the name, or `Unknown DwLang: 4660` for a value without one, and honours width,
+/// fill and alignment.
 #[derive(Debug, Clone, Copy, PartialEq, Eq, Hash, PartialOrd, Ord)]
 pub struct DwLang(pub u16);
 
@@ -142,6 +142,7 @@ pub const DW_LANG_ALTIUM_Assembler: DwLang = DwLang(0x9101);
 /// Delphi, by Borland.
 pub const DW_LANG_BORLAND_Delphi: DwLang = DwLang(0xb000);
 
+// tools/constants writes this list from the declarations.
 const NAMES: Names = names![
     DW_LANG_C89,
     DW_LANG_C,

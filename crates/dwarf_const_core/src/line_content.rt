@@ -10,8 +10,8 @@ use std::fmt;
 
 /// What a line number program keeps of a file or a directory (DWARF 5, section 7.22).
 ///
-/// It prints as its name; a value without one, as 4660, prints as `Unknown DwLnct: 4660`. Either is
-/// padded as a text is.
+/// `Display` writes the name, or `Unknown DwLnct: 4660` for a value without one, and honours width,
+/// fill and alignment.
 #[derive(Debug, Clone, Copy, PartialEq, Eq, Hash, PartialOrd, Ord)]
 pub struct DwLnct(pub u16);
 
@@ -32,6 +32,7 @@ pub const DW_LNCT_LLVM_source: DwLnct = DwLnct(0x2001);
 /// The last value open to vendors.
 pub const DW_LNCT_hi_user: DwLnct = DwLnct(0x3fff);
 
+// tools/constants writes this list from the declarations.
 const NAMES: Names = names![
     DW_LNCT_path,
     DW_LNCT_directory_index,

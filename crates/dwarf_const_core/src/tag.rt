@@ -13,8 +13,8 @@ pub mod vendor;
 
 /// What kind of thing an entry describes (DWARF 5, section 7.5.3).
 ///
-/// It prints as its name; a value without one, as 4660, prints as `Unknown DwTag: 4660`. Either is
-/// padded as a text is.
+/// `Display` writes the name, or `Unknown DwTag: 4660` for a value without one, and honours width,
+/// fill and alignment.
 #[derive(Debug, Clone, Copy, PartialEq, Eq, Hash, PartialOrd, Ord)]
 pub struct DwTag(pub u16);
 
@@ -189,6 +189,7 @@ pub const DW_TAG_lo_user: DwTag = DwTag(0x4080);
 /// The last value open to vendors.
 pub const DW_TAG_hi_user: DwTag = DwTag(0xffff);
 
+// tools/constants writes this list from the declarations.
 const NAMES: Names = names![
     DW_TAG_null,
     DW_TAG_array_type,

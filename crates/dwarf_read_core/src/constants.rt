@@ -3,6 +3,8 @@
 //! Each type is a struct with the number that is in the bytes. `static_string` returns the name of
 //! a value, and `Display` writes it; neither takes memory.
 
+// tools/constants writes the names of constants in the lists below.
+
 // Attributes: what a value of an entry is about.
 pub use dwarf_const_core::attribute::{
     DW_AT_abstract_origin, DW_AT_accessibility, DW_AT_address_class, DW_AT_artificial,

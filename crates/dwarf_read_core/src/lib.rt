@@ -40,6 +40,8 @@ pub use read::{
     StrOffsetsHeader, StrOffsetsHeaderIter, UnitOffset, read_u8_array,
 };
 
+// tools/constants writes the names of constants in the lists below.
+
 // Attributes: what a value of an entry is about.
 pub use constants::{
     DW_AT_abstract_origin, DW_AT_accessibility, DW_AT_address_class, DW_AT_artificial,
