@@ -1,29 +1,30 @@
-//! All public calls, each by worked answers.
+//! The public calls of dwarf_read_core and dwarf_uses, each by worked answers.
 
-use dwarf_read_core::{EndianSlice, Error, LittleEndian, Result};
+use dwarf_read_core::{EndianSlice, Endianity, Error, LittleEndian, ReaderOffsetId, Result};
 use std::alloc::Global;
 use std::fmt::Debug;
-use std::hash::{DefaultHasher, Hash, Hasher};
 use std::process::Abort;
 
-// The same in a constant, where no function can be called.
+// The error that bytes are missing at a position, also in a constant, where no function can be called.
 macro_rules! eof {
     ($position:expr) => {
         dwarf_read_core::Error::UnexpectedEof(dwarf_read_core::ReaderOffsetId($position))
     };
 }
 
+// What four calls return of which the first returns this, and the others no item.
+macro_rules! ended {
+    ($first:expr) => {
+        [$first, Ok(None), Ok(None), Ok(None)]
+    };
+}
+
 mod addresses;
 mod cache;
 mod callers;
-mod constants;
-mod errors;
 mod examples;
-mod leb128;
-mod numbers;
+mod names;
 mod owned;
-mod plain_types;
-mod readers;
 mod sections;
 mod shared;
 mod string_offset_sets;
@@ -34,6 +35,13 @@ mod worked;
 // Ends the test where an answer isn't the one that is wanted, and tells of what it is the answer.
 fn same<T: PartialEq + Debug + Drop, W: Debug + Copy>(rt: &impl Abort, got: T, wanted: T, what: W) {
     assert_eq!(rt; got, wanted, "{what:?}");
+}
+
+// A reader of at most a thousand bytes whose first position is this one. The prover has to see that no position
+// is past the greatest number of 64 bits.
+fn reader_at<E: Endianity>(bytes: &[u8], order: E, first: u8) -> EndianSlice<'_, E> {
+    let bytes = &bytes[..bytes.len().min(1000)];
+    EndianSlice::with_first_id(bytes, order, ReaderOffsetId(u64::from(first)))
 }
 
 // What four calls of an iterator's `next` return.
@@ -55,10 +63,4 @@ fn end_requests(rt: &impl Print, mem: Global) {
     if Vec::from_slice(mem, &[0u8]).is_err() {
         let _ = println!(rt; "every request was refused");
     }
-}
-
-fn hash_of<T: Hash>(value: &T) -> u64 {
-    let mut state = DefaultHasher::new();
-    value.hash(&mut state);
-    state.finish()
 }

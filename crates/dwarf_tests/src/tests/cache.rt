@@ -35,6 +35,17 @@ fn code_at(
     }
 }
 
+#[test]
+fn strategies_are_compared(rt: HostRuntime) {
+    let (all, duplicates) = (
+        AbbreviationsCacheStrategy::All,
+        AbbreviationsCacheStrategy::Duplicates,
+    );
+    let copies = [all, duplicates];
+    same(&rt, copies, [all, duplicates], "copies");
+    same(&rt, all == duplicates, false, "others");
+}
+
 // What a cache returns for the empty section, at 0 and at 5.
 fn check(
     rt: &impl Abort,

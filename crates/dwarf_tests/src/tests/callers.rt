@@ -9,6 +9,7 @@ use dwarf_read_core::{
     ReaderOffset, Result,
 };
 use dwarf_uses::callers::{addresses_in, string_by_index, table_lengths, table_text, tag_of};
+use dwarf_uses::parts::{clone_is_equal, split_ten};
 use std::alloc::Global;
 use std::process::Abort;
 use std::test::Fail;
@@ -77,4 +78,13 @@ fn sections_are_looked_up(rt: HostRuntime) -> std::result::Result<(), Fail> {
         "addresses",
     );
     Ok(())
+}
+
+#[test]
+fn parts_are_cut(rt: HostRuntime) {
+    let bytes = b"0123456789";
+    let wanted = (b"012".as_slice(), b"3456789".as_slice());
+    same(&rt, split_ten(bytes), wanted, "three and seven");
+    let reader = EndianSlice::new(bytes, LittleEndian);
+    same(&rt, clone_is_equal(&reader), Ok(true), "a clone");
 }

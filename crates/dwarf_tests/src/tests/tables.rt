@@ -1,7 +1,7 @@
 //! Abbreviation tables.
 
 use super::worked::{ENDED, FIVE, IMPLICIT, SIX, THREE, UNIT};
-use super::{end_requests, eof, same};
+use super::{end_requests, eof, reader_at, same};
 use dwarf_read_core::constants::*;
 use dwarf_read_core::{
     Abbreviations, AttributeSpecification, DebugAbbrev, DebugAbbrevOffset, Encoding, EndianSlice,
@@ -156,11 +156,10 @@ fn first_errors_have_positions(rt: HostRuntime) {
     }
 }
 
-// The fault of a table of at most a hundred bytes, the first of them at position 100.
-fn far_fault(mem: Global, bytes: &[u8], offset: u8) -> Option<Error> {
-    let bytes = &bytes[..bytes.len().min(100)];
-    let reader = EndianSlice::with_first_id(bytes, LittleEndian, ReaderOffsetId(100));
-    table_in(mem, &DebugAbbrev::from(reader), offset, Mode::Lenient).err()
+// The first error of a table whose section begins at position 100.
+fn far_error(mem: Global, bytes: &[u8], offset: u8) -> Option<Error> {
+    let section = DebugAbbrev::from(reader_at(bytes, LittleEndian, 100));
+    table_in(mem, &section, offset, Mode::Lenient).err()
 }
 
 #[test]
@@ -172,8 +171,12 @@ fn positions_begin_at_the_first(rt: HostRuntime) {
         (b"\0\x01\x11\x02", 1, children(2)),
     ];
     for (bytes, offset, wanted) in rows {
-        let fault = far_fault(rt.alloc(), bytes, offset);
-        same(&rt, fault, Some(wanted), bytes);
+        same(
+            &rt,
+            far_error(rt.alloc(), bytes, offset),
+            Some(wanted),
+            bytes,
+        );
     }
 }
 
@@ -287,6 +290,17 @@ fn check_attributes(
         same(rt, &copy, abbreviation, bytes);
     }
     Ok(())
+}
+
+#[test]
+fn attributes_are_compared(rt: HostRuntime) {
+    let name = AttributeSpecification::new(DW_AT_name, DW_FORM_string, None);
+    let first = AttributeSpecification::new(DW_AT_name, DW_FORM_implicit_const, Some(1));
+    let second = AttributeSpecification::new(DW_AT_name, DW_FORM_implicit_const, Some(2));
+    let copies = [name, first, second];
+    same(&rt, copies, [name, first, second], "copies");
+    let found = [name == first, first == second, second == name];
+    same(&rt, found, [false; 3], "others");
 }
 
 #[test]

@@ -1,7 +1,32 @@
 //! The other constants of one, four and eight bytes and their values, as published.
 
-use super::Row;
-use dwarf_read_core::constants::*;
+use crate::tests::Row;
+use dwarf_code_core::accessibility::*;
+use dwarf_code_core::address_class::*;
+use dwarf_code_core::array_ordering::*;
+use dwarf_code_core::base_type_encoding::*;
+use dwarf_code_core::call_frame::*;
+use dwarf_code_core::calling_convention::*;
+use dwarf_code_core::children::*;
+use dwarf_code_core::decimal_sign::*;
+use dwarf_code_core::defaulted::*;
+use dwarf_code_core::discriminant::*;
+use dwarf_code_core::endianity::*;
+use dwarf_code_core::gdb_index_symbol_kind::*;
+use dwarf_code_core::identifier_case::*;
+use dwarf_code_core::inlining::*;
+use dwarf_code_core::line_extended::*;
+use dwarf_code_core::line_standard::*;
+use dwarf_code_core::location_list_entry::*;
+use dwarf_code_core::macinfo::*;
+use dwarf_code_core::macro_entry::*;
+use dwarf_code_core::pointer_encoding::*;
+use dwarf_code_core::range_list_entry::*;
+use dwarf_code_core::section::*;
+use dwarf_code_core::section_v2::*;
+use dwarf_code_core::unit_type::*;
+use dwarf_code_core::virtuality::*;
+use dwarf_code_core::visibility::*;
 
 pub(super) static UNIT_TYPES: &[Row<DwUt>] = &published![
     DW_UT_compile = 0x01,

@@ -1,14 +1,13 @@
 //! Formats, encodings, typed offsets and the other plain types.
 
-use super::{hash_of, same};
-use dwarf_read_core::{
-    AbbreviationsCacheStrategy, AttributeSpecification, BigEndian, DW_AT_name,
-    DW_FORM_implicit_const, DW_FORM_string, DebugAbbrevOffset, DebugAddrBase, DebugAddrIndex,
-    DebugAddrOffset, DebugArangesOffset, DebugFrameOffset, DebugInfoOffset, DebugLineOffset,
-    DebugLineStrOffset, DebugLocListsBase, DebugLocListsIndex, DebugMacinfoOffset,
-    DebugMacroOffset, DebugNamesOffset, DebugRngListsBase, DebugRngListsIndex, DebugStrOffset,
-    DebugStrOffsetsBase, DebugStrOffsetsIndex, DebugTypeSignature, DebugTypesOffset, DwarfFileType,
-    DwoId, EhFrameOffset, Encoding, Error, Format, LineEncoding, LittleEndian, LocationListsOffset,
+use crate::tests::{hash_of, same};
+use dwarf_base_core::{
+    BigEndian, DebugAbbrevOffset, DebugAddrBase, DebugAddrIndex, DebugAddrOffset,
+    DebugArangesOffset, DebugFrameOffset, DebugInfoOffset, DebugLineOffset, DebugLineStrOffset,
+    DebugLocListsBase, DebugLocListsIndex, DebugMacinfoOffset, DebugMacroOffset, DebugNamesOffset,
+    DebugRngListsBase, DebugRngListsIndex, DebugStrOffset, DebugStrOffsetsBase,
+    DebugStrOffsetsIndex, DebugTypeSignature, DebugTypesOffset, DwarfFileType, DwoId,
+    EhFrameOffset, Encoding, Error, Format, LineEncoding, LittleEndian, LocationListsOffset,
     RangeListsOffset, RawRangeListsOffset, ReaderOffsetId, Register, RunTimeEndian, SectionId,
     StoreOnHeap, UnitOffset, UnitSectionOffset, Vendor,
 };
@@ -129,17 +128,6 @@ fn plain_types_are_compared(rt: HostRuntime) {
         "DwarfFileType",
     );
     are_plain(&rt, &[StoreOnHeap], "StoreOnHeap");
-    let strategies = [
-        AbbreviationsCacheStrategy::Duplicates,
-        AbbreviationsCacheStrategy::All,
-    ];
-    are_plain(&rt, &strategies, "AbbreviationsCacheStrategy");
-    let attributes = [
-        AttributeSpecification::new(DW_AT_name, DW_FORM_string, None),
-        AttributeSpecification::new(DW_AT_name, DW_FORM_implicit_const, Some(1)),
-        AttributeSpecification::new(DW_AT_name, DW_FORM_implicit_const, Some(2)),
-    ];
-    are_plain(&rt, &attributes, "AttributeSpecification");
     let errors = [
         Error::UnexpectedEof(ReaderOffsetId(1)),
         Error::UnexpectedEof(ReaderOffsetId(2)),

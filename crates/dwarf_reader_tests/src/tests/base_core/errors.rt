@@ -1,8 +1,19 @@
 //! The texts of errors, and the errors of refused memory.
 
-use super::same;
-use dwarf_read_core::constants::*;
-use dwarf_read_core::{Error, ReaderOffsetId};
+use crate::tests::same;
+use dwarf_base_core::{Error, ReaderOffsetId};
+use dwarf_code_core::call_frame::DwCfa;
+use dwarf_code_core::children::DwChildren;
+use dwarf_code_core::location_list_entry::DwLle;
+use dwarf_code_core::macinfo::DwMacinfo;
+use dwarf_code_core::macro_entry::DwMacro;
+use dwarf_code_core::operation::DwOp;
+use dwarf_code_core::pointer_encoding::DwEhPe;
+use dwarf_code_core::range_list_entry::DwRle;
+use dwarf_code_core::section::DwSect;
+use dwarf_code_core::section_v2::DwSectV2;
+use dwarf_code_core::unit_type::DwUt;
+use dwarf_const_core::form::DwForm;
 use std::alloc::{AllocError, AllocFailed, Global};
 use std::process::Abort;
 use std::test::Fail;

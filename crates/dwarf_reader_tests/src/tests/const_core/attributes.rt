@@ -1,7 +1,10 @@
 //! The attributes and their values, as published.
 
-use super::Row;
-use dwarf_read_core::constants::*;
+use crate::tests::Row;
+use dwarf_const_core::attribute::later::*;
+use dwarf_const_core::attribute::sun::*;
+use dwarf_const_core::attribute::vendor::*;
+use dwarf_const_core::attribute::*;
 
 pub(super) static FIRST_ATTRIBUTES: &[Row<DwAt>] = &published![
     DW_AT_null = 0x00,

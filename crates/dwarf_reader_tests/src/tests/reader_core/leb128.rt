@@ -1,9 +1,10 @@
 //! LEB128 numbers, read and written.
 
-use super::{eof, little, same};
-use dwarf_read_core::leb128::read;
-use dwarf_read_core::leb128::write::{Leb128, sleb128_size, uleb128_size};
-use dwarf_read_core::{Error, Reader, ReaderOffsetId, Result};
+use crate::tests::{little, same};
+use dwarf_base_core::{Error, Result};
+use dwarf_reader_core::Reader;
+use dwarf_reader_core::leb128::read;
+use dwarf_reader_core::leb128::write::{Leb128, sleb128_size, uleb128_size};
 
 // The last of the thirty-one bytes alone ends a number.
 const LONG: &[u8] = &[
@@ -32,9 +33,9 @@ static UNSIGNED: &[(&[u8], Result<u64>, u64)] = &[
         10,
     ),
     (LONG, Err(Error::BadUnsignedLeb128), 10),
-    (NINE, Err(Error::UnexpectedEof(ReaderOffsetId(9))), 9),
-    (&[0x80], Err(Error::UnexpectedEof(ReaderOffsetId(1))), 1),
-    (&[], Err(Error::UnexpectedEof(ReaderOffsetId(0))), 0),
+    (NINE, Err(eof!(9)), 9),
+    (&[0x80], Err(eof!(1)), 1),
+    (&[], Err(eof!(0)), 0),
 ];
 
 static SHORT: &[(&[u8], Result<u16>, u64)] = &[
@@ -49,12 +50,8 @@ static SHORT: &[(&[u8], Result<u16>, u64)] = &[
     (&[0xff, 0xff, 0x03], Ok(0xffff), 3),
     (&[0x80, 0x80, 0x04], Err(Error::BadUnsignedLeb128), 3),
     (&[0x80, 0x80, 0x80, 0x03], Err(Error::BadUnsignedLeb128), 3),
-    (
-        &[0x80, 0x80],
-        Err(Error::UnexpectedEof(ReaderOffsetId(2))),
-        2,
-    ),
-    (&[0x80], Err(Error::UnexpectedEof(ReaderOffsetId(1))), 1),
+    (&[0x80, 0x80], Err(eof!(2)), 2),
+    (&[0x80], Err(eof!(1)), 1),
 ];
 
 static SIGNED: &[(&[u8], Result<i64>, u64)] = &[
@@ -77,8 +74,8 @@ static SIGNED: &[(&[u8], Result<i64>, u64)] = &[
         10,
     ),
     (LONG, Err(Error::BadSignedLeb128), 10),
-    (NINE, Err(Error::UnexpectedEof(ReaderOffsetId(9))), 9),
-    (&[0x80], Err(Error::UnexpectedEof(ReaderOffsetId(1))), 1),
+    (NINE, Err(eof!(9)), 9),
+    (&[0x80], Err(eof!(1)), 1),
 ];
 
 // Bytes, what a skip of them returns, and how many of them it consumes.
@@ -91,7 +88,7 @@ static SKIPPED: &[(&[u8], Result<()>, u64)] = &[
         Ok(()),
         12,
     ),
-    (NINE, Err(Error::UnexpectedEof(ReaderOffsetId(9))), 9),
+    (NINE, Err(eof!(9)), 9),
 ];
 
 // Numbers, and their shortest encodings.
@@ -169,7 +166,7 @@ fn numbers_are_read(rt: HostRuntime) {
         same(&rt, read_all(bytes).skipped, (*wanted, *consumed), bytes);
     }
     let in_a_row = read_all(&[0x82, 0x01, 0x01]).in_a_row;
-    same(&rt, in_a_row, [Ok(130), Ok(1), Err(eof(3))], "in a row");
+    same(&rt, in_a_row, [Ok(130), Ok(1), Err(eof!(3))], "in a row");
 }
 
 #[test]

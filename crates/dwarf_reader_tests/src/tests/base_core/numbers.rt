@@ -1,7 +1,7 @@
 //! Byte orders, and the numbers that a reader counts in.
 
-use super::same;
-use dwarf_read_core::{
+use crate::tests::same;
+use dwarf_base_core::{
     BigEndian, Endianity, Error, LittleEndian, NativeEndian, ReaderAddress, ReaderOffset, Result,
     RunTimeEndian,
 };

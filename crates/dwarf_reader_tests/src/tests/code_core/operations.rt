@@ -1,7 +1,8 @@
 //! The operations of expressions and their values, as published.
 
-use super::Row;
-use dwarf_read_core::constants::*;
+use crate::tests::Row;
+use dwarf_code_core::operation::numbered::*;
+use dwarf_code_core::operation::*;
 
 pub(super) static OPERATIONS: &[Row<DwOp>] = &published![
     DW_OP_addr = 0x03,

@@ -1,7 +1,12 @@
 //! The other constants of two bytes and their values, as published.
 
-use super::Row;
-use dwarf_read_core::constants::*;
+use crate::tests::Row;
+use dwarf_const_core::form::*;
+use dwarf_const_core::index_attribute::*;
+use dwarf_const_core::language::*;
+use dwarf_const_core::line_content::*;
+use dwarf_const_core::tag::vendor::*;
+use dwarf_const_core::tag::*;
 
 pub(super) static TAGS: &[Row<DwTag>] = &published![
     DW_TAG_null = 0x00,

@@ -1,0 +1,4 @@
+//! LEB128 numbers, and readers.
+
+mod leb128;
+mod readers;
