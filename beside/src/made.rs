@@ -311,3 +311,78 @@ pub fn next(random: &mut Random) -> (Question, Vec<u8>) {
         _ => of_tables(random),
     }
 }
+
+/// A table with these codes, shaped as compilers' ones: 0 to 12 attributes, some with a value in the table.
+pub fn shaped_table(random: &mut Random, codes: impl Iterator<Item = u64>, to: &mut Vec<u8>) {
+    for code in codes {
+        shaped_declaration(random, code, to);
+    }
+    to.push(0);
+}
+
+fn shaped_declaration(random: &mut Random, code: u64, to: &mut Vec<u8>) {
+    put_unsigned(to, code);
+    put_unsigned(to, 1 + random.below(0x4a) as u64);
+    to.push(random.below(2) as u8);
+    for _ in 0..random.pick(&[0, 1, 2, 2, 3, 4, 4, 5, 6, 7, 8, 12]) {
+        let is_rare = random.one_of(20);
+        put_unsigned(to, (if is_rare { 0x2110 + random.below(8) } else { 1 + random.below(0x8c) }) as u64);
+        let form = random.pick(&[0x08, 0x0b, 0x0b, 0x0e, 0x0e, 0x13, 0x13, 0x17, 0x18, 0x19, 0x21, 0x21]);
+        put_unsigned(to, form);
+        if form == 0x21 {
+            put_signed(to, random.below(200) as i64 - 20);
+        }
+    }
+    to.extend([0, 0]);
+}
+
+/// Sets with fewer than `most` addresses each. Each third set has addresses of four bytes.
+#[cfg(gimli_0_34)]
+pub fn made_sets(random: &mut Random, count: usize, most: usize) -> Vec<u8> {
+    let mut to = vec![];
+    for i in 0..count {
+        let (size, entries) = (if i % 3 == 0 { 4 } else { 8 }, random.below(most));
+        to.extend((4 + entries as u32 * size as u32).to_le_bytes());
+        to.extend([5, 0, size as u8, 0]);
+        for _ in 0..entries {
+            to.extend(&random.next().to_le_bytes()[..size]);
+        }
+    }
+    to
+}
+
+/// How many addresses each set of a section to be listed has.
+const LISTED_ADDRESSES: u32 = 100_000;
+
+/// A section to be listed, of at least so many bytes. `None` if there is no such kind.
+pub fn listed_section(kind: &str, bytes: usize) -> Option<Vec<u8>> {
+    let (mut random, mut to) = (Random(88_172_645_463_325_252), vec![]);
+    match kind {
+        "rising" | "far" => {
+            let step = if kind == "far" { 0x1_0000_0001 } else { 1 };
+            for code in 1.. {
+                if to.len() >= bytes {
+                    break;
+                }
+                shaped_declaration(&mut random, code * step, &mut to);
+            }
+            to.push(0);
+        }
+        "addresses" => {
+            while to.len() < bytes {
+                to.extend((4 + 8 * LISTED_ADDRESSES).to_le_bytes());
+                to.extend([5, 0, 8, 0]);
+                (0..LISTED_ADDRESSES).for_each(|_| to.extend((0x40_0000 + (random.next() >> 18)).to_le_bytes()));
+            }
+        }
+        "string" | "strings" => {
+            let len = if kind == "string" { bytes - 1 } else { 20 };
+            while to.len() < bytes {
+                to.extend((0..len).map(|_| b'a' + random.below(26) as u8));
+                to.push(0);
+            }
+        }
+        _ => return None,
+    }
+    Some(to)
+}

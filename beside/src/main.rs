@@ -5,6 +5,7 @@
 mod made;
 mod measure;
 mod ours;
+mod piped;
 mod plain;
 mod question;
 mod shrink;
@@ -12,6 +13,7 @@ mod tally;
 mod theirs;
 
 use made::Random;
+use piped::Piped;
 use question::Question;
 use std::process::ExitCode;
 use std::time::{Duration, Instant};
@@ -32,6 +34,8 @@ struct Wanted {
     again: String,
     /// Measure in place of comparing: time, or calls to be counted.
     measured: Option<bool>,
+    /// The pipes to and from a program that answers in the library's place, until the first difference.
+    trial: Option<(String, String)>,
 }
 
 fn from_hexadecimal(text: &str) -> Option<Vec<u8>> {
@@ -49,8 +53,15 @@ fn question_of(text: &str) -> Option<(Question, Vec<u8>)> {
 }
 
 fn wanted(words: &mut dyn Iterator<Item = String>) -> Result<Wanted, String> {
-    let mut found =
-        Wanted { seconds: 60.0, seed: 1, sections: vec![], alone: None, again: "beside --case".into(), measured: None };
+    let mut found = Wanted {
+        seconds: 60.0,
+        seed: 1,
+        sections: vec![],
+        alone: None,
+        again: "beside --case".into(),
+        measured: None,
+        trial: None,
+    };
     while let Some(word) = words.next() {
         let mut next = || words.next().ok_or(format!("{word} needs a word behind it"));
         match word.as_str() {
@@ -63,6 +74,7 @@ fn wanted(words: &mut dyn Iterator<Item = String>) -> Result<Wanted, String> {
             }
             "--time" => found.measured = Some(true),
             "--count" => found.measured = Some(false),
+            "--trial" => found.trial = Some((next()?, next()?)),
             "--again" => found.again = next()?,
             "--section" => {
                 let (name, kind, path) = (next()?, next()?, next()?);
@@ -124,8 +136,25 @@ fn gcd(a: usize, b: usize) -> usize {
     }
 }
 
+/// Asks a program in the library's place what is made, until it differs or the time is over.
+fn try_out(wanted: &Wanted, piped: Piped) -> ExitCode {
+    let (mut tally, mut random) = (Tally::new(&wanted.again, Some(piped)), Random(wanted.seed));
+    let start = Instant::now();
+    while tally.differences == 0 && start.elapsed().as_secs_f64() < wanted.seconds {
+        let (question, bytes) = made::next(&mut random);
+        tally.ask(&question, &bytes);
+    }
+    println!(
+        "{} inputs, {} differences, {:.1} seconds",
+        tally.inputs,
+        tally.differences,
+        start.elapsed().as_secs_f64()
+    );
+    ExitCode::from(u8::from(tally.differences == 0))
+}
+
 fn compare(wanted: &Wanted) -> ExitCode {
-    let mut tally = Tally::new(&wanted.again);
+    let mut tally = Tally::new(&wanted.again, None);
     if let Some((question, bytes)) = &wanted.alone {
         tally.ask_aloud(question, bytes);
         return if tally.differences == 0 { ExitCode::SUCCESS } else { ExitCode::from(1) };
@@ -160,6 +189,12 @@ fn refused(why: &str) -> ExitCode {
 }
 
 fn run(wanted: &Wanted) -> ExitCode {
+    if let Some((to, from)) = &wanted.trial {
+        return match Piped::new(to, from) {
+            Ok(piped) => try_out(wanted, piped),
+            Err(error) => refused(&format!("the pipes can't be opened: {error}")),
+        };
+    }
     match wanted.measured {
         None => compare(wanted),
         Some(is_timed) => match measure::measure(&measure::workloads(&wanted.sections), is_timed) {
@@ -169,12 +204,26 @@ fn run(wanted: &Wanted) -> ExitCode {
     }
 }
 
+/// Writes a section to be listed into a file.
+fn make(kind: &str, bytes: &str, path: &str) -> Result<(), String> {
+    let bytes = bytes.parse().map_err(|_| "how many bytes is no number")?;
+    let section = made::listed_section(kind, bytes).ok_or("there is no such section")?;
+    std::fs::write(path, section).map_err(|error| format!("{path} can't be written: {error}"))
+}
+
 fn main() -> ExitCode {
-    if std::env::args().nth(1).as_deref() == Some("--gimli") {
-        println!("{}", env!("GIMLI_VERSION"));
-        return ExitCode::SUCCESS;
+    let words: Vec<String> = std::env::args().skip(1).collect();
+    match words.iter().map(String::as_str).collect::<Vec<_>>()[..] {
+        ["--gimli"] => {
+            println!("{}", env!("GIMLI_VERSION"));
+            return ExitCode::SUCCESS;
+        }
+        ["--make", kind, bytes, path] => {
+            return make(kind, bytes, path).map_or_else(|why| refused(&why), |()| ExitCode::SUCCESS);
+        }
+        _ => {}
     }
-    match wanted(&mut std::env::args().skip(1)) {
+    match wanted(&mut words.into_iter()) {
         Ok(wanted) => run(&wanted),
         Err(why) => refused(&why),
     }

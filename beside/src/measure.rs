@@ -3,7 +3,9 @@
 //! The library's side is a call of `crates/dwarf_beside` that does the whole loop. What fills a cache from units
 //! is left out, since units belong to gimli's upper layers, and so are written numbers, which another feature has.
 
-use crate::made::{put_signed, put_unsigned, Random};
+#[cfg(gimli_0_34)]
+use crate::made::made_sets;
+use crate::made::{put_signed, put_unsigned, shaped_table, Random};
 use gimli::{
     DebugAbbrev, DebugAbbrevOffset, DebugAddr, DebugAddrBase, DebugAddrIndex, DebugStr, DebugStrOffset,
     DebugStrOffsets, DebugStrOffsetsBase, DebugStrOffsetsIndex, EndianSlice, Format, LittleEndian, Reader,
@@ -126,26 +128,6 @@ fn addresses(section: Bytes, indices: Places) -> u64 {
     indices.iter().fold(0u64, |sum, it| sum.wrapping_add(found(it)))
 }
 
-/// A table with these codes, shaped as compilers' ones: 0 to 12 attributes, some with a value in the table.
-fn table(random: &mut Random, codes: impl Iterator<Item = u64>, to: &mut Vec<u8>) {
-    for code in codes {
-        put_unsigned(to, code);
-        put_unsigned(to, 1 + random.below(0x4a) as u64);
-        to.push(random.below(2) as u8);
-        for _ in 0..[0, 1, 2, 2, 3, 4, 4, 5, 6, 7, 8, 12][random.below(12)] {
-            let is_rare = random.below(20) == 0;
-            put_unsigned(to, (if is_rare { 0x2110 + random.below(8) } else { 1 + random.below(0x8c) }) as u64);
-            let form = [0x08, 0x0b, 0x0b, 0x0e, 0x0e, 0x13, 0x13, 0x17, 0x18, 0x19, 0x21, 0x21][random.below(12)];
-            put_unsigned(to, form);
-            if form == 0x21 {
-                put_signed(to, random.below(200) as i64 - 20);
-            }
-        }
-        to.extend([0, 0]);
-    }
-    to.push(0);
-}
-
 fn of_tables(name: &str, section: Vec<u8>, offsets: Vec<usize>, all: &mut Vec<Workload>) {
     let (s, o): (Bytes, Places) = (section.leak(), offsets.leak());
     let count = unsafe { beside_tables(s.as_ptr(), s.len(), o.as_ptr(), o.len()) } as u64;
@@ -169,14 +151,14 @@ fn of_tables(name: &str, section: Vec<u8>, offsets: Vec<usize>, all: &mut Vec<Wo
 
 fn all_of_tables(random: &mut Random, all: &mut Vec<Workload>) {
     let (mut rising, mut falling, mut far, mut small) = (vec![], vec![], vec![], vec![]);
-    table(random, 1..=CODES, &mut rising);
-    table(random, (1..=CODES).rev(), &mut falling);
-    table(random, (1..=CODES).map(|it| it * 0x1_0000_0001), &mut far);
+    shaped_table(random, 1..=CODES, &mut rising);
+    shaped_table(random, (1..=CODES).rev(), &mut falling);
+    shaped_table(random, (1..=CODES).map(|it| it * 0x1_0000_0001), &mut far);
     let mut starts = vec![];
     for _ in 0..400 {
         starts.push(small.len());
         let count = 5 + random.below(20) as u64;
-        table(random, 1..=count, &mut small);
+        shaped_table(random, 1..=count, &mut small);
     }
     of_tables("codes that rise from 1", rising, vec![0], all);
     of_tables("codes that fall", falling, vec![0], all);
@@ -247,21 +229,6 @@ fn of_strings(name: &str, random: &mut Random, section: Vec<u8>, all: &mut Vec<W
         ours: Box::new(move || unsafe { beside_strings(s.as_ptr(), s.len(), o.as_ptr(), o.len()) as u64 }),
         is_same: true,
     });
-}
-
-/// Sets with fewer than `most` addresses each. Each third set has addresses of four bytes.
-#[cfg(gimli_0_34)]
-fn made_sets(random: &mut Random, count: usize, most: usize) -> Vec<u8> {
-    let mut to = vec![];
-    for i in 0..count {
-        let (size, entries) = (if i % 3 == 0 { 4 } else { 8 }, random.below(most));
-        to.extend((4 + entries as u32 * size as u32).to_le_bytes());
-        to.extend([5, 0, size as u8, 0]);
-        for _ in 0..entries {
-            to.extend(&random.next().to_le_bytes()[..size]);
-        }
-    }
-    to
 }
 
 #[cfg(gimli_0_34)]

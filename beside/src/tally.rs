@@ -1,6 +1,7 @@
 //! Asks all readers, counts what they give, and prints where they differ.
 
 use crate::ours::Ours;
+use crate::piped::Piped;
 use crate::plain;
 use crate::question::{Answer, Question};
 use crate::shrink::shrink;
@@ -31,7 +32,7 @@ pub struct Tally {
     theirs: Theirs,
     /// The command that asks a question alone, up to the question.
     again: String,
-    inputs: u64,
+    pub inputs: u64,
     /// How many of them gimli was asked too.
     beside_gimli: u64,
     pub differences: u64,
@@ -45,10 +46,10 @@ pub fn hexadecimal(bytes: &[u8]) -> String {
 }
 
 impl Tally {
-    pub fn new(again: &str) -> Tally {
+    pub fn new(again: &str, piped: Option<Piped>) -> Tally {
         Tally {
             again: again.into(),
-            ours: Ours::new(),
+            ours: Ours::new(piped),
             theirs: Theirs::new(),
             inputs: 0,
             beside_gimli: 0,
@@ -82,6 +83,10 @@ impl Tally {
         counts.1 += 1;
         self.differences += 1;
         if counts.1 <= PRINTED {
+            if given.ours == Answer::Lost {
+                // What has ended answers no smaller input.
+                return self.print_all("difference", question, bytes, &given);
+            }
             let (question, bytes) =
                 shrink(question, bytes, &mut |question, bytes| self.given(question, bytes).differ());
             let given = self.given(&question, &bytes);

@@ -1,0 +1,165 @@
+//! Reads one table of many declarations by gimli and by the library, and prints the nanoseconds of either, and how many
+//! bytes of memory either had at once. The words are `rising`, `falling` or `far`, and how many declarations.
+//!
+//! Both request memory by the functions here, so that it is counted alike: as many bytes as `malloc` makes usable.
+
+#[allow(dead_code)]
+#[path = "../made.rs"]
+mod made;
+#[allow(dead_code)]
+#[path = "../question.rs"]
+mod question;
+
+use gimli::{DebugAbbrev, DebugAbbrevOffset, LittleEndian};
+use std::alloc::{GlobalAlloc, Layout, System};
+use std::os::raw::{c_int, c_void};
+use std::sync::atomic::{AtomicBool, AtomicUsize, Ordering::Relaxed};
+
+static IS_COUNTED: AtomicBool = AtomicBool::new(false);
+static NOW: AtomicUsize = AtomicUsize::new(0);
+static MOST: AtomicUsize = AtomicUsize::new(0);
+
+extern "C" {
+    fn malloc(size: usize) -> *mut c_void;
+    fn realloc(block: *mut c_void, size: usize) -> *mut c_void;
+    fn free(block: *mut c_void);
+    fn malloc_usable_size(block: *mut c_void) -> usize;
+    fn clock_gettime(clock: c_int, time: *mut [i64; 2]) -> c_int;
+    fn beside_tables(bytes: *const u8, len: usize, offsets: *const usize, count: usize) -> usize;
+}
+
+/// Counts a block that comes, if it is one.
+fn come(block: *mut c_void) {
+    if IS_COUNTED.load(Relaxed) && !block.is_null() {
+        let now = NOW.load(Relaxed) + unsafe { malloc_usable_size(block) };
+        NOW.store(now, Relaxed);
+        MOST.store(MOST.load(Relaxed).max(now), Relaxed);
+    }
+}
+
+/// Counts a block that goes.
+fn go(block: *mut c_void) {
+    if IS_COUNTED.load(Relaxed) {
+        NOW.store(NOW.load(Relaxed) - unsafe { malloc_usable_size(block) }, Relaxed);
+    }
+}
+
+struct Counted;
+
+unsafe impl GlobalAlloc for Counted {
+    unsafe fn alloc(&self, layout: Layout) -> *mut u8 {
+        let block = System.alloc(layout);
+        come(block.cast());
+        block
+    }
+
+    unsafe fn dealloc(&self, block: *mut u8, layout: Layout) {
+        go(block.cast());
+        System.dealloc(block, layout);
+    }
+
+    unsafe fn realloc(&self, block: *mut u8, layout: Layout, size: usize) -> *mut u8 {
+        go(block.cast());
+        let block = System.realloc(block, layout, size);
+        come(block.cast());
+        block
+    }
+}
+
+#[global_allocator]
+static COUNTED: Counted = Counted;
+
+/// What the library's functions for memory return: whether there is a block, and the block, never null.
+#[repr(C)]
+pub struct Tried {
+    is_block: bool,
+    block: *mut c_void,
+}
+
+fn tried(block: *mut c_void) -> Tried {
+    come(block);
+    Tried { is_block: !block.is_null(), block: if block.is_null() { 1 as *mut c_void } else { block } }
+}
+
+#[no_mangle]
+pub unsafe extern "C" fn rattle_alloc(size: usize, align: usize) -> Tried {
+    tried(malloc(if size == 0 { align } else { size }))
+}
+
+#[no_mangle]
+pub unsafe extern "C" fn rattle_realloc(block: *mut c_void, _kept: usize, size: usize, align: usize) -> Tried {
+    go(block);
+    tried(realloc(block, if size == 0 { align } else { size }))
+}
+
+#[no_mangle]
+pub unsafe extern "C" fn rattle_dealloc(block: *mut c_void) {
+    go(block);
+    free(block);
+}
+
+fn processor_nanos() -> u64 {
+    const CLOCK_THREAD_CPUTIME_ID: c_int = 3;
+    let mut time = [0; 2];
+    assert_eq!(unsafe { clock_gettime(CLOCK_THREAD_CPUTIME_ID, &mut time) }, 0);
+    time[0] as u64 * 1_000_000_000 + time[1] as u64
+}
+
+/// Nanoseconds of a call, which is repeated for five milliseconds.
+fn turn(call: &dyn Fn()) -> f64 {
+    let (start, mut calls) = (processor_nanos(), 0);
+    loop {
+        call();
+        calls += 1;
+        let time = processor_nanos() - start;
+        if time >= 5_000_000 {
+            return time as f64 / f64::from(calls);
+        }
+    }
+}
+
+/// How many bytes a call has at once.
+fn most_bytes(call: &dyn Fn()) -> usize {
+    NOW.store(0, Relaxed);
+    MOST.store(0, Relaxed);
+    IS_COUNTED.store(true, Relaxed);
+    call();
+    IS_COUNTED.store(false, Relaxed);
+    MOST.load(Relaxed)
+}
+
+fn main() {
+    let words: Vec<String> = std::env::args().skip(1).collect();
+    let count: u64 = words[1].parse().expect("how many declarations");
+    let (mut random, mut section) = (made::Random(88_172_645_463_325_252), vec![]);
+    let codes = (1..=count).map(|it| match words[0].as_str() {
+        "falling" => count + 1 - it,
+        "far" => it * 0x1_0000_0001,
+        _ => it,
+    });
+    made::shaped_table(&mut random, codes, &mut section);
+    let gimli = || {
+        let table = DebugAbbrev::new(&section, LittleEndian).abbreviations(DebugAbbrevOffset(0));
+        assert!(table.expect("a table").get(0).is_none());
+    };
+    let ours = || {
+        let found = unsafe { beside_tables(section.as_ptr(), section.len(), [0].as_ptr(), 1) };
+        assert_eq!(found as u64, count);
+    };
+    let bytes = (most_bytes(&gimli), most_bytes(&ours));
+    let (mut left, mut right) = (vec![], vec![]);
+    for sample in 0..if count < 1_000_000 { 9 } else { 3 } {
+        if sample % 2 == 0 {
+            left.push(turn(&gimli));
+            right.push(turn(&ours));
+        } else {
+            right.push(turn(&ours));
+            left.push(turn(&gimli));
+        }
+    }
+    for list in [&mut left, &mut right] {
+        list.sort_by(f64::total_cmp);
+    }
+    let middle = left.len() / 2;
+    println!("{}\t{}\t{}\t{}\t{}", section.len(), left[middle], right[middle], bytes.0, bytes.1);
+}

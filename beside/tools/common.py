@@ -1,0 +1,152 @@
+"""What the commands of `tools/beside` share: errors, other programs, the program that compares, and sections."""
+import os
+import re
+import shutil
+import subprocess
+import sys
+
+import kit
+
+PACKAGE, OUT = f"{kit.ROOT}/beside", f"{kit.ROOT}/beside/out"
+LIBRARIES = ("dwarf_read_c", "dwarf_beside")
+DEBIAN = "/usr/share/cargo/registry"
+SECTIONS = ("debug_abbrev", "debug_str", "debug_line_str", "debug_addr", "debug_str_offsets")
+
+
+class Missing(Exception):
+    """A tool that isn't installed, and how to install it."""
+
+
+class Failed(Exception):
+    """Why a step can't be done."""
+
+
+def say(text):
+    print(f"beside: {text}", file=sys.stderr, flush=True)
+
+
+def run(words, **how):
+    """Runs a command, and returns what it prints and its status."""
+    how = {"stdin": subprocess.DEVNULL, "stdout": subprocess.PIPE, "stderr": subprocess.STDOUT, **how}
+    ran = subprocess.run(words, **how, text=True, errors="replace", check=False)
+    return ran.stdout.strip(), ran.returncode
+
+
+def must(words, what, **how):
+    said, status = run(words, **how)
+    if status:
+        raise Failed(f"{what}:\n{said[-2000:]}")
+    return said
+
+
+def need(tool, package):
+    if not shutil.which(tool):
+        raise Missing(f"there is no {tool}: `apt-get install {package}` installs it")
+
+
+def put(source, target):
+    """Copies a file, unless it is there already: its date decides what cargo builds again."""
+    with open(source, "rb") as file:
+        text = file.read()
+    try:
+        with open(target, "rb") as file:
+            if file.read() == text:
+                return
+    except OSError:
+        os.makedirs(os.path.dirname(target), exist_ok=True)
+    with open(target, "wb") as file:
+        file.write(text)
+
+
+def link_libraries():
+    """Puts both static libraries, and the functions by which they request memory, into one folder."""
+    for crate in LIBRARIES:
+        words = [f"{kit.ROOT}/tools/static-library", crate]
+        if subprocess.run(words, stdin=subprocess.DEVNULL, check=False).returncode:
+            raise Failed(f"the static library of {crate} isn't built")
+        put(f"{kit.ROOT}/crates/{crate}/out/lib{crate}.a", f"{OUT}/lib/lib{crate}.a")
+    heap = f"{OUT}/lib/libdwarf_read_heap.a"
+    if not os.path.isfile(heap):
+        compiler, folder = os.environ.get("CC", "cc"), f"{OUT}/lib"
+        source = f"{kit.ROOT}/include/dwarf_read_heap.c"
+        must([compiler, "-O2", "-fPIC", "-c", source, "-o", f"{folder}/heap.o"], "dwarf_read_heap.c isn't compiled")
+        must(["ar", "rcs", heap, f"{folder}/heap.o"], "the library of dwarf_read_heap.c isn't made")
+
+
+def copy_package(folder):
+    """Copies the package to where its lock file and what cargo builds may be."""
+    for name in ("Cargo.toml", "build.rs"):
+        put(f"{PACKAGE}/{name}", f"{folder}/{name}")
+    for at, _, names in os.walk(f"{PACKAGE}/src"):
+        for name in names:
+            put(f"{at}/{name}", f"{folder}/{os.path.relpath(at, PACKAGE)}/{name}")
+
+
+def sources_of_gimli(is_debian):
+    """Where gimli is taken from: a folder of the package for it, and words for cargo."""
+    if not is_debian:
+        copy_package(f"{OUT}/crates-io")
+        said, status = run(["cargo", "fetch", "--quiet"], cwd=f"{OUT}/crates-io", timeout=600)
+        if status == 0:
+            return f"{OUT}/crates-io", []
+        last = said.splitlines()[-1] if said else f"status {status}"
+        say(f"cargo can't fetch gimli from crates.io ({last.strip()}), so Debian's is used")
+    if not os.path.isdir(DEBIAN) or not any(it.startswith("gimli-") for it in os.listdir(DEBIAN)):
+        raise Missing("there is no gimli: `apt-get install librust-gimli-dev` installs it")
+    copy_package(f"{OUT}/debian")
+    replaced = ['source.crates-io.replace-with="debian"', f'source.debian.directory="{DEBIAN}"']
+    return f"{OUT}/debian", ["--offline", *(word for it in replaced for word in ("--config", it))]
+
+
+def build(is_debian):
+    """Builds the program that compares, and returns where it is."""
+    need("cargo", "cargo")
+    need(os.environ.get("CC", "cc"), "gcc")
+    need("objcopy", "binutils")
+    folder, words = sources_of_gimli(is_debian)
+    link_libraries()
+    # The processor that the kit compiles for.
+    flags = os.environ.get("RUSTFLAGS", "") + " -C target-cpu=x86-64-v2"
+    environment = {**os.environ, "BESIDE_LIB": f"{OUT}/lib", "RUSTFLAGS": flags.strip()}
+    words = ["cargo", "build", "--quiet", "--release", "--target-dir", f"{folder}/target", *words]
+    must(words, "the program that compares isn't built", cwd=folder, env=environment)
+    return f"{folder}/target/release/beside"
+
+
+def files_by_default(program):
+    """The debug file of the C library, if it is installed, and a program."""
+    libc = debug_file_of_libc()
+    if not libc:
+        say("the debug file of the C library is left out: `apt-get install libc6-dbg` installs it")
+    return [*([libc] if libc else []), program]
+
+
+def debug_file_of_libc():
+    """The debug file of the C library of this Python, or None."""
+    with open("/proc/self/maps", encoding="utf-8") as file:
+        found = re.search(r"/\S*/libc\.so\.6$|/\S*/libc-[\d.]+\.so$", file.read(), re.M)
+    if not found or not shutil.which("readelf"):
+        return None
+    build_id = re.search(r"Build ID: (\w\w)(\w+)", run(["readelf", "-n", found[0]])[0])
+    path = build_id and f"/usr/lib/debug/.build-id/{build_id[1]}/{build_id[2]}.debug"
+    return path if path and os.path.isfile(path) else None
+
+
+def sections(path, folder):
+    """The words for the program about the sections of an ELF file, whose bytes are put into the folder."""
+    if not os.path.isfile(path):
+        raise Failed(f"{path} is no file")
+    whole = f"{folder}/whole"
+    said, status = run(["objcopy", "--decompress-debug-sections", path, whole])
+    if status:
+        raise Failed(f"{path} can't be read as an ELF file: {' '.join(said.split())}")
+    words = []
+    for name in SECTIONS:
+        at = f"{folder}/{name}"
+        said, status = run(["objcopy", "--dump-section", f".{name}={at}", whole, "/dev/null"])
+        if status == 0 and os.path.isfile(at) and os.path.getsize(at):
+            words += ["--section", path, name, at]
+    os.unlink(whole)
+    if not words:
+        say(f"{path} has none of the sections {', '.join(SECTIONS)}")
+    return words

@@ -1,0 +1,72 @@
+"""Measures calls of the library beside gimli's."""
+import os
+import re
+import subprocess
+import tempfile
+
+from common import Failed, build, must, need, run, sections
+
+
+def what_ran():
+    """The processor, and the compiler of gimli's side."""
+    with open("/proc/cpuinfo", encoding="utf-8") as file:
+        model = re.search(r"^model name\s*: (.*)$", file.read(), re.M)
+    return f"{model[1] if model else 'a processor without a name'}; {run(['rustc', '--version'])[0]}"
+
+
+def timed(program, words):
+    """The rows of the table of `time`."""
+    for line in must([program, "--time", *words], "it can't be timed").splitlines():
+        name, _, *numbers = line.split("\t")
+        gimli, here, low, middle, high = (float(it) for it in numbers)
+        yield f"| {name} | {gimli:.1f} | {here:.1f} | {middle:.2f} | {low:.2f} to {high:.2f} |"
+
+
+def counted(program, words):
+    """The rows of the table of `count`, from the parts that callgrind writes behind each counted call."""
+    found = {"gimli_counted": [], "ours_counted": []}
+    with tempfile.TemporaryDirectory(prefix="beside-") as work:
+        flags = ["--tool=callgrind", f"--callgrind-out-file={work}/part"]
+        flags += [f"--{what}={side}" for side in found for what in ("toggle-collect", "dump-after")]
+        how = {"stderr": subprocess.PIPE}
+        said = must(["valgrind", "-q", *flags, program, "--count", *words], "it can't be counted", **how)
+        for name in sorted(os.listdir(work), key=lambda it: int(it.rpartition(".")[2] if "." in it else 0)):
+            with open(f"{work}/{name}", encoding="utf-8") as file:
+                text = file.read()
+            side = re.search(r"^desc: Trigger: --dump-after=(\w+)", text, re.M)
+            if side:
+                found[side[1]].append(int(re.search(r"^(?:summary|totals): (\d+)", text, re.M)[1]))
+    lines = said.splitlines()
+    if {len(it) for it in found.values()} != {len(lines)}:
+        raise Failed("callgrind didn't count each call")
+    for line, gimli, here in zip(lines, *found.values()):
+        name, operations = line.split("\t")
+        yield f"| {name} | {gimli / int(operations):,.0f} | {here / int(operations):,.0f} | {here / gimli:.2f} |"
+
+
+def time(given):
+    """Prints the table of `time`."""
+    return measure(given, True)
+
+
+def count(given):
+    """Prints the table of `count`."""
+    return measure(given, False)
+
+
+def measure(given, is_timed):
+    """Prints the table of `time` or of `count`."""
+    if not is_timed:
+        need("valgrind", "valgrind")
+    program = build(given["debian"])
+    with tempfile.TemporaryDirectory(prefix="beside-") as work:
+        words = []
+        for i, path in enumerate(given["files"]):
+            os.mkdir(f"{work}/{i}")
+            words += sections(path, f"{work}/{i}")
+        rows = list(timed(program, words) if is_timed else counted(program, words))
+    print(f"gimli {must([program, '--gimli'], 'the program is another one')}; {what_ran()}\n")
+    heads = ["nanoseconds of one operation", "gimli", "here", "ratio", "middle half"]
+    heads = heads if is_timed else ["instructions of one operation", *heads[1:4]]
+    print("\n".join([f"| {' | '.join(heads)} |", "|---" * len(heads) + "|", *rows]))
+    return 0
