@@ -22,6 +22,9 @@ use tally::Tally;
 /// How many inputs are made between two looks at the clock.
 const TURN: u32 = 1000;
 
+/// What is behind the kind of a section of a file with the highest byte first.
+const BIG: &str = ", big";
+
 /// What the words ask for.
 struct Wanted {
     seconds: f64,
@@ -89,6 +92,8 @@ fn wanted(words: &mut dyn Iterator<Item = String>) -> Result<Wanted, String> {
 
 /// Asks the questions that a section has at a place.
 fn ask_at(tally: &mut Tally, kind: &str, bytes: &[u8], at: usize, random: &mut Random) {
+    let little = kind.strip_suffix(BIG);
+    let (kind, is_big) = (little.unwrap_or(kind), little.is_some());
     match kind {
         "debug_abbrev" => {
             tally.ask(&Question::Table(at), bytes);
@@ -96,14 +101,14 @@ fn ask_at(tally: &mut Tally, kind: &str, bytes: &[u8], at: usize, random: &mut R
             tally.ask(&Question::Grown { before: random.below(bytes.len() + 1), offset: at }, bytes);
         }
         "debug_addr" => {
-            tally.ask(&Question::AddressSet { is_big: false, offset: at }, bytes);
+            tally.ask(&Question::AddressSet { is_big, offset: at }, bytes);
             let index = random.below(bytes.len());
-            tally.ask(&Question::Address { is_big: false, size: 8, base: at, index: index / 8 }, bytes);
+            tally.ask(&Question::Address { is_big, size: 8, base: at, index: index / 8 }, bytes);
         }
         "debug_str_offsets" => {
-            tally.ask(&Question::StrOffsetSet { is_big: false, offset: at }, bytes);
+            tally.ask(&Question::StrOffsetSet { is_big, offset: at }, bytes);
             let index = random.below(bytes.len());
-            tally.ask(&Question::StrOffset { is_big: false, is_64: false, base: at, index: index / 4 }, bytes);
+            tally.ask(&Question::StrOffset { is_big, is_64: false, base: at, index: index / 4 }, bytes);
         }
         _ => tally.ask(&Question::Text(at), bytes),
     }

@@ -11,7 +11,8 @@ import shutil
 import subprocess
 import tempfile
 
-from common import DEBIAN, OUT, PACKAGE, Failed, Missing, files_by_default, link_libraries, must, need, put, run
+from common import DEBIAN, OUT, PACKAGE, Failed, Missing, decompressed, files_by_default, is_big_endian, link_libraries
+from common import must, need, put, run
 
 MANIFEST = """[package]
 name = "gimli"
@@ -166,18 +167,16 @@ def tests(folder, planted=""):
 
 def sections_of(path, folder):
     """Puts the sections of an ELF file into a folder, and returns the word for its byte order."""
-    with open(path, "rb") as file:
-        start = file.read(6)
-    if start[:4] != b"\x7fELF":
-        raise Failed(f"{path} is no ELF file")
-    whole = f"{folder}/whole"
-    must(["objcopy", "--decompress-debug-sections", path, whole], f"{path} can't be read")
-    names = re.findall(r"^ *\d+ \.(debug_\w+)", must(["objdump", "-h", whole], f"{path} can't be read"), re.M)
-    words = [word for name in names for word in ("--dump-section", f".{name}={folder}/{name}")]
-    if words:
-        must(["objcopy", *words, whole, "/dev/null"], f"{path} can't be read")
-    os.unlink(whole)
-    return "be" if start[5] == 2 else "le"
+    whole, copied = f"{folder}/whole", f"{folder}/copy"
+    tool = decompressed(path, whole)
+    with open(whole, "rb") as file:
+        names = sorted({it.decode() for it in re.findall(rb"\0\.(debug_\w+)(?=\0)", file.read())})
+    for name in names:
+        run([tool, "--dump-section", f".{name}={folder}/{name}", whole, copied])
+    for it in (whole, copied):
+        if os.path.isfile(it):
+            os.unlink(it)
+    return "be" if is_big_endian(path) else "le"
 
 
 def dump(copy_folder, sections, order, to, planted=""):
@@ -239,7 +238,6 @@ def client(given):
     need("cargo", "cargo")
     need("gcc", "gcc")
     need("objcopy", "binutils")
-    need("objdump", "binutils")
     gimli = source("gimli")
     if not gimli.endswith("gimli-0.27.0"):
         raise Missing(f"the patch is for gimli 0.27.0, and Debian's here is {os.path.basename(gimli)}")

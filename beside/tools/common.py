@@ -11,6 +11,8 @@ PACKAGE, OUT = f"{kit.ROOT}/beside", f"{kit.ROOT}/beside/out"
 LIBRARIES = ("dwarf_read_c", "dwarf_beside")
 DEBIAN = "/usr/share/cargo/registry"
 SECTIONS = ("debug_abbrev", "debug_str", "debug_line_str", "debug_addr", "debug_str_offsets")
+# Those whose words are read in the byte order of the file.
+BY_ORDER = ("debug_addr", "debug_str_offsets")
 
 
 class Missing(Exception):
@@ -132,21 +134,37 @@ def debug_file_of_libc():
     return path if path and os.path.isfile(path) else None
 
 
+def decompressed(path, whole):
+    """Copies an ELF file with its debug sections inflated, and returns the tool that reads such files."""
+    said = "there is no objcopy"
+    # (GNU's objcopy reads the machine's own files alone)
+    for tool in ("objcopy", "llvm-objcopy"):
+        if shutil.which(tool):
+            said, status = run([tool, "--decompress-debug-sections", path, whole])
+            if status == 0:
+                return tool
+    raise Failed(f"{path} can't be read as an ELF file: {' '.join(said.split())}")
+
+
+def is_big_endian(path):
+    with open(path, "rb") as file:
+        return file.read(6)[5:] == b"\x02"
+
+
 def sections(path, folder):
     """The words for the program about the sections of an ELF file, whose bytes are put into the folder."""
     if not os.path.isfile(path):
         raise Failed(f"{path} is no file")
-    whole = f"{folder}/whole"
-    said, status = run(["objcopy", "--decompress-debug-sections", path, whole])
-    if status:
-        raise Failed(f"{path} can't be read as an ELF file: {' '.join(said.split())}")
-    words = []
+    whole, copy, words = f"{folder}/whole", f"{folder}/copy", []
+    tool, is_big = decompressed(path, whole), is_big_endian(path)
     for name in SECTIONS:
         at = f"{folder}/{name}"
-        said, status = run(["objcopy", "--dump-section", f".{name}={at}", whole, "/dev/null"])
+        _, status = run([tool, "--dump-section", f".{name}={at}", whole, copy])
         if status == 0 and os.path.isfile(at) and os.path.getsize(at):
-            words += ["--section", path, name, at]
-    os.unlink(whole)
+            words += ["--section", path, f"{name}, big" if is_big and name in BY_ORDER else name, at]
+    for it in (whole, copy):
+        if os.path.isfile(it):
+            os.unlink(it)
     if not words:
         say(f"{path} has none of the sections {', '.join(SECTIONS)}")
     return words
