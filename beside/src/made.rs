@@ -315,18 +315,21 @@ pub fn next(random: &mut Random) -> (Question, Vec<u8>) {
 /// A table with these codes, shaped as compilers' ones: 0 to 12 attributes, some with a value in the table.
 pub fn shaped_table(random: &mut Random, codes: impl Iterator<Item = u64>, to: &mut Vec<u8>) {
     for code in codes {
-        shaped_declaration(random, code, to);
+        let tag = 1 + random.below(0x4a) as u64;
+        shaped_declaration(random, code, tag, &mut |random| 1 + random.below(0x8c) as u64, to);
     }
     to.push(0);
 }
 
-fn shaped_declaration(random: &mut Random, code: u64, to: &mut Vec<u8>) {
+fn shaped_declaration(
+    random: &mut Random, code: u64, tag: u64, name: &mut dyn FnMut(&mut Random) -> u64, to: &mut Vec<u8>,
+) {
     put_unsigned(to, code);
-    put_unsigned(to, 1 + random.below(0x4a) as u64);
+    put_unsigned(to, tag);
     to.push(random.below(2) as u8);
     for _ in 0..random.pick(&[0, 1, 2, 2, 3, 4, 4, 5, 6, 7, 8, 12]) {
         let is_rare = random.one_of(20);
-        put_unsigned(to, (if is_rare { 0x2110 + random.below(8) } else { 1 + random.below(0x8c) }) as u64);
+        put_unsigned(to, if is_rare { 0x2110 + random.below(8) as u64 } else { name(random) });
         let form = random.pick(&[0x08, 0x0b, 0x0b, 0x0e, 0x0e, 0x13, 0x13, 0x17, 0x18, 0x19, 0x21, 0x21]);
         put_unsigned(to, form);
         if form == 0x21 {
@@ -351,6 +354,10 @@ pub fn made_sets(random: &mut Random, count: usize, most: usize) -> Vec<u8> {
     to
 }
 
+/// Tags and attributes whose names each version of gimli has.
+const TAGS: [u64; 12] = [0x01, 0x05, 0x0b, 0x0d, 0x0f, 0x11, 0x13, 0x16, 0x1d, 0x24, 0x2e, 0x34];
+const ATTRIBUTES: [u64; 12] = [0x02, 0x03, 0x0b, 0x11, 0x12, 0x13, 0x1c, 0x31, 0x38, 0x3a, 0x3b, 0x49];
+
 /// How many addresses each set of a section to be listed has.
 const LISTED_ADDRESSES: u32 = 100_000;
 
@@ -364,7 +371,8 @@ pub fn listed_section(kind: &str, bytes: usize) -> Option<Vec<u8>> {
                 if to.len() >= bytes {
                     break;
                 }
-                shaped_declaration(&mut random, code * step, &mut to);
+                let tag = random.pick(&TAGS);
+                shaped_declaration(&mut random, code * step, tag, &mut |random| random.pick(&ATTRIBUTES), &mut to);
             }
             to.push(0);
         }

@@ -21,7 +21,7 @@ fn moved(question: &Question, by: usize) -> Option<Question> {
             }
         }
         Question::Grown { before, offset } => {
-            *before = before.checked_sub(by)?;
+            *before = before.saturating_sub(by);
             *offset = offset.checked_sub(by)?;
         }
         Question::StrOffset { base, .. } | Question::Address { base, .. } => *base = base.checked_sub(by)?,

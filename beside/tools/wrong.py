@@ -132,9 +132,14 @@ def wrong_bodies(given):
     with ThreadPoolExecutor(lanes) as pool:
         tried = [pool.submit(try_one, program, None, min(seconds, 10))]
         tried += [pool.submit(try_one, program, name, seconds) for name in names]
-        for it in tried:
-            is_good, row = it.result()
-            print(row if is_good else f"{row} FAILED", flush=True)
-            failed += not is_good
+        try:
+            for it in tried:
+                is_good, row = it.result()
+                print(row if is_good else f"{row} FAILED", flush=True)
+                failed += not is_good
+        except BaseException:
+            # What hasn't begun is left out, since the pool waits for the others.
+            pool.shutdown(wait=False, cancel_futures=True)
+            raise
     print(f"{len(tried) - failed} passed, {failed} failed, 0 skipped")
     return 1 if failed else 0
