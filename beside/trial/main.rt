@@ -8,11 +8,11 @@
 #![tactic(auto)]
 
 use dwarf_beside::fault::Fault;
+use dwarf_beside::sets::beside_addresses;
 use dwarf_beside::single::{
     beside_found, beside_grown, beside_short, beside_signed, beside_skipped, beside_strict,
     beside_unsigned,
 };
-use dwarf_beside::sets::beside_addresses;
 use dwarf_beside::tables::beside_cached;
 use dwarf_read_c::fault::DwarfFault;
 use dwarf_read_c::numbers::{dwarf_sleb128_write, dwarf_uleb128_write};
@@ -90,7 +90,15 @@ fn question_from(mem: Global, input: &mut File) -> Option<Asked> {
     let head = numbers_from(mem, input, 7)?;
     let list = numbers_from(mem, input, head[5] as usize)?;
     let bytes = bytes_from(mem, input, head[6] as usize)?;
-    Some(Asked { call: head[0], a: head[1], b: head[2], c: head[3], d: head[4], list, bytes })
+    Some(Asked {
+        call: head[0],
+        a: head[1],
+        b: head[2],
+        c: head[3],
+        d: head[4],
+        list,
+        bytes,
+    })
 }
 
 fn put(to: &mut Vec<u64>, numbers: &[u64]) {
@@ -116,7 +124,16 @@ fn number(asked: &Asked, to: &mut Vec<u64>) {
         }
         _ => beside_skipped(&asked.bytes, &mut rest, &mut fault),
     };
-    put(to, &[status as u64, value, rest as u64, fault.kind as u64, fault.value]);
+    put(
+        to,
+        &[
+            status as u64,
+            value,
+            rest as u64,
+            fault.kind as u64,
+            fault.value,
+        ],
+    );
 }
 
 fn written(asked: &Asked, to: &mut Vec<u64>) {
@@ -134,27 +151,60 @@ fn written(asked: &Asked, to: &mut Vec<u64>) {
 }
 
 fn table(mem: Global, asked: &Asked, to: &mut Vec<u64>) {
-    let mut measure = DwarfMeasure { abbreviations: 0, attributes: 0, closed_by_null: 0 };
+    let mut measure = DwarfMeasure {
+        abbreviations: 0,
+        attributes: 0,
+        closed_by_null: 0,
+    };
     let mut fault = DwarfFault { kind: 0, value: 0 };
-    let declaration =
-        DwarfAbbreviation { code: 0, tag: 0, has_children: 0, first_attribute: 0, attribute_count: 0 };
+    let declaration = DwarfAbbreviation {
+        code: 0,
+        tag: 0,
+        has_children: 0,
+        first_attribute: 0,
+        attribute_count: 0,
+    };
     let mut declarations = [declaration; 256];
-    let mut attributes = [DwarfAttribute { name: 0, form: 0, implicit_const: 0 }; 2048];
+    let mut attributes = [DwarfAttribute {
+        name: 0,
+        form: 0,
+        implicit_const: 0,
+    }; 2048];
     let offset = asked.a as usize;
     let status = dwarf_table_read(
-        mem, &asked.bytes, offset, &mut declarations, &mut attributes, &mut measure, &mut fault,
+        mem,
+        &asked.bytes,
+        offset,
+        &mut declarations,
+        &mut attributes,
+        &mut measure,
+        &mut fault,
     );
     put(to, &[status as u64, fault.kind as u64, fault.value]);
     if status != 0 {
         return;
     }
-    put(to, &[measure.abbreviations as u64, measure.attributes as u64, measure.closed_by_null as u64]);
+    put(
+        to,
+        &[
+            measure.abbreviations as u64,
+            measure.attributes as u64,
+            measure.closed_by_null as u64,
+        ],
+    );
     for it in declarations[..measure.abbreviations].iter() {
         put(to, &[it.code, it.tag as u64, it.has_children as u64]);
         put(to, &[it.first_attribute as u64, it.attribute_count as u64]);
     }
     for it in attributes[..measure.attributes].iter() {
-        put(to, &[it.name as u64, it.form as u64, it.implicit_const.cast_unsigned()]);
+        put(
+            to,
+            &[
+                it.name as u64,
+                it.form as u64,
+                it.implicit_const.cast_unsigned(),
+            ],
+        );
     }
 }
 
@@ -166,15 +216,24 @@ fn counted(mem: Global, asked: &Asked, to: &mut Vec<u64>) {
     } else {
         beside_grown(mem, bytes, a, asked.b as usize, &mut count, &mut fault)
     };
-    put(to, &[status as u64, count as u64, fault.kind as u64, fault.value]);
+    put(
+        to,
+        &[status as u64, count as u64, fault.kind as u64, fault.value],
+    );
 }
 
 fn found(mem: Global, asked: &Asked, to: &mut Vec<u64>) {
     let mut fault = Fault { kind: 0, value: 0 };
     let mut tags = [0; 256];
     let count = asked.list.len();
-    let status =
-        beside_found(mem, &asked.bytes, asked.a as usize, &asked.list, &mut tags[..count], &mut fault);
+    let status = beside_found(
+        mem,
+        &asked.bytes,
+        asked.a as usize,
+        &asked.list,
+        &mut tags[..count],
+        &mut fault,
+    );
     put(to, &[status as u64, fault.kind as u64, fault.value]);
     for tag in tags[..count].iter() {
         put(to, &[*tag as u64]);
@@ -197,23 +256,70 @@ fn lookup(asked: &Asked, to: &mut Vec<u64>) {
     let (base, index) = (asked.c as usize, asked.d as usize);
     let status = match asked.call {
         12 => dwarf_string(bytes, asked.a as usize, &mut size, &mut fault),
-        13 => dwarf_str_offset(bytes, is_big, asked.b == 8, base, index, &mut size, &mut fault),
-        _ => dwarf_address(bytes, is_big, asked.b as u8, base, index, &mut word, &mut fault),
+        13 => dwarf_str_offset(
+            bytes,
+            is_big,
+            asked.b == 8,
+            base,
+            index,
+            &mut size,
+            &mut fault,
+        ),
+        _ => dwarf_address(
+            bytes,
+            is_big,
+            asked.b as u8,
+            base,
+            index,
+            &mut word,
+            &mut fault,
+        ),
     };
-    put(to, &[status as u64, size as u64, word, fault.kind as u64, fault.value]);
+    put(
+        to,
+        &[
+            status as u64,
+            size as u64,
+            word,
+            fault.kind as u64,
+            fault.value,
+        ],
+    );
 }
 
 fn set(asked: &Asked, to: &mut Vec<u64>) {
     let mut fault = DwarfFault { kind: 0, value: 0 };
-    let mut set = DwarfSet { next: 0, unit_length: 0, first_entry: 0, word_size: 0, entry_size: 0 };
+    let mut set = DwarfSet {
+        next: 0,
+        unit_length: 0,
+        first_entry: 0,
+        word_size: 0,
+        entry_size: 0,
+    };
     let (bytes, is_big, offset) = (&asked.bytes, asked.a == 1, asked.b as usize);
     let status = if asked.call == 15 {
         dwarf_address_set(bytes, is_big, offset, &mut set, &mut fault)
     } else {
         dwarf_str_offset_set(bytes, is_big, offset, &mut set, &mut fault)
     };
-    put(to, &[status as u64, set.next as u64, set.unit_length as u64, set.first_entry as u64]);
-    put(to, &[set.word_size as u64, set.entry_size as u64, fault.kind as u64, fault.value]);
+    put(
+        to,
+        &[
+            status as u64,
+            set.next as u64,
+            set.unit_length as u64,
+            set.first_entry as u64,
+        ],
+    );
+    put(
+        to,
+        &[
+            set.word_size as u64,
+            set.entry_size as u64,
+            fault.kind as u64,
+            fault.value,
+        ],
+    );
 }
 
 fn answer(mem: Global, asked: &Asked) -> Vec<u64> {
@@ -240,7 +346,9 @@ fn answer_all(rt: &HostRuntime) -> Option<()> {
     while let Some(asked) = question_from(mem, &mut input) {
         let numbers = answer(mem, &asked);
         let mut bytes = Vec::new(mem);
-        bytes.extend_from_slice(&(numbers.len() as u64).to_le_bytes()).ok()?;
+        bytes
+            .extend_from_slice(&(numbers.len() as u64).to_le_bytes())
+            .ok()?;
         for number in numbers.iter() {
             bytes.extend_from_slice(&number.to_le_bytes()).ok()?;
         }
