@@ -1,4 +1,4 @@
-//! The library in another program, which is asked through pipes: `beside/trial/main.rt` answers.
+//! The library in another program, which is asked through pipes: `beside/trial/main.rt.txt` answers.
 
 use crate::question::{Answer, Declaration, Kind, Question, Set};
 use std::fs::File;

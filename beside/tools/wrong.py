@@ -63,7 +63,8 @@ def copy_crates(folder, name):
         file.write("".join(rows) + f"trial: {' '.join(CRATES)}\n")
     shutil.copy(f"{kit.ROOT}/HANDLES", f"{folder}/HANDLES")
     os.makedirs(f"{folder}/crates/trial/src")
-    shutil.copy(f"{PACKAGE}/trial/main.rt", f"{folder}/crates/trial/src/main.rt")
+    # (rt stops at a file with that ending outside of a crate)
+    shutil.copy(f"{PACKAGE}/trial/main.rt.txt", f"{folder}/crates/trial/src/main.rt")
     if name:
         edit(f"{folder}/crates", name)
     return f"{folder}/crates/trial"
