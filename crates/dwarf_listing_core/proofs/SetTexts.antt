@@ -1,6 +1,6 @@
 -- Sets have exactly one text, or one error.
 use Rattle.std.proofs.Common.{◌≡◌, ◌-◌, ◌^◌, ◌<◌, ℕ, zero, suc, List, [], ◌∷◌, ◌++◌, Result, Ok, Err, refl, sym, ap, ◌∙◌, arith, inl, inr, ◌⊎◌}
-use Rattle.std.specs.Prelude.{IsTrue, Bool, true, false}
+use Rattle.std.specs.Prelude.{IsTrue}
 use Rattle.dwarf_read_core.specs.declared.Error.{Error}
 use Rattle.dwarf_read_core.specs.declared.Format.{Format}
 use Rattle.dwarf_read_core.specs.declared.Format.TheVariants.{Dwarf32, Dwarf64}
@@ -8,7 +8,8 @@ use Rattle.dwarf_read_core.specs.Entries.{Entries, StandsForEntries, StandsForSt
 use Rattle.dwarf_read_core.specs.Faults.{is_number_size}
 use Rattle.dwarf_read_core.specs.Format.{word_size}
 use Rattle.dwarf_read_core.specs.Input.{Input}
-use Rattle.dwarf_read_core.specs.Layout.{Layout, AreItems, none, more, fault, fixed, check}
+use Rattle.dwarf_read_core.specs.Layout.{Layout, AreItems, none, more, fault, read, fixed}
+use Rattle.dwarf_read_core.proofs.Layouts.{then_read, check_read, inside_read, pure_read}
 use Rattle.dwarf_read_core.specs.Once.{HasOne}
 use Rattle.dwarf_read_core.specs.Sets.{Headers, Set, set, address_header, addresses_of, string_offsets_of}
 use Rattle.dwarf_listing_core.specs.Sets as listed
@@ -66,7 +67,7 @@ Text = Result (List ℕ) Error
 -- the entries of each set that is read are one list
 pub record HasOneList {H : Type 0} (listing : SetListing H) : Type 0 where
   pub one : (greatest offset : ℕ) (old new : Input) (s : Set H)
-      → (set listing.header greatest offset).Reads old s new → HasOne (HasEntries listing s)
+      → read (set listing.header greatest offset) old ≡ Ok (s, new) → HasOne (HasEntries listing s)
 
 module _ {H : Type 0} {listing : SetListing H} (law : HasOneList listing) (greatest : ℕ) where
   -- sets list one text at most, or one error
@@ -146,46 +147,28 @@ positive : (width : ℕ) → IsTrue (is_number_size width) → 0 < width
 positive zero sized = absurd cc
 positive (suc width) sized = omega arith
 
--- what was checked holds
-checked : (test : Bool) (e : Error) (old new : Input) → (check test e).Reads old tt new → IsTrue test
-checked true e old new h = refl
-checked false e old new h = absurd h
+-- the header of a set of addresses says a size of addresses
+header_size : (unit : Input) {size : ℕ} {rest : Input} → read address_header unit ≡ Ok (size, rest) → 0 < size
+unfolding address_header
+header_size unit h =
+    let version = then_read _ _ _ h in
+    let known = then_read _ _ _ version.3 in
+    let size = then_read _ _ _ known.3 in
+    let sized = then_read _ _ _ size.3 in
+    let segment = then_read _ _ _ sized.3 in
+    let flat = then_read _ _ _ segment.3 in
+    rw (pure_read _ _ flat.3).0 (positive size.0 (check_read _ _ _ sized.2).0)
 
--- a set of addresses says a size of addresses
+-- so does a set
 pub address_size : (greatest offset : ℕ) (old new : Input) (s : Set ℕ)
-    → (set address_header greatest offset).Reads old s new → 0 < s.header
-unfolding set address_header
-address_size greatest offset old new s (
-  initial,
-  i,
-  p,
-  (
-    fits,
-    j,
-    q,
-    (
-      unit,
-      k,
-      r,
-      (
-        said,
-        l,
-        (
-          (
-            version,
-            a,
-            x,
-            (known, b, y, (size, c, z, (sized, d, w, (segment, f, v, (flat, g, u, is))))),
-          ),
-          e,
-        ),
-        all,
-      ),
-    ),
-  ),
-) =
-    let same : s.header ≡ size = ap (λ (x : Set ℕ). x.header) all.0 ∙ is.0 in
-    rw same (positive size (checked (is_number_size size) _ c d w))
+    → read (set address_header greatest offset) old ≡ Ok (s, new) → 0 < s.header
+unfolding set
+address_size greatest offset old new s h =
+    let initial = then_read _ _ _ h in
+    let fits = then_read _ _ _ initial.3 in
+    let unit = then_read _ _ _ fits.3 in
+    let said = then_read _ _ _ unit.3 in
+    rw (pure_read _ _ said.3).0 (header_size unit.0 (inside_read _ _ _ said.2).0)
 
 -- the addresses of each set are one list
 pub addresses_one_list : ((e : Entries) → 0 < e.width → HasOne (StandsForEntries fixed e)) → HasOneList address_listing

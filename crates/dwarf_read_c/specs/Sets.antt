@@ -1,12 +1,12 @@
 -- A set of addresses or of string offsets at an offset of a section, as C sees it.
-use Rattle.std.specs.Prelude.{◌≡◌, ℕ, ◌+◌, ◌-◌, ◌<◌, ◌≤◌, ◌^◌, length}
+use Rattle.std.specs.Prelude.{◌≡◌, ℕ, ◌+◌, ◌-◌, ◌<◌, ◌≤◌, ◌^◌, length, Ok, Err}
 use Rattle.dwarf_read_core.specs.declared.Error.{Error}
 use Rattle.dwarf_read_core.specs.declared.Format.{Format}
 use Rattle.dwarf_read_core.specs.Entries.{Entries}
 use Rattle.dwarf_read_core.specs.Faults.{end_fault}
 use Rattle.dwarf_read_core.specs.Format.{initial_length_size, word_size}
 use Rattle.dwarf_read_core.specs.Input.{Input, after}
-use Rattle.dwarf_read_core.specs.Layout.{Layout}
+use Rattle.dwarf_read_core.specs.Layout.{Layout, read}
 use Rattle.dwarf_read_core.specs.Sets.{Set, set}
 use Rattle.dwarf_read_c.specs.declared.sets.DwarfSet.{DwarfSet}
 
@@ -18,14 +18,14 @@ set_at header offset = set header (2 ^ 64 - 1) offset
 pub record HasSet {H : Type 0} (header : Layout H) (section : Input) (offset next : ℕ) (s : Set H) : Type 0 where
   pub within : offset ≤ length section.bytes
   pub behind : Input
-  pub reads : (set_at header offset).Reads (after offset section) s behind
+  pub reads : read (set_at header offset) (after offset section) ≡ Ok (s, behind)
   pub ends : next + length behind.bytes ≡ length section.bytes
 
 -- no set is there: the offset is past the end, or the bytes from there on begin with no set
 pub data LacksSet {H : Type 0} (header : Layout H) (section : Input) (offset : ℕ) : Error → Type 0 where
   outside : length section.bytes < offset → LacksSet header section offset (end_fault section)
-  faulty : (e : Error) → offset < length section.bytes → (set_at header offset).Fails (after offset section) e
-      → LacksSet header section offset e
+  faulty : (e : Error) → offset < length section.bytes
+      → read (set_at header offset) (after offset section) ≡ Err e → LacksSet header section offset e
 
 -- a set with its entries, and where the next one may begin
 abbrev pub shown : {H : Type 0} → Set H → Entries → ℕ → DwarfSet

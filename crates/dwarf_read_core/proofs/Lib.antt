@@ -1,6 +1,7 @@
 pub mod ResultLemmas
-pub mod Layouts
 pub mod tables
 pub mod cache
 pub mod sets
 pub mod lookups
+pub use Rattle.dwarf_reader_core.proofs.Layouts
+pub use Rattle.dwarf_reader_core.proofs.LayoutErrors

@@ -5,7 +5,7 @@ use Rattle.dwarf_base_core.specs.declared.error.Error.TheVariants.{AbbreviationT
 use Rattle.dwarf_reader_core.specs.Leb128.{Kind, unsigned64, unsigned16, signed64, refusal, IsNumber, IsCut, IsBad}
 use Rattle.dwarf_reader_core.specs.Faults.{eof, end_fault}
 use Rattle.dwarf_reader_core.specs.Input.{Input, end_of}
-use Rattle.dwarf_read_core.specs.Appended.{IsNoEof}
+use Rattle.dwarf_reader_core.specs.Appended.{IsNoEof}
 use Rattle.dwarf_read_core.specs.Grammar.{Declaration, implicit_const, Table, by_null, is_by_null, IsCode, IsHead, IsFront, IsDeclaration, Declares, AreDeclarations, IsTable}
 
 -- a declaration that is cut before a number of this kind

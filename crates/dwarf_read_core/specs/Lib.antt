@@ -1,12 +1,10 @@
 pub mod Answer
-pub mod Appended
 pub mod Cache
 pub mod Entries
 pub mod Equality
 pub mod Forms
 pub mod Grammar
 pub mod Items
-pub mod Layout
 pub mod Lookups
 pub mod Ranges
 pub mod Reading
@@ -22,8 +20,10 @@ pub use Rattle.dwarf_base_core.specs.Format
 pub use Rattle.dwarf_const_core.specs.DwAt
 pub use Rattle.dwarf_const_core.specs.DwForm
 pub use Rattle.dwarf_const_core.specs.DwTag
+pub use Rattle.dwarf_reader_core.specs.Appended
 pub use Rattle.dwarf_reader_core.specs.Faults
 pub use Rattle.dwarf_reader_core.specs.Input
+pub use Rattle.dwarf_reader_core.specs.Layout
 pub use Rattle.dwarf_reader_core.specs.Leb128
 pub use Rattle.dwarf_reader_core.specs.Once
 pub use Rattle.dwarf_reader_core.specs.Shortest

@@ -1,11 +1,11 @@
 -- Numbers that are looked up by an index: offsets of strings (DWARF 5, 7.26) and addresses (7.27).
-use Rattle.std.specs.Prelude.{ℕ, ◌+◌, ◌*◌, ◌≤◌, length, nat_le, Result}
+use Rattle.std.specs.Prelude.{◌≡◌, ℕ, ◌+◌, ◌*◌, ◌≤◌, length, nat_le, Result, Err}
 use Rattle.dwarf_base_core.specs.declared.error.Error.{Error}
 use Rattle.dwarf_base_core.specs.declared.error.Error.TheVariants.{UnsupportedOffset, UnsupportedAddressSize}
 use Rattle.dwarf_reader_core.specs.Faults.{is_number_size}
 use Rattle.dwarf_reader_core.specs.Input.{Input}
 use Rattle.dwarf_read_core.specs.Entries.{string_offset}
-use Rattle.dwarf_read_core.specs.Layout.{Layout, At, fixed, part, check, ◌>>=◌}
+use Rattle.dwarf_reader_core.specs.Layout.{Layout, read, At, fixed, part, check, ◌>>=◌}
 
 -- one of the numbers that follow each other from a base on, each of `width` bytes
 pub record Slot : Type 0 where
@@ -40,7 +40,7 @@ to_slot greatest s = do
 
 -- the section has no such place: the first error
 abbrev pub Misplaced : ℕ → Input → Slot → Error → Type 0
-Misplaced greatest section s e = (to_slot greatest s).Fails section e
+Misplaced greatest section s e = read (to_slot greatest s) section ≡ Err e
 
 -- the word of a slot, which has to be an offset
 unfoldable pub word : ℕ → Slot → Layout ℕ

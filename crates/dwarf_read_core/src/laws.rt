@@ -5,13 +5,14 @@ ghost use Rattle.std.specs.List.{sum_by};
 ghost use Rattle.dwarf_base_core.specs.declared.error.Error.{Error};
 ghost use Rattle.dwarf_reader_core.specs.Input.{Input, Takes};
 ghost use Rattle.dwarf_reader_core.specs.Once.{HasOne};
-ghost use Rattle.dwarf_read_core.specs.Appended.{followed_by, IsNoEof};
+ghost use Rattle.dwarf_reader_core.specs.Appended.{followed_by, IsNoEof};
 ghost use Rattle.dwarf_read_core.specs.Answer.{Answer, IsFinal, IsStrictlyFinal, StrictAnswer};
 ghost use Rattle.dwarf_read_core.specs.Cache.{KeepsAnswers};
 ghost use Rattle.dwarf_read_core.specs.Equality.{HasValueByForm, same_declaration};
 ghost use Rattle.dwarf_read_core.specs.Grammar.{Declaration, Table};
 ghost use Rattle.dwarf_read_core.specs.Entries.{Entries, StandsForAddresses, StandsForStringOffsets};
 ghost use Rattle.dwarf_read_core.specs.Items.{least_taken};
+ghost use Rattle.dwarf_reader_core.specs.Layout.{read};
 ghost use Rattle.dwarf_read_core.specs.Ranges.{RangeAt};
 ghost use Rattle.dwarf_read_core.specs.Sets.{Headers, Set, StandsForAddressSets, StandsForStringOffsetSets, address_header, followed_headers, set, string_offsets_header};
 ghost use Rattle.dwarf_read_core.specs.Strings.{StringAt};
@@ -136,10 +137,11 @@ pub fn exactly_one_list_of_offset_sets()
 /// A set that is read is the front of the bytes, and the rest remains.
 pub fn sets_are_fronts()
     ensures addresses { (greatest offset : ℕ) (old new : Input) (s : Set ℕ)
-        → (set address_header greatest offset).Reads old s new → (count : ℕ) × Takes count old new }
+        → read (set address_header greatest offset) old ≡ Ok (s, new)
+        → (count : ℕ) × Takes count old new }
     ensures string_offsets { (greatest offset : ℕ) (old new : Input) (s : Set (Unit {0}))
-        → (set string_offsets_header greatest offset).Reads old s new → (count : ℕ)
-        × Takes count old new }
+        → read (set string_offsets_header greatest offset) old ≡ Ok (s, new)
+        → (count : ℕ) × Takes count old new }
 {}
 
 /// The bytes that remain of a set have exactly one list of addresses, and then at most one error.

@@ -11,3 +11,5 @@ pub mod SignedBits
 pub mod Buffers
 pub mod Bytes
 pub mod Once
+pub mod Layouts
+pub mod LayoutErrors

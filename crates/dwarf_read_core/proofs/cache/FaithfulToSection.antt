@@ -5,7 +5,7 @@ use Rattle.std.specs.FinMap.{get}
 use Rattle.std.specs.declared.rc.Rc.{Rc}
 use Rattle.dwarf_base_core.specs.declared.error.Error.{Error}
 use Rattle.dwarf_read_core.specs.Grammar.{Table, Close, by_null, by_end, is_by_null}
-use Rattle.dwarf_read_core.specs.Appended.{followed_by}
+use Rattle.dwarf_reader_core.specs.Appended.{followed_by}
 use Rattle.dwarf_read_core.specs.Answer.{Answer, Answers, IsFinal}
 use Rattle.dwarf_read_core.specs.Cache.{Cache, answer_of, HandsOut, KeepsAnswers, IsFaithful, is_final, still_kept}
 use Rattle.dwarf_reader_core.specs.Input.{Input}

@@ -6,7 +6,7 @@ use Rattle.dwarf_base_core.specs.declared.error.Error.{Error}
 use Rattle.dwarf_reader_core.specs.Faults.{eof, end_fault, EndsBefore}
 use Rattle.dwarf_reader_core.specs.Input.{Input, after, first, Takes}
 use Rattle.dwarf_reader_core.specs.Once.{HasOne}
-use Rattle.dwarf_read_core.proofs.Layouts.{rest-length}
+use Rattle.dwarf_reader_core.proofs.Layouts.{rest-length}
 use Rattle.dwarf_read_core.specs.Lookups.{AnswersBy}
 use Rattle.dwarf_read_core.proofs.lookups.Returned.{propagated-answer}
 use Rattle.dwarf_read_core.specs.Ranges.{RangeAt, outside, cut, range}

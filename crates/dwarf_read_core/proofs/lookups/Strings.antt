@@ -10,7 +10,7 @@ use Rattle.dwarf_reader_core.specs.Input.{Input, first, Takes, TakesString}
 use Rattle.dwarf_reader_core.specs.Once.{HasOne}
 use Rattle.dwarf_read_core.specs.Lookups.{AnswersBy, StaysBy}
 use Rattle.dwarf_read_core.specs.Strings.{HasNoZero, StringAt, outside, string, unended}
-use Rattle.dwarf_read_core.specs.Appended.{followed_by, IsNoEof}
+use Rattle.dwarf_reader_core.specs.Appended.{followed_by, IsNoEof}
 use Rattle.dwarf_read_core.proofs.lookups.Returned.{answer-stays}
 
 -- a list round an item

@@ -8,14 +8,13 @@ use Rattle.dwarf_reader_core.specs.Faults.{EndsBefore, IsNoOffset, RefusesAddres
 use Rattle.dwarf_reader_core.specs.Input.{Input, after, first, Takes, TakesNumber}
 use Rattle.dwarf_reader_core.specs.Once.{HasOne}
 use Rattle.dwarf_reader_core.proofs.Reading.{after-after}
-use Rattle.dwarf_read_core.specs.Appended.{followed_by, IsNoEof}
-use Rattle.dwarf_read_core.specs.Entries.{string_offset}
-use Rattle.dwarf_read_core.specs.Layout.{value, refused}
+use Rattle.dwarf_reader_core.specs.Appended.{followed_by, IsNoEof}
+use Rattle.dwarf_reader_core.specs.Layout.{read}
 use Rattle.dwarf_read_core.specs.Lookups.{AnswersBy, StaysBy}
 use Rattle.dwarf_read_core.specs.Words.{Slot, distance, place, IsPlaced, Misplaced, to_slot, word, address, WordAt, AddressAt}
-use Rattle.dwarf_read_core.proofs.Layouts.{IsDefinite, IsStable, At-exactly_one, At-more, sized_definite, sized_stable, fixed_size, part_size, check_definite, check_stable, then_definite, then_stable, rest-length}
+use Rattle.dwarf_reader_core.proofs.Layouts.{At_one, At_more, At_value, At_error, then_reads, then_fails, error_is, part_reads, part_fails, number_reads, number_fails, after_part, no_part, after_check, no_check, rest-length, takes-both}
 use Rattle.dwarf_read_core.proofs.lookups.Returned.{answer-stays, propagated-answer}
-use Rattle.dwarf_read_core.proofs.sets.Entries.{string_offset-definite, string_offset-stable}
+use Rattle.dwarf_read_core.proofs.sets.Entries.{offset_reads, offset_fails}
 
 -- ---- going to the place
 
@@ -23,14 +22,14 @@ use Rattle.dwarf_read_core.proofs.sets.Entries.{string_offset-definite, string_o
 pub no_base : (greatest : ℕ) (section : Input) (s : Slot) (e : Error) (new : Input)
     → EndsBefore s.base section e new → Misplaced greatest section s e
 unfolding to_slot
-no_base greatest section s e new short = inl (new, short)
+no_base greatest section s e new short = no_part _ short
 
 -- then a distance that is no offset
 pub too_far_off : (greatest : ℕ) (section : Input) (s : Slot) (rest : Input) → Takes s.base section rest
     → greatest < distance s → Misplaced greatest section s UnsupportedOffset
 unfolding to_slot
 too_far_off greatest section s rest takes over =
-    inr (first s.base section, rest, (refl, takes), inl (rw (lt-leb (distance s) greatest over) refl))
+    after_part _ refl takes (no_check _ _ _ (lt-leb (distance s) greatest over))
 
 -- then a place past the end
 pub past_end : (greatest : ℕ) (section : Input) (s : Slot) (rest : Input) (e : Error) (new : Input)
@@ -38,13 +37,7 @@ pub past_end : (greatest : ℕ) (section : Input) (s : Slot) (rest : Input) (e :
     → Misplaced greatest section s e
 unfolding to_slot
 past_end greatest section s rest e new takes counted short =
-    inr (
-      first s.base section,
-      rest,
-      (refl, takes),
-      inr
-          (tt, rest, rw (le-leb (distance s) greatest counted) (refl, refl), (new, short)),
-    )
+    after_part _ refl takes (after_check _ _ _ (le-leb (distance s) greatest counted) (part_fails short))
 
 -- the same, if the distance was counted by the code
 pub past_end_found : {A : Type 0} (greatest : ℕ) (section : Input) (s : Slot) (rest new : Input) (far : ℕ)
@@ -67,15 +60,12 @@ placed greatest section s rest new takes counted further = record {
 -- and its bytes are consumed in all
 pub skipped : (section : Input) (s : Slot) (rest new : Input) → Takes s.base section rest
     → Takes (distance s) rest new → Takes (place s) section new
-skipped section s rest new takes further = record {
-  enough = omega (arith, takes.enough, further.enough, rest-length s.base section rest takes);
-  left = further.left ∙ ap (after (distance s)) takes.left ∙ after-after (distance s) s.base section;
-}
+skipped section s rest new takes further = takes-both takes further
 
 -- the bytes before a place in the section are those in front of the slot
 slot_reached : (greatest : ℕ) (section : Input) (s : Slot) (rest : Input) → IsPlaced greatest section s
-    → Takes (place s) section rest → (to_slot greatest s).Reads section
-    (first (distance s) (after s.base section)) rest
+    → Takes (place s) section rest
+    → read (to_slot greatest s) section ≡ Ok (first (distance s) (after s.base section), rest)
 unfolding to_slot
 slot_reached greatest section s rest is_placed takes =
     let based : Takes s.base section (after s.base section) = record { enough = is_placed.based; left = refl } in
@@ -84,17 +74,9 @@ slot_reached greatest section s rest is_placed takes =
           (arith, is_placed.within, rest-length s.base section (after s.base section) based);
       left =
           takes.left ∙ sym (after-after (distance s) s.base section);
-    } in (
-      first s.base section,
-      after s.base section,
-      (refl, based),
-      (
-        tt,
-        after s.base section,
-        rw (le-leb (distance s) greatest is_placed.counted) (refl, refl),
-        (refl, further),
-      ),
-    )
+    } in
+    after_part _ refl based
+    (after_check _ _ _ (le-leb (distance s) greatest is_placed.counted) (part_reads refl further))
 
 -- ---- the number there
 
@@ -102,36 +84,25 @@ slot_reached greatest section s rest is_placed takes =
 pub word_taken : (greatest : ℕ) (section : Input) (s : Slot) (rest : Input) (x : ℕ) (new : Input)
     → IsPlaced greatest section s → Takes (place s) section rest → TakesNumber s.width rest x new → x ≤ greatest
     → WordAt greatest section s (Ok x)
-unfolding word string_offset
+unfolding word
 word_taken greatest section s rest x new is_placed takes number fits =
-    value new (
-      _,
-      rest,
-      slot_reached greatest section s rest is_placed takes,
-      (x, new, number, (tt, new, rw (le-leb x greatest fits) (refl, refl), (refl, refl))),
-    )
+    At_value _ _ (then_reads _ _ _ (slot_reached greatest section s rest is_placed takes)
+    ∙ offset_reads greatest number fits)
 
 -- one that isn't there, or is no offset, is the error
 pub word_refused : (greatest : ℕ) (section : Input) (s : Slot) (rest : Input) (e : Error) (new : Input)
     → IsPlaced greatest section s → Takes (place s) section rest
     → (EndsBefore s.width rest e new ⊎ IsNoOffset greatest s.width rest e new) → WordAt greatest section s (Err e)
-unfolding word string_offset
-word_refused greatest section s rest e new is_placed takes (inl short) =
-    refused (inr (_, rest, slot_reached greatest section s rest is_placed takes, inl (new, short)))
-word_refused greatest section s rest e new is_placed takes (inr unfit) =
-    refused (inr (
-      _,
-      rest,
-      slot_reached greatest section s rest is_placed takes,
-      inr
-          (unfit.number, new, unfit.taken, inl (rw (lt-leb unfit.number greatest unfit.over) unfit.fault)),
-    ))
+unfolding word
+word_refused greatest section s rest e new is_placed takes refused =
+    At_error _ _ (then_reads _ _ _ (slot_reached greatest section s rest is_placed takes)
+    ∙ offset_fails greatest refused)
 
 -- so is a place that isn't there
 pub word_misplaced : (greatest : ℕ) (section : Input) (s : Slot) (e : Error) → Misplaced greatest section s e
     → WordAt greatest section s (Err e)
 unfolding word
-word_misplaced greatest section s e misplaced = refused (inl misplaced)
+word_misplaced greatest section s e misplaced = At_error _ _ (then_fails _ _ _ misplaced)
 
 -- a number that is read at the place is the address
 pub address_taken : (greatest : ℕ) (section : Input) (s : Slot) (rest : Input) (x : ℕ) (new : Input)
@@ -139,12 +110,8 @@ pub address_taken : (greatest : ℕ) (section : Input) (s : Slot) (rest : Input)
     → IsTrue (is_number_size s.width) → AddressAt greatest section s (Ok x)
 unfolding address
 address_taken greatest section s rest x new is_placed takes number size =
-    value new (
-      _,
-      rest,
-      slot_reached greatest section s rest is_placed takes,
-      (tt, rest, rw size (refl, refl), number),
-    )
+    At_value _ _ (then_reads _ _ _ (slot_reached greatest section s rest is_placed takes)
+    ∙ after_check _ _ _ size (number_reads number))
 
 -- a width that is no size, or bytes that aren't there, are the error
 pub address_refused : (greatest : ℕ) (section : Input) (s : Slot) (rest : Input) (e : Error) (new : Input)
@@ -152,21 +119,17 @@ pub address_refused : (greatest : ℕ) (section : Input) (s : Slot) (rest : Inpu
     → AddressAt greatest section s (Err e)
 unfolding address
 address_refused greatest section s rest e new is_placed takes (inl other) =
-    refused (inr (_, rest, slot_reached greatest section s rest is_placed takes, inl (rw other.none other.fault)))
+    At_error _ _ (then_reads _ _ _ (slot_reached greatest section s rest is_placed takes)
+    ∙ error_is other.fault (no_check _ _ _ other.none))
 address_refused greatest section s rest e new is_placed takes (inr (size, short)) =
-    refused (inr (
-      _,
-      rest,
-      slot_reached greatest section s rest is_placed takes,
-      inr
-          (tt, rest, rw size (refl, refl), (new, short)),
-    ))
+    At_error _ _ (then_reads _ _ _ (slot_reached greatest section s rest is_placed takes)
+    ∙ after_check _ _ _ size (number_fails short))
 
 -- so is a place that isn't there
 pub address_misplaced : (greatest : ℕ) (section : Input) (s : Slot) (e : Error) → Misplaced greatest section s e
     → AddressAt greatest section s (Err e)
 unfolding address
-address_misplaced greatest section s e misplaced = refused (inl misplaced)
+address_misplaced greatest section s e misplaced = At_error _ _ (then_fails _ _ _ misplaced)
 
 -- what a reader returns that reads an address at the place is the section's answer there
 pub address-read : (greatest : ℕ) (section : Input) (s : Slot) (rest new : Input) (clone_is_free : Bool)
@@ -181,51 +144,26 @@ address-read greatest section s rest new clone_is_free (Err e) is_placed takes r
 
 -- ---- one answer
 
--- the bytes in front of a slot have exactly one outcome
-slot-definite : (greatest : ℕ) (s : Slot) → IsDefinite (to_slot greatest s)
-unfolding to_slot
-slot-definite greatest s =
-    then_definite (sized_definite (part_size s.base))
-    (λ based. then_definite (check_definite _ _) (λ counted. sized_definite (part_size (distance s))))
-
 -- a slot has exactly one word, or one error
 pub word_exactly_one : (greatest : ℕ) (section : Input) (s : Slot) → HasOne (WordAt greatest section s)
-unfolding word
-word_exactly_one greatest section s =
-    At-exactly_one section (then_definite (slot-definite greatest s) (λ reached. string_offset-definite greatest s.width))
+word_exactly_one greatest section s = At_one (word greatest s) section
 
 -- a slot has exactly one address, or one error
 pub address_exactly_one : (greatest : ℕ) (section : Input) (s : Slot) → HasOne (AddressAt greatest section s)
-unfolding address
-address_exactly_one greatest section s =
-    At-exactly_one section (then_definite (slot-definite greatest s)
-    (λ reached. then_definite (check_definite _ _) (λ sized. sized_definite (fixed_size s.width))))
+address_exactly_one greatest section s = At_one (address greatest s) section
 
 -- ---- more bytes
-
--- more bytes don't change what is in front of a slot
-slot-stable : (greatest : ℕ) (s : Slot) → IsStable (to_slot greatest s)
-unfolding to_slot
-slot-stable greatest s =
-    then_stable (sized_stable (part_size s.base))
-    (λ based. then_stable (check_stable _ _) (λ counted. sized_stable (part_size (distance s))))
 
 -- more bytes change no word, and no error but that bytes are missing
 pub word_more : (greatest : ℕ) (section : Input) (s : Slot) (answer : Result ℕ Error) (more : List ℕ)
     → WordAt greatest section s answer → IfErr answer IsNoEof → WordAt greatest (followed_by section more) s answer
-unfolding word
-word_more greatest section s answer more is settled =
-    At-more (then_stable (slot-stable greatest s)
-    (λ reached. string_offset-stable greatest s.width)) more is settled
+word_more greatest section s = At_more (word greatest s) section
 
--- nor an address
+-- more bytes change no address, and no error but that bytes are missing
 pub address_more : (greatest : ℕ) (section : Input) (s : Slot) (answer : Result ℕ Error) (more : List ℕ)
     → AddressAt greatest section s answer → IfErr answer IsNoEof
     → AddressAt greatest (followed_by section more) s answer
-unfolding address
-address_more greatest section s answer more is settled =
-    At-more (then_stable (slot-stable greatest s)
-    (λ reached. then_stable (check_stable _ _) (λ sized. sized_stable (fixed_size s.width)))) more is settled
+address_more greatest section s = At_more (address greatest s) section
 
 -- ---- what a lookup returns
 
@@ -257,9 +195,6 @@ pub address-propagated : (greatest : ℕ) (section : Input) (s : Slot) (clone_is
     → AnswersBy (AddressAt greatest section s) (λ x. x) clone_is_free r
 address-propagated greatest section s clone_is_free r h is =
     propagated-answer (AddressAt greatest section s) (λ x. x) clone_is_free r h (inl is)
-
--- the ways to the place of a slot, and how they fail
-pub ruleset slot_steps = (no_base, too_far_off, past_end, skipped, placed)
 
 -- a word at a slot, or its error
 pub ruleset word_steps = (word_taken, word_refused, word_misplaced)

@@ -1,5 +1,5 @@
 -- Entries are layouts, and have the laws of layouts; what a call gives of them.
-use Rattle.std.proofs.Common.{◌≡◌, ◌≢◌, ℕ, zero, suc, ◌<◌, ◌≤◌, List, [], ◌∷◌, length, Result, Ok, Err, refl, arith, inl, inr, ◌⊎◌}
+use Rattle.std.proofs.Common.{◌≡◌, ◌≢◌, ℕ, zero, suc, ◌<◌, ◌≤◌, List, [], ◌∷◌, length, Result, Ok, Err, sym, ◌∙◌, arith, inl, inr, ◌⊎◌}
 use Rattle.std.specs.List.{sum_by}
 use Rattle.std.specs.Prelude.{IsTrue}
 use Rattle.std.proofs.lemmas.Bool.{le-leb, lt-leb}
@@ -12,19 +12,19 @@ use Rattle.dwarf_reader_core.specs.Input.{Input, TakesNumber}
 use Rattle.dwarf_reader_core.specs.Once.{HasOne}
 use Rattle.dwarf_read_core.specs.Entries.{Entries, StandsForAddresses, StandsForEntries, StandsForStringOffsets, string_offset}
 use Rattle.dwarf_read_core.specs.Items.{ComesFirst, least_taken}
-use Rattle.dwarf_read_core.specs.Layout.{Layout, AreItems, none, more}
-use Rattle.dwarf_read_core.proofs.Layouts.{IsDefinite, TakesLeast, sized_definite, sized_least, fixed_size, pure_definite, check_definite, then_definite, pure_covers, check_least, then_covers, IsStable, sized_stable, pure_stable, check_stable, then_stable}
+use Rattle.dwarf_reader_core.specs.Layout.{Layout, read, AreItems, none, more, fixed}
+use Rattle.dwarf_reader_core.proofs.Layouts.{TakesLeast, spans_least, number_spans, pure_spans, check_spans, then_spans, number_reads, number_fails, pure_reads, after_number, no_number, after_check, no_check}
 use Rattle.dwarf_read_core.proofs.sets.ItemLists.{items-exactly_one, items-bounded, items-anywhere, fault-first}
 
-module _ {f : Layout ℕ} {width : ℕ} (law : IsDefinite f) (least : TakesLeast width f) (positive : 1 ≤ width)
-    {old new : Input} (some : old.bytes ≢ []) where
+module _ {f : Layout ℕ} {width : ℕ} (least : TakesLeast width f) (positive : 1 ≤ width) {old new : Input}
+    (some : old.bytes ≢ []) where
   -- an entry that is read comes first, and the others behind it
-  entry-first : {x : ℕ} → f.Reads old x new
+  entry-first : {x : ℕ} → read f old ≡ Ok (x, new)
       → ((others : List (Result ℕ Error)) × AreItems (λ _. f) 0 new others)
       × ((others : List (Result ℕ Error)) → AreItems (λ _. f) 0 new others
       → AreItems (λ _. f) 0 old (Ok x ∷ others))
   entry-first {x} h =
-      let found = items-exactly_one (λ _. law) (λ _. least) positive 0 new in
+      let found = items-exactly_one (λ _. least) positive 0 new in
       ((found.0, found.1), λ others k. more some h (items-anywhere _ k))
 
 abbrev entries_in : ℕ → Input → Entries
@@ -37,16 +37,19 @@ entries_none entry entries empty = none empty
 
 -- ---- addresses
 
+-- an address has its width
+number_least : (width : ℕ) → TakesLeast width (fixed width)
+number_least width = spans_least {size = λ _. width} (λ x. omega arith) (number_spans width)
+
 -- bytes have exactly one list of addresses
 pub addresses_exactly_one : (entries : Entries) → 0 < entries.width → HasOne (StandsForAddresses entries)
 addresses_exactly_one entries positive =
-    items-exactly_one (λ _. sized_definite (fixed_size entries.width)) (λ _. sized_least (fixed_size entries.width))
-    (omega (arith, positive)) 0 entries.rest
+    items-exactly_one (λ _. number_least entries.width) (omega (arith, positive)) 0 entries.rest
 
 -- addresses take no more bytes than there are
 pub addresses_bounded : (entries : Entries) (items : List (Result ℕ Error)) → StandsForAddresses entries items
     → sum_by (least_taken entries.width) items ≤ length entries.rest.bytes
-addresses_bounded entries items stands = items-bounded (λ _. sized_least (fixed_size entries.width)) stands
+addresses_bounded entries items stands = items-bounded (λ _. number_least entries.width) stands
 
 -- a size of addresses isn't 0
 size-positive : (width : ℕ) → IsTrue (is_number_size width) → 0 < width
@@ -58,46 +61,47 @@ module _ (width : ℕ) (old new : Input) (sized : IsTrue (is_number_size width))
   pub address_first : {x : ℕ} → TakesNumber width old x new
       → ComesFirst StandsForAddresses (entries_in width old) (Ok x) (entries_in width new)
   address_first takes =
-      entry-first (sized_definite (fixed_size width)) (sized_least (fixed_size width))
-      (size-positive width sized) some takes
+      entry-first (number_least width) (size-positive width sized) some (number_reads takes)
 
   -- fewer bytes are `UnexpectedEof`, and nothing remains
   pub address_fault : {e : Error} {left : Input} → RefusesAddress width old e new → left.bytes ≡ []
       → ComesFirst StandsForAddresses (entries_in width old) (Err e) (entries_in width left)
   address_fault (inl size) empty = absurd (let n = size.none in cc)
   address_fault {e} {left} (inr (_, short)) empty =
-      fault-first (λ _. sized_definite (fixed_size width)) (λ _. sized_least (fixed_size width))
-      (size-positive width sized) 0 0 old left e some (new, short) empty
+      fault-first 0 0 old left e some (number_fails short) empty
 
 -- ---- offsets of strings
 
 module _ (greatest : ℕ) where
-  -- an offset has exactly one outcome
-  pub string_offset-definite : (width : ℕ) → IsDefinite (string_offset greatest width)
-  unfolding string_offset
-  string_offset-definite width =
-      then_definite (sized_definite (fixed_size width))
-      (λ number. then_definite (check_definite _ _) (λ fits. pure_definite number))
-
-  -- more bytes don't change it
-  pub string_offset-stable : (width : ℕ) → IsStable (string_offset greatest width)
-  unfolding string_offset
-  string_offset-stable width =
-      then_stable (sized_stable (fixed_size width))
-      (λ number. then_stable (check_stable _ _) (λ fits. pure_stable number))
-
-  -- it has its width
+  -- an offset has its width
   string_offset-least : (width : ℕ) → TakesLeast width (string_offset greatest width)
   unfolding string_offset
   string_offset-least width =
-      then_covers (sized_least (fixed_size width))
-      (λ number. then_covers (check_least _ _) (λ fits. pure_covers (omega arith)))
+      spans_least {size = λ _. width} (λ x. omega arith)
+      (then_spans (number_spans width) (λ number. then_spans (check_spans _ _) (λ fits. pure_spans (omega arith))))
+
+  -- a number that is read, and is an offset, is read as one
+  pub offset_reads : {width : ℕ} {old new : Input} {x : ℕ} → TakesNumber width old x new → x ≤ greatest
+      → read (string_offset greatest width) old ≡ Ok (x, new)
+  unfolding string_offset
+  offset_reads {x = x} takes fits =
+      after_number _ takes (after_check _ _ _ (le-leb x greatest fits) (pure_reads x _))
+
+  -- fewer bytes, and a number that is no offset, are its errors
+  pub offset_fails : {width : ℕ} {old new : Input} {e : Error}
+      → EndsBefore width old e new ⊎ IsNoOffset greatest width old e new
+      → read (string_offset greatest width) old ≡ Err e
+  unfolding string_offset
+  offset_fails (inl short) = no_number _ short
+  offset_fails (inr unfit) =
+      after_number _ unfit.taken (no_check _ _ _ (lt-leb unfit.number greatest unfit.over))
+      ∙ λ i. Err ((sym unfit.fault) i)
 
   -- bytes have exactly one list of offsets
-  pub string_offsets_exactly_one : (entries : Entries) → 0 < entries.width → HasOne (StandsForStringOffsets greatest entries)
+  pub string_offsets_exactly_one : (entries : Entries) → 0 < entries.width
+      → HasOne (StandsForStringOffsets greatest entries)
   string_offsets_exactly_one entries positive =
-      items-exactly_one (λ _. string_offset-definite entries.width) (λ _. string_offset-least entries.width)
-      (omega (arith, positive)) 0 entries.rest
+      items-exactly_one (λ _. string_offset-least entries.width) (omega (arith, positive)) 0 entries.rest
 
   -- offsets take no more bytes than there are
   pub string_offsets_bounded : (entries : Entries) (items : List (Result ℕ Error))
@@ -115,28 +119,13 @@ module _ (greatest : ℕ) where
     pub string_offset_first : {x : ℕ} → TakesNumber (word_size format) old x new → x ≤ greatest
         → ComesFirst (StandsForStringOffsets greatest) (entries_in (word_size format) old) (Ok x)
         (entries_in (word_size format) new)
-    unfolding string_offset
     string_offset_first {x} takes fits =
-        entry-first (string_offset-definite (word_size format)) (string_offset-least (word_size format))
-        (word_size-positive format) some
-        (x, new, takes, (tt, new, rw (le-leb x greatest fits) (refl, refl), (refl, refl)))
+        entry-first (string_offset-least (word_size format)) (word_size-positive format) some
+        (offset_reads takes fits)
 
     -- fewer bytes are `UnexpectedEof`, and a number that is no offset is refused; nothing remains
     pub string_offset_fault : {e : Error} {left : Input}
         → EndsBefore (word_size format) old e new ⊎ IsNoOffset greatest (word_size format) old e new
         → left.bytes ≡ [] → ComesFirst (StandsForStringOffsets greatest) (entries_in (word_size format) old)
         (Err e) (entries_in (word_size format) left)
-    unfolding string_offset
-    string_offset_fault {e} {left} (inl short) empty =
-        fault-first (λ _. string_offset-definite (word_size format)) (λ _. string_offset-least (word_size format))
-        (word_size-positive format) 0 0 old left e some (inl (new, short)) empty
-    string_offset_fault {e} {left} (inr unfit) empty =
-        fault-first (λ _. string_offset-definite (word_size format)) (λ _. string_offset-least (word_size format))
-        (word_size-positive format) 0 0 old left e some
-        (inr (
-          unfit.number,
-          new,
-          unfit.taken,
-          inl
-              (rw (lt-leb unfit.number greatest unfit.over) unfit.fault),
-        )) empty
+    string_offset_fault {e} {left} refused empty = fault-first 0 0 old left e some (offset_fails refused) empty

@@ -5,10 +5,10 @@ use Rattle.std.proofs.lemmas.List.Sums.{sum_by-cons}
 use Rattle.dwarf_base_core.specs.declared.error.Error.{Error}
 use Rattle.dwarf_reader_core.specs.Input.{Input}
 use Rattle.dwarf_reader_core.specs.Once.{HasOne}
-use Rattle.dwarf_read_core.specs.Appended.{followed_by, IsNoEof}
+use Rattle.dwarf_reader_core.specs.Appended.{followed_by, IsNoEof}
 use Rattle.dwarf_read_core.specs.Items.{least_taken}
-use Rattle.dwarf_read_core.specs.Layout.{Layout, AreItems, none, more, fault}
-use Rattle.dwarf_read_core.proofs.Layouts.{IsDefinite, Comes, TakesLeast, IsStable}
+use Rattle.dwarf_reader_core.specs.Layout.{Layout, read, AreItems, none, more, fault}
+use Rattle.dwarf_reader_core.proofs.Layouts.{Outcome, TakesLeast, read_more, error_more}
 
 -- bytes that aren't none are one at least
 bytes-some : (bytes : List ℕ) → bytes ≢ [] → 1 ≤ length bytes
@@ -32,7 +32,7 @@ module _ {A : Type 0} {item : ℕ → Layout A} {n : ℕ} (least : (offset : ℕ
   items-bounded (none e) = omega arith
   items-bounded {offset} {old} (more {new = new} {x = x} {items = items} some h rest) =
       rw (sum_by-cons (least_taken n) (Ok x) items)
-      (let b = items-bounded rest in let l = (least offset).all old x new h in omega (arith, b, l))
+      (let b = items-bounded rest in let l = (least offset).by old new x h in omega (arith, b, l))
   items-bounded {offset} {old} (fault {e = e} full h) =
       rw (sum_by-cons (least_taken n) (Err e) []) (omega (arith, bytes-some old.bytes full))
 
@@ -43,24 +43,15 @@ items-anywhere offset (none e) = none e
 items-anywhere offset (more some h rest) = more some h (items-anywhere _ rest)
 items-anywhere offset (fault some h) = fault some h
 
-module _ {A : Type 0} {item : ℕ → Layout A} (law : (offset : ℕ) → IsDefinite (item offset)) where
-  abbrev Items : Type 0
-  Items = List (Result A Error)
+-- the same outcome has the same value and rest
+item-taken : {A : Type 0} {r : Outcome A} {x y : A} {i j : Input} → r ≡ Ok (x, i) → r ≡ Ok (y, j)
+    → ◌≡◌ {A = A × Input} (x, i) (y, j)
+item-taken h k = cc
 
-  abbrev ItemRead : Type 0
-  ItemRead = Result (A × Input) Error
-
-  -- an item is read in one way
-  item-same : (offset : ℕ) (old : Input) (r s : ItemRead) → Comes (item offset) old r → Comes (item offset) old s
-      → r ≡ s
-  item-same offset old r s h k = let one = (law offset).one old in one.2 r h ∙ sym (one.2 s k)
-
-  -- the same outcome has the same value and rest
-  item-taken : {x y : A} {i j : Input} → ◌≡◌ {A = ItemRead} (Ok (x, i)) (Ok (y, j)) → ◌≡◌ {A = A × Input} (x, i) (y, j)
-  item-taken e = cc
-
+module _ {A : Type 0} {item : ℕ → Layout A} where
   -- what is behind an item is behind it however the item was read
-  items-behind : (offset : ℕ) (old i j : Input) (x y : A) (ys : Items) → ◌≡◌ {A = A × Input} (x, i) (y, j)
+  items-behind : (offset : ℕ) (old i j : Input) (x y : A) (ys : List (Result A Error))
+      → ◌≡◌ {A = A × Input} (x, i) (y, j)
       → AreItems item (offset + (length old.bytes - length j.bytes)) j ys
       → AreItems item (offset + (length old.bytes - length i.bytes)) i ys
   items-behind offset old i j x y ys e behind =
@@ -68,40 +59,39 @@ module _ {A : Type 0} {item : ℕ → Layout A} (law : (offset : ℕ) → IsDefi
       (sym e) behind
 
   -- two lists of items are the same
-  pub items-same : {offset : ℕ} {old : Input} {items others : Items} → AreItems item offset old items
+  pub items-same : {offset : ℕ} {old : Input} {items others : List (Result A Error)} → AreItems item offset old items
       → AreItems item offset old others → items ≡ others
   items-same (none e) (none f) = refl
   items-same (none e) (more some h rest) = absurd (some e)
   items-same (none e) (fault some h) = absurd (some e)
   items-same (more some h rest) (none e) = absurd (some e)
   items-same {offset} {old} (more {new = i} {x = x} some h rest) (more {new = j} {x = y} {items = ys} full k behind) =
-      let e = item-taken (item-same offset old (Ok (x, i)) (Ok (y, j)) h k) in
+      let e = item-taken h k in
       let others = items-same rest (items-behind offset old i j x y ys e behind) in
       λ d. Ok ((e d).0) ∷ others d
-  items-same {offset} {old} (more {new = i} {x = x} some h rest) (fault {e = d} full k) =
-      absurd (let c = item-same offset old (Ok (x, i)) (Err d) h k in cc)
+  items-same (more some h rest) (fault full k) = absurd (let c = sym h ∙ k in cc)
   items-same (fault some h) (none e) = absurd (some e)
-  items-same {offset} {old} (fault {e = d} some h) (more {new = i} {x = x} full k rest) =
-      absurd (let c = item-same offset old (Err d) (Ok (x, i)) h k in cc)
-  items-same {offset} {old} (fault {e = d} some h) (fault {e = c} full k) =
-      let q = item-same offset old (Err d) (Err c) h k in let s : d ≡ c = cc in λ i. Err (s i) ∷ []
+  items-same (fault some h) (more full k rest) = absurd (let c = sym h ∙ k in cc)
+  items-same (fault {e = d} some h) (fault {e = c} full k) =
+      let q = sym h ∙ k in let s : d ≡ c = cc in λ i. Err (s i) ∷ []
 
   -- ---- if each item has bytes
   module _ {n : ℕ} (least : (offset : ℕ) → TakesLeast n (item offset)) (positive : 1 ≤ n) where
     -- there are items, in at least as many steps as there are bytes
     items-some : (steps offset : ℕ) (old : Input) → length old.bytes < steps
-        → (items : Items) × AreItems item offset old items
+        → (items : List (Result A Error)) × AreItems item offset old items
     items-some zero offset old few = absurd (omega arith)
-    items-some (suc steps) offset old few = go (items-some steps) (bytes-none_or_some old.bytes) ((law offset).one old)
+    items-some (suc steps) offset old few =
+        go (items-some steps) (bytes-none_or_some old.bytes) (read (item offset) old) refl
       where
-        go : ((o : ℕ) (i : Input) → length i.bytes < steps → (items : Items) × AreItems item o i items)
-            → (old.bytes ≡ []) ⊎ (old.bytes ≢ []) → HasOne (Comes (item offset) old)
-            → (items : Items) × AreItems item offset old items
-        go again (inl empty) one = ([], none empty)
-        go again (inr full) (Err e, is, only) = (Err e ∷ [], fault full is)
-        go again (inr full) (Ok (x, new), is, only) =
+        go : ((o : ℕ) (i : Input) → length i.bytes < steps → (items : List (Result A Error)) × AreItems item o i items)
+            → (old.bytes ≡ []) ⊎ (old.bytes ≢ []) → (r : Outcome A) → read (item offset) old ≡ r
+            → (items : List (Result A Error)) × AreItems item offset old items
+        go again (inl empty) r is = ([], none empty)
+        go again (inr full) (Err e) is = (Err e ∷ [], fault full is)
+        go again (inr full) (Ok (x, new)) is =
             let others = again (offset + (length old.bytes - length new.bytes)) new
-            (let l = (least offset).all old x new is in omega (arith, l, positive, few)) in
+            (let l = (least offset).by old new x is in omega (arith, l, positive, few)) in
             (Ok x ∷ others.0, more full is others.1)
 
     -- an input has exactly one list of items
@@ -111,49 +101,46 @@ module _ {A : Type 0} {item : ℕ → Layout A} (law : (offset : ℕ) → IsDefi
         (found.0, found.1, λ others a. items-same a found.1)
 
     -- an item that is read comes first, and the others behind it
-    pub item-first : (offset behind : ℕ) (old new : Input) (x : A) → old.bytes ≢ [] → (item offset).Reads old x new
-        → behind ≡ offset + (length old.bytes - length new.bytes)
-        → ((others : Items) × AreItems item behind new others)
-        × ((others : Items) → AreItems item behind new others → AreItems item offset old (Ok x ∷ others))
+    pub item-first : (offset behind : ℕ) (old new : Input) (x : A) → old.bytes ≢ []
+        → read (item offset) old ≡ Ok (x, new) → behind ≡ offset + (length old.bytes - length new.bytes)
+        → ((others : List (Result A Error)) × AreItems item behind new others)
+        × ((others : List (Result A Error)) → AreItems item behind new others
+        → AreItems item offset old (Ok x ∷ others))
     item-first offset behind old new x some h place =
         let found = items-exactly_one behind new in
         ((found.0, found.1), λ others k. more some h (subst (λ (o : ℕ). AreItems item o new others) place k))
 
-    -- an error comes first, and nothing remains behind it
-    pub fault-first : (offset behind : ℕ) (old left : Input) (e : Error) → old.bytes ≢ []
-        → (item offset).Fails old e → left.bytes ≡ []
-        → ((others : Items) × AreItems item behind left others)
-        × ((others : Items) → AreItems item behind left others → AreItems item offset old (Err e ∷ others))
-    fault-first offset behind old left e some h empty = (
-      ([], none empty),
-      λ others k. subst (λ (all : Items). AreItems item offset old (Err e ∷ all))
-          (items-same (none empty) k) (fault some h),
-    )
+  -- an error comes first, and nothing remains behind it
+  pub fault-first : (offset behind : ℕ) (old left : Input) (e : Error) → old.bytes ≢ []
+      → read (item offset) old ≡ Err e → left.bytes ≡ []
+      → ((others : List (Result A Error)) × AreItems item behind left others)
+      × ((others : List (Result A Error)) → AreItems item behind left others
+      → AreItems item offset old (Err e ∷ others))
+  fault-first offset behind old left e some h empty = (
+    ([], none empty),
+    λ others k. subst (λ (all : List (Result A Error)). AreItems item offset old (Err e ∷ all))
+        (items-same (none empty) k) (fault some h),
+  )
 
   -- ---- more bytes
-  module _ (stable : (offset : ℕ) → IsStable (item offset)) where
-    -- an item that comes first comes first also when more bytes follow
-    pub item-stays : {offset : ℕ} {old : Input} {x : A} {items : Items} → AreItems item offset old (Ok x ∷ items)
-        → (behind : List ℕ) (others : Items) → AreItems item offset (followed_by old behind) others
-        → (rest : Items) × (others ≡ Ok x ∷ rest)
-    item-stays {offset} {old} {x} (more {new = new} some h rest) behind others stands = go stands
-      where
-        here : (item offset).Reads (followed_by old behind) x (followed_by new behind)
-        here = (stable offset).stays behind old x new h
 
-        go : {others : Items} → AreItems item offset (followed_by old behind) others
-            → (rest : Items) × (others ≡ Ok x ∷ rest)
-        go (none e) = absurd (bytes-still_some old.bytes behind some e)
-        go (more {new = j} {x = y} {items = ys} full k after) =
-            let e = item-taken (item-same offset (followed_by old behind) (Ok (y, j))
-            (Ok (x, followed_by new behind)) k here) in (ys, λ i. Ok ((e i).0) ∷ ys)
-        go (fault {e = d} full k) =
-            absurd (let c = item-same offset (followed_by old behind) (Err d)
-            (Ok (x, followed_by new behind)) k here in cc)
+  -- an item that comes first comes first also when more bytes follow
+  pub item-stays : {offset : ℕ} {old : Input} {x : A} {items : List (Result A Error)}
+      → AreItems item offset old (Ok x ∷ items) → (behind : List ℕ) (others : List (Result A Error)) → AreItems item offset (followed_by old behind) others
+      → (rest : List (Result A Error)) × (others ≡ Ok x ∷ rest)
+  item-stays {offset} {old} {x} (more {new = new} some h rest) behind others stands = go stands
+    where
+      here : read (item offset) (followed_by old behind) ≡ Ok (x, followed_by new behind)
+      here = read_more (item offset) behind old h
 
-    -- so does an error, unless it is an `UnexpectedEof`
-    pub fault-stays : {offset : ℕ} {old : Input} {e : Error} → AreItems item offset old (Err e ∷ [])
-        → IsNoEof e → (behind : List ℕ)
-        → AreItems item offset (followed_by old behind) (Err e ∷ [])
-    fault-stays {offset} {old} {e} (fault some h) settled behind =
-        fault (bytes-still_some old.bytes behind some) ((stable offset).fault_stays behind old e settled h)
+      go : {others : List (Result A Error)} → AreItems item offset (followed_by old behind) others
+          → (rest : List (Result A Error)) × (others ≡ Ok x ∷ rest)
+      go (none e) = absurd (bytes-still_some old.bytes behind some e)
+      go (more {x = y} {items = ys} full k after) = let e = item-taken k here in (ys, λ i. Ok ((e i).0) ∷ ys)
+      go (fault full k) = absurd (let c = sym k ∙ here in cc)
+
+  -- so does an error, unless it is an `UnexpectedEof`
+  pub fault-stays : {offset : ℕ} {old : Input} {e : Error} → AreItems item offset old (Err e ∷ [])
+      → IsNoEof e → (behind : List ℕ) → AreItems item offset (followed_by old behind) (Err e ∷ [])
+  fault-stays {offset} {old} (fault some h) settled behind =
+      fault (bytes-still_some old.bytes behind some) (error_more (item offset) behind old settled h)

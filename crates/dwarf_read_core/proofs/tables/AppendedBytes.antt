@@ -7,7 +7,7 @@ use Rattle.dwarf_base_core.specs.declared.error.Error.{Error}
 use Rattle.dwarf_base_core.specs.declared.error.Error.TheVariants.{AbbreviationTagZero, InvalidAbbreviationChildren, AttributeNameZero, AttributeFormZero, DuplicateAbbreviationCode}
 use Rattle.dwarf_reader_core.specs.Leb128.{Kind, Number, refusal, IsEncoding, NoneIsLast, IsNumber, IsBad}
 use Rattle.dwarf_read_core.specs.Grammar.{Table, closed, by_code_of, by_null, IsTable, closed_by_null, closed_by_end}
-use Rattle.dwarf_read_core.specs.Appended.{followed_by, IsNoEof}
+use Rattle.dwarf_reader_core.specs.Appended.{followed_by, IsNoEof}
 use Rattle.dwarf_read_core.specs.Answer.{IsFaulty, number_cut, number_bad, children_cut, tag_zero, children_bad, name_zero, form_zero, IsFault, in_declaration, repeated, Answer, outside, table, fault, IsFinal, Answers}
 
 -- ---- bad numbers

@@ -6,7 +6,7 @@ use Rattle.dwarf_base_core.specs.declared.reader_offset.ReaderOffsetId.{ReaderOf
 use Rattle.dwarf_reader_core.specs.Input.{Input, end_of}
 use Rattle.dwarf_reader_core.specs.Once.{HasOne}
 use Rattle.dwarf_read_core.specs.Grammar.{Table, Close, by_null, by_end, is_by_null}
-use Rattle.dwarf_read_core.specs.Appended.{followed_by}
+use Rattle.dwarf_reader_core.specs.Appended.{followed_by}
 use Rattle.dwarf_read_core.specs.Answer.{Answer, Answers, unterminated, strictly, StrictAnswer, AnswersStrictly, IsStrictlyFinal}
 use Rattle.dwarf_read_core.proofs.tables.AppendedBytes.{answer_more}
 use Rattle.dwarf_read_core.proofs.tables.ExactlyOneAnswer.{answer_exactly_one}

@@ -15,7 +15,7 @@ ghost use Rattle.dwarf_reader_core.specs.Leb128.{signed64, ReadsNumber, RefusesN
 ghost use Rattle.dwarf_read_core.specs.Equality.{same_declaration, same_declaration_equiv};
 ghost use Rattle.dwarf_read_core.specs.Forms.{form_size};
 ghost use Rattle.dwarf_read_core.specs.Grammar.{implicit_const, by_end, is_by_null, attribute_count};
-ghost use Rattle.dwarf_read_core.specs.Appended.{followed_by};
+ghost use Rattle.dwarf_reader_core.specs.Appended.{followed_by};
 ghost use Rattle.dwarf_read_core.specs.Answer.{Answers, AnswersStrictly, IsFinal, IsStrictlyFinal, TakesNoMemory};
 ghost use Rattle.dwarf_read_core.specs.Reading.{Gives, tag_at, children_at, specification_at, attributes_in, declared_at, declaration_at, table_in};
 ghost use Rattle.dwarf_read_core.specs.TableEntries.{declared_in, ClosesAt};

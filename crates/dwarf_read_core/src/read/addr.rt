@@ -9,6 +9,7 @@ ghost use Rattle.dwarf_reader_core.specs.Faults.{WantsMemory, is_number_size};
 ghost use Rattle.dwarf_read_core.specs.Entries.{StandsForAddresses};
 ghost use Rattle.dwarf_read_core.specs.Equality.{same_set, same_set_per, same_set_equiv};
 ghost use Rattle.dwarf_read_core.specs.Items.{GivesFirst, StaysFirst};
+ghost use Rattle.dwarf_reader_core.specs.Layout.{read};
 ghost use Rattle.dwarf_read_core.specs.Lookups.{AnswersBy, StaysBy};
 ghost use Rattle.dwarf_read_core.specs.Sets.{StandsForAddressSets, address_header, addresses_of, followed_headers, seen_by, set};
 ghost use Rattle.dwarf_read_core.specs.Words.{AddressAt, slot};
@@ -327,11 +328,11 @@ impl<R: Reader + Clone> Clone for AddrHeader<R> {
 impl<R: Reader> AddrHeader<R> {
     fn parse(input: &mut R, offset: DebugAddrOffset<R::Offset>) -> Result<AddrHeader<R>>
         ensures ok { IfOk result
-            (λ header. (set address_header R.Offset.GREATEST (R.Offset.value offset.0)).Reads
-            (R.view input.old) (seen_by R.view header) (R.view input.new)) }
+            (λ header. read (set address_header R.Offset.GREATEST (R.Offset.value offset.0))
+            (R.view input.old) ≡ Ok (seen_by R.view header, R.view input.new)) }
         ensures err { IfErr result
-            (λ e. (set address_header R.Offset.GREATEST (R.Offset.value offset.0)).Fails
-            (R.view input.old) e ⊎ WantsMemory R.clone_is_free e) }
+            (λ e. (read (set address_header R.Offset.GREATEST (R.Offset.value offset.0))
+            (R.view input.old) ≡ Err e) ⊎ WantsMemory R.clone_is_free e) }
         ensures bound { OnOk result
             (length (R.view input.new).bytes + 8 ≤ length (R.view input.old).bytes) }
     {

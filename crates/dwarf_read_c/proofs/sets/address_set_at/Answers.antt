@@ -1,7 +1,8 @@
 use Rattle.std.proofs.Common.{arith, refl}
 use Rattle.std.proofs.lemmas.Result.{err_from_is_err_and}
 use Rattle.dwarf_read_core.specs.Sets.{addresses_of}
-use Rattle.dwarf_read_c.proofs.SetLemmas.{address_header-four, set_found, set_outside, set_refused, set_told}
+use Rattle.dwarf_read_core.proofs.sets.Sets.{address_header-four}
+use Rattle.dwarf_read_c.proofs.SetLemmas.{set_found, set_outside, set_refused, set_told}
 use Rattle.dwarf_read_c.proofs.sets.address_set_at.Goals as goal
 
 pub returns-in_err-bytes_from-clause-err : goal.returns-in_err-bytes_from-clause-err

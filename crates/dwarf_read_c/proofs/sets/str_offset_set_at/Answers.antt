@@ -1,7 +1,8 @@
 use Rattle.std.proofs.Common.{arith, refl}
 use Rattle.std.proofs.lemmas.Result.{err_from_is_err_and}
 use Rattle.dwarf_read_core.specs.Sets.{string_offsets_of}
-use Rattle.dwarf_read_c.proofs.SetLemmas.{string_offsets_header-four, set_found, set_outside, set_refused, set_told}
+use Rattle.dwarf_read_core.proofs.sets.Sets.{string_offsets_header-four}
+use Rattle.dwarf_read_c.proofs.SetLemmas.{set_found, set_outside, set_refused, set_told}
 use Rattle.dwarf_read_c.proofs.sets.str_offset_set_at.Goals as goal
 
 pub returns-in_err-bytes_from-clause-err : goal.returns-in_err-bytes_from-clause-err

@@ -6,7 +6,7 @@ ghost use Rattle.std.specs.FinMap as finite;
 ghost use Rattle.std.specs.Iterator.{IsFinite};
 ghost use Rattle.std.specs.Ordering.{nat_cmp};
 ghost use Rattle.dwarf_reader_core.specs.Input.{Input};
-ghost use Rattle.dwarf_read_core.specs.Appended.{followed_by};
+ghost use Rattle.dwarf_reader_core.specs.Appended.{followed_by};
 ghost use Rattle.dwarf_read_core.specs.Answer.{Answer, Answers};
 ghost use Rattle.dwarf_read_core.specs.Cache.{answer_of, KeepsAnswers, least_count, NamesOffsets, GivesBeforeError, GivesSome, IsFaithful, HandsOut, is_final, still_kept};
 ghost use Rattle.dwarf_read_core.specs.Sections.{debug_abbrev_reader};

@@ -6,6 +6,7 @@ ghost use Rattle.dwarf_reader_core.specs.Faults.{WantsMemory};
 ghost use Rattle.dwarf_read_core.specs.Entries.{StandsForStringOffsets};
 ghost use Rattle.dwarf_read_core.specs.Equality.{same_set, same_set_per, same_set_equiv, same_unit, same_unit_equiv};
 ghost use Rattle.dwarf_read_core.specs.Items.{GivesFirst, StaysFirst};
+ghost use Rattle.dwarf_reader_core.specs.Layout.{read};
 ghost use Rattle.dwarf_read_core.specs.Sets.{StandsForStringOffsetSets, followed_headers, seen_by, set, string_offsets_header, string_offsets_of};
 
 use dwarf_base_core::{DebugStrOffset, Error, Format, ReaderOffset, Result};
@@ -204,12 +205,11 @@ impl<R: Reader + Clone> Clone for StrOffsetsHeader<R> {
 impl<R: Reader> StrOffsetsHeader<R> {
     fn parse(input: &mut R, offset: R::Offset) -> Result<StrOffsetsHeader<R>>
         ensures ok { IfOk result
-            (λ header. (set string_offsets_header R.Offset.GREATEST (R.Offset.value offset)).Reads
-            (R.view input.old) (seen_by R.view header)
-            (R.view input.new)) }
+            (λ header. read (set string_offsets_header R.Offset.GREATEST (R.Offset.value offset))
+            (R.view input.old) ≡ Ok (seen_by R.view header, R.view input.new)) }
         ensures err { IfErr result
-            (λ e. (set string_offsets_header R.Offset.GREATEST (R.Offset.value offset)).Fails
-            (R.view input.old) e ⊎ WantsMemory R.clone_is_free e) }
+            (λ e. (read (set string_offsets_header R.Offset.GREATEST (R.Offset.value offset))
+            (R.view input.old) ≡ Err e) ⊎ WantsMemory R.clone_is_free e) }
         ensures bound { OnOk result
             (length (R.view input.new).bytes + 8 ≤ length (R.view input.old).bytes) }
     {

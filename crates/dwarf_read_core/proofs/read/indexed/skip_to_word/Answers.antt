@@ -1,6 +1,6 @@
 use Rattle.std.proofs.Common.{◌*◌, ◌<◌, arith}
 use Rattle.dwarf_read_core.proofs.ResultLemmas.{propagated-err}
-use Rattle.dwarf_read_core.proofs.lookups.Words.{past_end_found, too_far_off}
+use Rattle.dwarf_read_core.proofs.lookups.Words.{no_base, past_end_found, too_far_off}
 use Rattle.dwarf_read_core.proofs.read.indexed.skip_to_word.Goals as goal
 
 pub returns-in_err-length_before-clause-err : goal.returns-in_err-length_before-clause-err
@@ -18,3 +18,7 @@ returns-clause-err g c =
     past_end_found _ _ _ _ _ _ _ c.in_ok-skip.ensures.ok
     (rw c.word_size-width.ensures at c.in_ok-length_before.ensures.0)
     (omega (arith, c.in_ok-length_before.ensures)) c.skip-2.ensures.err
+
+pub returns-in_err-skip-clause-err : goal.returns-in_err-skip-clause-err
+returns-in_err-skip-clause-err g c =
+    propagated-err _ _ c.from_residual.ensures.1 (no_base _ _ _ _ _ c.in_err-skip.ensures.err)

@@ -1,0 +1,503 @@
+-- Laws of layouts: steps of reading, exactly one outcome, appended bytes, the front of the bytes, and how many are
+-- consumed.
+use Rattle.std.proofs.Common.{◌≡◌, ℕ, zero, suc, ◌+◌, ◌-◌, ◌<◌, ◌≤◌, take, drop, Bool, true, false, cond, leb, List, [], ◌∷◌, ◌++◌, length, Option, None, Some, Result, Ok, Err, refl, sym, ap, subst, ◌∙◌, arith, slice_index}
+use Rattle.std.proofs.lemmas.Bool.{le-leb, lt-leb, leb-true, eqb-true, eq-eqb}
+use Rattle.std.proofs.lemmas.List.{length-append, length-drop, length-take-le, take-append-le, drop-append-le}
+use Rattle.std.proofs.lemmas.List.Elements.{All-head, All-tail}
+use Rattle.std.proofs.Math.Seq.{drop-append-add}
+use Rattle.std.specs.Prelude.{IfErr, ⊤, ◌==◌, ◌≢◌, All}
+use Rattle.dwarf_base_core.specs.declared.error.Error.{Error}
+use Rattle.dwarf_reader_core.specs.Appended.{followed_by, IsNoEof}
+use Rattle.dwarf_reader_core.specs.Faults.{EndsBefore, Lacks, end_fault}
+use Rattle.dwarf_reader_core.specs.Input.{Input, after, first, Takes, TakesByte, TakesNumber, TakesString, IsFirst}
+use Rattle.dwarf_reader_core.specs.Layout.{Layout, read, and_then, with_byte, split_at, before_end, fixed, byte, part, ended, pure, refuse, when◌then◌else◌, check, ◌>>=◌, inside, At, alone}
+use Rattle.dwarf_reader_core.specs.Once.{HasOne}
+use Rattle.dwarf_reader_core.proofs.Reading.{after-after}
+
+-- ---- steps of reading
+
+-- what reading comes to: a value and what remains behind it, or an error
+abbrev pub Outcome : Type 0 → Type 0
+Outcome A = Result (A × Input) Error
+
+module _ {A B : Type 0} (p : Layout A) (f : A → Layout B) (old : Input) where
+  -- behind a value that is read, what follows is read
+  pub then_reads : {mid : Input} {x : A} → read p old ≡ Ok (x, mid) → read (p >>= f) old ≡ read (f x) mid
+  unfolding read
+  then_reads is = ap (λ (s : Outcome A). and_then s (λ x. read (f x.0) x.1)) is
+
+  -- an error of the first is an error of both
+  pub then_fails : {e : Error} → read p old ≡ Err e → read (p >>= f) old ≡ Err e
+  unfolding read
+  then_fails is = ap (λ (s : Outcome A). and_then s (λ x. read (f x.0) x.1)) is
+
+-- an error that is another name of one is this error
+pub error_is : {A : Type 0} {r : Outcome A} {d e : Error} → e ≡ d → r ≡ Err d → r ≡ Err e
+error_is same is = is ∙ λ i. Err ((sym same) i)
+
+-- a value without bytes is read
+pub pure_reads : {A : Type 0} (a : A) (old : Input) → read (pure a) old ≡ Ok (a, old)
+unfolding read
+pure_reads a old = refl
+
+-- an error without bytes is the error
+pub refuse_fails : {A : Type 0} (e : Error) (old : Input) → read (refuse {A = A} e) old ≡ Err e
+unfolding read
+refuse_fails e old = refl
+
+-- a part that is there is read
+pub part_reads : {n : ℕ} {old new unit : Input} → unit ≡ first n old → Takes n old new
+    → read (part n) old ≡ Ok (unit, new)
+unfolding read
+part_reads {n} {old} is takes =
+    rw (le-leb n (length old.bytes) takes.enough) (λ i. Ok ((sym is) i, (sym takes.left) i))
+
+-- one that isn't there is `UnexpectedEof`
+pub part_fails : {n : ℕ} {old new : Input} {e : Error} → EndsBefore n old e new → read (part n) old ≡ Err e
+unfolding read
+part_fails {n} {old} short = rw (lt-leb n (length old.bytes) short.short) (λ i. Err ((sym short.fault) i))
+
+-- a number that a reader reads is read
+pub number_reads : {n : ℕ} {old new : Input} {x : ℕ} → TakesNumber n old x new → read (fixed n) old ≡ Ok (x, new)
+unfolding read fixed
+number_reads {n} {old} takes =
+    rw (le-leb n (length old.bytes) takes.enough) (λ i. Ok ((sym takes.is) i, (sym takes.left) i))
+
+-- fewer bytes than a number has are `UnexpectedEof`
+pub number_fails : {n : ℕ} {old new : Input} {e : Error} → EndsBefore n old e new → read (fixed n) old ≡ Err e
+unfolding fixed
+number_fails short = then_fails _ _ _ (part_fails short)
+
+-- the first byte is the first of one byte
+first-byte : (bytes : List ℕ) → 1 ≤ length bytes → slice_index (take 1 bytes) 0 ≡ slice_index bytes 0
+first-byte [] some = absurd (omega (arith, some))
+first-byte (b ∷ bytes) some = refl
+
+-- a byte that a reader reads is read
+pub byte_reads : {old new : Input} {x : ℕ} → TakesByte old x new → read byte old ≡ Ok (x, new)
+unfolding read byte
+byte_reads {old} takes =
+    rw (le-leb 1 (length old.bytes) takes.enough)
+    (λ i. Ok ((first-byte old.bytes takes.enough ∙ sym takes.is) i, (sym takes.left) i))
+
+-- no bytes are `UnexpectedEof`
+pub byte_fails : {old new : Input} {e : Error} → EndsBefore 1 old e new → read byte old ≡ Err e
+unfolding byte
+byte_fails short = then_fails _ _ _ (part_fails short)
+
+-- numbers that differ aren't equal by the test
+differs : (a b : ℕ) → a ≢ b → (a == b) ≡ false
+differs a b other = go (a == b) refl
+  where
+    go : (t : Bool) → (a == b) ≡ t → t ≡ false
+    go true e = absurd (other (eqb-true a b e))
+    go false e = refl
+
+-- bytes are split where the end stands first
+split-first : (end : ℕ) (bytes : List ℕ) (len : ℕ) → IsFirst end bytes len
+    → split_at end bytes ≡ Some (take len bytes, drop (suc len) bytes)
+split-first end [] len is = absurd (omega (arith, is.within))
+split-first end (b ∷ bytes) zero is = rw (eq-eqb b end is.here) refl
+split-first end (b ∷ bytes) (suc len) is =
+    let later : IsFirst end bytes len = record {
+      within = omega (arith, is.within);
+      here = is.here;
+      before = All-tail (λ x. x ≢ end) b (take len bytes) is.before;
+    } in
+    rw (differs b end (All-head (λ x. x ≢ end) b (take len bytes) is.before), split-first end bytes len later) refl
+
+-- bytes without the end aren't
+split-none : (end : ℕ) (bytes : List ℕ) → All (λ b. b ≢ end) bytes → split_at end bytes ≡ None
+split-none end [] none = refl
+split-none end (b ∷ bytes) none =
+    rw (differs b end (All-head (λ x. x ≢ end) b bytes none), split-none end bytes (All-tail (λ x. x ≢ end) b bytes none))
+    refl
+
+-- a string that a reader reads is read
+pub string_reads : {old string new : Input} → TakesString old string new → read (ended 0) old ≡ Ok (string, new)
+unfolding read
+string_reads {old} {string} {new} t =
+    let len : length (take t.len old.bytes) ≡ t.len = length-take-le t.len old.bytes (omega (arith, t.ends.within)) in
+    let one : suc t.len ≡ t.len + 1 = omega arith in
+    rw (split-first 0 old.bytes t.len t.ends, len, one) (λ i. Ok ((sym t.is) i, (sym t.left) i))
+
+-- bytes without a zero byte are `UnexpectedEof`
+pub string_fails : {old : Input} {e : Error} → Lacks 0 old e → read (ended 0) old ≡ Err e
+unfolding read
+string_fails {old} none = rw (split-none 0 old.bytes none.none) (λ i. Err ((sym none.fault) i))
+
+module _ {B : Type 0} where
+  -- behind a number is what follows it
+  pub after_number : {n : ℕ} {old mid : Input} {x : ℕ} (f : ℕ → Layout B) {r : Outcome B} → TakesNumber n old x mid
+      → read (f x) mid ≡ r → read (fixed n >>= f) old ≡ r
+  after_number f takes rest = then_reads _ f _ (number_reads takes) ∙ rest
+
+  -- no number is the error
+  pub no_number : {n : ℕ} {old new : Input} {e : Error} (f : ℕ → Layout B) → EndsBefore n old e new
+      → read (fixed n >>= f) old ≡ Err e
+  no_number f short = then_fails _ f _ (number_fails short)
+
+  -- behind a byte is what follows it
+  pub after_byte : {old mid : Input} {x : ℕ} (f : ℕ → Layout B) {r : Outcome B} → TakesByte old x mid
+      → read (f x) mid ≡ r → read (byte >>= f) old ≡ r
+  after_byte f takes rest = then_reads _ f _ (byte_reads takes) ∙ rest
+
+  -- no byte is the error
+  pub no_byte : {old new : Input} {e : Error} (f : ℕ → Layout B) → EndsBefore 1 old e new
+      → read (byte >>= f) old ≡ Err e
+  no_byte f short = then_fails _ f _ (byte_fails short)
+
+  -- behind a part is what follows it
+  pub after_part : {n : ℕ} {old mid unit : Input} (f : Input → Layout B) {r : Outcome B} → unit ≡ first n old
+      → Takes n old mid → read (f unit) mid ≡ r → read (part n >>= f) old ≡ r
+  after_part f is takes rest = then_reads _ f _ (part_reads is takes) ∙ rest
+
+  -- no part is the error
+  pub no_part : {n : ℕ} {old new : Input} {e : Error} (f : Input → Layout B) → EndsBefore n old e new
+      → read (part n >>= f) old ≡ Err e
+  no_part f short = then_fails _ f _ (part_fails short)
+
+  -- behind a test that holds is what follows it
+  pub after_check : {b : Bool} (e : Error) (f : Unit {0} → Layout B) (old : Input) {r : Outcome B} → b ≡ true
+      → read (f tt) old ≡ r → read (check b e >>= f) old ≡ r
+  unfolding read check
+  after_check e f old holds rest = rw holds rest
+
+  -- a test that doesn't hold is the error
+  pub no_check : {b : Bool} (e : Error) (f : Unit {0} → Layout B) (old : Input) → b ≡ false
+      → read (check b e >>= f) old ≡ Err e
+  unfolding read check
+  no_check e f old fails = rw fails refl
+
+  module _ {A : Type 0} (g : Layout A) (unit : Input) (f : A × Input → Layout B) (old : Input) where
+    -- behind what is read inside a part is what follows it
+    pub after_inside : {x : A} {left : Input} {r : Outcome B} → read g unit ≡ Ok (x, left)
+        → read (f (x, left)) old ≡ r → read (inside unit g >>= f) old ≡ r
+    unfolding read
+    after_inside {x} {left} is rest = rw is rest
+
+    -- an error inside a part is the error
+    pub no_inside : {e : Error} → read g unit ≡ Err e → read (inside unit g >>= f) old ≡ Err e
+    unfolding read
+    no_inside is = rw is refl
+
+-- ---- what was read
+
+-- a value behind which another follows was read, and the other behind it
+pub then_read : {A B : Type 0} (p : Layout A) (f : A → Layout B) (old : Input) {y : B} {new : Input}
+    → read (p >>= f) old ≡ Ok (y, new)
+    → (x : A) × (mid : Input) × (read p old ≡ Ok (x, mid)) × (read (f x) mid ≡ Ok (y, new))
+unfolding read
+then_read {A} {B} p f old {y} {new} is = go (read p old) refl is
+  where
+    go : (r : Outcome A) → read p old ≡ r → and_then r (λ x. read (f x.0) x.1) ≡ Ok (y, new)
+        → (x : A) × (mid : Input) × (read p old ≡ Ok (x, mid)) × (read (f x) mid ≡ Ok (y, new))
+    go (Ok (x, mid)) q h = (x, mid, q, h)
+    go (Err e) q h = absurd cc
+
+-- a test that was passed holds, and consumed nothing
+pub check_read : (b : Bool) (e : Error) (old : Input) {x : Unit {0}} {new : Input}
+    → read (check b e) old ≡ Ok (x, new) → (b ≡ true) × (new ≡ old)
+unfolding read check
+check_read true e old {x} {new} is =
+    let same : ◌≡◌ {A = Unit {0} × Input} (tt, old) (x, new) = cc in
+    (refl, λ i. ((sym same) i).1)
+check_read false e old is = absurd cc
+
+-- a value that was read without bytes is this one, and nothing was consumed
+pub pure_read : {A : Type 0} (a : A) (old : Input) {x : A} {new : Input} → read (pure a) old ≡ Ok (x, new)
+    → (x ≡ a) × (new ≡ old)
+unfolding read
+pure_read {A} a old {x} {new} is =
+    let same : ◌≡◌ {A = A × Input} (a, old) (x, new) = cc in
+    (λ i. ((sym same) i).0, λ i. ((sym same) i).1)
+
+-- a part that was read is the first bytes, which were consumed
+pub part_read : (n : ℕ) (old : Input) {unit new : Input} → read (part n) old ≡ Ok (unit, new)
+    → (unit ≡ first n old) × Takes n old new
+unfolding read
+part_read n old {unit} {new} is = go (leb n (length old.bytes)) refl is
+  where
+    go : (enough : Bool) → leb n (length old.bytes) ≡ enough
+        → ◌≡◌ {A = Outcome Input} (cond enough (Ok (first n old, after n old)) (Err (end_fault old))) (Ok (unit, new))
+        → (unit ≡ first n old) × Takes n old new
+    go true e h =
+        let same : ◌≡◌ {A = Input × Input} (first n old, after n old) (unit, new) = cc in (
+          λ i. ((sym same) i).0,
+          record { enough = leb-true n (length old.bytes) e; left = λ i. ((sym same) i).1 },
+        )
+    go false e h = absurd cc
+
+-- what was read inside a part is at the front of the part, and nothing more was consumed
+pub inside_read : {A : Type 0} (unit : Input) (f : Layout A) (old : Input) {x : A × Input} {new : Input}
+    → read (inside unit f) old ≡ Ok (x, new) → (read f unit ≡ Ok x) × (new ≡ old)
+unfolding read
+inside_read {A} unit f old {x} {new} is = go (read f unit) refl is
+  where
+    go : (r : Outcome A) → read f unit ≡ r
+        → ◌≡◌ {A = Outcome (A × Input)} (and_then r (λ y. Ok (y, old))) (Ok (x, new))
+        → (read f unit ≡ Ok x) × (new ≡ old)
+    go (Ok y) q h =
+        let same : ◌≡◌ {A = (A × Input) × Input} (y, old) (x, new) = cc in
+        (q ∙ λ i. Ok ((same i).0), λ i. ((sym same) i).1)
+    go (Err e) q h = absurd cc
+
+-- ---- exactly one outcome
+
+-- a section has exactly one answer
+pub At_one : {A : Type 0} (f : Layout A) (section : Input) → HasOne (At f section)
+At_one f section = (alone (read f section), refl, λ other is. is)
+
+-- what is read at the front of a section is its answer
+pub At_value : {A : Type 0} (f : Layout A) (section : Input) {new : Input} {x : A} → read f section ≡ Ok (x, new)
+    → At f section (Ok x)
+At_value f section is = sym (ap alone is)
+
+-- so is an error
+pub At_error : {A : Type 0} (f : Layout A) (section : Input) {e : Error} → read f section ≡ Err e
+    → At f section (Err e)
+At_error f section is = sym (ap alone is)
+
+-- ---- more bytes
+
+-- more bytes behind change neither a value nor an error, unless it is an `UnexpectedEof`
+abbrev Stays : {A : Type 0} → List ℕ → Outcome A → Outcome A → Type 0
+Stays more (Ok x) longer = longer ≡ Ok (x.0, followed_by x.1 more)
+Stays more (Err e) longer = IsNoEof e → longer ≡ Err e
+
+-- a part that is there is the same part of more bytes, which stay behind it
+part-stays : (n : ℕ) (more : List ℕ) (old : Input) (enough : Bool) → leb n (length old.bytes) ≡ enough
+    → Stays more (cond enough (Ok (first n old, after n old)) (Err (end_fault old)))
+    (read (part n) (followed_by old more))
+unfolding read
+part-stays n more old true e =
+    let le : n ≤ length old.bytes = leb-true n (length old.bytes) e in
+    rw (le-leb n (length (old.bytes ++ more)) (omega (arith, length-append old.bytes more)), take-append-le n old.bytes more le, drop-append-le n old.bytes more le) refl
+part-stays n more old false e = λ settled. absurd (settled old.position refl)
+
+-- what two layouts one behind the other come to stays if what each comes to does
+then-stays : {A B : Type 0} (more : List ℕ) (f : A → Layout B)
+    → ((x : A × Input) → Stays more (read (f x.0) x.1) (read (f x.0) (followed_by x.1 more)))
+    → (r s : Outcome A) → Stays more r s
+    → Stays more (and_then r (λ x. read (f x.0) x.1)) (and_then s (λ x. read (f x.0) x.1))
+then-stays more f behind (Ok x) s h =
+    subst (λ (s : Outcome _). Stays more (read (f x.0) x.1) (and_then s (λ x. read (f x.0) x.1))) (sym h) (behind x)
+then-stays more f behind (Err e) s h =
+    λ settled. ap (λ (s : Outcome _). and_then s (λ x. read (f x.0) x.1)) (h settled)
+
+-- a part has an end of its own
+inside-stays : {A : Type 0} (more : List ℕ) (old : Input) (r : Outcome A)
+    → Stays more (and_then r (λ x. Ok (x, old))) (and_then r (λ x. Ok (x, followed_by old more)))
+inside-stays more old (Ok x) = refl
+inside-stays more old (Err e) = λ settled. refl
+
+-- with more bytes behind, an end that is found stays
+abbrev EndStays : List ℕ → Option (List ℕ × List ℕ) → Option (List ℕ × List ℕ) → Type 0
+EndStays more None longer = ⊤
+EndStays more (Some x) longer = longer ≡ Some (x.0, x.1 ++ more)
+
+-- so the first does
+split-stays : (end : ℕ) (bytes more : List ℕ) → EndStays more (split_at end bytes) (split_at end (bytes ++ more))
+split-stays end [] more = tt
+split-stays end (b ∷ bytes) more =
+    go (b == end) (split_at end bytes) (split_at end (bytes ++ more)) (split-stays end bytes more)
+  where
+    go : (t : Bool) (r s : Option (List ℕ × List ℕ)) → EndStays more r s
+        → EndStays more (cond t (Some ([], bytes)) (with_byte b r)) (cond t (Some ([], bytes ++ more)) (with_byte b s))
+    go true r s h = refl
+    go false (Some x) s h = ap (with_byte b) h
+    go false None s h = tt
+
+-- bytes up to their end stay
+ended-stays : (more : List ℕ) (old : Input) (r s : Option (List ℕ × List ℕ)) → EndStays more r s
+    → Stays more (before_end old r) (before_end (followed_by old more) s)
+ended-stays more old (Some x) s h = ap (before_end (followed_by old more)) h
+ended-stays more old None s h = λ settled. absurd (settled old.position refl)
+
+-- so it is with every layout
+stays : {A : Type 0} (f : Layout A) (more : List ℕ) (old : Input) → Stays more (read f old) (read f (followed_by old more))
+unfolding read
+stays (part n) more old = part-stays n more old (leb n (length old.bytes)) refl
+stays (ended end) more old = ended-stays more old _ _ (split-stays end old.bytes more)
+stays (pure a) more old = refl
+stays (refuse e) more old = λ settled. refl
+stays (inside unit f) more old = inside-stays more old (read f unit)
+stays (p >>= f) more old =
+    then-stays more f (λ x. stays (f x.0) more x.1) (read p old) (read p (followed_by old more)) (stays p more old)
+
+-- what is read is read of more bytes
+pub read_more : {A : Type 0} (f : Layout A) (more : List ℕ) (old : Input) {new : Input} {x : A} → read f old ≡ Ok (x, new)
+    → read f (followed_by old more) ≡ Ok (x, followed_by new more)
+read_more f more old is = subst (λ (r : Outcome _). Stays more r (read f (followed_by old more))) is (stays f more old)
+
+-- so is an error, unless it is an `UnexpectedEof`
+pub error_more : {A : Type 0} (f : Layout A) (more : List ℕ) (old : Input) {e : Error} → IsNoEof e
+    → read f old ≡ Err e → read f (followed_by old more) ≡ Err e
+error_more f more old settled is =
+    subst (λ (r : Outcome _). Stays more r (read f (followed_by old more))) is (stays f more old) settled
+
+-- more bytes change no answer, unless it is an `UnexpectedEof`
+pub At_more : {A : Type 0} (f : Layout A) (section : Input) (answer : Result A Error) (more : List ℕ)
+    → At f section answer → IfErr answer IsNoEof → At f (followed_by section more) answer
+At_more {A} f section answer more is settled =
+    is ∙ sym (go (read f section) (stays f more section) (subst (λ (a : Result A Error). IfErr a IsNoEof) is settled))
+  where
+    go : (r : Outcome A) → Stays more r (read f (followed_by section more)) → IfErr (alone r) IsNoEof
+        → alone (read f (followed_by section more)) ≡ alone r
+    go (Ok x) same settled = ap alone same
+    go (Err e) same settled = ap alone (same settled)
+
+-- ---- the front of the bytes
+
+-- what remains is as long as what was there, without what was consumed
+pub rest-length : (n : ℕ) (old new : Input) → Takes n old new → length new.bytes ≡ length old.bytes - n
+rest-length n old new takes = ap (λ (i : Input). length i.bytes) takes.left ∙ length-drop n old.bytes
+
+-- nothing is consumed
+takes-nothing : (old : Input) → Takes 0 old old
+takes-nothing old = record {
+  enough = omega arith;
+  left = λ i. record {
+    bytes = old.bytes;
+    position = (let p : old.position ≡ old.position + 0 = omega arith in p) i;
+    is_big = old.is_big;
+  };
+}
+
+-- what is consumed in two steps is consumed in all
+pub takes-both : {m n : ℕ} {old mid new : Input} → Takes m old mid → Takes n mid new → Takes (m + n) old new
+takes-both {m} {n} {old} {mid} a b = record {
+  enough = omega (arith, a.enough, b.enough, rest-length m old mid a);
+  left = b.left ∙ ap (after n) a.left ∙ after-after n m old;
+}
+
+-- the bytes before the end, the end and those behind it are the bytes
+abbrev AreSplit : ℕ → List ℕ → Option (List ℕ × List ℕ) → Type 0
+AreSplit end bytes None = ⊤
+AreSplit end bytes (Some x) = bytes ≡ x.0 ++ end ∷ x.1
+
+-- so they are at the first end
+split-parts : (end : ℕ) (bytes : List ℕ) → AreSplit end bytes (split_at end bytes)
+split-parts end [] = tt
+split-parts end (b ∷ bytes) = go (b == end) refl (split_at end bytes) (split-parts end bytes)
+  where
+    go : (t : Bool) → (b == end) ≡ t → (r : Option (List ℕ × List ℕ)) → AreSplit end bytes r
+        → AreSplit end (b ∷ bytes) (cond t (Some ([], bytes)) (with_byte b r))
+    go true e r h = ap (λ (x : ℕ). x ∷ bytes) (eqb-true b end e)
+    go false e (Some x) h = ap (λ (l : List ℕ). b ∷ l) h
+    go false e None h = tt
+
+-- what is behind the end is behind as many bytes
+behind-takes : (end : ℕ) (old : Input) (x : List ℕ × List ℕ) → old.bytes ≡ x.0 ++ end ∷ x.1
+    → Takes (length x.0 + 1) old (record old { bytes = x.1; position = old.position + (length x.0 + 1) })
+behind-takes end old x is = record {
+  enough = omega (arith, ap (λ (l : List ℕ). length l) is, length-append x.0 (end ∷ x.1));
+  left = ap (λ (l : List ℕ). record { bytes = l; position = old.position + (length x.0 + 1); is_big = old.is_big })
+      (sym (ap (drop (length x.0 + 1)) is ∙ drop-append-add x.0 (end ∷ x.1) 1));
+}
+
+-- what is read is the front of the bytes, and the rest remains
+pub read_front : {A : Type 0} (f : Layout A) (old : Input) {new : Input} {x : A} → read f old ≡ Ok (x, new)
+    → (n : ℕ) × Takes n old new
+unfolding read
+read_front (part n) old is = (n, (part_read n old is).1)
+read_front (ended end) old {new} {x} is = go (split_at end old.bytes) (split-parts end old.bytes) is
+  where
+    go : (r : Option (List ℕ × List ℕ)) → AreSplit end old.bytes r → before_end old r ≡ Ok (x, new)
+        → (n : ℕ) × Takes n old new
+    go (Some y) parts h =
+        let taken = behind-takes end old y parts in
+        let same : ◌≡◌ {A = Input × Input}
+        (record old { bytes = y.0 }, record old { bytes = y.1; position = old.position + (length y.0 + 1) })
+        (x, new) = cc in
+        (length y.0 + 1, record { enough = taken.enough; left = (λ i. ((sym same) i).1) ∙ taken.left })
+    go None parts h = absurd cc
+read_front (pure a) old is = (0, subst (Takes 0 old) (sym (pure_read a old is).1) (takes-nothing old))
+read_front (refuse e) old is = absurd cc
+read_front (inside unit f) old is = (0, subst (Takes 0 old) (sym (inside_read unit f old is).1) (takes-nothing old))
+read_front (p >>= f) old is =
+    let h = then_read p f old is in
+    let a = read_front p old h.2 in
+    let b = read_front (f h.0) h.1 h.3 in
+    (a.0 + b.0, takes-both a.1 b.1)
+
+-- ---- how many bytes are consumed
+
+-- what is consumed, with a credit, is the size of the value
+pub record Spans {A : Type 0} (credit : ℕ) (size : A → ℕ) (f : Layout A) : Type 0 where
+  pub by : (old new : Input) (x : A) → read f old ≡ Ok (x, new)
+      → length new.bytes + size x ≡ length old.bytes + credit
+
+-- at least so many bytes are consumed
+pub record TakesLeast {A : Type 0} (n : ℕ) (f : Layout A) : Type 0 where
+  pub by : (old new : Input) (x : A) → read f old ≡ Ok (x, new) → length new.bytes + n ≤ length old.bytes
+
+-- as many bytes are consumed as the value's size
+pub spanned : {A : Type 0} {size : A → ℕ} {f : Layout A} → Spans 0 size f → (old : Input) {new : Input} {x : A}
+    → read f old ≡ Ok (x, new) → Takes (size x) old new
+spanned {size = size} {f = f} law old {new} {x} is =
+    let taken = read_front f old is in
+    let same : taken.0 ≡ size x = omega
+    (arith, law.by old new x is, taken.1.enough, rest-length taken.0 old new taken.1) in
+    subst (λ (n : ℕ). Takes n old new) same taken.1
+
+-- sizes that are at least so many take at least so many
+pub spans_least : {A : Type 0} {n : ℕ} {size : A → ℕ} {f : Layout A} → ((x : A) → n ≤ size x) → Spans 0 size f
+    → TakesLeast n f
+spans_least fits law = record { by = λ old new x is. omega (arith, law.by old new x is, fits x) }
+
+-- a part has its size
+pub part_spans : (n : ℕ) → Spans 0 (λ _. n) (part n)
+part_spans n = record {
+  by = λ old new x is.
+      let taken = (part_read n old is).1 in omega (arith, taken.enough, rest-length n old new taken);
+}
+
+module _ {A : Type 0} {credit : ℕ} {size : A → ℕ} where
+  -- a value without bytes has the size that the credit is
+  pub pure_spans : {a : A} → size a ≡ credit → Spans credit size (pure a)
+  pure_spans {a} same = record {
+    by = λ old new x is.
+        let h = pure_read a old is in
+        omega (arith, same, ap size h.0, ap (λ (i : Input). length i.bytes) h.1);
+  }
+
+  -- an error reads nothing that has a size
+  pub refuse_spans : {e : Error} → Spans credit size (refuse e)
+  unfolding read
+  refuse_spans = record { by = λ old new x is. absurd cc }
+
+  -- either of two layouts has the size of its value
+  pub when_spans : {f g : Layout A} (b : Bool) → Spans credit size f → Spans credit size g
+      → Spans credit size (when b then f else g)
+  when_spans true f g = f
+  when_spans false f g = g
+
+  -- the size of the first is a credit of the second
+  pub then_spans : {B : Type 0} {p : Layout B} {f : B → Layout A} {front : B → ℕ} → Spans 0 front p
+      → ((x : B) → Spans (credit + front x) size (f x)) → Spans credit size (p >>= f)
+  then_spans {p = p} {f = f} a b = record {
+    by = λ old new y is.
+        let h = then_read p f old is in omega (arith, a.by old h.1 h.0 h.2, (b h.0).by h.1 new y h.3);
+  }
+
+-- a number has its width
+pub number_spans : (n : ℕ) → Spans 0 (λ _. n) (fixed n)
+unfolding fixed
+number_spans n = then_spans (part_spans n) (λ i. pure_spans (omega arith))
+
+-- a byte is one
+pub byte_spans : Spans 0 (λ _. 1) byte
+unfolding byte
+byte_spans = then_spans (part_spans 1) (λ i. pure_spans (omega arith))
+
+-- a check consumes no bytes
+pub check_spans : (b : Bool) (e : Error) → Spans 0 (λ _. 0) (check b e)
+unfolding check
+check_spans b e = when_spans b (pure_spans refl) refuse_spans
+
+-- what is read inside a part consumes none behind it
+pub inside_spans : {A : Type 0} (unit : Input) (f : Layout A) → Spans 0 (λ _. 0) (inside unit f)
+inside_spans unit f = record {
+  by = λ old new x is. omega (arith, ap (λ (i : Input). length i.bytes) (inside_read unit f old is).1);
+}
