@@ -3,23 +3,26 @@ use Rattle.std.proofs.Common.{◌≡◌, ℕ, ◌+◌, ◌<◌, ◌≤◌, [], �
 use Rattle.std.proofs.Math.Seq.{take-append_seam}
 use Rattle.std.proofs.lemmas.List.{drop-take, drop-append-le, length-append, length-drop, take_more_set}
 use Rattle.dwarf_read_core.specs.Input.{Input}
-use Rattle.dwarf_read_core.specs.Strings.{StringAt, string}
+use Rattle.dwarf_read_core.specs.Strings.{StringAt}
+use Rattle.dwarf_read_core.proofs.lookups.Strings.{string-is_text}
 use Rattle.dwarf_listing_core.specs.Lines.{line}
 
 -- its bytes are those from the offset on, as many as it has
 pub string-is_part : {section : Input} {offset : ℕ} {found : Input} → StringAt section offset (Ok found)
     → drop offset (take (offset + length found.bytes) section.bytes) ≡ found.bytes
-string-is_part {section} {offset} (string bytes rest within split none) =
-    drop-take offset (length bytes) section.bytes
-    ∙ ap (take (length bytes)) split
-    ∙ take-append_seam bytes (0 ∷ rest)
+string-is_part {section} {offset} {found} is =
+    let text = string-is_text is in
+    drop-take offset (length found.bytes) section.bytes
+    ∙ ap (take (length found.bytes)) text.parts
+    ∙ take-append_seam found.bytes (0 ∷ text.rest)
 
 -- the section goes on behind it
 pub string-ends_inside : {section : Input} {offset : ℕ} {found : Input} → StringAt section offset (Ok found)
     → offset + length found.bytes < length section.bytes
-string-ends_inside {section} {offset} (string bytes rest within split none) =
-    let long : length (drop offset section.bytes) ≡ length (bytes ++ 0 ∷ rest) = ap length split in
-    omega (arith, long, length-drop offset section.bytes, length-append bytes (0 ∷ rest))
+string-ends_inside {section} {offset} {found} is =
+    let text = string-is_text is in
+    let long : length (drop offset section.bytes) ≡ length (found.bytes ++ 0 ∷ text.rest) = ap length text.parts in
+    omega (arith, long, length-drop offset section.bytes, length-append found.bytes (0 ∷ text.rest))
 
 -- with a line's end in the place of the byte behind it, it is a line
 pub string-becomes_line : {section : Input} {offset : ℕ} {found : Input} → StringAt section offset (Ok found)

@@ -1,19 +1,21 @@
 -- The errors of the definitions have numbers of their own.
 use Rattle.std.proofs.Common.{◌≡◌, ◌≢◌, ℕ, ◌<◌, List, Result, Err, ap, arith, inl, inr}
 use Rattle.std.proofs.lemmas.Bool.{cases_lt}
-use Rattle.std.specs.Prelude.{IfErr}
+use Rattle.std.specs.Prelude.{IfErr, nat_lt}
 use Rattle.dwarf_read_core.specs.declared.Error.{Error}
-use Rattle.dwarf_read_core.specs.declared.Error.TheVariants.{OutOfMemory}
+use Rattle.dwarf_read_core.specs.declared.Error.TheVariants.{OutOfMemory, UnknownReservedLength}
+use Rattle.dwarf_read_core.specs.declared.Format.{Format}
+use Rattle.dwarf_read_core.specs.declared.Format.TheVariants.{Dwarf32, Dwarf64}
 use Rattle.dwarf_read_core.specs.Answer.{Answer, Answers, IsFault, IsFaulty, number_cut, number_bad, children_cut, tag_zero, children_bad, name_zero, form_zero, in_declaration, repeated, outside as table_outside, table, fault}
 use Rattle.dwarf_read_core.specs.Grammar.{Table}
 use Rattle.dwarf_read_core.specs.Entries.{string_offset}
 use Rattle.dwarf_read_core.specs.Faults.{eof}
 use Rattle.dwarf_read_core.specs.Input.{Input}
-use Rattle.dwarf_read_core.specs.Layout.{Layout}
+use Rattle.dwarf_read_core.specs.Layout.{Layout, fixed, pure, refuse, when◌then◌else◌, ◌>>=◌}
 use Rattle.dwarf_read_core.proofs.LayoutErrors.{Names, At_error_has, error_has, number_names, byte_names, when_names, check_names}
 use Rattle.dwarf_read_core.specs.Leb128.{Kind, unsigned64, unsigned16, signed64, refusal}
 use Rattle.dwarf_read_core.specs.Sets.{address_header, initial_length, set, string_offsets_header}
-use Rattle.dwarf_read_core.specs.Strings.{StringAt, outside as string_outside, string, unended}
+use Rattle.dwarf_read_core.specs.Strings.{StringAt, string_at}
 use Rattle.dwarf_read_core.specs.Words.{Slot, WordAt, AddressAt, to_slot, word, address}
 use Rattle.dwarf_read_c.specs.Fault.{IsKnown, kind_of}
 use Rattle.dwarf_read_c.specs.Numbers.{LacksNumber, cut, bad}
@@ -30,14 +32,6 @@ pub known_number : {k : Kind} {bytes : List ℕ} {e : Error} → LacksNumber k b
 known_number (cut is) = omega arith
 known_number {k} (bad is) = known_refusal k
 
--- of a string
-pub known_string :
-    {section : Input} {offset : ℕ} {answer : Result Input Error} → StringAt section offset answer →
-    IfErr answer IsKnown
-known_string (string_outside past) = omega arith
-known_string (string bytes rest within parts unbroken) = tt
-known_string (unended within none) = omega arith
-
 -- ---- layouts
 
 -- bytes that are missing
@@ -47,6 +41,13 @@ known_end position = omega arith
 -- each error that a layout names has a number of its own
 abbrev NamesKnown : {A : Type 0} → Layout A → Type 0
 NamesKnown f = Names IsKnown f
+
+-- the answer for a string is a value or an error with a number of its own
+pub known_string :
+    (section : Input) (offset : ℕ) (answer : Result Input Error) → StringAt section offset answer →
+    IfErr answer IsKnown
+unfolding StringAt string_at
+known_string section offset answer is = At_error_has IsKnown known_end (string_at offset) (tt, λ _. tt) section is
 
 -- so it is with the bytes in front of a slot
 to_slot_known : (greatest : ℕ) (s : Slot) → NamesKnown (to_slot greatest s)
@@ -63,9 +64,9 @@ word_known greatest s = (
 
 -- the answer for a word is a value or an error with a number of its own
 pub known_word :
-    (greatest : ℕ) (s : Slot) {section : Input} {answer : Result ℕ Error} → WordAt greatest section s answer →
+    (greatest : ℕ) (s : Slot) (section : Input) (answer : Result ℕ Error) → WordAt greatest section s answer →
     IfErr answer IsKnown
-known_word greatest s {section} is = At_error_has IsKnown known_end (word greatest s) (word_known greatest s) section is
+known_word greatest s section answer is = At_error_has IsKnown known_end (word greatest s) (word_known greatest s) section is
 
 -- with an address
 address_known : (greatest : ℕ) (s : Slot) → NamesKnown (address greatest s)
@@ -77,18 +78,38 @@ address_known greatest s = (
 
 -- the answer for an address is a value or an error with a number of its own
 pub known_address :
-    (greatest : ℕ) (s : Slot) {section : Input} {answer : Result ℕ Error} → AddressAt greatest section s answer →
+    (greatest : ℕ) (s : Slot) (section : Input) (answer : Result ℕ Error) → AddressAt greatest section s answer →
     IfErr answer IsKnown
-known_address greatest s {section} is =
+known_address greatest s section answer is =
     At_error_has IsKnown known_end (address greatest s) (address_known greatest s) section is
 
--- with an initial length
+-- the lengths of both formats, and a reserved one
+abbrev short_length : ℕ → Layout (Format × ℕ)
+short_length short = pure (Dwarf32, short)
+
+abbrev long_length : Layout (Format × ℕ)
+long_length = fixed 8 >>= λ long. pure (Dwarf64, long)
+
+abbrev reserved : ℕ → Layout (Format × ℕ)
+reserved short = refuse (UnknownReservedLength short)
+
+-- what a reserved length is has a number
+reserved_known : (short : ℕ) → NamesKnown (reserved short)
+reserved_known short = omega arith
+
+-- the long one names no error
+long_length_known : NamesKnown long_length
+long_length_known = (number_names IsKnown 8, λ long. tt)
+
+-- so it is with an initial length
 initial_length_known : NamesKnown initial_length
 unfolding initial_length
 initial_length_known = (
   number_names IsKnown 4,
-  λ short. when_names IsKnown _ _ _ tt
-      (when_names IsKnown _ _ _ (omega arith) (number_names IsKnown 8, λ long. tt)),
+  λ short. when_names IsKnown (nat_lt short 0xffff_fff0) (short_length short)
+      (when nat_lt short 0xffff_ffff then reserved short else long_length) tt
+      (when_names IsKnown (nat_lt short 0xffff_ffff) (reserved short) long_length
+      (reserved_known short) long_length_known),
 )
 
 -- with the header of a set of addresses
@@ -121,9 +142,9 @@ string_offsets_header_known = (
 )
 
 -- with a set, if it is so with the header
-set_known : {H : Type 0} {header : Layout H} (offset : ℕ) → NamesKnown header → NamesKnown (set_at header offset)
+set_known : {H : Type 0} (header : Layout H) (offset : ℕ) → NamesKnown header → NamesKnown (set_at header offset)
 unfolding set
-set_known offset law =
+set_known header offset law =
     (initial_length_known, λ initial. (check_names IsKnown _ _ (omega arith), λ _. (tt, λ unit. (law, λ said. tt))))
 
 -- the error where no set is there has a number of its own, where those of its header have
@@ -131,7 +152,7 @@ lacked_set_known : {H : Type 0} {header : Layout H} {section : Input} {offset : 
     → LacksSet header section offset e → IsKnown e
 lacked_set_known law (set_outside past) = omega arith
 lacked_set_known {header = header} {offset = offset} law (set_faulty e some fails) =
-    error_has IsKnown known_end (set_at header offset) (set_known {header = header} offset law) _ fails
+    error_has IsKnown known_end (set_at header offset) (set_known header offset law) _ fails
 
 -- where no set of addresses is there
 pub known_address_set :

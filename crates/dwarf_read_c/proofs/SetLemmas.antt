@@ -1,5 +1,5 @@
 -- The set at an offset, from what a walk over sets gives first.
-use Rattle.std.proofs.Common.{◌≡◌, ◌≢◌, ℕ, ◌+◌, ◌-◌, ◌<◌, ◌≤◌, ◌^◌, List, [], ◌∷◌, length, drop, Result, Ok, Err, refl, sym, ap, subst, ◌∙◌, arith, ◌⊎◌, inl, inr}
+use Rattle.std.proofs.Common.{◌≡◌, ◌≢◌, Bool, true, ℕ, ◌+◌, ◌-◌, ◌<◌, ◌≤◌, ◌^◌, List, [], ◌∷◌, length, drop, Result, Ok, Err, refl, sym, ap, subst, ◌∙◌, arith, ◌⊎◌, inl, inr}
 use Rattle.std.proofs.Math.ListN.{drop_of_length-le}
 use Rattle.std.proofs.lemmas.Bool.{cases_lt}
 use Rattle.std.proofs.lemmas.List.{length-drop}
@@ -90,12 +90,12 @@ moved_to {H} offset = made (λ (s : Set H). record s { offset = offset })
 set-elsewhere : {H : Type 0} (header : Layout H) (offset : ℕ) (old : Input)
     → read (set_at header offset) old ≡ moved_to offset (read (set_at header 0) old)
 unfolding set
-set-elsewhere {H} header offset old = again (λ initial. again (λ fits. again (λ unit. again (λ said. pure-made _ _)))) old
+set-elsewhere {H} header offset old =
+    then-made _ _ _ move (λ initial. then-made _ _ _ move (λ fits. then-made _ _ _ move
+    (λ unit. then-made _ _ _ move (λ said. pure-made move _)))) old
   where
-    again : {A : Type 0} {p : Layout A} {f g : A → Layout (Set H)}
-        → ((x : A) (mid : Input) → read (g x) mid ≡ moved_to offset (read (f x) mid)) → (old : Input)
-        → read (p >>= g) old ≡ moved_to offset (read (p >>= f) old)
-    again {A} {p} {f} {g} same = then-made p f g _ same
+    move : Set H → Set H
+    move s = record s { offset = offset }
 
 -- a set that begins the bytes from an offset on is one of the section
 set_there : {H : Type 0} {header : Layout H} (section : Input) (offset : ℕ) (s : Set H) (behind : Input)

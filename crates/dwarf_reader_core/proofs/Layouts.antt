@@ -258,6 +258,16 @@ pub At_error : {A : Type 0} (f : Layout A) (section : Input) {e : Error} → rea
     → At f section (Err e)
 At_error f section is = sym (ap alone is)
 
+-- an answer that is a value was read
+pub At_read : {A : Type 0} (f : Layout A) (section : Input) {x : A} → At f section (Ok x)
+    → (new : Input) × (read f section ≡ Ok (x, new))
+At_read {A} f section {x} is = go (read f section) refl is
+  where
+    go : (r : Outcome A) → read f section ≡ r → ◌≡◌ {A = Result A Error} (Ok x) (alone r)
+        → (new : Input) × (read f section ≡ Ok (x, new))
+    go (Ok (y, new)) q h = let same : x ≡ y = cc in (new, q ∙ λ i. Ok ((sym same) i, new))
+    go (Err e) q h = absurd cc
+
 -- ---- more bytes
 
 -- more bytes behind change neither a value nor an error, unless it is an `UnexpectedEof`

@@ -1,6 +1,6 @@
 -- Something is taken from bytes, or refused, and it is the only thing that can be.
-use Rattle.std.proofs.Common.{◌≡◌, ◌≢◌, ℕ, zero, suc, ◌<◌, ◌+◌, ◌^◌, length, take, refl, sym, ap, subst, ◌∙◌, arith, ◌⊎◌, inl, inr, ⊎_elim, List, [], ◌∷◌, All}
-use Rattle.std.proofs.lemmas.List.{length-take-le, get_or-take}
+use Rattle.std.proofs.Common.{◌≡◌, ◌≢◌, ℕ, zero, suc, ◌<◌, ◌+◌, ◌^◌, length, take, refl, sym, ap, subst, ◌∙◌, arith, ◌⊎◌, inl, inr, ⊎_elim, Ok, List, [], ◌∷◌, All}
+use Rattle.std.proofs.lemmas.List.{length-take-le}
 use Rattle.std.proofs.lemmas.List.Elements.{All-nil, All-cons, All-take}
 use Rattle.std.proofs.lemmas.Bool.{cases_lt}
 use Rattle.dwarf_base_core.specs.declared.common.Format.{Format}
@@ -10,31 +10,20 @@ use Rattle.dwarf_base_core.specs.declared.error.Error.TheVariants.{UnknownReserv
 use Rattle.dwarf_base_core.specs.Number.{number_of, NumberIsBounded}
 use Rattle.dwarf_reader_core.specs.Input.{Input, after, first, IsFirst, TakesNumber, TakesString}
 use Rattle.dwarf_reader_core.specs.Faults.{EndsBefore, IsNoOffset, Lacks, end_fault}
+use Rattle.dwarf_reader_core.specs.Layout.{read, ended}
+use Rattle.dwarf_reader_core.proofs.Layouts.{string_reads, string_fails}
 use Rattle.dwarf_reader_core.specs.InitialLength.{BeginsDwarf64, IsReservedLength, TakesLength, RefusesLength}
-
--- a byte stands first at one place
-not_before : (byte : ℕ) (bytes : List ℕ) (i j : ℕ) → IsFirst byte bytes i → IsFirst byte bytes j → i < j → ⊥
-not_before byte bytes i j f g less =
-    let len : length (take j bytes) ≡ j = length-take-le j bytes (omega (arith, g.within)) in
-    g.before i 0 (omega (arith, len)) (get_or-take j bytes i 0 less ∙ f.here)
-
--- a byte is first at one place only
-one_first : (byte : ℕ) (bytes : List ℕ) (i j : ℕ) → IsFirst byte bytes i → IsFirst byte bytes j → i ≡ j
-one_first byte bytes i j f g =
-    ⊎_elim
-    (λ less. absurd (not_before byte bytes i j f g less))
-    (λ above. ⊎_elim (λ less. absurd (not_before byte bytes j i g f less)) (λ below. omega arith) (cases_lt j i))
-    (cases_lt i j)
 
 -- the bytes before the first zero byte are one string
 pub one_string : (old s t x y : Input) → TakesString old s x → TakesString old t y → (s ≡ t) × (x ≡ y)
 one_string old s t x y a b =
-    let len = one_first 0 old.bytes a.len b.len a.ends b.ends in
-    (a.is ∙ ap (λ n. first n old) len ∙ sym b.is, a.left ∙ ap (λ n. after (n + 1) old) len ∙ sym b.left)
+    let both = sym (string_reads a) ∙ string_reads b in
+    let same : ◌≡◌ {A = Input × Input} (s, x) (t, y) = cc in
+    (λ i. (same i).0, λ i. (same i).1)
 
 -- bytes that have a string don't lack the zero byte
 pub string_or_none : (old s x : Input) (e : Error) → TakesString old s x → Lacks 0 old e → ⊥
-string_or_none old s x e a b = b.none a.len 0 a.ends.within a.ends.here
+string_or_none old s x e a b = let both = sym (string_reads a) ∙ string_fails b in cc
 
 -- bytes lack the zero byte, or it is first at a place
 zero_or_none : (bytes : List ℕ) → All (λ b. b ≢ 0) bytes ⊎ ((index : ℕ) × IsFirst 0 bytes index)
@@ -68,6 +57,17 @@ some_string old =
           let taken : TakesString old (first found.0 old) (after (found.0 + 1) old) =
           record { len = found.0; ends = found.1; is = refl; left = refl } in
           inl (first found.0 old, after (found.0 + 1) old, taken)
+    ]
+
+-- a string that is read is the bytes before the first zero byte
+pub string_was_read : {old string new : Input} → read (ended 0) old ≡ Ok (string, new) → TakesString old string new
+string_was_read {old} {string} {new} is =
+    elim (some_string old) [
+      | inl found ↦
+          let both = sym (string_reads found.2) ∙ is in
+          let same : ◌≡◌ {A = Input × Input} (found.0, found.1) (string, new) = cc in
+          subst (λ (z : Input × Input). TakesString old z.0 z.1) same found.2
+      | inr none ↦ absurd (let both = sym (string_fails none.1) ∙ is in cc)
     ]
 
 -- the number at the front is one, and so is what remains

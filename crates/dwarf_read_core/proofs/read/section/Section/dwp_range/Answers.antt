@@ -3,7 +3,7 @@ use Rattle.dwarf_read_core.proofs.read.section.Section.dwp_range.Goals as goal
 
 pub returns-in_err-truncate : goal.returns-in_err-truncate
 returns-in_err-truncate g c =
-    range-propagated _ _ _ _ _ _ c.from_residual-in_err-truncate.ensures.1
+    range-propagated _ _ _ _ _ _ _ c.from_residual-in_err-truncate.ensures.1
     (range_cut _ _ _ _ _ _
     (rw (c.from_u32.ensures, c.in_ok-part.ensures.ok, c.reader.ensures) at c.in_ok-skip.ensures.ok)
     (rw c.from_u32-2.ensures at c.in_err-truncate.ensures.err))
