@@ -1,37 +1,47 @@
 -- The string at an offset of a section is a part of the section's bytes, with a zero byte behind it.
-use Rattle.std.proofs.Common.{◌≡◌, ℕ, ◌+◌, ◌<◌, ◌≤◌, [], ◌∷◌, ◌++◌, Ok, length, take, drop, set, ap, ◌∙◌, arith, length-take}
+use Rattle.std.proofs.Common.{◌≡◌, ◌≢◌, ℕ, ◌+◌, ◌<◌, ◌≤◌, [], ◌∷◌, ◌++◌, Ok, Err, length, take, drop, set, ap, ◌∙◌, arith, length-take}
 use Rattle.std.proofs.Math.Seq.{take-append_seam}
 use Rattle.std.proofs.lemmas.List.{drop-take, drop-append-le, length-append, length-drop, take_more_set}
+use Rattle.dwarf_read_core.specs.declared.Error.{Error}
+use Rattle.dwarf_read_core.specs.declared.Error.TheVariants.{OutOfMemory}
 use Rattle.dwarf_read_core.specs.Input.{Input}
-use Rattle.dwarf_read_core.specs.Strings.{StringAt}
+use Rattle.dwarf_read_core.specs.Strings.{StringAt, string_at}
+use Rattle.dwarf_read_core.proofs.LayoutErrors.{At_error_has}
 use Rattle.dwarf_read_core.proofs.lookups.Strings.{string-is_text}
 use Rattle.dwarf_listing_core.specs.Lines.{line}
 
 -- its bytes are those from the offset on, as many as it has
-pub string-is_part : {section : Input} {offset : ℕ} {found : Input} → StringAt section offset (Ok found)
+pub string-is_part : (section : Input) (offset : ℕ) (found : Input) → StringAt section offset (Ok found)
     → drop offset (take (offset + length found.bytes) section.bytes) ≡ found.bytes
-string-is_part {section} {offset} {found} is =
+string-is_part section offset found is =
     let text = string-is_text is in
     drop-take offset (length found.bytes) section.bytes
     ∙ ap (take (length found.bytes)) text.parts
     ∙ take-append_seam found.bytes (0 ∷ text.rest)
 
 -- the section goes on behind it
-pub string-ends_inside : {section : Input} {offset : ℕ} {found : Input} → StringAt section offset (Ok found)
+pub string-ends_inside : (section : Input) (offset : ℕ) (found : Input) → StringAt section offset (Ok found)
     → offset + length found.bytes < length section.bytes
-string-ends_inside {section} {offset} {found} is =
+string-ends_inside section offset found is =
     let text = string-is_text is in
     let long : length (drop offset section.bytes) ≡ length (found.bytes ++ 0 ∷ text.rest) = ap length text.parts in
     omega (arith, long, length-drop offset section.bytes, length-append found.bytes (0 ∷ text.rest))
 
 -- with a line's end in the place of the byte behind it, it is a line
-pub string-becomes_line : {section : Input} {offset : ℕ} {found : Input} → StringAt section offset (Ok found)
+pub string-becomes_line : (section : Input) (offset : ℕ) (found : Input) → StringAt section offset (Ok found)
     → drop offset (take (offset + length found.bytes + 1) (set section.bytes (offset + length found.bytes) 10))
     ≡ line found.bytes
-string-becomes_line {section} {offset} {found} is =
+string-becomes_line section offset found is =
     let end = offset + length found.bytes in
-    let inside = string-ends_inside is in
+    let inside = string-ends_inside section offset found is in
     let reached : offset ≤ length (take end section.bytes) = omega (arith, inside, length-take end section.bytes) in
     ap (drop offset) (take_more_set section.bytes end 10 inside)
     ∙ drop-append-le offset (take end section.bytes) (10 ∷ []) reached
-    ∙ ap (λ bytes. bytes ++ 10 ∷ []) (string-is_part is)
+    ∙ ap (λ bytes. bytes ++ 10 ∷ []) (string-is_part section offset found is)
+
+-- the error of a section without a string at the offset isn't that of memory
+pub string-wants_no_memory : (section : Input) (offset : ℕ) (e : Error) → StringAt section offset (Err e)
+    → e ≢ OutOfMemory
+unfolding StringAt string_at
+string-wants_no_memory section offset e is =
+    At_error_has (λ e. e ≢ OutOfMemory) (λ position same. absurd cc) (string_at offset) (tt, λ _. tt) section is
