@@ -53,10 +53,10 @@ def drawing(rows):
     yield from panel(0, "nanoseconds of a declaration", rows, (0, 1))
     yield from panel(LEFT + WIDTH + 30, "bytes of memory of a declaration", rows, (2, 3))
     for i, (kind, words) in enumerate(KINDS.items()):
-        at, bottom = LEFT + 150 * i, high - 14
+        at, bottom = LEFT + 170 * i, high - 14
         yield f'<path d="M{at} {bottom - 4}h24" stroke="{COLORS[kind]}" stroke-width="2"/>'
         yield f'<text x="{at + 30}" y="{bottom}">codes {words}</text>'
-    yield f'<text x="{LEFT + 460}" y="{high - 14}">dashed: gimli; solid: here; to the right: declarations</text>'
+    yield f'<text x="{LEFT + 500}" y="{high - 14}">dashed: gimli; solid: here; to the right: declarations</text>'
     yield "</svg>"
 
 
