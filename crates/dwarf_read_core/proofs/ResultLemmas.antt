@@ -1,6 +1,6 @@
 -- What follows from the result of steps that may fail.
 use Rattle.std.proofs.Common.{◌≡◌, ◌≢◌, ◌∙◌, Bool, true, false, cond, Result, Ok, Err, refl, sym, subst, ◌⊎◌, inl, inr}
-use Rattle.std.specs.Prelude.{IfErr, IsErrAnd}
+use Rattle.std.specs.Prelude.{IfErr, IsErrAnd, IsOk, IsErrOf}
 use Rattle.dwarf_base_core.specs.declared.error.Error.TheVariants.{OutOfMemory}
 use Rattle.dwarf_base_core.specs.declared.error.Error.{Error}
 use Rattle.dwarf_read_core.specs.Reading.{◌>>=◌, Gives}
@@ -33,3 +33,8 @@ pub propagated-err : {X : Type 0} (P : Error → Type 0) {e : Error} (result : R
     → IsErrAnd result (λ x. x ≡ e) → P e → IfErr result P
 propagated-err P (Ok x) h is = tt
 propagated-err P (Err x) h is = subst P (sym h) is
+
+-- a result can't be both a value and an error
+pub ok_is_no_error : {A : Type 0} (r : Result A Error) (e : Error) → IsOk r → IsErrOf r e → ⊥
+ok_is_no_error (Ok x) e ok err = cc
+ok_is_no_error (Err d) e ok err = cc

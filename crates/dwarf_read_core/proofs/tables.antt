@@ -5,6 +5,9 @@ pub mod ReadingAttributes
 pub mod ReadingIsSound
 pub mod ReadingIsComplete
 pub mod DeclarationSteps
+pub mod ReadingTables
+pub mod CodesOnce
+pub mod TablesAreRead
 pub mod ExactlyOneAnswer
 pub mod AppendedBytes
 pub mod StrictAnswers

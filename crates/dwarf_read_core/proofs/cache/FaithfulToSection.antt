@@ -41,7 +41,8 @@ closed_by_null by_end e = absurd cc
 -- the test tells the answers that appended bytes leave
 IsFinal-from_test : (answer : Result Table Error) → is_final answer ≡ true → IsFinal answer
 IsFinal-from_test (Ok t) e = closed_by_null t.close e
-IsFinal-from_test (Err e) is = λ position same. absurd (let h = subst (λ (d : Error). is_final (Err d) ≡ true) same is in cc)
+IsFinal-from_test (Err e) is = λ position same.
+    absurd (let h = subst (λ (d : Error). is_final (Err d) ≡ true) same is in cc)
 
 -- what remains of an entry of a section is an entry of the longer section
 still_kept-answers : (section : Input) (more : List ℕ) (key : ℕ) (kept : Option (Result Table Error))

@@ -1,9 +1,8 @@
 -- A string that is read is the one at the offset.
 use Rattle.std.proofs.Common.{◌≡◌, ◌≢◌, ℕ, zero, suc, ◌+◌, ◌<◌, ◌≤◌, List, [], ◌∷◌, ◌++◌, length, take, drop, Result, Ok, Err, refl, sym, ap, subst, ◌∙◌, arith, ◌⊎◌, inl, inr, Bool}
-use Rattle.std.proofs.lemmas.List.{length-take-le}
 use Rattle.std.specs.Prelude.{slice_index, IfOk, IfErr, All}
 use Rattle.dwarf_base_core.specs.declared.error.Error.{Error}
-use Rattle.dwarf_reader_core.specs.Appended.{followed_by, IsNoEof}
+use Rattle.dwarf_reader_core.specs.Appended.{followed_by}
 use Rattle.dwarf_reader_core.specs.Faults.{EndsBefore, Lacks, WantsMemory}
 use Rattle.dwarf_reader_core.specs.Input.{Input, Takes, TakesString}
 use Rattle.dwarf_reader_core.specs.Once.{HasOne}

@@ -126,7 +126,8 @@ module _ {A : Type 0} {item : ℕ → Layout A} where
 
   -- an item that comes first comes first also when more bytes follow
   pub item-stays : {offset : ℕ} {old : Input} {x : A} {items : List (Result A Error)}
-      → AreItems item offset old (Ok x ∷ items) → (behind : List ℕ) (others : List (Result A Error)) → AreItems item offset (followed_by old behind) others
+      → AreItems item offset old (Ok x ∷ items) → (behind : List ℕ) (others : List (Result A Error))
+      → AreItems item offset (followed_by old behind) others
       → (rest : List (Result A Error)) × (others ≡ Ok x ∷ rest)
   item-stays {offset} {old} {x} (more {new = new} some h rest) behind others stands = go stands
     where

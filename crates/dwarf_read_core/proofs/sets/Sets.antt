@@ -73,8 +73,13 @@ set-parts greatest offset header_four old is =
         length-take-le (initial.0).1 (fits.1).bytes part.1.enough,
         taken.enough,
       );
-      place = omega
-          (arith, same_place taken.left, same_place part.0, same_place (check_read _ _ _ fits.2).1, same_place front.left);
+      place = omega (
+        arith,
+        same_place taken.left,
+        same_place part.0,
+        same_place (check_read _ _ _ fits.2).1,
+        same_place front.left,
+      );
     })
 
 -- the header of a set of addresses has four bytes
@@ -219,8 +224,12 @@ module _ {H : Type 0} {header : Layout H} (four : HasFour header) (greatest : �
   -- a set has eight bytes
   pub set_least : (offset : ℕ) → TakesLeast 8 (set header greatest offset)
   set_least offset = record {
-    by = λ old new s is. omega
-        (arith, (set-spans header greatest offset).by old new s is, (set-parts greatest offset four old is).four, initial_length_size-least s.format);
+    by = λ old new s is. omega (
+      arith,
+      (set-spans header greatest offset).by old new s is,
+      (set-parts greatest offset four old is).four,
+      initial_length_size-least s.format,
+    );
   }
 
   -- bytes have exactly one list of sets

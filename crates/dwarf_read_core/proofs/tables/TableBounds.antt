@@ -17,7 +17,8 @@ use Rattle.dwarf_read_core.specs.Reading.{Gives, table_in}
 use Rattle.dwarf_read_core.specs.Answer.{Answer, table, Answers}
 use Rattle.dwarf_read_core.proofs.tables.ReadingNumbers.{encoding-nonempty}
 use Rattle.dwarf_read_core.proofs.tables.ReadingSpecifications.{specification_long, null_long}
-use Rattle.dwarf_read_core.proofs.tables.ExactlyOneAnswer.{fresh_code, answer_returned}
+use Rattle.dwarf_read_core.proofs.tables.CodesOnce.{fresh_code}
+use Rattle.dwarf_read_core.proofs.tables.ExactlyOneAnswer.{answer_returned}
 
 -- the number of attributes that a declaration has
 attributes : Declaration → ℕ
@@ -140,4 +141,5 @@ bounded (Err e) section offset h = tt
 pub bounded_read : (r : Result Table Error) (section : Input) (offset : ℕ) (rest : Input)
     → Takes offset section rest → Gives (λ t. t) r (table_in (end_of rest) empty rest.bytes)
     → IfOk r (λ t. 5 * len t.by_code + 2 * attribute_count t.by_code + offset ≤ length section.bytes)
-bounded_read r section offset rest takes given = bounded r section offset (answer_returned r section offset rest takes given)
+bounded_read r section offset rest takes given =
+    bounded r section offset (answer_returned r section offset rest takes given)

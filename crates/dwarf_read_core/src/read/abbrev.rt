@@ -381,7 +381,7 @@ impl Abbreviations {
     }
 
     // Reads a table, and the code of value 0 that closes it, if there is one.
-    #[tactic(auto, using(crate::proofs::tables::ExactlyOneAnswer::table_steps))]
+    #[tactic(auto, using(crate::proofs::tables::ReadingTables::table_steps))]
     fn parse<R: Reader>(mem: Global, input: &mut R) -> Result<Abbreviations>
         ensures ends { (rest : List ℕ)
             → declaration_at (end_of (R.view input.old)) (R.view input.old).bytes ≡ Ok (None, rest)

@@ -1,7 +1,7 @@
 use Rattle.std.proofs.Common.{◌≢◌, [], Ok, sym, ap, ◌∙◌}
 use Rattle.dwarf_read_core.proofs.ResultLemmas.{gives_err}
 use Rattle.dwarf_read_core.specs.Grammar.{ByCode, Table, closed, by_null}
-use Rattle.dwarf_read_core.proofs.tables.ExactlyOneAnswer.{table_fails, table_nulled, table_repeats}
+use Rattle.dwarf_read_core.proofs.tables.ReadingTables.{table_fails, table_nulled, table_repeats}
 use Rattle.dwarf_read_core.proofs.read.abbrev.Abbreviations.parse.Goals as goal
 
 pub returns-in_err-abbreviation-clause-read : goal.returns-in_err-abbreviation-clause-read

@@ -3,7 +3,8 @@ use Rattle.std.proofs.lemmas.Result.{err_from_is_err_and}
 use Rattle.dwarf_base_core.specs.declared.error.Error.TheVariants.{OutOfMemory}
 use Rattle.dwarf_reader_core.specs.Input.{Input, end_of}
 use Rattle.dwarf_read_core.specs.Sections.{debug_abbrev_reader}
-use Rattle.dwarf_read_core.proofs.tables.ExactlyOneAnswer.{outside_of, nothing_declared, ok_is_no_error}
+use Rattle.dwarf_read_core.proofs.tables.ExactlyOneAnswer.{outside_of, nothing_declared}
+use Rattle.dwarf_read_core.proofs.ResultLemmas.{ok_is_no_error}
 use Rattle.dwarf_read_core.proofs.tables.TableBounds.{bounded_read}
 use Rattle.dwarf_read_core.proofs.read.abbrev.DebugAbbrev.abbreviations.Goals as goal
 

@@ -1,0 +1,131 @@
+-- What the parser reads of a whole table is what the grammar says, and the other way round.
+use Rattle.std.proofs.Common.{◌≡◌, ℕ, zero, suc, ◌<◌, Bool, true, false, cond, eqb, List, [], ◌∷◌, ◌++◌, length, Option, Some, None, Result, Ok, Err, refl, sym, ap, subst, ◌∙◌, append_assoc, arith}
+use Rattle.std.specs.FinMap.{insert, contains_key}
+use Rattle.std.proofs.lemmas.Bool.{ne_eqb}
+use Rattle.std.proofs.lemmas.List.{length-append, append-nil}
+use Rattle.dwarf_base_core.specs.declared.error.Error.{Error}
+use Rattle.dwarf_base_core.specs.declared.error.Error.TheVariants.{DuplicateAbbreviationCode}
+use Rattle.dwarf_read_core.proofs.tables.ReadingNumbers.{encoding-nonempty}
+use Rattle.dwarf_read_core.specs.Grammar.{Declaration, Sequence, IsDeclaration, Declares, AreDistinct, AreDeclarations, ByCode, Table, closed, by_code_of, by_null, by_end, IsTable, closed_by_null, closed_by_end}
+use Rattle.dwarf_read_core.specs.Answer.{IsFault, in_declaration, repeated}
+use Rattle.dwarf_read_core.specs.Reading.{◌>>=◌, declaration_at, close_of, and_declared, table_at, table_in}
+use Rattle.dwarf_read_core.proofs.tables.Sequences.{Sequence-push}
+use Rattle.dwarf_read_core.proofs.tables.ReadingIsSound.{DeclarationFound, EndFound, at_end, at_zero, declaration_found, declaration_fault, declaration_shorter}
+use Rattle.dwarf_read_core.proofs.tables.ReadingIsComplete.{declaration_again, zero_again, end_again, fault_again}
+use Rattle.dwarf_read_core.proofs.tables.ReadingTables.{TableRead, table_fails, table_ends, table_repeats, table_goes_on}
+use Rattle.dwarf_read_core.proofs.tables.CodesOnce.{fresh_code, repeated_code, declared_from_key, fresh_from_key, table_push, distinct_push, distinct_front}
+
+-- ---- what is read is in the grammar
+
+-- the grammar says of bytes what is read of them: they begin with the table, or have the first error
+abbrev pub Reads : ℕ → List ℕ → TableRead → Type 0
+Reads end bytes (Ok t) = IsTable bytes t
+Reads end bytes (Err e) = IsFault end bytes e
+
+-- the bytes of declarations and of one more, whose code is new, are the bytes of all of them
+declarations_push : (bytes : List ℕ) (ds : List Declaration) (last : List ℕ) (d : Declaration)
+    → AreDeclarations bytes ds → IsDeclaration last d → (Declares ds d.code → ⊥)
+    → AreDeclarations (bytes ++ last) (ds ++ d ∷ [])
+declarations_push bytes ds last d are is new =
+    record {
+      each = Sequence-push IsDeclaration bytes ds last d are.each is;
+      distinct = distinct_push ds d are.distinct new;
+    }
+
+-- declarations, and then bytes at which a table ends, are a table that is closed as those bytes say
+ended : {bytes rest : List ℕ} (front : List ℕ) (ds : List Declaration) → AreDeclarations front ds
+    → EndFound bytes rest → IsTable (front ++ bytes) (closed (by_code_of ds) (close_of bytes))
+ended front ds are at_end =
+    subst (λ (b : List ℕ). IsTable b (closed (by_code_of ds) by_end)) (sym (append-nil front))
+    (closed_by_end front ds are)
+ended front ds are (at_zero bytes rest z) =
+    let same : front ++ z.front ++ rest ≡ front ++ bytes = append_assoc front z.front rest
+    ∙ ap (λ (b : List ℕ). front ++ b) (sym z.parts) in
+    let w : length bytes ≡ length (z.front ++ rest) = ap length z.parts in
+    let some : eqb (length bytes) 0 ≡ false = ne_eqb (length bytes) 0
+    (λ e. omega (arith, length-append z.front rest, encoding-nonempty z.front z.is_zero.encoding)) in
+    rw some (subst (λ (b : List ℕ). IsTable b (closed (by_code_of ds) by_null)) same
+    (closed_by_null front z.front rest ds are z.is_zero))
+
+-- what is read behind the declarations so far is the table that all the bytes begin with, or their first error
+pub reads_by : (n end : ℕ) (front bytes : List ℕ) (ds : List Declaration) → length bytes < n → AreDeclarations front ds
+    → Reads end (front ++ bytes) (table_at n end (by_code_of ds) bytes)
+unfolding table_at
+reads_by zero end front bytes ds short are = absurd (omega arith)
+reads_by (suc n) end front bytes ds short are =
+    go (λ f rest more h a. reads_by n end f rest more (omega arith) a) (declaration_at end bytes) refl
+  where
+    declared : ((f rest : List ℕ) (more : List Declaration) → length rest < length bytes → AreDeclarations f more
+        → Reads end (f ++ rest) (table_at n end (by_code_of more) rest)) → (d : Declaration) (rest : List ℕ)
+        → declaration_at end bytes ≡ Ok (Some d, rest) → (t : Bool) → contains_key (by_code_of ds) d.code ≡ t
+        → Reads end (front ++ bytes) (cond t (Err (DuplicateAbbreviationCode d.code))
+        (table_at n end (insert (by_code_of ds) d.code d) rest))
+    declared others d rest q true e =
+        let f : DeclarationFound bytes d rest = declaration_found end bytes (Some d, rest) q in
+        let same : front ++ f.front ++ rest ≡ front ++ bytes = append_assoc front f.front rest
+        ∙ ap (λ (b : List ℕ). front ++ b) (sym f.parts) in
+        subst (λ (b : List ℕ). IsFault end b (DuplicateAbbreviationCode d.code)) same
+        (repeated front f.front rest ds d are f.is_declaration (declared_from_key ds d.code e))
+    declared others d rest q false e =
+        let f : DeclarationFound bytes d rest = declaration_found end bytes (Some d, rest) q in
+        let new = fresh_from_key ds d.code e in
+        let same : front ++ f.front ++ rest ≡ front ++ bytes = append_assoc front f.front rest
+        ∙ ap (λ (b : List ℕ). front ++ b) (sym f.parts) in
+        let r = others (front ++ f.front) rest (ds ++ d ∷ []) (declaration_shorter end bytes d rest q)
+        (declarations_push front ds f.front d are f.is_declaration new) in
+        subst (λ (b : List ℕ). Reads end b (table_at n end (insert (by_code_of ds) d.code d) rest)) same
+        (subst (λ (t : ByCode). Reads end (front ++ f.front ++ rest) (table_at n end t rest))
+        (table_push ds d new) r)
+
+    go : ((f rest : List ℕ) (more : List Declaration) → length rest < length bytes → AreDeclarations f more
+        → Reads end (f ++ rest) (table_at n end (by_code_of more) rest))
+        → (r : Result (Option Declaration × List ℕ) Error) → declaration_at end bytes ≡ r
+        → Reads end (front ++ bytes) (r >>= λ first. and_declared (close_of bytes) (by_code_of ds) first.0
+        (λ more. table_at n end more first.1))
+    go others (Err e) q = let f = declaration_fault end bytes e q in in_declaration front bytes ds e are f.0 f.1
+    go others (Ok (None, rest)) q = ended front ds are (declaration_found end bytes (None, rest) q)
+    go others (Ok (Some d, rest)) q = declared others d rest q (contains_key (by_code_of ds) d.code) refl
+
+-- ---- what is in the grammar is read
+
+-- declarations whose codes are new and distinct are read into the table, which is then read on behind them
+feed : (end : ℕ) (seen : List Declaration) (bytes rest : List ℕ) (ds : List Declaration)
+    → Sequence IsDeclaration bytes ds → AreDistinct (seen ++ ds)
+    → table_in end (by_code_of seen) (bytes ++ rest) ≡ table_in end (by_code_of (seen ++ ds)) rest
+feed end seen bytes rest [] e h = rw (e, append-nil seen) refl
+feed end seen bytes rest (d ∷ ds) q h =
+    let same : bytes ++ rest ≡ q.0 ++ (q.1 ++ rest) = ap (λ (b : List ℕ). b ++ rest) q.2 ∙ append_assoc q.0 q.1 rest in
+    let new = distinct_front seen ds d h in
+    let regrouped : (seen ++ d ∷ []) ++ ds ≡ seen ++ (d ∷ ds) = append_assoc seen (d ∷ []) ds in
+    ap (table_in end (by_code_of seen)) same
+    ∙ table_goes_on end (by_code_of seen) (q.0 ++ (q.1 ++ rest)) d (q.1 ++ rest)
+    (declaration_again end q.0 (q.1 ++ rest) d q.3) (fresh_code seen d.code new)
+    ∙ ap (λ (t : ByCode). table_in end t (q.1 ++ rest)) (sym (table_push seen d new))
+    ∙ feed end (seen ++ d ∷ []) q.1 rest ds q.4 (subst AreDistinct (sym regrouped) h)
+    ∙ ap (λ (xs : List Declaration). table_in end (by_code_of xs) rest) regrouped
+
+-- bytes that begin with a table are read as that table
+pub table_again : {bytes : List ℕ} {t : Table} (end : ℕ) → IsTable bytes t → table_in end (by_code_of []) bytes ≡ Ok t
+table_again end (closed_by_null bytes zero_code rest ds are is) =
+    let some : eqb (length (zero_code ++ rest)) 0
+    ≡ false = ne_eqb (length (zero_code ++ rest)) 0
+    (λ e. omega (arith, length-append zero_code rest, encoding-nonempty zero_code is.encoding)) in
+    ap (table_in end (by_code_of [])) (append_assoc bytes zero_code rest)
+    ∙ feed end [] bytes (zero_code ++ rest) ds are.each are.distinct
+    ∙ table_ends end (by_code_of ds) (zero_code ++ rest) rest (zero_again end zero_code rest is)
+    ∙ rw some refl
+table_again end (closed_by_end bytes ds are) =
+    ap (table_in end (by_code_of [])) (sym (append-nil bytes)) ∙ feed end [] bytes [] ds are.each are.distinct
+    ∙ table_ends end (by_code_of ds) [] [] (end_again end)
+
+-- bytes that have a first error, in place of a table, are read as that error
+pub faults_again : {bytes : List ℕ} {e : Error} {end : ℕ} → IsFault end bytes e
+    → table_in end (by_code_of []) bytes ≡ Err e
+faults_again {end = end} (in_declaration bytes rest ds e are some f) =
+    feed end [] bytes rest ds are.each are.distinct
+    ∙ table_fails end (by_code_of ds) rest e (fault_again end f some)
+faults_again {end = end} (repeated bytes declaration rest ds d are is twice) =
+    ap (table_in end (by_code_of [])) (append_assoc bytes declaration rest)
+    ∙ feed end [] bytes (declaration ++ rest) ds are.each are.distinct
+    ∙ table_repeats end (by_code_of ds) (declaration ++ rest) d rest (declaration_again end declaration rest d is)
+    (repeated_code ds d.code twice)
