@@ -1,7 +1,8 @@
 -- Numbers that are looked up by an index: offsets of strings (DWARF 5, 7.26) and addresses (7.27).
-use Rattle.std.specs.Prelude.{◌≡◌, ℕ, ◌+◌, ◌*◌, ◌≤◌, length, nat_le, Result, Err}
+use Rattle.std.specs.Prelude.{◌≡◌, ℕ, ◌+◌, ◌*◌, ◌≤◌, length, take, drop, nat_le, Result, Err}
 use Rattle.dwarf_base_core.specs.declared.error.Error.{Error}
 use Rattle.dwarf_base_core.specs.declared.error.Error.TheVariants.{UnsupportedOffset, UnsupportedAddressSize}
+use Rattle.dwarf_base_core.specs.Number.{number_of}
 use Rattle.dwarf_reader_core.specs.Faults.{is_number_size}
 use Rattle.dwarf_reader_core.specs.Input.{Input}
 use Rattle.dwarf_read_core.specs.Entries.{string_offset}
@@ -29,6 +30,11 @@ pub record IsPlaced (greatest : ℕ) (section : Input) (s : Slot) : Type 0 where
   pub based : s.base ≤ length section.bytes
   pub counted : distance s ≤ greatest
   pub within : place s ≤ length section.bytes
+
+-- the whole slot lies in the section, and its bytes are the number x
+pub record Holds (section : Input) (s : Slot) (x : ℕ) : Type 0 where
+  pub within : place s + s.width ≤ length section.bytes
+  pub is : x ≡ number_of section.is_big (take s.width (drop (place s) section.bytes))
 
 -- the bytes in front of the slot: those before the base, and behind it so many as the distance, which has to be an
 -- offset

@@ -14,9 +14,9 @@ ghost use Rattle.dwarf_read_core.specs.Entries.{Entries, StandsForAddresses, Sta
 ghost use Rattle.dwarf_read_core.specs.Items.{least_taken};
 ghost use Rattle.dwarf_reader_core.specs.Layout.{read};
 ghost use Rattle.dwarf_read_core.specs.Ranges.{RangeAt};
-ghost use Rattle.dwarf_read_core.specs.Sets.{Headers, Set, StandsForAddressSets, StandsForStringOffsetSets, address_header, followed_headers, set, string_offsets_header};
+ghost use Rattle.dwarf_read_core.specs.Sets.{Headers, IsJoined, Set, StandsForAddressSets, StandsForStringOffsetSets, address_header, followed_headers, set, string_offsets_header};
 ghost use Rattle.dwarf_read_core.specs.Strings.{StringAt};
-ghost use Rattle.dwarf_read_core.specs.Words.{AddressAt, Slot, WordAt};
+ghost use Rattle.dwarf_read_core.specs.Words.{AddressAt, Holds, Slot, WordAt};
 
 pub use dwarf_reader_core::laws::{
     exactly_one_outcome, exactly_one_shortest, no_encoding_begins_another, written_is_read,
@@ -89,6 +89,16 @@ pub fn exactly_one_address()
     ensures { (greatest : ℕ) (section : Input) (s : Slot) → HasOne (AddressAt greatest section s) }
 {}
 
+/// The string offset at a slot is the number that its bytes are, and so is the address at a slot. The
+/// bytes are so many as the width of the slot, from `base + index * width` on.
+#[tactic(auto, using(crate::proofs::lookups::Words::word_held, crate::proofs::lookups::Words::address_held))]
+pub fn slots_hold_numbers()
+    ensures word { (greatest : ℕ) (section : Input) (s : Slot) (x : ℕ)
+        → WordAt greatest section s (Ok x) → Holds section s x }
+    ensures address { (greatest : ℕ) (section : Input) (s : Slot) (x : ℕ)
+        → AddressAt greatest section s (Ok x) → Holds section s x }
+{}
+
 /// Appended bytes change neither the string offset at a slot nor its error, unless that is an
 /// `UnexpectedEof`.
 #[tactic(auto, using(crate::proofs::lookups::Words::word_more))]
@@ -142,6 +152,15 @@ pub fn sets_are_fronts()
     ensures string_offsets { (greatest offset : ℕ) (old new : Input) (s : Set (Unit {0}))
         → read (set string_offsets_header greatest offset) old ≡ Ok (s, new)
         → (count : ℕ) × Takes count old new }
+{}
+
+/// The bytes of a set that is read are those of its initial length, of its header and of its entries,
+/// one behind the other, and the rest remains. The length of the set is that of header and entries.
+pub fn sets_are_joined()
+    ensures addresses { (greatest offset : ℕ) (old new : Input) (s : Set ℕ)
+        → read (set address_header greatest offset) old ≡ Ok (s, new) → IsJoined old s new }
+    ensures string_offsets { (greatest offset : ℕ) (old new : Input) (s : Set (Unit {0}))
+        → read (set string_offsets_header greatest offset) old ≡ Ok (s, new) → IsJoined old s new }
 {}
 
 /// The bytes that remain of a set have exactly one list of addresses, and then at most one error.

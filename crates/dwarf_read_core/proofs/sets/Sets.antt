@@ -1,9 +1,9 @@
 -- Sets are layouts; what a reader reads of one, and what a call gives.
-use Rattle.std.proofs.Common.{◌≡◌, ◌≢◌, ℕ, ◌+◌, ◌-◌, ◌≤◌, List, [], ◌∷◌, length, Result, Ok, Err, refl, sym, ap, subst, arith, Bool, true, false, ◌⊎◌, inl, inr, ◌∙◌}
+use Rattle.std.proofs.Common.{◌≡◌, ◌≢◌, ℕ, ◌+◌, ◌-◌, ◌≤◌, List, [], ◌∷◌, ◌++◌, length, take, Result, Ok, Err, refl, sym, ap, subst, arith, Bool, true, false, ◌⊎◌, inl, inr, ◌∙◌, append_assoc}
 use Rattle.std.specs.List.{sum_by}
 use Rattle.std.specs.Prelude.{nat_lt}
 use Rattle.std.proofs.lemmas.Bool.{lt-ltb, le-ltb, le-leb, lt-leb}
-use Rattle.std.proofs.lemmas.List.{length-append, length-take-le}
+use Rattle.std.proofs.lemmas.List.{length-append, length-take-le, take-append-drop}
 use Rattle.dwarf_base_core.specs.declared.common.Format.{Format}
 use Rattle.dwarf_base_core.specs.declared.common.Format.TheVariants.{Dwarf32, Dwarf64}
 use Rattle.dwarf_base_core.specs.declared.error.Error.{Error}
@@ -16,7 +16,7 @@ use Rattle.dwarf_reader_core.specs.Once.{HasOne}
 use Rattle.dwarf_reader_core.specs.Appended.{IsNoEof}
 use Rattle.dwarf_read_core.specs.Items.{ComesFirst, least_taken}
 use Rattle.dwarf_reader_core.specs.Layout.{Layout, read, none, fault, part, inside, pure, ◌>>=◌}
-use Rattle.dwarf_read_core.specs.Sets.{initial_length, Set, set, address_header, string_offsets_header, Headers, StandsForSets, followed_headers}
+use Rattle.dwarf_read_core.specs.Sets.{initial_length, Set, set, IsJoined, address_header, string_offsets_header, Headers, StandsForSets, followed_headers}
 use Rattle.dwarf_reader_core.proofs.Layouts.{Outcome, then_reads, then_fails, error_is, pure_reads, refuse_fails, after_number, no_number, after_part, no_part, after_check, no_check, after_inside, no_inside, read_more, error_more}
 use Rattle.dwarf_reader_core.proofs.Layouts.{Spans, TakesLeast, spanned, number_spans, byte_spans, check_spans, pure_spans, refuse_spans, when_spans, then_spans, part_spans, inside_spans, then_read, check_read, part_read, inside_read, pure_read}
 use Rattle.dwarf_read_core.proofs.sets.ItemLists.{items-exactly_one, items-bounded, item-first, fault-first, item-stays, fault-stays, bytes-still_some}
@@ -80,6 +80,52 @@ set-parts greatest offset header_four old is =
         same_place (check_read _ _ _ fits.2).1,
         same_place front.left,
       );
+    })
+
+-- bytes that are consumed are the first, and those that remain are behind them
+taken_front : {n : ℕ} {old new : Input} → Takes n old new → old.bytes ≡ take n old.bytes ++ new.bytes
+taken_front {n} {old} takes =
+    sym (take-append-drop n old.bytes) ∙ ap (λ (i : Input). take n old.bytes ++ i.bytes) (sym takes.left)
+
+-- four lists that are joined from the right are joined from the left
+joined_left : (a b c d : List ℕ) → a ++ (b ++ c ++ d) ≡ a ++ b ++ c ++ d
+joined_left a b c d =
+    ap (λ (x : List ℕ). a ++ x) (append_assoc b c d) ∙ sym (append_assoc a b (c ++ d))
+    ∙ sym (append_assoc (a ++ b) c d)
+
+-- the bytes of a set that is read are its parts, joined
+pub set-joined : {H : Type 0} {header : Layout H} (greatest offset : ℕ) → HasFour header → (old : Input) {s : Set H}
+    {new : Input} → read (set header greatest offset) old ≡ Ok (s, new) → IsJoined old s new
+unfolding set
+set-joined greatest offset header_four old {new = new} is =
+    let initial = then_read _ _ _ is in
+    let fits = then_read _ _ _ initial.3 in
+    let unit = then_read _ _ _ fits.3 in
+    let said = then_read _ _ _ unit.3 in
+    let front = spanned initial_length-spans old initial.2 in
+    let part = part_read _ _ unit.2 in
+    let inner = inside_read _ _ _ said.2 in
+    let taken = spanned header_four unit.0 inner.0 in
+    let last = pure_read _ _ said.3 in
+    let size = length-take-le (initial.0).1 (fits.1).bytes part.1.enough in
+    let measured : (fits.1).bytes ≡ unit.0.bytes ++ unit.1.bytes = taken_front part.1
+    ∙ ap (λ (i : Input). i.bytes ++ unit.1.bytes) (sym part.0) in
+    let behind : new.bytes ≡ unit.1.bytes = ap (λ (i : Input). i.bytes) (last.1 ∙ inner.1) in
+    let joined : (initial.1).bytes ≡ (take 4 unit.0.bytes ++ said.0.1.bytes) ++ new.bytes =
+    ap (λ (i : Input). i.bytes) (sym (check_read _ _ _ fits.2).1) ∙ measured
+    ∙ ap (λ (b : List ℕ). b ++ unit.1.bytes) (taken_front taken)
+    ∙ ap (λ (b : List ℕ). (take 4 unit.0.bytes ++ said.0.1.bytes) ++ b) (sym behind) in
+    subst (λ s. IsJoined old s new) (sym last.0) (record {
+      initial = take (initial_length_size (initial.0).0) old.bytes;
+      header = take 4 unit.0.bytes;
+      parts = taken_front front
+          ∙ ap (λ (b : List ℕ). take (initial_length_size (initial.0).0) old.bytes ++ b) joined
+          ∙ joined_left (take (initial_length_size (initial.0).0) old.bytes) (take 4 unit.0.bytes) said.0.1.bytes
+          new.bytes;
+      of_format = length-take-le (initial_length_size (initial.0).0) old.bytes front.enough;
+      four = length-take-le 4 unit.0.bytes taken.enough;
+      of_length = sym (length-append (take 4 unit.0.bytes) said.0.1.bytes) ∙ ap length (sym (taken_front taken))
+          ∙ ap (λ (i : Input). length i.bytes) part.0 ∙ size;
     })
 
 -- the header of a set of addresses has four bytes
