@@ -1,10 +1,10 @@
 -- Numbers that are looked up by an index: offsets of strings (DWARF 5, 7.26) and addresses (7.27).
-use Rattle.std.specs.Prelude.{◌≡◌, ℕ, ◌+◌, ◌*◌, ◌≤◌, length, take, drop, nat_le, Result, Err}
+use Rattle.std.specs.Prelude.{◌≡◌, ℕ, ◌+◌, ◌*◌, ◌<◌, ◌≤◌, true, false, length, take, drop, nat_le, Result, Err}
 use Rattle.dwarf_base_core.specs.declared.error.Error.{Error}
 use Rattle.dwarf_base_core.specs.declared.error.Error.TheVariants.{UnsupportedOffset, UnsupportedAddressSize}
 use Rattle.dwarf_base_core.specs.Number.{number_of}
-use Rattle.dwarf_reader_core.specs.Faults.{is_number_size}
-use Rattle.dwarf_reader_core.specs.Input.{Input}
+use Rattle.dwarf_reader_core.specs.Faults.{end_fault, is_number_size}
+use Rattle.dwarf_reader_core.specs.Input.{Input, after}
 use Rattle.dwarf_read_core.specs.Entries.{string_offset}
 use Rattle.dwarf_reader_core.specs.Layout.{Layout, read, At, fixed, part, check, ◌>>=◌}
 
@@ -35,6 +35,32 @@ pub record IsPlaced (greatest : ℕ) (section : Input) (s : Slot) : Type 0 where
 pub record Holds (section : Input) (s : Slot) (x : ℕ) : Type 0 where
   pub within : place s + s.width ≤ length section.bytes
   pub is : x ≡ number_of section.is_big (take s.width (drop (place s) section.bytes))
+
+-- a section has no place for a slot: the base is past its end, or the distance is no offset, or the place is past the
+-- end
+pub data HasNoPlace (greatest : ℕ) (section : Input) (s : Slot) : Error → Type 0 where
+  no_base : length section.bytes < s.base → HasNoPlace greatest section s (end_fault section)
+  no_distance : s.base ≤ length section.bytes → greatest < distance s
+      → HasNoPlace greatest section s UnsupportedOffset
+  no_place : s.base ≤ length section.bytes → distance s ≤ greatest → length section.bytes < place s
+      → HasNoPlace greatest section s (end_fault (after s.base section))
+
+-- a section has no word at a slot: no place for it, or too few bytes there, or a number that is no offset
+pub data HasNoWord (greatest : ℕ) (section : Input) (s : Slot) : Error → Type 0 where
+  word_unplaced : {e : Error} → HasNoPlace greatest section s e → HasNoWord greatest section s e
+  word_cut : IsPlaced greatest section s → length section.bytes < place s + s.width
+      → HasNoWord greatest section s (end_fault (after (place s) section))
+  word_too_great : (x : ℕ) → IsPlaced greatest section s → Holds section s x → greatest < x
+      → HasNoWord greatest section s UnsupportedOffset
+
+-- a section has no address at a slot: no place for it, or a width that is no size of addresses, or too few bytes there
+pub data HasNoAddress (greatest : ℕ) (section : Input) (s : Slot) : Error → Type 0 where
+  address_unplaced : {e : Error} → HasNoPlace greatest section s e → HasNoAddress greatest section s e
+  address_unsized : IsPlaced greatest section s → is_number_size s.width ≡ false
+      → HasNoAddress greatest section s (UnsupportedAddressSize s.width)
+  address_cut : IsPlaced greatest section s → is_number_size s.width ≡ true
+      → length section.bytes < place s + s.width
+      → HasNoAddress greatest section s (end_fault (after (place s) section))
 
 -- the bytes in front of the slot: those before the base, and behind it so many as the distance, which has to be an
 -- offset

@@ -16,7 +16,7 @@ ghost use Rattle.dwarf_reader_core.specs.Layout.{read};
 ghost use Rattle.dwarf_read_core.specs.Ranges.{RangeAt};
 ghost use Rattle.dwarf_read_core.specs.Sets.{Headers, IsJoined, Set, StandsForAddressSets, StandsForStringOffsetSets, address_header, followed_headers, set, string_offsets_header};
 ghost use Rattle.dwarf_read_core.specs.Strings.{StringAt};
-ghost use Rattle.dwarf_read_core.specs.Words.{AddressAt, Holds, Slot, WordAt};
+ghost use Rattle.dwarf_read_core.specs.Words.{AddressAt, HasNoAddress, HasNoWord, Holds, Slot, WordAt};
 
 pub use dwarf_reader_core::laws::{
     exactly_one_outcome, exactly_one_shortest, no_encoding_begins_another, written_is_read,
@@ -90,13 +90,18 @@ pub fn exactly_one_address()
 {}
 
 /// The string offset at a slot is the number that its bytes are, and so is the address at a slot. The
-/// bytes are so many as the width of the slot, from `base + index * width` on.
-#[tactic(auto, using(crate::proofs::lookups::Words::word_held, crate::proofs::lookups::Words::address_held))]
+/// bytes are so many as the width of the slot, from `base + index * width` on. If there is none, the
+/// error is that of the first thing that is missing or too great, with its position.
+#[tactic(auto, using(crate::proofs::lookups::Words::word_held, crate::proofs::lookups::Words::address_held, crate::proofs::lookups::SlotErrors::word_none, crate::proofs::lookups::SlotErrors::address_none))]
 pub fn slots_hold_numbers()
     ensures word { (greatest : ℕ) (section : Input) (s : Slot) (x : ℕ)
         → WordAt greatest section s (Ok x) → Holds section s x }
     ensures address { (greatest : ℕ) (section : Input) (s : Slot) (x : ℕ)
         → AddressAt greatest section s (Ok x) → Holds section s x }
+    ensures no_word { (greatest : ℕ) (section : Input) (s : Slot) (e : Error)
+        → WordAt greatest section s (Err e) → HasNoWord greatest section s e }
+    ensures no_address { (greatest : ℕ) (section : Input) (s : Slot) (e : Error)
+        → AddressAt greatest section s (Err e) → HasNoAddress greatest section s e }
 {}
 
 /// Appended bytes change neither the string offset at a slot nor its error, unless that is an

@@ -171,7 +171,7 @@ slot_read greatest section s {rest = rest} is =
     (subst (λ (i : Input). Takes (distance s) i rest) (check_read _ _ _ counted.2).1 further.1)
 
 -- the number that is consumed at the place of a slot is the one that the slot holds
-slot_holds : (section : Input) (s : Slot) (x : ℕ) (rest new : Input) → Takes (place s) section rest
+pub slot_holds : (section : Input) (s : Slot) (x : ℕ) (rest new : Input) → Takes (place s) section rest
     → TakesNumber s.width rest x new → Holds section s x
 slot_holds section s x rest new takes number = record {
   within = omega (arith, takes.enough, number.enough, rest-length (place s) section rest takes);
