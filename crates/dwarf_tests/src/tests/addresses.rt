@@ -235,15 +235,23 @@ fn next_header<R: Reader>(headers: &mut AddrHeaderIter<R>) -> Result<AddrHeader<
 // Appends the addresses of a set, up to the first fault.
 fn append<R: Reader>(header: &AddrHeader<R>, addresses: &mut Vec<u64>) -> Result<()> {
     for address in header.entries()? {
-        addresses.push(address?)?;
+        push(address, addresses)?;
     }
     Ok(())
+}
+
+fn push(address: Result<u64>, addresses: &mut Vec<u64>) -> Result<()> {
+    Ok(addresses.push(address?)?)
+}
+
+fn append_set<R: Reader>(header: Result<AddrHeader<R>>, addresses: &mut Vec<u64>) -> Result<()> {
+    append(&header?, addresses)
 }
 
 // Appends the addresses of a section's sets, up to the first fault.
 pub(super) fn walk<R: Reader>(section: &DebugAddr<R>, addresses: &mut Vec<u64>) -> Result<()> {
     for header in section.headers()? {
-        append(&header?, addresses)?;
+        append_set(header, addresses)?;
     }
     Ok(())
 }
@@ -282,18 +290,35 @@ fn cut_sets_end_early(rt: HostRuntime) {
     );
 }
 
-// What a copied iterator over sets returns, whether a copy of the first set equals it, and what a copied
-// iterator over that set's addresses returns.
+// What a copied iterator over addresses returns.
+fn addresses_of_copy<R: Reader + Clone>(entries: &AddrEntryIter<R>) -> Result<Four> {
+    Ok(next_addresses(&mut entries.clone()?))
+}
+
+// What a copied iterator over sets returns.
+fn lengths_of_copy<R: Reader + Clone>(headers: &AddrHeaderIter<R>) -> Result<Four> {
+    Ok(next_lengths(&mut headers.clone()?))
+}
+
+// The first set, by a copied iterator.
+fn first_of_copy<R: Reader + Clone>(headers: &AddrHeaderIter<R>) -> Result<AddrHeader<R>> {
+    next_header(&mut headers.clone()?)
+}
+
+// Whether a copy of a set equals it, and what a copied iterator over the copy's addresses returns. Each value
+// that is dropped at a `?` makes the proof longer, so each part is a function.
+fn answers_of_copy<R: Reader + Clone + PartialEq>(header: &AddrHeader<R>) -> Result<(bool, Four)> {
+    let copy = header.clone()?;
+    Ok((copy == *header, addresses_of_copy(&copy.entries()?)?))
+}
+
+// What a copied iterator over sets returns, and the answers of a copy of the first set.
 fn answers_of_copies<R: Reader + Clone + PartialEq>(
     section: &DebugAddr<R>,
-) -> Result<(Four, bool, Four)> {
+) -> Result<(Four, (bool, Four))> {
     let headers = section.headers()?;
-    let lengths = next_lengths(&mut headers.clone()?);
-    let first = next_header(&mut headers.clone()?)?;
-    let copy = first.clone()?;
-    let entries = copy.entries()?;
-    let addresses = next_addresses(&mut entries.clone()?);
-    Ok((lengths, copy == first, addresses))
+    let lengths = lengths_of_copy(&headers)?;
+    Ok((lengths, answers_of_copy(&first_of_copy(&headers)?)?))
 }
 
 #[test]
@@ -303,5 +328,5 @@ fn copies_are_read_alike(rt: HostRuntime) {
     let addresses = [Ok(Some(first)), Ok(Some(second)), Ok(None), Ok(None)];
     let section = DebugAddr::from(EndianSlice::new(TWO_SETS, LITTLE));
     let copies = answers_of_copies(&section);
-    same(&rt, copies, Ok((lengths, true, addresses)), "copies");
+    same(&rt, copies, Ok((lengths, (true, addresses))), "copies");
 }

@@ -3,8 +3,8 @@
 use super::worked::ENDED;
 use super::{end_requests, eof, same};
 use dwarf_read_core::{
-    AbbreviationsCache, AbbreviationsCacheStrategy, DebugAbbrev, DebugAbbrevOffset, EndianSlice,
-    Error, LittleEndian, Reader, ReaderOffset, Result,
+    Abbreviations, AbbreviationsCache, AbbreviationsCacheStrategy, DebugAbbrev, DebugAbbrevOffset,
+    EndianSlice, Error, LittleEndian, Reader, ReaderOffset, Result,
 };
 use std::alloc::Global;
 use std::process::Abort;
@@ -22,17 +22,33 @@ fn none() -> DebugAbbrev<Slice<'static>> {
     DebugAbbrev::new(&[0], LittleEndian)
 }
 
-// The only code of the table that a cache returns, or 0 where it has none.
+// The only code of the table that a cache returns, or 0 where it has none. A call at a concrete reader takes long
+// to prove, so there is one for all tables.
 fn code_at(
     cache: &AbbreviationsCache,
     section: &DebugAbbrev<Slice<'_>>,
-    offset: usize,
+    offset: u8,
 ) -> Result<u64> {
-    let table = cache.get(section, DebugAbbrevOffset(offset))?;
-    match table.iter().next() {
+    code_of(cache, section, offset)
+}
+
+fn code_of<R: Reader>(
+    cache: &AbbreviationsCache,
+    section: &DebugAbbrev<R>,
+    offset: u8,
+) -> Result<u64> {
+    match table_at(cache, section, offset)?.iter().next() {
         Some(abbreviation) => Ok(abbreviation.code()),
         None => Ok(0),
     }
+}
+
+fn table_at<R: Reader>(
+    cache: &AbbreviationsCache,
+    section: &DebugAbbrev<R>,
+    offset: u8,
+) -> Result<Rc<Abbreviations>> {
+    cache.get(section, DebugAbbrevOffset(R::Offset::from_u8(offset)))
 }
 
 #[test]
@@ -44,18 +60,6 @@ fn strategies_are_compared(rt: HostRuntime) {
     let copies = [all, duplicates];
     same(&rt, copies, [all, duplicates], "copies");
     same(&rt, all == duplicates, false, "others");
-}
-
-// What a cache returns for the empty section, at 0 and at 5.
-fn check(
-    rt: &impl Abort,
-    cache: &AbbreviationsCache,
-    at_0: Result<u64>,
-    at_5: Result<u64>,
-    what: &str,
-) {
-    same(rt, code_at(cache, &none(), 0), at_0, what);
-    same(rt, code_at(cache, &none(), 5), at_5, what);
 }
 
 type Wanted = Result<DebugAbbrevOffset<usize>>;
@@ -96,36 +100,68 @@ fn set_nine(mem: Global, cache: &mut AbbreviationsCache) -> Result<()> {
     set_at_five(mem, cache, &nine)
 }
 
+// What is done with a cache.
+#[derive(Clone, Copy)]
+enum Step {
+    Nothing,
+    Duplicates,
+    All,
+    Set,
+    Refused,
+    NoOffsets,
+}
+
+static NO_OFFSETS: &[Wanted] = &[];
+
+static REFUSED: &[Wanted] = &[Ok(DebugAbbrevOffset(0)), Err(Error::OutOfMemory)];
+
+fn take(mem: Global, cache: &mut AbbreviationsCache, step: Step) -> Result<()> {
+    let all = AbbreviationsCacheStrategy::All;
+    let (strategy, section, offsets) = match step {
+        Step::Nothing => return Ok(()),
+        Step::Set => return set_nine(mem, cache),
+        Step::Duplicates => (AbbreviationsCacheStrategy::Duplicates, one(), OFFSETS),
+        Step::All => (all, one(), OFFSETS),
+        Step::Refused => (all, none(), REFUSED),
+        Step::NoOffsets => (all, one(), NO_OFFSETS),
+    };
+    populate(cache, strategy, &section, offsets)
+}
+
+// Steps one behind the other, what each returns, and the codes at 0 and at 5 behind it, as a cache returns them
+// for the empty section.
+static STEPS: &[(Step, Result<()>, [Result<u64>; 2], &str)] = &[
+    (Step::Nothing, Ok(()), [Ok(0), Err(eof!(0))], "new"),
+    (Step::Duplicates, Ok(()), [Ok(0), Ok(0)], "duplicates"),
+    (Step::All, Ok(()), [Ok(1), Ok(0)], "all"),
+    (Step::Set, Ok(()), [Ok(1), Ok(9)], "set"),
+    (
+        Step::Refused,
+        Err(Error::OutOfMemory),
+        [Ok(1), Ok(9)],
+        "refused",
+    ),
+    (Step::NoOffsets, Ok(()), [Ok(0), Err(eof!(0))], "no offsets"),
+];
+
 #[test]
-fn tables_are_kept_or_read_afresh(rt: HostRuntime) -> std::result::Result<(), Fail> {
-    let mem = rt.alloc();
-    let mut cache = AbbreviationsCache::new(mem);
-    check(&rt, &cache, Ok(0), Err(eof(0)), "new");
-    let strategy = AbbreviationsCacheStrategy::Duplicates;
-    populate(&mut cache, strategy, &one(), OFFSETS)?;
-    check(&rt, &cache, Ok(0), Ok(0), "duplicates");
-    let strategy = AbbreviationsCacheStrategy::All;
-    populate(&mut cache, strategy, &one(), OFFSETS)?;
-    check(&rt, &cache, Ok(1), Ok(0), "all");
-    set_nine(mem, &mut cache)?;
-    check(&rt, &cache, Ok(1), Ok(9), "set");
-    let wants = [Ok(DebugAbbrevOffset(0)), Err(Error::OutOfMemory)];
-    let refused = populate(&mut cache, strategy, &none(), &wants);
-    same(&rt, refused, Err(Error::OutOfMemory), "refused");
-    check(&rt, &cache, Ok(1), Ok(9), "refused");
-    populate(&mut cache, strategy, &one(), &[])?;
-    check(&rt, &cache, Ok(0), Err(eof(0)), "no offsets");
-    Ok(())
+fn tables_are_kept_or_read_afresh(rt: HostRuntime) {
+    let mut cache = AbbreviationsCache::new(rt.alloc());
+    for (step, wanted, codes, what) in STEPS {
+        let outcome = take(rt.alloc(), &mut cache, *step);
+        let found = [code_at(&cache, &none(), 0), code_at(&cache, &none(), 5)];
+        same(&rt, (outcome, found), (*wanted, *codes), what);
+    }
 }
 
 // Whether two calls of `get` return one table, and not two that are alike.
-fn is_shared(
+fn is_shared<R: Reader>(
     cache: &AbbreviationsCache,
-    section: &DebugAbbrev<Slice<'_>>,
-    offset: usize,
+    section: &DebugAbbrev<R>,
+    offset: u8,
 ) -> Result<bool> {
-    let first = cache.get(section, DebugAbbrevOffset(offset))?;
-    let second = cache.get(section, DebugAbbrevOffset(offset))?;
+    let first = table_at(cache, section, offset)?;
+    let second = table_at(cache, section, offset)?;
     Ok(Rc::ptr_eq(&first, &second))
 }
 
@@ -241,9 +277,8 @@ fn populated(mem: Global) -> Result<AbbreviationsCache> {
 
 // The code is the one that is wanted, or memory for a fresh reading was refused.
 fn code_or_refused(rt: &impl Abort, code: Result<u64>, wanted: u64, what: &str) {
-    match code {
-        Ok(code) => same(rt, code, wanted, what),
-        Err(error) => same(rt, error, Error::OutOfMemory, what),
+    if code != Err(Error::OutOfMemory) {
+        same(rt, code, Ok(wanted), what);
     }
 }
 

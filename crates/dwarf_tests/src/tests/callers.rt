@@ -4,9 +4,9 @@ use super::same;
 use super::worked::{FOUR_ADDRESSES, STRINGS, THREE, TWO_SETS, UNIT};
 use dwarf_read_core::constants::{DW_TAG_compile_unit, DwTag};
 use dwarf_read_core::{
-    Abbreviations, DebugAbbrev, DebugAbbrevOffset, DebugAddr, DebugStr, DebugStrOffsets,
-    DebugStrOffsetsBase, DebugStrOffsetsIndex, EndianSlice, Format, LittleEndian, Reader,
-    ReaderOffset, Result,
+    Abbreviations, AddrHeader, DebugAbbrev, DebugAbbrevOffset, DebugAddr, DebugStr,
+    DebugStrOffsets, DebugStrOffsetsBase, DebugStrOffsetsIndex, EndianSlice, Format, LittleEndian,
+    Reader, ReaderOffset, Result,
 };
 use dwarf_uses::callers::{addresses_in, string_by_index, table_lengths, table_text, tag_of};
 use dwarf_uses::parts::{clone_is_equal, split_ten};
@@ -55,22 +55,25 @@ fn string_at(index: usize) -> Result<&'static [u8]> {
     Ok(string_by_index(&offsets, &strings, Format::Dwarf32, base, index)?.slice())
 }
 
-// The addresses of all sets.
-fn addresses<R: Reader>(mem: Global, sets: &DebugAddr<R>) -> Result<Vec<u64>> {
-    let mut addresses = Vec::new(mem);
+// Appends the addresses of a set.
+fn append<R: Reader>(mem: Global, set: Result<AddrHeader<R>>, found: &mut Vec<u64>) -> Result<()> {
+    Ok(found.extend_from_slice(&addresses_in(mem, &set?)?)?)
+}
+
+// Appends the addresses of all sets.
+fn append_all<R: Reader>(mem: Global, sets: &DebugAddr<R>, found: &mut Vec<u64>) -> Result<()> {
     for header in sets.headers()? {
-        for address in addresses_in(mem, &header?)? {
-            addresses.push(address)?;
-        }
+        append(mem, header, found)?;
     }
-    Ok(addresses)
+    Ok(())
 }
 
 #[test]
 fn sections_are_looked_up(rt: HostRuntime) -> std::result::Result<(), Fail> {
     same(&rt, string_at(1), Ok(b"two".as_slice()), "string 1");
     let sets = DebugAddr::from(EndianSlice::new(TWO_SETS, LittleEndian));
-    let found = addresses(rt.alloc(), &sets)?;
+    let mut found = Vec::new(rt.alloc());
+    append_all(rt.alloc(), &sets, &mut found)?;
     same(
         &rt,
         found.as_slice(),

@@ -4,14 +4,13 @@ use super::addresses::{lengths_of, walk};
 use super::worked::{FOUR_ADDRESSES, STRINGS, TWO_SETS, UNIT};
 use super::{end_requests, eof, same};
 use dwarf_read_core::{
-    Abbreviations, AbbreviationsCache, AbbreviationsCacheStrategy, DebugAbbrev, DebugAbbrevOffset,
-    DebugAddr, DebugAddrBase, DebugAddrIndex, DebugStr, DebugStrOffset, DebugStrOffsets,
-    DebugStrOffsetsBase, DebugStrOffsetsIndex, EndianSlice, Error, Format, LittleEndian, Reader,
-    ReaderOffset, Result, Section, read_u8_array,
+    Abbreviations, AbbreviationsCache, AbbreviationsCacheStrategy, AddrHeaderIter, DebugAbbrev,
+    DebugAbbrevOffset, DebugAddr, DebugAddrBase, DebugAddrIndex, DebugStr, DebugStrOffset,
+    DebugStrOffsets, DebugStrOffsetsBase, DebugStrOffsetsIndex, EndianSlice, Error, Format,
+    LittleEndian, Reader, ReaderOffset, Result, Section, read_u8_array,
 };
 use dwarf_uses::{OwnedReader, SharedReader};
 use std::alloc::Global;
-use std::fmt::Debug;
 use std::process::Abort;
 use std::rc::Rc;
 use std::test::Fail;
@@ -37,12 +36,15 @@ fn constants_tell_of_clones(rt: HostRuntime) {
     );
 }
 
-// Ends the test where the strings one and two aren't there, or one has a clone.
-fn check_parts<R: Reader>(rt: &impl Abort, mem: Global, mut strings: R) -> Result<()> {
-    let one = strings.read_null_terminated_slice()?;
+// Ends the test where the strings one and two aren't there, or one has a clone. A reader that is dropped at a `?`
+// makes the proof longer, so each part is a function that borrows it.
+fn check_parts<R: Reader>(rt: &impl Abort, mem: Global, strings: &mut R) -> Result<()> {
+    check_one(rt, mem, &mut strings.read_null_terminated_slice()?)?;
     same(rt, strings.offset_id().0, 4, "behind one");
-    check_one(rt, mem, one)?;
-    let mut two = strings.split(R::Offset::from_u8(3))?;
+    check_two(rt, &mut strings.split(R::Offset::from_u8(3))?)
+}
+
+fn check_two<R: Reader>(rt: &impl Abort, two: &mut R) -> Result<()> {
     same(rt, two.to_slice()?.as_slice(), b"two".as_slice(), "two");
     same(rt, two.read_sleb128()?, -12, "t");
     two.skip_leb128()?;
@@ -50,22 +52,26 @@ fn check_parts<R: Reader>(rt: &impl Abort, mem: Global, mut strings: R) -> Resul
     Ok(())
 }
 
-fn check_one<R: Reader>(rt: &impl Abort, mem: Global, mut one: R) -> Result<()> {
+fn check_refused<R: Reader>(rt: &impl Abort, one: &mut R) {
     same(rt, one.len().into_u64(), 3, "one");
     same(rt, one.try_clone().err(), Some(Error::OutOfMemory), "one");
     let part = one.split(R::Offset::from_u8(1));
     same(rt, part.err(), Some(Error::OutOfMemory), "one");
     same(rt, one.offset_id().0, 0, "one");
+}
+
+fn check_one<R: Reader>(rt: &impl Abort, mem: Global, one: &mut R) -> Result<()> {
+    check_refused(rt, one);
     same(rt, one.to_string()?.as_str(), "one", "one");
     same(rt, one.to_string_lossy(mem)?.as_str(), "one", "one");
-    same(rt, read_u8_array::<_, 3>(&mut one)?, *b"one", "one");
+    same(rt, read_u8_array::<_, 3>(one)?, *b"one", "one");
     Ok(())
 }
 
 #[test]
 fn parts_have_one_clone_fewer(rt: HostRuntime) -> std::result::Result<(), Fail> {
-    let strings = owned(rt.alloc(), b"one\0two\0", 1)?;
-    check_parts(&rt, rt.alloc(), strings)?;
+    let mut strings = owned(rt.alloc(), b"one\0two\0", 1)?;
+    check_parts(&rt, rt.alloc(), &mut strings)?;
     Ok(())
 }
 
@@ -87,11 +93,23 @@ fn lengths(mem: Global, bytes: &[u8], depth: u8) -> Result<[Result<Option<u64>>;
     lengths_of(&addresses(mem, bytes, depth)?)
 }
 
+// The offset that an index names. It is generic, since a contract takes long to prove at a concrete reader.
+fn offset_of<R: Reader>(
+    section: &DebugStrOffsets<R>,
+    format: Format,
+    index: R::Offset,
+) -> Result<R::Offset> {
+    let base = DebugStrOffsetsBase(R::Offset::from_u8(0));
+    Ok(
+        section
+            .get_str_offset(format, base, DebugStrOffsetsIndex(index))?
+            .0,
+    )
+}
+
 // The offset that an index names of a section of one word of 2^32.
 fn offset_at(mem: Global, format: Format, index: u32) -> Result<u32> {
-    let section = DebugStrOffsets::from(owned(mem, &LONG[4..], 1)?);
-    let (base, index) = (DebugStrOffsetsBase(0), DebugStrOffsetsIndex(index));
-    Ok(section.get_str_offset(format, base, index)?.0)
+    offset_of(&owned(mem, &LONG[4..], 1)?.into(), format, index)
 }
 
 #[test]
@@ -109,14 +127,13 @@ fn offsets_have_32_bits(rt: HostRuntime) {
     }
 }
 
+// A number, and behind it the position or the length that belongs to it, or 0. All calls return one type, since
+// each type at which a function is called takes long to prove.
+type Answer = [u64; 2];
+
 // What a call returns where clones may go 0, 1, 2 and 3 deep: first OutOfMemory, and from some depth
 // on what is wanted.
-fn check_depths<T: PartialEq + Debug + Copy>(
-    rt: &impl Abort,
-    results: &[Result<T>],
-    wanted: T,
-    what: &str,
-) {
+fn check_depths(rt: &impl Abort, results: &[Result<Answer>], wanted: Answer, what: &str) {
     let mut is_refused = true;
     for (depth, result) in results.iter().enumerate() {
         if *result == Err(Error::OutOfMemory) {
@@ -130,9 +147,9 @@ fn check_depths<T: PartialEq + Debug + Copy>(
     assert!(rt; !is_refused, "{what} at any depth");
 }
 
-// The first code of the table at 0: as it is read, as it is read strictly, from a cache that keeps
-// nothing, and from one that keeps it.
-fn first_codes<R: Reader>(mem: Global, section: &DebugAbbrev<R>) -> [Result<Option<u64>>; 4] {
+// The first code of the table at 0, or 0 where there is none: as it is read, as it is read strictly, from a cache
+// that keeps nothing, and from one that keeps it.
+fn first_codes<R: Reader>(mem: Global, section: &DebugAbbrev<R>) -> [Result<Answer>; 4] {
     let offset = DebugAbbrevOffset(R::Offset::from_u8(0));
     [
         first_code(section.abbreviations(mem, offset)),
@@ -142,17 +159,18 @@ fn first_codes<R: Reader>(mem: Global, section: &DebugAbbrev<R>) -> [Result<Opti
     ]
 }
 
-fn first_code(table: Result<Abbreviations>) -> Result<Option<u64>> {
-    match table?.iter().next() {
-        Some(abbreviation) => Ok(Some(abbreviation.code())),
-        None => Ok(None),
-    }
+fn first_code(table: Result<Abbreviations>) -> Result<Answer> {
+    Ok(code_of(&table?))
 }
 
-fn shared_code(table: Result<Rc<Abbreviations>>) -> Result<Option<u64>> {
-    match table?.iter().next() {
-        Some(abbreviation) => Ok(Some(abbreviation.code())),
-        None => Ok(None),
+fn shared_code(table: Result<Rc<Abbreviations>>) -> Result<Answer> {
+    Ok(code_of(&*table?))
+}
+
+fn code_of(table: &Abbreviations) -> Answer {
+    match table.iter().next() {
+        Some(abbreviation) => [abbreviation.code(), 0],
+        None => [0, 0],
     }
 }
 
@@ -160,7 +178,7 @@ fn kept_code<R: Reader>(
     mem: Global,
     section: &DebugAbbrev<R>,
     offset: DebugAbbrevOffset<R::Offset>,
-) -> Result<Option<u64>> {
+) -> Result<Answer> {
     let mut cache = AbbreviationsCache::new(mem);
     let mut offsets = Vec::new(mem);
     offsets.push(offset)?;
@@ -169,65 +187,73 @@ fn kept_code<R: Reader>(
     shared_code(cache.get(section, offset))
 }
 
-// The first three bytes of a string, and its position.
-fn string_at<R: Reader>(section: &DebugStr<R>, offset: u8) -> Result<([u8; 3], u64)> {
+// The first three bytes of a string as a number, the first of them lowest, and its position.
+fn string_at<R: Reader>(section: &DebugStr<R>, offset: u8) -> Result<Answer> {
     let mut string = section.get_str(DebugStrOffset(R::Offset::from_u8(offset)))?;
     let position = string.offset_id().0;
-    Ok((read_u8_array::<_, 3>(&mut string)?, position))
+    let [first, second, third] = read_u8_array::<_, 3>(&mut string)?;
+    Ok([
+        u64::from_le_bytes([first, second, third, 0, 0, 0, 0, 0]),
+        position,
+    ])
 }
 
 // The second address of the first set.
-fn second_address<R: Reader>(section: &DebugAddr<R>) -> Result<u64> {
+fn second_address<R: Reader>(section: &DebugAddr<R>) -> Result<Answer> {
     let (base, index) = (R::Offset::from_u8(8), R::Offset::from_u8(1));
-    section.get_address(4, DebugAddrBase(base), DebugAddrIndex(index))
+    let address = section.get_address(4, DebugAddrBase(base), DebugAddrIndex(index))?;
+    Ok([address, 0])
 }
 
 // How many bytes a part of a section has, and the position of the first.
-fn range_of<R: Reader>(section: &DebugStr<R>) -> Result<(u64, u64)> {
+fn range_of<R: Reader>(section: &DebugStr<R>) -> Result<Answer> {
     let part = section.dwp_range(4, 3)?;
     let reader = part.reader();
-    Ok((reader.len().into_u64(), reader.offset_id().0))
+    Ok([reader.len().into_u64(), reader.offset_id().0])
 }
 
 // How many addresses all sets have.
-fn count_of_addresses<R: Reader>(mem: Global, section: &DebugAddr<R>) -> Result<usize> {
+fn count_of_addresses<R: Reader>(mem: Global, section: &DebugAddr<R>) -> Result<Answer> {
     let mut found = Vec::new(mem);
     walk(section, &mut found)?;
-    Ok(found.len())
+    Ok([found.len() as u64, 0])
 }
 
 // What a call of each kind returns.
-#[derive(Drop)]
-struct Answers {
-    codes: [Result<Option<u64>>; 4],
-    string: Result<([u8; 3], u64)>,
-    range: Result<(u64, u64)>,
-    address: Result<u64>,
-    count: Result<usize>,
+type Answers = [Result<Answer>; 8];
+
+// The answers of these readers' sections.
+fn answers_of<R: Reader>(mem: Global, tables: R, strings: R, addresses: R) -> Answers {
+    let (tables, strings) = (DebugAbbrev::from(tables), DebugStr::from(strings));
+    answers_in(mem, &tables, &strings, &DebugAddr::from(addresses))
 }
 
-fn answers_of<R: Reader>(
+fn answers_in<R: Reader>(
     mem: Global,
     tables: &DebugAbbrev<R>,
     strings: &DebugStr<R>,
     addresses: &DebugAddr<R>,
 ) -> Answers {
-    Answers {
-        codes: first_codes(mem, tables),
-        string: string_at(strings, 4),
-        range: range_of(strings),
-        address: second_address(addresses),
-        count: count_of_addresses(mem, addresses),
-    }
+    let [lenient, strict, fresh, kept] = first_codes(mem, tables);
+    [
+        lenient,
+        strict,
+        fresh,
+        kept,
+        string_at(strings, 4),
+        range_of(strings),
+        second_address(addresses),
+        count_of_addresses(mem, addresses),
+    ]
 }
 
 // The answers where clones may go so deep. A call at a concrete reader takes long to prove, so there is one
 // for all kinds.
 fn answers_at(mem: Global, depth: u8) -> Result<Answers> {
-    let tables = DebugAbbrev::from(owned(mem, UNIT, depth)?);
-    let strings = DebugStr::from(owned(mem, STRINGS, depth)?);
-    let addresses = addresses(mem, TWO_SETS, depth)?;
-    Ok(answers_of(mem, &tables, &strings, &addresses))
+    let tables = owned(mem, UNIT, depth)?;
+    let strings = owned(mem, STRINGS, depth)?;
+    let addresses = owned(mem, TWO_SETS, depth)?;
+    Ok(answers_of(mem, tables, strings, addresses))
 }
 
 // Appends the addresses of all sets of an owned section, up to the first fault.
@@ -244,29 +270,30 @@ fn refused_clones_are_returned(rt: HostRuntime) -> std::result::Result<(), Fail>
         answers_at(mem, 2)?,
         answers_at(mem, 3)?,
     );
-    for (index, what) in ["lenient", "strict", "fresh", "kept"].iter().enumerate() {
-        let codes = [
-            none.codes[index],
-            one.codes[index],
-            two.codes[index],
-            three.codes[index],
-        ];
-        check_depths(&rt, &codes, Some(1), what);
+    let rows = [
+        ("lenient", [1, 0]),
+        ("strict", [1, 0]),
+        ("fresh", [1, 0]),
+        ("kept", [1, 0]),
+        ("a string", [u64::from_le_bytes(*b"two\0\0\0\0\0"), 4]),
+        ("a range", [3, 4]),
+        ("an address", [0xdead_beef, 0]),
+        ("sets", [4, 0]),
+    ];
+    for (index, (what, wanted)) in rows.iter().enumerate() {
+        let results = [none[index], one[index], two[index], three[index]];
+        check_depths(&rt, &results, *wanted, what);
     }
-    let strings = [none.string, one.string, two.string, three.string];
-    check_depths(&rt, &strings, (*b"two", 4), "a string");
-    let ranges = [none.range, one.range, two.range, three.range];
-    check_depths(&rt, &ranges, (3, 4), "a range");
-    let addresses = [none.address, one.address, two.address, three.address];
-    check_depths(&rt, &addresses, 0xdead_beef, "an address");
-    let counts = [none.count, one.count, two.count, three.count];
-    check_depths(&rt, &counts, 4, "sets");
     Ok(())
 }
 
 // The error that is returned in place of the first set's addresses.
 fn fault_of_entries<R: Reader>(section: &DebugAddr<R>) -> Result<Option<Error>> {
-    match section.headers()?.next()? {
+    fault_of_next(&mut section.headers()?)
+}
+
+fn fault_of_next<R: Reader>(headers: &mut AddrHeaderIter<R>) -> Result<Option<Error>> {
+    match headers.next()? {
         Some(header) => Ok(header.entries().err()),
         None => Ok(None),
     }

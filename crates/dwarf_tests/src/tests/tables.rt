@@ -4,8 +4,8 @@ use super::worked::{ENDED, FIVE, IMPLICIT, SIX, THREE, UNIT};
 use super::{end_requests, eof, reader_at, same};
 use dwarf_read_core::constants::*;
 use dwarf_read_core::{
-    Abbreviations, AttributeSpecification, DebugAbbrev, DebugAbbrevOffset, Encoding, EndianSlice,
-    Error, Format, LittleEndian, Reader, ReaderOffset, ReaderOffsetId, Result,
+    Abbreviation, Abbreviations, AttributeSpecification, DebugAbbrev, DebugAbbrevOffset, Encoding,
+    EndianSlice, Error, Format, LittleEndian, Reader, ReaderOffset, ReaderOffsetId, Result,
 };
 use std::alloc::{AllocError, Global};
 use std::process::Abort;
@@ -361,12 +361,16 @@ fn copied_or_refused(rt: &impl Abort, table: &Abbreviations) {
         }
     }
     for abbreviation in table.iter() {
-        match abbreviation.try_clone() {
-            Ok(copy) => assert!(rt; copy == *abbreviation),
-            Err(error) => {
-                same(rt, error, Error::OutOfMemory, "an abbreviation");
-                assert!(rt; abbreviation.attributes().len() > 5);
-            }
+        one_copied_or_refused(rt, abbreviation);
+    }
+}
+
+fn one_copied_or_refused(rt: &impl Abort, abbreviation: &Abbreviation) {
+    match abbreviation.try_clone() {
+        Ok(copy) => assert!(rt; copy == *abbreviation),
+        Err(error) => {
+            same(rt, error, Error::OutOfMemory, "an abbreviation");
+            assert!(rt; abbreviation.attributes().len() > 5);
         }
     }
 }
