@@ -305,8 +305,7 @@ fn first_of_copy<R: Reader + Clone>(headers: &AddrHeaderIter<R>) -> Result<AddrH
     next_header(&mut headers.clone()?)
 }
 
-// Whether a copy of a set equals it, and what a copied iterator over the copy's addresses returns. Each value
-// that is dropped at a `?` makes the proof longer, so each part is a function.
+// Whether a copy of a set equals it, and what a copied iterator over the copy's addresses returns.
 fn answers_of_copy<R: Reader + Clone + PartialEq>(header: &AddrHeader<R>) -> Result<(bool, Four)> {
     let copy = header.clone()?;
     Ok((copy == *header, addresses_of_copy(&copy.entries()?)?))

@@ -36,8 +36,7 @@ fn constants_tell_of_clones(rt: HostRuntime) {
     );
 }
 
-// Ends the test where the strings one and two aren't there, or one has a clone. A reader that is dropped at a `?`
-// makes the proof longer, so each part is a function that borrows it.
+// Ends the test where the strings one and two aren't there, or one has a clone.
 fn check_parts<R: Reader>(rt: &impl Abort, mem: Global, strings: &mut R) -> Result<()> {
     check_one(rt, mem, &mut strings.read_null_terminated_slice()?)?;
     same(rt, strings.offset_id().0, 4, "behind one");
@@ -93,7 +92,7 @@ fn lengths(mem: Global, bytes: &[u8], depth: u8) -> Result<[Result<Option<u64>>;
     lengths_of(&addresses(mem, bytes, depth)?)
 }
 
-// The offset that an index names. It is generic, since a contract takes long to prove at a concrete reader.
+// The offset that an index names.
 fn offset_of<R: Reader>(
     section: &DebugStrOffsets<R>,
     format: Format,

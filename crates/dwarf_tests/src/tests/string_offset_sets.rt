@@ -148,8 +148,7 @@ fn first_of_copy<R: Reader + Clone>(
     next_header(&mut headers.clone()?)
 }
 
-// Whether a copy of a set equals it, and what a copied iterator over the copy's offsets returns. Each value
-// that is dropped at a `?` makes the proof longer, so each part is a function.
+// Whether a copy of a set equals it, and what a copied iterator over the copy's offsets returns.
 fn answers_of_copy<R: Reader + Clone + PartialEq>(
     header: &StrOffsetsHeader<R>,
 ) -> Result<(bool, Four)> {
