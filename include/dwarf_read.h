@@ -3,30 +3,32 @@
  * an index, sets of addresses and of string offsets, abbreviation tables, names of constants, and texts
  * of errors. The section numbers are those of DWARF 5.
  *
- * Link libdwarf_read.a, which `tools/install` installs. It has all calls, and the three functions of
- * dwarf_read_heap.c through which they request memory; a program that defines all three is linked with
+ * Link libdwarf_read.a, which `tools/install` installs. It contains all calls, and the three functions
+ * of dwarf_read_heap.c that they allocate memory with. A program that defines all three is linked with
  * its own. Without an installation, link libdwarf_read_c.a and dwarf_read_heap.c.
  *
- * WHAT A CALL DOES. It returns DWARF_OK, and then its outputs are written, or another status. A status
- * from 1 to 19 is the number of an error: the call has written it to the fault, with the position or
- * the value that the error carries, and to nothing else. A status from 100 on is described at the calls
- * that return it. All offsets and positions are in bytes from the first byte that is given.
+ * WHAT A CALL DOES. A call returns DWARF_OK and has written its outputs, or it returns another status.
+ * A status from 1 to 19 is the number of an error. The call has then written that number to `fault`,
+ * with the position or value that the error carries, and has written nothing else. A status from 100 on
+ * is described at the calls that return it. All offsets and positions are in bytes from the first byte
+ * that is passed.
  *
- * A call keeps no pointer and has no state of its own, so any number of threads may call at once.
+ * No call keeps a pointer or has a state, so any number of threads may make calls at once.
  *
- * The calls that are declared here are proved. What is defined here in C is tested, and not proved.
+ * The calls that are declared here are proved. The functions that are defined here in C are tested, but
+ * not proved.
  *
- * WHAT THE CALLER PROMISES, which nothing checks:
+ * WHAT THE CALLER HAS TO MAKE SURE OF, since nothing checks it:
  *
  *  - A pointer before a length points to as many items as the length says, which take less than 2^63
- *    bytes. They may be uninitialized where the call writes only. At a length of 0 the pointer may be
- *    null. A number of places is called `room`.
+ *    bytes. They may be uninitialized if the call only writes them. If the length is 0, the pointer may be
+ *    null. The number of places for an output is called `room`.
  *  - Every other pointer points to one place of its type.
  *  - No place that a call may write overlaps another place or bytes that are passed to the same call.
- *  - Nobody else writes to what a call reads, and nobody else reads or writes what it writes, before
- *    it returns.
+ *  - Before a call returns, nobody else writes what it reads, and nobody else reads or writes what it
+ *    writes.
  *
- * Nothing is asked of the bytes of a section, of offsets, of indexes, or of how large a room is.
+ * Any section bytes, offsets, indexes and sizes are allowed.
  */
 #ifndef DWARF_READ_H
 #define DWARF_READ_H
@@ -41,14 +43,14 @@
 #define DWARF_READ_VERSION_PATCH 0
 #define DWARF_READ_VERSION "0.1.0"
 
-/* So many places are enough for every name and every text of an error, and for a zero byte behind it. */
+/* Enough places for every name and every text of an error, with a zero byte behind it. */
 #define DWARF_TEXT_ROOM 64
 
 #ifdef __cplusplus
 extern "C" {
 #endif
 
-/* What a call returns: this, the number of an error, or a status of its own. */
+/* What a call returns: DWARF_OK, the number of an error, or one of the statuses from 100 on. */
 enum {
     DWARF_OK = 0,
 
@@ -87,14 +89,14 @@ struct dwarf_fault {
  * LEB128 NUMBERS (7.6).
  */
 
-/* Reads the number of at most 64 bits, in at most ten bytes, that the bytes begin with. Other bytes
-   may follow. `number_len` is how many bytes the number has. */
+/* Reads the number of at most 64 bits, in at most ten bytes, at the front of the bytes. More bytes may
+   follow it. `number_len` is how many bytes the number has. */
 uint32_t dwarf_uleb128(const uint8_t *bytes, size_t len, uint64_t *value, size_t *number_len,
                        struct dwarf_fault *fault);
 uint32_t dwarf_sleb128(const uint8_t *bytes, size_t len, int64_t *value, size_t *number_len,
                        struct dwarf_fault *fault);
 
-/* Writes the shortest bytes of a number. `len` is how many they are, at most ten. Returns DWARF_OK, or
+/* Writes the shortest bytes of a number. `len` is their count, at most ten. Returns DWARF_OK, or
    DWARF_NO_ROOM if there are fewer places; then only `len` is written. */
 uint32_t dwarf_uleb128_write(uint64_t value, uint8_t *bytes, size_t room, size_t *len);
 uint32_t dwarf_sleb128_write(int64_t value, uint8_t *bytes, size_t room, size_t *len);
@@ -104,16 +106,16 @@ uint32_t dwarf_sleb128_write(int64_t value, uint8_t *bytes, size_t room, size_t 
  */
 
 /* Finds the string at an offset of .debug_str or .debug_line_str: `string_len` bytes from the offset
-   on, which a zero byte follows. */
+   on, followed by a zero byte. */
 uint32_t dwarf_string(const uint8_t *section, size_t len, size_t offset, size_t *string_len,
                       struct dwarf_fault *fault);
 
-/* Reads the string offset at an index, from 0, of those that follow one another from `base` on in
-   .debug_str_offsets. Each has eight bytes if `is_64` is set, and else four. */
+/* Reads the string offset at an index, counted from 0, of those that follow each other from `base` on in
+   .debug_str_offsets. Each has eight bytes if `is_64` is set, and four otherwise. */
 uint32_t dwarf_str_offset(const uint8_t *section, size_t len, bool is_big, bool is_64, size_t base,
                           size_t index, size_t *offset, struct dwarf_fault *fault);
 
-/* Reads the address at an index, from 0, of those that follow one another from `base` on in
+/* Reads the address at an index, counted from 0, of those that follow each other from `base` on in
    .debug_addr. Each has `size` bytes: 1, 2, 4 or 8. */
 uint32_t dwarf_address(const uint8_t *section, size_t len, bool is_big, uint8_t size, size_t base,
                        size_t index, uint64_t *address, struct dwarf_fault *fault);
@@ -136,8 +138,8 @@ struct dwarf_set {
    offset is the section's end.
 
    To read an address of the set, call dwarf_address with `entry_size` as its size and `first_entry` as
-   its base, and pass `next` as the length of the section. Then nothing behind the set is read, and an
-   address that the set's end cuts is DWARF_UNEXPECTED_EOF. */
+   its base, and pass `next` as the length of the section. Then nothing behind the set is read, and the
+   call returns DWARF_UNEXPECTED_EOF for an address that the set's end cuts. */
 uint32_t dwarf_address_set(const uint8_t *section, size_t len, bool is_big, size_t offset,
                            struct dwarf_set *set, struct dwarf_fault *fault);
 
@@ -145,8 +147,8 @@ uint32_t dwarf_address_set(const uint8_t *section, size_t len, bool is_big, size
    if the offset is the section's end.
 
    To read a string offset of the set, call dwarf_str_offset with `first_entry` as its base, and with
-   `is_64` set if `word_size` is 8. Pass `next` as the length of the section: then nothing behind the set
-   is read, and a string offset that the set's end cuts is DWARF_UNEXPECTED_EOF. */
+   `is_64` set if `word_size` is 8. Pass `next` as the length of the section. Then nothing behind the set
+   is read, and the call returns DWARF_UNEXPECTED_EOF for a string offset that the set's end cuts. */
 uint32_t dwarf_str_offset_set(const uint8_t *section, size_t len, bool is_big, size_t offset,
                               struct dwarf_set *set, struct dwarf_fault *fault);
 
@@ -154,7 +156,7 @@ uint32_t dwarf_str_offset_set(const uint8_t *section, size_t len, bool is_big, s
  * ABBREVIATION TABLES (7.5.3).
  *
  * These two calls allocate memory for the table, and free it before they return. They return
- * DWARF_OUT_OF_MEMORY if there is none. They may not be called in a signal handler.
+ * DWARF_OUT_OF_MEMORY if an allocation fails. They may not be called in a signal handler.
  */
 
 /* How large a table is. */
@@ -177,27 +179,27 @@ struct dwarf_abbreviation {
 struct dwarf_attribute {
     uint16_t name;
     uint16_t form;
-    int64_t implicit_const; /* the value in the table itself for DW_FORM_implicit_const, else 0 */
+    int64_t implicit_const; /* the value in the table for DW_FORM_implicit_const, otherwise 0 */
 };
 
 /* Measures the table at an offset of .debug_abbrev. */
 uint32_t dwarf_table_measure(const uint8_t *section, size_t len, size_t offset,
                              struct dwarf_measure *measure, struct dwarf_fault *fault);
 
-/* Reads the table at an offset of .debug_abbrev: its abbreviations by rising code, and the attributes
-   of all of them, in the same order. The places behind them are not changed. Returns DWARF_NO_ROOM if
-   there are fewer places for either; then only `measure` is written. */
+/* Reads the table at an offset of .debug_abbrev: its abbreviations in the order of their codes, and the
+   attributes of all of them in the same order. The places behind them are not changed. Returns
+   DWARF_NO_ROOM if there are fewer places for either; then only `measure` is written. */
 uint32_t dwarf_table_read(const uint8_t *section, size_t len, size_t offset,
                           struct dwarf_abbreviation *abbreviations, size_t abbreviation_room,
                           struct dwarf_attribute *attributes, size_t attribute_room,
                           struct dwarf_measure *measure, struct dwarf_fault *fault);
 
-/* Finds the abbreviation with a code among those of a table, which are by rising code as
+/* Finds the abbreviation with a code among those of a table, which are in the order of their codes as
    dwarf_table_read writes them. Returns null if there is none. */
 static inline const struct dwarf_abbreviation *
 dwarf_table_find(const struct dwarf_abbreviation *abbreviations, size_t count, uint64_t code) {
-    /* The codes before it are smaller, and none is 0. So its index is less than its code, and is the code
-       less one in a table whose codes count from 1. */
+    /* The codes before it are smaller, and none is 0. So its index is less than its code. In a table whose
+       codes count from 1, the index is the code minus 1. */
     size_t low = 0, high = code < count ? (size_t)code : count;
     if (code != 0 && high == code && abbreviations[high - 1].code == code) {
         return &abbreviations[high - 1];
@@ -216,11 +218,11 @@ dwarf_table_find(const struct dwarf_abbreviation *abbreviations, size_t count, u
 /*
  * NAMES AND TEXTS.
  *
- * dwarf_constants.h has the numbers by these names, as DW_TAG_label.
+ * dwarf_constants.h has the numbers by these names, such as DW_TAG_label.
  *
- * Each call writes a name, as DW_TAG_label, or a text, with no zero byte behind it. `len` is how many
- * bytes it has. They return DWARF_OK; DWARF_NO_ROOM if there are fewer places, and then only `len` is
- * written; or DWARF_NO_NAME if there is no name or text, and then nothing is written.
+ * Each call writes a name, such as DW_TAG_label, or a text, without a zero byte behind it. `len` is how
+ * many bytes it has. The call returns DWARF_OK; DWARF_NO_ROOM if there are fewer places, and then only
+ * `len` is written; or DWARF_NO_NAME if there is no name or text, and then nothing is written.
  */
 
 uint32_t dwarf_tag_name(uint16_t tag, char *name, size_t room, size_t *len);
@@ -228,19 +230,19 @@ uint32_t dwarf_attribute_name(uint16_t attribute, char *name, size_t room, size_
 uint32_t dwarf_form_name(uint16_t form, char *name, size_t room, size_t *len);
 
 /* Writes the text of an error. The call allocates memory, and frees it before it returns. It returns
-   DWARF_OUT_OF_MEMORY if there is none; then nothing is written. It may not be called in a signal
+   DWARF_OUT_OF_MEMORY if an allocation fails; then nothing is written. It may not be called in a signal
    handler. */
 uint32_t dwarf_fault_text(const struct dwarf_fault *fault, char *text, size_t room, size_t *len);
 
 /*
- * THE SAME AS STRINGS OF C.
+ * NAMES AND TEXTS AS STRINGS OF C.
  *
- * Each of these four writes a name or a text with a zero byte behind it, and returns the pointer to it.
- * It returns null, and writes nothing, if the call above returns another status than DWARF_OK, or if
- * there is no place for the zero byte.
+ * Each of these four functions writes a name or a text with a zero byte behind it, and returns the
+ * pointer to it. It returns null and writes nothing if the call above returns another status than
+ * DWARF_OK, or if there is no place for the zero byte.
  */
 
-/* Puts the zero byte behind what a call has written to fewer places than there are. */
+/* Puts the zero byte behind what a call wrote, if that left a place for it. */
 static inline const char *dwarf_string_ended(uint32_t status, char *text, size_t room, size_t len) {
     if (status != DWARF_OK || len >= room) {
         return NULL;

@@ -1,8 +1,8 @@
 /*
- * The three functions through which the library requests memory, over malloc, realloc and free. It
+ * The three functions that the library allocates memory with, over malloc, realloc and free. This file
  * compiles as C and as C++, and is a member of its own in the installed libdwarf_read.a. A program may
- * define all three over another allocator instead; then this file isn't linked. They have to be one
- * allocator's, and a block has to be aligned to each power of two up to 16 that divides its size.
+ * define all three over another allocator instead; then this file isn't linked. All three have to use one
+ * allocator, and a block has to be aligned to each power of two up to 16 that divides its size.
  */
 #include <stdbool.h>
 #include <stddef.h>
@@ -12,7 +12,7 @@
 extern "C" {
 #endif
 
-/* Whether there was memory, and the block. The pointer is never null. */
+/* Whether the allocation succeeded, and the block. The pointer is never null. */
 struct tried {
     bool is_block;
     void *block;
@@ -28,7 +28,7 @@ static struct tried tried_from(void *block) {
     return result;
 }
 
-/* A block of no bytes has as many as its alignment, so that null means that there is no memory. */
+/* A block of no bytes has as many as its alignment, so that null means that the allocation failed. */
 static size_t size_of(size_t size, size_t align) {
     return size != 0 ? size : align;
 }

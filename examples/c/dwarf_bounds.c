@@ -1,8 +1,8 @@
 /*
  * Calls with bad input: null with a length of 0, no room, offsets past the end, and huge counts. Each
- * has to return the right error, and to leave its outputs as they were.
+ * has to return the right error, and to leave its outputs unchanged.
  *
- * It compiles as C and as C++, prints a line for each check that fails, and returns how many do.
+ * The program compiles as C and as C++, prints a line for each check that fails, and returns how many do.
  */
 #include "dwarf_read.h"
 

@@ -1,16 +1,16 @@
 /*
  * Calls the library on every cut of the files that are named, with a page without access beside each buffer
- * that is passed, beside each output, and beside each block that the library requests.
+ * that is passed, beside each output, and beside each block that the library allocates.
  *
  *     dwarf_guarded FILE..
  *
  * All of this is done twice: with that page right before the first byte, and right behind the last one. The
- * section itself may only be read. So a call that touches a byte outside ends by a signal, and the program
- * names it. On the other side of an output the bytes are compared with what they were. The status is 0 if no
- * byte outside was touched.
+ * section itself may only be read. So a call that touches a byte outside ends with a signal, and the program
+ * names the call. On the other side of an output the bytes are compared with what they were. The status is 0
+ * if no byte outside was touched.
  *
- * The program has the three functions by which the library requests memory, so it is an example of that, too.
- * It compiles as C and as C++.
+ * The program defines the three functions that the library allocates memory with, so it is an example of that,
+ * too. It compiles as C and as C++.
  */
 #define _DEFAULT_SOURCE
 #include "dwarf_read.h"
@@ -24,7 +24,7 @@
 
 enum { PAGE = 4096, PAGES = 16, OUTPUTS = 5, SLACK = 64, BLOCKS = 64, FILLING = 0xa5 };
 
-/* Pages between two that have no access, and the bytes of them that a call is given. */
+/* Pages between two that have no access, and those of their bytes that are passed to a call. */
 struct guarded {
     uint8_t *pages;
     size_t size;
@@ -51,7 +51,7 @@ static void on_signal(int number) {
     _exit(1);
 }
 
-/* Makes pages for so many bytes. Returns false if there is no memory. */
+/* Makes pages for so many bytes. Returns false if that fails. */
 static bool make(struct guarded *it, size_t len) {
     size_t size = len == 0 ? (size_t)PAGE : (len + PAGE - 1) / PAGE * PAGE;
     uint8_t *all = (uint8_t *)mmap(NULL, size + 2 * PAGE, PROT_NONE, MAP_PRIVATE | MAP_ANONYMOUS, -1, 0);
@@ -63,7 +63,7 @@ static bool make(struct guarded *it, size_t len) {
     return true;
 }
 
-/* Gives the last bytes of the pages, or the first ones. No byte is given at the end of the pages. */
+/* Returns the last bytes of the pages, or the first ones. For no bytes, it returns the end of the pages. */
 static void *give(struct guarded *it, size_t len) {
     it->given = it->pages + (is_at_end || len == 0 ? it->size - len : 0);
     it->len = len;
@@ -71,7 +71,7 @@ static void *give(struct guarded *it, size_t len) {
 }
 
 /*
- * The functions through which the library requests memory.
+ * The functions that the library allocates memory with.
  */
 
 #ifdef __cplusplus
@@ -95,7 +95,7 @@ struct tried rattle_alloc(size_t size, size_t align) {
     if (at == BLOCKS || !make(&blocks[at], size)) {
         die("no memory for a block");
     }
-    /* A block at the end is aligned, so that up to `align - 1` bytes may be behind it. */
+    /* A block at the end is aligned, so up to `align - 1` bytes may be behind it. */
     struct tried found = {true, give(&blocks[at], (size + align - 1) / align * align)};
     memset(found.block, FILLING, size);
     return found;
@@ -134,7 +134,7 @@ static void begin(const char *name) {
     calls++;
 }
 
-/* The next output of the call, of so many bytes. */
+/* Returns the next output of the call, of so many bytes. */
 static void *output(size_t len) {
     struct guarded *it = &outputs[used++];
     uint8_t *given = (uint8_t *)give(it, len);
@@ -143,7 +143,7 @@ static void *output(size_t len) {
     return given;
 }
 
-/* Ends a call: the bytes beside its outputs are as they were, and all blocks are freed. */
+/* Ends a call: the bytes beside its outputs have to be unchanged, and all blocks have to be freed. */
 static void end(void) {
     for (size_t at = 0; at < used; at++) {
         const struct guarded *it = &outputs[at];
@@ -213,7 +213,7 @@ static void call_sets(const uint8_t *bytes, size_t len, size_t offset, bool is_b
     end();
 }
 
-/* Reads a table into so many places, and looks for each code that there may be. */
+/* Reads a table into so many places, and searches it for each code that it may have. */
 static void call_table_read(const uint8_t *bytes, size_t len, size_t offset, size_t room, size_t attribute_room) {
     begin("dwarf_table_read");
     struct dwarf_measure *measure = (struct dwarf_measure *)output(sizeof *measure);
@@ -252,7 +252,7 @@ static void call_tables(const uint8_t *bytes, size_t len, size_t offset) {
     call_table_read(bytes, len, offset, count, attributes - (attributes != 0));
 }
 
-/* All calls on a section, of which each beginning is a section too. */
+/* Makes all calls on a section, and on each beginning of it. */
 static void call_on_cuts(const uint8_t *bytes, size_t len) {
     for (size_t cut = 0; cut <= len; cut++) {
         mprotect(section.pages, section.size, PROT_READ | PROT_WRITE);

@@ -7,7 +7,7 @@
  *     dwarf_show str-offsets le|be   the sets of string offsets of a whole .debug_str_offsets
  *     dwarf_show uleb N              the LEB128 encoding of a number, read again
  *
- * It compiles as C and as C++.
+ * The program compiles as C and as C++.
  */
 #include "dwarf_constants.h"
 #include "dwarf_read.h"

@@ -1,10 +1,11 @@
-//! Links the static library. It is looked for in this order:
+//! Links the static library. The script looks for it in this order:
 //!
 //! - in the folder that `DWARF_READ_LIB` names;
 //! - where `pkg-config` says that `tools/install` has put it;
 //! - where `rt lib` and `tools/static-library` put it in the repository, if this crate is in a clone of it.
 //!
-//! An installed library has its allocation functions inside. The other one hasn't, and then this crate has them.
+//! An installed library contains its allocation functions. The other one doesn't, and then this
+//! crate has them.
 
 use std::env;
 use std::path::{Path, PathBuf};
@@ -33,7 +34,7 @@ fn find() -> Option<PathBuf> {
     installed().or_else(|| is_there(&built, "dwarf_read_c").then_some(built))
 }
 
-/// Tells cargo how to link, or why that can't be.
+/// Prints for cargo how to link, or why that fails.
 fn link() -> Result<(), String> {
     let target = env::var("TARGET").unwrap_or_default();
     if !target.starts_with("x86_64-") || !target.contains("-linux-") {

@@ -1,4 +1,4 @@
--- The numbers of 64 bits that are all ones, masks and tombstones of a size.
+-- Numbers of 64 bits that are all ones, masks and tombstones of a size.
 use Rattle.std.proofs.Common.{◌/◌, ◌%◌, ◌≡◌, ℕ, zero, suc, ◌+◌, ◌-◌, ◌*◌, ◌^◌, ◌<◌, ◌≤◌, bit_and, subst, sym, ap, ◌∙◌, arith}
 use Rattle.std.proofs.lemmas.Nat.{and_mask, div-mul-add, mod-mul-add, pow-add, pow_pos}
 use Rattle.std.specs.Int.{◌∣◌}
@@ -11,12 +11,12 @@ blocks size high =
     let whole : 64 - size * 8 + 8 * size ≡ 64 = omega arith in
     sym (pow-add 2 (64 - size * 8) (8 * size)) ∙ ap (λ (n : ℕ). 2 ^ n) whole
 
--- the last of a blocks of c numbers each
+-- a blocks of c numbers, less d numbers, are one block less and c - d numbers
 last_block : (a c d : ℕ) → 0 < a → d ≤ c → a * c - d ≡ (a - 1) * c + (c - d)
 last_block zero c d low small = absurd (omega arith)
 last_block (suc a) c d low small = let e : suc a - 1 ≡ a = omega arith in rw e (omega arith)
 
--- the ones of 64 bits, with all but those of a size shifted out
+-- 64 ones, shifted right until the bits of a size are left, are the last address of the size
 pub all_ones : (size : ℕ) → size ≤ 8 → 18446744073709551615 / 2 ^ (64 - size * 8) ≡ address_count size - 1
 all_ones size high =
     let whole : address_count size * 2 ^ (64 - size * 8) ≡ 2 ^ 64 = omega (arith, blocks size high) in
@@ -27,7 +27,7 @@ all_ones size high =
     ap (λ (n : ℕ). n / 2 ^ (64 - size * 8)) split
     ∙ div-mul-add (address_count size - 1) (2 ^ (64 - size * 8)) (2 ^ (64 - size * 8) - 1) (omega arith)
 
--- a sum of 64 bits, with all but the bits of a size masked out
+-- a sum of 64 bits, masked to the bits of a size, is the sum modulo the number of addresses
 pub masked : (n size : ℕ) → size ≤ 8 → bit_and (n % 18446744073709551616) (address_count size - 1)
     ≡ n % address_count size
 masked n size high =
@@ -36,7 +36,7 @@ masked n size high =
     (subst (λ (m : ℕ). address_count size ∣ m) (blocks size high)
     (dvd-mul_left (address_count size) (2 ^ (64 - size * 8))))
 
--- the last address of 64 bits but one, wrapped to a size
+-- the second greatest number of 64 bits, wrapped to a size, is the second greatest address of the size
 pub tombstone : (size : ℕ) → 1 ≤ size → size ≤ 8 → 18446744073709551614 % address_count size ≡ address_count size - 2
 tombstone size low high =
     let some = pow_pos (64 - size * 8) in

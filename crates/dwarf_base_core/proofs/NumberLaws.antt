@@ -1,4 +1,4 @@
--- What the number of a list of bytes tells: how large it can be, and the bytes.
+-- The number of a list of bytes: how large it can be, and that it determines the bytes.
 use Rattle.std.proofs.Common.{◌/◌, ◌%◌, ◌≡◌, ℕ, suc, ◌+◌, ◌*◌, ◌^◌, ◌<◌, ◌≤◌, true, false, List, [], ◌∷◌, length, refl, sym, ◌∙◌, arith}
 use Rattle.std.specs.Prelude.{All}
 use Rattle.std.proofs.Math.Nat.{mul-le-mul_left, mul-le-mul_right, pow-succ'}
@@ -6,15 +6,15 @@ use Rattle.std.proofs.lemmas.Nat.{div-mul-add, mod-mul-add}
 use Rattle.dwarf_base_core.specs.Number.{big_number, little_number, NumberIsBounded, NumberTellsBytes}
 use Rattle.dwarf_base_core.proofs.Numbers.{big_number-cons}
 
--- the bytes after the first
+-- the bytes after the first one are below 256 if all are
 after_first : (x : ℕ) (xs : List ℕ) → All (λ b. b < 256) (x ∷ xs) → All (λ b. b < 256) xs
 after_first x xs bytes k d small = bytes (suc k) d (omega arith)
 
--- the first byte
+-- the first byte is below 256 if all bytes are
 first : (x : ℕ) (xs : List ℕ) → All (λ b. b < 256) (x ∷ xs) → x < 256
 first x xs bytes = bytes 0 0 (omega arith)
 
--- bytes with the lowest first are a number below 256 to the power of their count
+-- n bytes with the lowest first have a number below 256 ^ n
 little_number-lt : (xs : List ℕ) → All (λ b. b < 256) xs → little_number xs < 256 ^ length xs
 little_number-lt [] bytes = omega arith
 little_number-lt (x ∷ xs) bytes =
@@ -23,7 +23,7 @@ little_number-lt (x ∷ xs) bytes =
     let room : 256 * (little_number xs + 1) ≤ 256 * 256 ^ length xs = mul-le-mul_left 256 (omega arith) in
     rw (pow-succ' 256 (length xs)) (omega arith)
 
--- bytes with the highest first are a number below 256 to the power of their count
+-- n bytes with the highest first have a number below 256 ^ n
 big_number-lt : (xs : List ℕ) → All (λ b. b < 256) xs → big_number xs < 256 ^ length xs
 big_number-lt [] bytes = omega arith
 big_number-lt (x ∷ xs) bytes =
@@ -32,12 +32,12 @@ big_number-lt (x ∷ xs) bytes =
     let room : (x + 1) * 256 ^ length xs ≤ 256 * 256 ^ length xs = mul-le-mul_right (256 ^ length xs) (omega arith) in
     rw (big_number-cons x xs, pow-succ' 256 (length xs)) (grind arith)
 
--- so bytes in either order are
+-- n bytes in either order have a number below 256 ^ n
 pub number_is_bounded : NumberIsBounded
 number_is_bounded true xs bytes = big_number-lt xs bytes
 number_is_bounded false xs bytes = little_number-lt xs bytes
 
--- lists of bytes of one length with the lowest first are equal if their numbers are
+-- two lists of bytes of one length, with the lowest first, are equal if their numbers are
 little_number-tells : (xs ys : List ℕ) → All (λ b. b < 256) xs → All (λ b. b < 256) ys → length xs ≡ length ys
     → little_number xs ≡ little_number ys → xs ≡ ys
 little_number-tells [] [] of_xs of_ys long same = refl
@@ -51,11 +51,11 @@ little_number-tells (x ∷ xs) (y ∷ ys) of_xs of_ys long same =
     let tails = little_number-tells xs ys (after_first x xs of_xs) (after_first y ys of_ys) (omega arith) rest in
     cc
 
--- the quotient and the rest of a number whose highest byte is x
+-- dividing a number by the place of its highest byte gives that byte, and the number of the rest
 split_high : (x c r n : ℕ) → r < c → n ≡ x * c + r → (n / c ≡ x) × (n % c ≡ r)
 split_high x c r n small is = rw is (div-mul-add x c r small, mod-mul-add x c r small)
 
--- lists of bytes of one length with the highest first are equal if their numbers are
+-- two lists of bytes of one length, with the highest first, are equal if their numbers are
 big_number-tells : (xs ys : List ℕ) → All (λ b. b < 256) xs → All (λ b. b < 256) ys → length xs ≡ length ys
     → big_number xs ≡ big_number ys → xs ≡ ys
 big_number-tells [] [] of_xs of_ys long same = refl
@@ -73,7 +73,7 @@ big_number-tells (x ∷ xs) (y ∷ ys) of_xs of_ys long same =
     let tails = big_number-tells xs ys (after_first x xs of_xs) (after_first y ys of_ys) short rest in
     cc
 
--- so are lists of bytes in either order
+-- two lists of bytes of one length, in either order, are equal if their numbers are
 pub number_tells_bytes : NumberTellsBytes
 number_tells_bytes true xs ys of_xs of_ys long same = big_number-tells xs ys of_xs of_ys long same
 number_tells_bytes false xs ys of_xs of_ys long same = little_number-tells xs ys of_xs of_ys long same

@@ -6,7 +6,7 @@ use Rattle.std.proofs.lemmas.List.{append-nil, drop-replicate, drop_all, length-
 use Rattle.std.specs.Int.{byte_at, bytes_high_first, bytes_low_first}
 use Rattle.dwarf_base_core.specs.Number.{big_number, little_number, number_in_base}
 
--- the digits of a joined list
+-- the number of joined digits is that of the first and, behind their places, that of the others
 pub number_in_base-append : (base : ℕ) (xs ys : List ℕ)
     → number_in_base base (xs ++ ys) ≡ number_in_base base xs + base ^ length xs * number_in_base base ys
 number_in_base-append base [] ys = rw (pow-zero base) (omega arith)
@@ -14,18 +14,18 @@ number_in_base-append base (x ∷ xs) ys =
     let rest = number_in_base-append base xs ys in
     rw (rest, pow-succ' base (length xs)) (grind arith)
 
--- zeros make no number
+-- the number of zeros is 0
 pub number_in_base-zeros : (base n : ℕ) → number_in_base base (replicate n 0) ≡ 0
 number_in_base-zeros base zero = refl
 number_in_base-zeros base (suc n) = rw (number_in_base-zeros base n) (omega arith)
 
--- the highest byte of a number in big-endian order
+-- the first byte in big-endian order is the highest of the number
 pub big_number-cons : (x : ℕ) (xs : List ℕ) → big_number (x ∷ xs) ≡ x * 256 ^ length xs + big_number xs
 big_number-cons x xs =
     let joined = number_in_base-append 256 (reverse xs) (x ∷ []) in
     ap little_number (reverse-append (x ∷ []) xs) ∙ joined ∙ rw (length-reverse xs) (grind arith)
 
--- the two low digits of n, to the bases c and then m
+-- the remainder of n by m * c is the remainder by m of its quotient by c, times c, plus its remainder by c
 mod-split : (n m c : ℕ) → zero < m → zero < c → n % (m * c) ≡ n / c % m * c + n % c
 mod-split n m c hm hc =
     let a = mod-lt (n / c) hm in
@@ -41,26 +41,26 @@ mod-split n m c hm hc =
     ap (λ (x : ℕ). x % (m * c)) split ∙ mul-add-mod_self_right (n / c / m) (m * c) (n / c % m * c + n % c)
     ∙ mod-eq_of_lt (omega arith)
 
--- a byte of a number, by its place
+-- a byte of a number is the quotient by its place, modulo 256
 byte_at-pow : (k x : ℕ) → byte_at k x ≡ x / 256 ^ k % 256
 byte_at-pow zero x = ap (λ (y : ℕ). y % 256) (sym (div-one x))
 byte_at-pow (suc k) x = refl
 
--- a power of 256 is above zero
+-- a power of 256 is above 0
 pow_pos256 : (n : ℕ) → zero < 256 ^ n
 pow_pos256 n = let h = one-le-pow n 256 (omega arith) in omega arith
 
--- a number is written in as many bytes as were asked for, the highest first
+-- a number that is written in k bytes, the highest first, has k bytes
 pub length-bytes_high_first : (k x : ℕ) → length (bytes_high_first k x) ≡ k
 length-bytes_high_first zero x = refl
 length-bytes_high_first (suc k) x = let rest = length-bytes_high_first k x in omega arith
 
--- a number is written in as many bytes as were asked for, the lowest first
+-- a number that is written in k bytes, the lowest first, has k bytes
 pub length-bytes_low_first : (i k x : ℕ) → length (bytes_low_first i k x) ≡ k
 length-bytes_low_first i zero x = refl
 length-bytes_low_first i (suc k) x = let rest = length-bytes_low_first (suc i) k x in omega arith
 
--- the number of the k lowest bytes of x, the highest first
+-- k bytes of x, the highest first, have the number x modulo 256 ^ k
 pub big_number-bytes_high_first : (k x : ℕ) → big_number (bytes_high_first k x) ≡ x % 256 ^ k
 big_number-bytes_high_first zero x = omega arith
 big_number-bytes_high_first (suc k) x =
@@ -69,7 +69,7 @@ big_number-bytes_high_first (suc k) x =
     let others = big_number-bytes_high_first k x in
     rw (first, length-bytes_high_first k x, others, byte_at-pow k x, pow-succ' 256 k, split) refl
 
--- the number of k bytes of x from byte i upward, the lowest first
+-- k bytes of x from byte i on, the lowest first, have the number x / 256 ^ i modulo 256 ^ k
 pub little_number-bytes_low_first : (i k x : ℕ) → little_number (bytes_low_first i k x) ≡ x / 256 ^ i % 256 ^ k
 little_number-bytes_low_first i zero x = omega arith
 little_number-bytes_low_first i (suc k) x =
@@ -78,7 +78,7 @@ little_number-bytes_low_first i (suc k) x =
     ∙ sym (div-div-eq-div-mul x (256 ^ i) 256) in
     rw (little_number-bytes_low_first (suc i) k x, byte_at-pow i x, shift, pow-suc 256 k, split) (grind arith)
 
--- the number that was written to the front of a buffer, the highest byte first
+-- a number that was written to the front of a buffer, the highest byte first, is read there
 pub big_number-written : (k n : ℕ) (written rest : List ℕ) → n < 256 ^ k → written ≡ bytes_high_first k n
     → big_number (take k (written ++ rest)) ≡ n
 big_number-written k n written rest fits is =
@@ -87,7 +87,7 @@ big_number-written k n written rest fits is =
     ∙ take_all k written (omega arith) in
     ap big_number (whole ∙ is) ∙ big_number-bytes_high_first k n ∙ mod-eq_of_lt fits
 
--- the same, the lowest byte first
+-- a number that was written to the front of a buffer, the lowest byte first, is read there
 pub little_number-written : (k n : ℕ) (written rest : List ℕ) → n < 256 ^ k → written ≡ bytes_low_first 0 k n
     → little_number (take k (written ++ rest)) ≡ n
 little_number-written k n written rest fits is =
@@ -97,16 +97,16 @@ little_number-written k n written rest fits is =
     ap little_number (whole ∙ is) ∙ little_number-bytes_low_first 0 k n ∙ ap (λ (m : ℕ). m % 256 ^ k) (div-one n)
     ∙ mod-eq_of_lt fits
 
--- zeros in front of the highest byte change nothing
+-- zeros in front of the highest byte don't change the number
 pub big_number-zeros : (n : ℕ) (xs : List ℕ) → big_number (replicate n 0 ++ xs) ≡ big_number xs
 big_number-zeros zero xs = refl
 big_number-zeros (suc n) xs = big_number-cons 0 (replicate n 0 ++ xs) ∙ rw (big_number-zeros n xs) (omega arith)
 
--- zeros after the highest byte change nothing
+-- zeros behind the highest byte don't change the number
 pub little_number-zeros : (n : ℕ) (xs : List ℕ) → little_number (xs ++ replicate n 0) ≡ little_number xs
 little_number-zeros n xs = number_in_base-append 256 xs (replicate n 0) ∙ rw (number_in_base-zeros 256 n) (omega arith)
 
--- the number of bytes that were copied to the end of eight zeros
+-- bytes that were copied to the end of eight zeros have the same number
 pub big_number-padded : (bytes copied xs : List ℕ) → length xs ≤ 8 → copied ≡ xs
     → bytes ≡ put_mid (8 - length xs) (8 - (8 - length xs)) (replicate 8 0) copied
     → big_number (take 8 bytes) ≡ big_number xs
@@ -127,7 +127,7 @@ big_number-padded bytes copied xs short same is =
     ∙ ap big_number (take_all 8 (replicate (8 - length xs) 0 ++ xs) (omega arith))
     ∙ big_number-zeros (8 - length xs) xs
 
--- the number of bytes that were copied to the front of eight zeros
+-- bytes that were copied to the front of eight zeros have the same number
 pub little_number-padded : (bytes copied xs : List ℕ) → length xs ≤ 8 → copied ≡ xs
     → bytes ≡ copied ++ drop (length xs) (replicate 8 0)
     → little_number (take 8 bytes) ≡ little_number xs

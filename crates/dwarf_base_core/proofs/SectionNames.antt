@@ -1,4 +1,4 @@
--- That a section's name tells the section.
+-- A section's name determines the section.
 use Rattle.std.proofs.Common.{◌≡◌, ℕ, ◌==◌, List, ap, refl, sym, ◌∙◌}
 use Rattle.std.specs.Prelude.{if◌then◌else◌, codes}
 use lib.Pointwise.{pointwise}
@@ -6,7 +6,7 @@ use Rattle.dwarf_base_core.specs.declared.common.SectionId.{SectionId}
 use Rattle.dwarf_base_core.specs.declared.common.SectionId.TheVariants.{DebugAbbrev, DebugAddr, DebugAranges, DebugCuIndex, DebugFrame, EhFrame, EhFrameHdr, DebugGnuPubNames, DebugGnuPubTypes, DebugInfo, DebugLine, DebugLineStr, DebugLoc, DebugLocLists, DebugMacinfo, DebugMacro, DebugNames, DebugPubNames, DebugPubTypes, DebugRanges, DebugRngLists, DebugStr, DebugStrOffsets, DebugTuIndex, DebugTypes}
 use Rattle.dwarf_base_core.specs.Section.{section_names, NamesAreDistinct}
 
--- the section of a name
+-- the section that a name belongs to
 abbrev section_of : List ℕ → SectionId
 section_of name =
     if pointwise ◌==◌ name (codes ".debug_abbrev") then DebugAbbrev else
@@ -35,7 +35,7 @@ section_of name =
     if pointwise ◌==◌ name (codes ".debug_tu_index") then DebugTuIndex else
     DebugTypes
 
--- the section with the name of a section is that section
+-- the section that a section's name belongs to is that section
 section_of-name : (id : SectionId) → section_of (section_names id).name ≡ id
 section_of-name DebugAbbrev = refl
 section_of-name DebugAddr = refl

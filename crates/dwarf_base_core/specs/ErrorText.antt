@@ -8,7 +8,7 @@ use Rattle.dwarf_base_core.specs.declared.error.Error.TheVariants.{Io, PcRelativ
 abbrev pub hexadecimal : ℕ → List ℕ
 hexadecimal n = digits 16 false n
 
--- the text of each error; a value that isn't shown is not in the text
+-- the text of each error; a value that isn't shown has no part in it
 abbrev pub error_text : Error → List ℕ
 error_text Io = codes "I/O error"
 error_text PcRelativePointerButSectionBaseIsUndefined = codes "undefined section base for DW_EH_PE_pcrel pointer"

@@ -1,4 +1,4 @@
--- The sizes that the formats of 32 and 64 bits have.
+-- The sizes of lengths, offsets and headers in the formats of 32 and 64 bits.
 use Rattle.std.specs.Prelude.{ℕ, ◌+◌, nat_le, if◌then◌else◌}
 use Rattle.dwarf_base_core.specs.declared.common.DwarfFileType.{DwarfFileType}
 use Rattle.dwarf_base_core.specs.declared.common.DwarfFileType.TheVariants.{Main, Dwo}
@@ -15,11 +15,11 @@ abbrev pub initial_length_size : Format → ℕ
 initial_length_size Dwarf32 = 4
 initial_length_size Dwarf64 = 12
 
--- the header of a set of string offsets: an initial length, a version and padding
+-- how many bytes the header of a set of string offsets has: an initial length, a version and padding
 abbrev pub str_offsets_header_size : Format → ℕ
 str_offsets_header_size format = initial_length_size format + 2 + 2
 
--- where the entries of a unit begin that names no base: behind the header in a split object from version 5 on
+-- where the string offsets begin if a unit has no base: behind the header in a split object from version 5 on
 abbrev pub default_str_offsets_base : ℕ → Format → DwarfFileType → ℕ
 default_str_offsets_base version format Main = 0
 default_str_offsets_base version format Dwo = if nat_le 5 version then str_offsets_header_size format else 0

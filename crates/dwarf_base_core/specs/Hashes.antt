@@ -1,21 +1,21 @@
--- That the bytes which an offset feeds a hasher determine its number.
+-- The bytes that an offset feeds a hasher determine its number.
 use Rattle.std.specs.Prelude.{◌≡◌, ◌↔◌, ◌-◌, ◌^◌, ◌<◌, ◌≤◌, ℕ, List, [], ◌∷◌}
 use Rattle.std.specs.Hash.{le_bytes}
 use Rattle.std.specs.Int.{from_le_bytes, w32, w64}
 use Rattle.std.proofs.Common.{ap, sym, ◌∙◌, arith}
 use Rattle.std.proofs.lemmas.Nat.{from_le_bytes-to_le_bytes_4, from_le_bytes-to_le_bytes_8}
 
--- the only item of equal lists
+-- equal lists of one item have equal items
 only : (xs ys : List ℕ) → (xs ∷ []) ≡ (ys ∷ []) → xs ≡ ys
 only xs ys e = cc
 
--- bytes from which their number can be read are the same exactly if the numbers are
+-- if the number can be read from its bytes, two numbers have equal bytes exactly if they are equal
 same_if_read : (bytes : ℕ → List ℕ) (read : List ℕ → ℕ) (x y : ℕ) → read (bytes x) ≡ x → read (bytes y) ≡ y
     → (bytes x ∷ [] ≡ bytes y ∷ []) ↔ (x ≡ y)
 same_if_read bytes read x y of_x of_y =
     ((λ same. sym of_x ∙ ap read (only _ _ same) ∙ of_y), (λ same. ap (λ (n : ℕ). bytes n ∷ []) same))
 
--- numbers of 32 bits feed the same bytes exactly if they are equal
+-- two numbers of 32 bits feed the same bytes exactly if they are equal
 pub same_writes_32 : (x y : ℕ) → x ≤ 2 ^ 32 - 1 → y ≤ 2 ^ 32 - 1 → (le_bytes 4 x ∷ [] ≡ le_bytes 4 y ∷ []) ↔ (x ≡ y)
 unfolding le_bytes
 same_writes_32 x y high_x high_y =
@@ -24,7 +24,7 @@ same_writes_32 x y high_x high_y =
     same_if_read (le_bytes 4) (from_le_bytes w32) x y (from_le_bytes-to_le_bytes_4 x fits_x)
     (from_le_bytes-to_le_bytes_4 y fits_y)
 
--- and so do numbers of 64 bits
+-- two numbers of 64 bits feed the same bytes exactly if they are equal
 pub same_writes_64 : (x y : ℕ) → x ≤ 2 ^ 64 - 1 → y ≤ 2 ^ 64 - 1 → (le_bytes 8 x ∷ [] ≡ le_bytes 8 y ∷ []) ↔ (x ≡ y)
 unfolding le_bytes
 same_writes_64 x y high_x high_y =

@@ -1,8 +1,8 @@
 -- Numbers of a fixed width as bytes.
 use Rattle.std.specs.Prelude.{ℕ, ◌≡◌, ◌<◌, ◌+◌, ◌*◌, ◌^◌, Bool, List, [], ◌∷◌, length, reverse, All, ℤ, pos, ◌-ℤ◌, nat_lt, if◌then◌else◌}
 
--- the number whose digits in a base are these, the lowest first: the sum of each digit times the base to the power
--- of its place
+-- the number with these digits in a base, the lowest first: the sum of each digit times the base to the power of its
+-- place
 abbrev pub number_in_base : ℕ → List ℕ → ℕ
 number_in_base base [] = 0
 number_in_base base (digit ∷ higher) = digit + base * number_in_base base higher
@@ -28,7 +28,7 @@ abbrev pub NumberIsBounded : Type 0
 NumberIsBounded = (is_big : Bool) (bytes : List ℕ) → All (λ byte. byte < 256) bytes
     → number_of is_big bytes < 256 ^ length bytes
 
--- as many bytes with the same number are the same bytes
+-- lists of bytes of one length with the same number are equal
 abbrev pub NumberTellsBytes : Type 0
 NumberTellsBytes = (is_big : Bool) (xs ys : List ℕ) → All (λ byte. byte < 256) xs → All (λ byte. byte < 256) ys
     → length xs ≡ length ys → number_of is_big xs ≡ number_of is_big ys → xs ≡ ys

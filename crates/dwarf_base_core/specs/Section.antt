@@ -3,7 +3,7 @@ use Rattle.std.specs.Prelude.{◌≡◌, ℕ, List, Option, Some, None, codes}
 use Rattle.dwarf_base_core.specs.declared.common.SectionId.{SectionId}
 use Rattle.dwarf_base_core.specs.declared.common.SectionId.TheVariants.{DebugAbbrev, DebugAddr, DebugAranges, DebugCuIndex, DebugFrame, EhFrame, EhFrameHdr, DebugGnuPubNames, DebugGnuPubTypes, DebugInfo, DebugLine, DebugLineStr, DebugLoc, DebugLocLists, DebugMacinfo, DebugMacro, DebugNames, DebugPubNames, DebugPubTypes, DebugRanges, DebugRngLists, DebugStr, DebugStrOffsets, DebugTuIndex, DebugTypes}
 
--- what a section is called in an ELF object, in a split object or a package, and in an XCOFF object
+-- the names of a section in an ELF object, in a split object or a package, and in an XCOFF object
 pub record SectionNames : Type 0 where
   pub name : List ℕ
   pub dwo_name : Option (List ℕ)

@@ -1,11 +1,11 @@
--- What is written of an error's text.
+-- How the text of an error is written.
 use Rattle.std.specs.Prelude.{ℕ, List, ◌++◌}
 use Rattle.std.specs.Fmt.{decimal}
 use Rattle.dwarf_base_core.specs.ErrorText.{hexadecimal}
 use Rattle.dwarf_base_core.specs.declared.error.Text.{Text}
 use Rattle.dwarf_base_core.specs.declared.error.Text.TheVariants.{Plain, Decimal, Hexadecimal, HexadecimalInside}
 
--- its parts, with the number in its place
+-- the parts of a text, with the number in its place
 abbrev pub written : Text → List ℕ
 written (Plain text) = text.now
 written (Decimal before value) = before.now ++ decimal value

@@ -106,12 +106,12 @@ impl Default for LineEncoding {
     }
 }
 
-/// The number of a register of the target, as the DWARF of its ABI counts them.
+/// The number of a register of the target, as its ABI counts them for DWARF.
 #[derive(Debug, Clone, Copy, PartialEq, Eq, Hash, PartialOrd, Ord)]
 pub struct Register(pub u16);
 
 impl Register {
-    /// Returns the register of this number, which a LEB128 number or an operand has.
+    /// Returns the register with this number.
     ///
     /// # Errors
     ///
@@ -371,7 +371,7 @@ impl SectionId {
     }
 
     /// Returns the section's name in a split object or a package, such as `.debug_abbrev.dwo`, or
-    /// `None` if neither has it.
+    /// `None` if it is in neither.
     pub fn dwo_name(self) -> Option<&'static str>
         ensures { option_map (λ name. name.now) result ≡ (section_names self).dwo_name }
     {

@@ -5,7 +5,7 @@ ghost use Rattle.dwarf_base_core.specs.Number.{number_of, signed_number};
 
 use std::fmt::Debug;
 
-/// A byte order: which end of a number its first byte is.
+/// A byte order: whether a number's lowest or highest byte comes first.
 ///
 /// The reads use the bytes at the front of a buffer, which has to have that many. The writes don't
 /// change the rest of it. Use [`LittleEndian`] or [`BigEndian`] if the order is known when the
@@ -88,8 +88,8 @@ pub trait Endianity: Debug + Default + Clone + Copy + PartialEq + Eq {
         }
     }
 
-    /// Returns the unsigned number of all bytes of the buffer, which has at most 8. Of no bytes it
-    /// is 0. The order itself isn't changed.
+    /// Returns the unsigned number of all bytes of the buffer, which has at most 8. An empty buffer
+    /// gives 0.
     #[inline]
     fn read_uint(&mut self, buf: &[u8]) -> u64
         requires { length buf.now ≤ 8 }
@@ -192,7 +192,7 @@ pub trait Endianity: Debug + Default + Clone + Copy + PartialEq + Eq {
     ghost eq_law: { (x y : Self) → Self.eq x y ≡ true → is_big x ≡ is_big y };
 }
 
-/// A byte order that is chosen as the program runs. The default is `Little`.
+/// A byte order that is chosen at run time. The default is `Little`.
 #[derive(Debug, Clone, Copy, PartialEq, Eq, Hash)]
 pub enum RunTimeEndian {
     /// The lowest byte first.

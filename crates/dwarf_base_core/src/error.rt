@@ -1,4 +1,4 @@
-//! Why reading DWARF can fail.
+//! The errors of reading DWARF.
 
 use crate::reader_offset::ReaderOffsetId;
 use dwarf_code_core::call_frame::DwCfa;
@@ -23,7 +23,7 @@ use std::fmt;
 /// is a place.
 #[derive(Debug, Clone, Copy, PartialEq, Eq)]
 pub enum Error {
-    /// An input couldn't be read. Nothing in this crate makes it; loaders of sections do.
+    /// An input couldn't be read. No call here returns this; loaders of sections do.
     Io,
     /// A pointer counts from its own place (`DW_EH_PE_pcrel`), and the section's address isn't known.
     PcRelativePointerButSectionBaseIsUndefined,
@@ -53,7 +53,7 @@ pub enum Error {
     DuplicateAbbreviationCode(u64),
     /// An initial length is one of the values 0xfffffff0 to 0xfffffffe, which mean nothing yet.
     UnknownReservedLength(u32),
-    /// A header names a version that isn't read.
+    /// A header has a version that isn't supported.
     UnknownVersion(u64),
     /// An entry has the code of no abbreviation in the unit's table.
     InvalidAbbreviationCode(u64),
@@ -123,7 +123,7 @@ pub enum Error {
     PopWithEmptyStack,
     /// No entry of the frame section covers the address.
     NoUnwindInfoForAddress,
-    /// A number is no offset of the reader's type.
+    /// A number doesn't fit the offset type of the reader.
     UnsupportedOffset,
     /// The encoding of a pointer is unknown.
     UnknownPointerEncoding(DwEhPe),
@@ -151,7 +151,7 @@ pub enum Error {
     MissingUnitDie,
     /// A split object has no compilation unit.
     MissingSplitUnit,
-    /// An attribute has a form that isn't read there.
+    /// An attribute has a form that isn't supported there.
     UnsupportedAttributeForm(DwForm),
     /// A line number program doesn't say how the paths of its files are written.
     MissingFileEntryFormatPath,
@@ -179,8 +179,8 @@ pub enum Error {
     InvalidNameAttributeIndex(u64),
     /// Memory ran out.
     OutOfMemory,
-    /// A strict read found a table of abbreviations that no null code closes. The section ends
-    /// here.
+    /// A strict read found a table of abbreviations that no code of value 0 closes. The section
+    /// ends at this place.
     UnterminatedAbbreviations(ReaderOffsetId),
 }
 
@@ -200,8 +200,8 @@ impl Error {
     ghost use Rattle.dwarf_base_core.specs.ErrorText.{error_text};
     ghost use Rattle.dwarf_base_core.specs.WrittenText.{written};
 
-    // The one place that chooses a text, so that the writing is proved for four forms and not
-    // for each error.
+    // The one place that chooses a text. So the writing is proved for four forms, and not for each
+    // error.
     fn text(self) -> Text
         ensures { written result ≡ error_text self }
     {
@@ -404,8 +404,8 @@ impl Error {
     }
 }
 
-/// The error's text, on one line and without a full stop. A value is written in decimal, or in
-/// hexadecimal after `0x`.
+/// Writes the error's text, on one line and without a full stop. A value is written in decimal, or
+/// in hexadecimal after `0x`.
 impl fmt::Display for Error {
     ghost use Rattle.std.specs.Prelude.{Some};
     ghost use Rattle.dwarf_base_core.specs.ErrorText.{error_text};
@@ -422,7 +422,7 @@ impl fmt::Display for Error {
     }
 }
 
-/// An error without a source.
+/// No error has a source.
 impl std::error::Error for Error {}
 
 /// [`Error::OutOfMemory`], so that `?` propagates a failed allocation.
@@ -437,7 +437,7 @@ impl From<AllocError> for Error {
     }
 }
 
-/// [`Error::OutOfMemory`], so that `?` propagates a value that found no room, which is dropped.
+/// [`Error::OutOfMemory`], so that `?` works on a failed push. The value is dropped.
 impl<T: Drop> From<AllocFailed<T>> for Error {
     ghost use Rattle.std.specs.Prelude.{◌≡◌};
     ghost use Rattle.dwarf_base_core.specs.declared.error.Error.TheVariants.{OutOfMemory};

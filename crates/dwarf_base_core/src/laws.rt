@@ -3,9 +3,8 @@
 ghost use Rattle.dwarf_base_core.specs.Number.{NumberIsBounded, NumberTellsBytes};
 ghost use Rattle.dwarf_base_core.specs.Section.{NamesAreDistinct};
 
-/// The number of n bytes, in either order, is below 256^n and determines the bytes.
-///
-/// So a contract that says the number of written bytes says the bytes.
+/// The number of n bytes, in either order, is below 256^n and determines the bytes. So a contract
+/// that states the number of written bytes determines them.
 pub fn numbers_of_bytes()
     ensures bounded { NumberIsBounded }
     ensures told { NumberTellsBytes }

@@ -1,5 +1,5 @@
 //! The base of a DWARF reader: formats and offsets, byte orders, the types of offsets and
-//! addresses that a reader counts in, and the errors of reading.
+//! addresses, and the errors of reading.
 
 #![tactic(auto)]
 

@@ -6,7 +6,7 @@ ghost use Rattle.dwarf_base_core.specs.Checked.{OkBelow};
 
 use crate::error::{Error, Result};
 
-/// An address of the target. Its size in bytes is an argument, since a unit says it.
+/// An address of the target. Its size in bytes is an argument, since each unit has its own.
 ///
 /// Every size has to be from 1 to 8. An address of size s is a number below 2^(8 s); the address
 /// itself may be any number that the type holds.
@@ -17,14 +17,14 @@ use crate::error::{Error, Result};
 /// let wrapped = 0xff_u64.wrapping_add_sized(1, 1); // 0
 /// ```
 pub trait ReaderAddress: Sized {
-    // The number that an address is.
+    // The number that the address is.
     ghost value: { Self → ℕ };
 
     /// Returns the sum of the address and a length in bytes.
     ///
     /// # Errors
     ///
-    /// [`Error::AddressOverflow`] exactly if the sum is no address of the size.
+    /// [`Error::AddressOverflow`] exactly if the sum isn't an address of the size.
     fn add_sized(self, length: u64, size: u8) -> Result<Self>
         requires low { 1 ≤ size }
         requires high { size ≤ 8 }

@@ -12,7 +12,7 @@ use std::fmt::Debug;
 use std::hash::Hash;
 use std::ops::{Add, AddAssign, Sub};
 
-/// A place in the input, as errors have it.
+/// A place in the input, as errors contain it.
 ///
 /// It is the position of a reader, counted in bytes. Sections whose first positions lie apart
 /// have different identifiers, and then an identifier says which section it belongs to.
@@ -51,7 +51,7 @@ pub trait ReaderOffset: Debug
 
     ghost GREATEST: { ℕ };
 
-    // The number that an offset is.
+    // The number that the offset represents.
     ghost value: { Self → ℕ };
 
     /// Returns the offset of this number.
@@ -64,7 +64,7 @@ pub trait ReaderOffset: Debug
 
     /// Returns the offset of this number, or for a negative one of `GREATEST + 1` plus it.
     ///
-    /// So the [`wrapping_add`](ReaderOffset::wrapping_add) of it goes back by that much.
+    /// So [`wrapping_add`](ReaderOffset::wrapping_add) with it goes back by that much.
     fn from_i16(offset: i16) -> Self
         ensures { value result ≡ offset_from_signed GREATEST offset };
 
@@ -98,7 +98,7 @@ pub trait ReaderOffset: Debug
 
     ghost fits_u64: { GREATEST < 2 ^ 64 };
 
-    // Offsets are the same, equal, and in order exactly as their numbers are.
+    // Offsets are the same, equal, and in order exactly if their numbers are.
     ghost same_law: { (x y : Self) → value x ≡ value y → x ≡ y };
 
     ghost eq_law: { (x y : Self) → Self.eq x y ≡ (value x == value y) };
@@ -112,7 +112,7 @@ pub trait ReaderOffset: Debug
     ghost hash_law: { (x y : Self) → value x ≤ GREATEST → value y ≤ GREATEST
         → (Self.hash_input x ≡ Self.hash_input y) ↔ (value x ≡ value y) };
 
-    // `+`, `+=` and `-` are the numbers' own, if the result is an offset.
+    // `+`, `+=` and `-` are those of the numbers, if the result is an offset.
     ghost can_add_law: { (x y : Self) → value x + value y ≤ GREATEST → Self.can_add x y };
 
     ghost add_law: { (x y z : Self) → Self.add_gives x y z → value z ≡ value x + value y };

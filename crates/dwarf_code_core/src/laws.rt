@@ -1,4 +1,4 @@
-//! Laws of the definitions: what is proved of them for every reader of a contract.
+//! Laws of the definitions, for anyone who uses a contract.
 
 ghost use Rattle.std.specs.Prelude.{◌≡◌};
 ghost use Rattle.dwarf_const_core.specs.Names.{HasDistinctValues};
@@ -32,7 +32,7 @@ ghost use Rattle.dwarf_code_core.specs.GdbIndexSymbolKind.{gdb_index_symbol_kind
 
 use crate::call_frame::{DW_CFA_AARCH64_negate_ra_state, DW_CFA_GNU_window_save};
 
-/// In each list of names no value is listed twice, so a value has at most one name.
+/// No list of names has a value twice, so a value has at most one name.
 pub fn names_are_distinct()
     ensures accessibility { HasDistinctValues accessibility_names }
     ensures address_class { HasDistinctValues address_class_names }
@@ -63,8 +63,8 @@ pub fn names_are_distinct()
     ensures visibility { HasDistinctValues visibility_names }
 {}
 
-/// Two constants share a value: what AArch64 calls one instruction, SPARC calls another. The name of
-/// the value is that of `DW_CFA_GNU_window_save`.
+/// Two constants share a value: AArch64 and SPARC call one instruction by different names. The name
+/// of the value is that of `DW_CFA_GNU_window_save`.
 pub fn negate_ra_state_is_window_save()
     ensures { DW_CFA_AARCH64_negate_ra_state ≡ DW_CFA_GNU_window_save }
 {}

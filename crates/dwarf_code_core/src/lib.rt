@@ -2,8 +2,8 @@
 //! instructions of call frames and line numbers, entries of lists, encodings of pointers and more.
 //!
 //! Each family is a module with one type, a struct round the value, and its constants. The type
-//! tells the name of a value (`static_string`) and prints it; neither takes memory. A value that no
-//! constant has is as good as any other: vendors add their own. `dwarf_const_core` has the families
+//! returns the name of a value (`static_string`) and prints it; neither allocates memory. Values
+//! without a constant are allowed, since vendors add their own. `dwarf_const_core` has the families
 //! whose value takes two bytes.
 #![tactic(auto)]
 

@@ -25,7 +25,7 @@ pub const DW_LNE_define_file: DwLne = DwLne(0x03);
 
 // DWARF 4.
 
-/// Tells the blocks of one line apart.
+/// Distinguishes the blocks of one line.
 pub const DW_LNE_set_discriminator: DwLne = DwLne(0x04);
 
 // The values that vendors may use.

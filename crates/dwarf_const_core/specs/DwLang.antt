@@ -83,14 +83,14 @@ zero_based =
     DW_LANG_Rust.0 ∷ DW_LANG_C11.0 ∷ DW_LANG_Swift.0 ∷ DW_LANG_Dylan.0 ∷ DW_LANG_C_plus_plus_14.0 ∷
     DW_LANG_RenderScript.0 ∷ DW_LANG_BLISS.0 ∷ []
 
--- those whose arrays begin at 1
+-- the languages whose arrays begin at 1 unless a declaration says otherwise
 abbrev pub one_based : List ℕ
 one_based =
     DW_LANG_Ada83.0 ∷ DW_LANG_Cobol74.0 ∷ DW_LANG_Cobol85.0 ∷ DW_LANG_Fortran77.0 ∷ DW_LANG_Fortran90.0 ∷
     DW_LANG_Pascal83.0 ∷ DW_LANG_Modula2.0 ∷ DW_LANG_Ada95.0 ∷ DW_LANG_Fortran95.0 ∷ DW_LANG_PLI.0 ∷
     DW_LANG_Modula3.0 ∷ DW_LANG_Julia.0 ∷ DW_LANG_Fortran03.0 ∷ DW_LANG_Fortran08.0 ∷ []
 
--- the index at which a language's arrays begin, if it is of either kind
+-- the index at which a language's arrays begin, if that is known
 abbrev pub default_lower_bound : ℕ → Option ℕ
 default_lower_bound language =
     if is_among zero_based language then Some 0 else (if is_among one_based language then Some 1 else None)

@@ -1,4 +1,4 @@
-//! Laws of the definitions: what is proved of them for every reader of a contract.
+//! Laws of the definitions, for anyone who uses a contract.
 
 ghost use Rattle.dwarf_const_core.specs.DwAt.{attribute_names};
 ghost use Rattle.dwarf_const_core.specs.DwForm.{form_names};
@@ -8,7 +8,7 @@ ghost use Rattle.dwarf_const_core.specs.DwLnct.{line_content_names};
 ghost use Rattle.dwarf_const_core.specs.DwTag.{tag_names};
 ghost use Rattle.dwarf_const_core.specs.Names.{HasDistinctValues};
 
-/// In each list of names no value is listed twice, so a value has at most one name.
+/// No list of names has a value twice, so a value has at most one name.
 pub fn names_are_distinct()
     ensures attribute { HasDistinctValues attribute_names }
     ensures form { HasDistinctValues form_names }

@@ -13,12 +13,13 @@ pub const MAX_TYPE_NAME_LEN: usize = 32;
 // Room for the name of a type, twenty digits, and the text between them.
 const MAX_LEN: usize = 64;
 
-/// The names of the constants of one type, by rising value. The macro `names!` writes such a table.
+/// The names of the constants of one type, in the order of their values. The macro `names!` writes
+/// such a table.
 #[derive(Clone, Copy)]
 pub struct Names {
     /// The values, each above the one before.
     pub values: &'static [u64],
-    /// The name of each value, in the same place.
+    /// The name of each value, at the same index.
     pub names: &'static [&'static str],
     ghost rising: { IsTrue (is_rising values.now) },
     ghost paired: { length values.now ≡ length names.now },
@@ -28,8 +29,8 @@ impl Names {
     ghost use Rattle.dwarf_const_core.specs.Names.{name_of};
     ghost use Rattle.dwarf_const_core.specs.Table.{entries};
 
-    /// Returns the name of `value`, or `None` if the table doesn't have the value. The search halves the
-    /// table at each step.
+    /// Returns the name of `value`, or `None` if the table doesn't have the value. This is a binary
+    /// search.
     pub fn find(&self, value: u64) -> Option<&'static str>
         ensures { option_map (λ s. s.now) result ≡ name_of (entries self.now) value }
     {
@@ -40,8 +41,8 @@ impl Names {
     }
 }
 
-/// Writes `name`, or `Unknown TYPE: VALUE` if there is none, with the value in decimal and with the
-/// width, fill and alignment that `f` has. It allocates no memory.
+/// Writes `name`, or `Unknown TYPE: VALUE` in decimal if there is none, with the width, fill and
+/// alignment of `f`. It doesn't allocate.
 ///
 /// # Errors
 ///

@@ -17,7 +17,7 @@ fn list(rt: &HostRuntime) -> Result<(), Fault> {
 fn main(rt: HostRuntime) -> ExitCode {
     let outcome = list(&rt);
     if let Err(fault) = outcome {
-        // If standard error can't be written either, the status still tells of the error.
+        // If standard error can't be written either, the status still reports the error.
         let _ = eprintln!(rt; "{fault}");
     }
     exit_code(outcome)

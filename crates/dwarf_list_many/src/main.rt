@@ -6,9 +6,9 @@
 //! writes a title, `table 0xOFFSET:` on a line of its own or `0xOFFSET: ` before a string, and then
 //! the lines that `dwarf_list` writes of that offset.
 //!
-//! The first error ends the run. What comes before an error at an offset is written, and the error
-//! is printed to standard error with its offset. Nothing is written if a line is no offset. The exit
-//! statuses are those of `dwarf_list`.
+//! The first error ends the run. The lines before an error at an offset are written, and the error
+//! is printed to standard error with its offset. Nothing is written if a line isn't an offset. The
+//! exit statuses are those of `dwarf_list`.
 
 #![tactic(auto)]
 
@@ -25,7 +25,7 @@ use std::process::ExitCode;
 // How many bytes are written at once.
 const BUFFER: usize = 65536;
 
-// What the section or the offsets are read from.
+// Where the section or the offsets are read from.
 #[derive(Drop)]
 enum Input {
     Standard(Stdin),
@@ -67,7 +67,7 @@ fn main(rt: HostRuntime) -> ExitCode {
     match list(&rt) {
         Ok(()) => ExitCode::from(0),
         Err(fault) => {
-            // If standard error can't be written either, the status still tells of the error.
+            // If standard error can't be written either, the status still reports the error.
             let _ = eprintln!(rt; "{fault}");
             ExitCode::from(fault.status())
         }

@@ -1,8 +1,8 @@
--- The words of the command line.
+-- Arguments of the command line that name no command.
 use Rattle.std.proofs.Common.{◌≡◌, ◌≢◌, ℕ, List, [], ◌∷◌, length, None, refl}
 use Rattle.dwarf_listing_core.specs.Command.{command_of}
 
--- one word names no command, nor do three
+-- arguments other than two name no command
 pub command_of-other : (words : List (List ℕ)) → length words ≢ 2 → None ≡ command_of words
 command_of-other [] other = refl
 command_of-other (a ∷ []) other = refl

@@ -9,7 +9,7 @@ use Rattle.std.specs.Prelude.{◌==◌, if◌then◌else◌}
 use Rattle.dwarf_read_core.specs.ErrorText.{hexadecimal}
 use Rattle.dwarf_listing_core.specs.Lines.{hex_byte, hex_text}
 
--- one more piece comes after a separator
+-- one more piece is joined to the others behind a separator
 joined_more : (c : ℕ) (pieces : List (List ℕ)) (piece : List ℕ) → 0 < length pieces
     → join_with_byte c (pieces ++ piece ∷ []) ≡ join_with_byte c pieces ++ c ∷ piece
 joined_more c [] piece some = absurd (omega arith)
@@ -31,13 +31,13 @@ hex_text-next bytes i positive within =
     rw (take_more bytes i 0 within, map-append)
     (joined_more 32 (map hex_byte (take i bytes)) (hex_byte (get_or bytes i 0)) before)
 
--- a text behind both of two texts is behind the chosen one
+-- if two texts both end with a third one, so does the one that a test chooses
 either-append : (b : Bool) (one other longer others text : List ℕ) → longer ≡ one ++ text → others ≡ other ++ text
     → (if b then longer else others) ≡ (if b then one else other) ++ text
 either-append true one other longer others text p q = p
 either-append false one other longer others text p q = q
 
--- the digits of a number in base 16, put before a text, are its digits and that text
+-- the digits of a number in base 16 in front of a text are its digits, joined with the text
 digits_onto-append : (k n : ℕ) (text : List ℕ)
     → digits_onto k 16 false n text ≡ digits_onto k 16 false n [] ++ text
 digits_onto-append zero n text = refl
@@ -49,18 +49,18 @@ digits_onto-append (suc k) n text =
     ∙ sym (append_assoc (digits_onto k 16 false (n / 16) []) (digit ∷ []) text)
     ∙ ap (λ t. t ++ text) (sym (digits_onto-append k (n / 16) (digit ∷ []))))
 
--- so it is with all 64 places
+-- the digits of a number with 64 places, in front of a text, are its hexadecimal text, joined with the text
 pub digits_onto-hexadecimal : (n : ℕ) (text : List ℕ) → digits_onto 64 16 false n text ≡ hexadecimal n ++ text
 unfolding digits
 digits_onto-hexadecimal n text = digits_onto-append 64 n text
 
--- a number below 16 has one digit
+-- a number below 16 puts one digit in front of a text
 digits_onto-last : (i n : ℕ) (text : List ℕ) → 0 < i → n / 16 ≡ 0
     → digits_onto i 16 false n text ≡ digit_glyph false (n % 16) ∷ text
 digits_onto-last zero n text some last = absurd (omega arith)
 digits_onto-last (suc k) n text some last = rw last refl
 
--- the last digit of a greater number is put behind the others
+-- a number of at least 16 puts its last digit in front of a text, and then its other digits
 digits_onto-more : (i n : ℕ) (text : List ℕ) → 0 < i → n / 16 ≢ 0
     → digits_onto i 16 false n text ≡ digits_onto (i - 1) 16 false (n / 16) (digit_glyph false (n % 16) ∷ text)
 digits_onto-more zero n text some more = absurd (omega arith)
@@ -69,7 +69,7 @@ digits_onto-more (suc k) n text some more =
     let test : (n / 16 == 0) ≡ false = grind (arith, common_steps, nat_tests) in
     rw (before, test) refl
 
--- what is put before the bytes from a place on
+-- putting a byte before a place puts it in front of the bytes from that place on
 drop-put : (bytes : List ℕ) (i byte : ℕ) → 0 < i → i ≤ length bytes
     → drop (i - 1) (set bytes (i - 1) byte) ≡ byte ∷ drop i bytes
 drop-put bytes i byte some within =
@@ -78,14 +78,14 @@ drop-put bytes i byte some within =
 
 module _ (bytes : List ℕ) (i n byte : ℕ) (some : 0 < i) (within : i ≤ length bytes)
     (digit : byte ≡ digit_glyph false (n % 16)) where
-  -- the digit that is put last ends the number
+  -- the digit that is put is the whole number, if the number is below 16
   pub last_digit_put : n / 16 ≡ 0
       → drop (i - 1) (set bytes (i - 1) byte) ≡ digits_onto i 16 false n (drop i bytes)
   last_digit_put last =
       drop-put bytes i byte some within ∙ ap (λ d. d ∷ drop i bytes) digit
       ∙ sym (digits_onto-last i n (drop i bytes) some last)
 
-  -- the digits before a digit that is put are those of the rest
+  -- the digit that is put, with those of the rest in front, are the digits of the number
   pub next_digit_put : n / 16 ≢ 0
       → digits_onto (i - 1) 16 false (n / 16) (drop (i - 1) (set bytes (i - 1) byte))
       ≡ digits_onto i 16 false n (drop i bytes)

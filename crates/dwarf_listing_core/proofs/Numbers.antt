@@ -1,4 +1,4 @@
--- What `parse` makes of digits.
+-- How `parse` reads digits.
 use Rattle.std.proofs.Common.{◌≡◌, ℕ, Bool, true, false, cond, ◌&&◌, ◌+◌, ◌<◌, ◌≤◌, List, length, drop, get_or, ◌^◌, ℤ, pos, neg_ℤ, Option, Some, None, rules, refl, ◌∙◌, arith, Result, Ok, Err}
 use Rattle.std.proofs.lemmas.Bool.Decides.{nat_tests}
 use Rattle.std.proofs.lemmas.Grind.{common_steps}
@@ -15,30 +15,30 @@ use Rattle.std.specs.Str.{IsUtf8}
 use Rattle.std.specs.Str.Parse.{digits_value, ParsesSigned, ParsesUnsigned, starts_with_minus}
 use Rattle.dwarf_listing_core.specs.Number.{is_all_digits, number_below, signed_of, unsigned_of, without_minus}
 
--- the test and the value are those of `parse`
+-- the test for digits and their value are those of `parse`
 numerals : IsNumeralModel (λ text. is_all_digits text ≡ true) (digits_value 10)
 numerals = numerals_by_value _ (search rules)
 
--- a number that is parsed exactly where the digits are in range
+-- a number that is parsed exactly if the digits are below a limit is the number below the limit
 below_by_cases : {T E : Type 0} → (sign : ℕ → T) (limit : ℕ) (text : List ℕ) (parsed : Result T E)
     → is_all_digits text ≡ true → OkIff parsed ((0 < length text) × (digits_value 10 text < limit))
     (sign (digits_value 10 text)) → result_ok parsed ≡ option_map sign (number_below limit text)
 below_by_cases sign limit text (Ok n) digits told = grind (arith, common_steps, nat_tests)
 below_by_cases sign limit text (Err e) digits told = grind (arith, common_steps, nat_tests)
 
--- an option stays the same where its number is mapped to itself
+-- mapping an option's number to itself changes nothing
 same_option : (o : Option ℕ) → option_map (λ n. n) o ≡ o
 same_option None = refl
 same_option (Some n) = refl
 
--- a text of digits is parsed as the number that it gives
+-- a text of digits is parsed as the number of its digits
 pub parsed_unsigned : {E : Type 0} → (text : List ℕ) (parsed : Result ℕ E) → ParsesUnsigned 64 10 text parsed
     → is_all_digits text ≡ true → result_ok parsed ≡ unsigned_of text
 parsed_unsigned text parsed told digits =
     below_by_cases (λ n. n) (2 ^ 64) text parsed digits (parse_digits numerals 64 text parsed told digits)
     ∙ same_option (unsigned_of text)
 
--- a number at most a limit is below the next
+-- a number that is at most a limit is below the next number
 below_next : {T E : Type 0} → (parsed : Result T E) (text : List ℕ) (limit : ℕ) (value : T)
     → is_all_digits text ≡ true → OkIff parsed
     ((is_all_digits text ≡ true) × (0 < length text) × (digits_value 10 text ≤ limit)) value
@@ -46,7 +46,7 @@ below_next : {T E : Type 0} → (parsed : Result T E) (text : List ℕ) (limit :
 below_next (Ok n) text limit value digits told = ((told.0.1, omega arith), told.1)
 below_next (Err e) text limit value digits told = λ inside. told (digits, inside.0, omega arith)
 
--- a text of digits behind an optional minus is parsed as its signed number, whether the minus stands there or not
+-- a text of digits, with or without a minus in front, is parsed as its signed number
 signed_by_sign : {E : Type 0} → (text : List ℕ) (parsed : Result ℤ E) → ParsesSigned w64 10 text parsed
     → is_all_digits (without_minus text) ≡ true → (minus : Bool) → starts_with_minus text ≡ minus
     → result_ok parsed ≡ signed_of text
@@ -59,7 +59,7 @@ signed_by_sign text parsed told digits false sign =
     let whole = rw sign at digits in
     rw sign (below_by_cases pos (2 ^ 63) text parsed whole (parse_signed_digits numerals w64 text parsed told whole))
 
--- so is one with a minus before it
+-- a text of digits behind an optional minus is parsed as its signed number
 pub parsed_signed : {E : Type 0} → (text : List ℕ) (parsed : Result ℤ E) → ParsesSigned w64 10 text parsed
     → is_all_digits (without_minus text) ≡ true → result_ok parsed ≡ signed_of text
 parsed_signed text parsed told digits = signed_by_sign text parsed told digits (starts_with_minus text) refl
@@ -68,18 +68,18 @@ parsed_signed text parsed told digits = signed_by_sign text parsed told digits (
 below_by_test : (byte : ℕ) → is_ascii_digit byte ≡ true → byte < 128
 below_by_test byte digit = grind (arith, common_steps, nat_tests)
 
--- digits are below 128
+-- each byte of a text of digits is below 128
 digits_are_ascii : (text : List ℕ) → is_all_digits text ≡ true → All (λ byte. byte < 128) text
 digits_are_ascii text digits k d within =
     below_by_test (get_or text k d) (AllPass-from_list_all is_ascii_digit text digits k d within)
 
--- a test that fails leaves no number
+-- there is no number if the test for digits fails
 none_by_test : (some digits below : Bool) (value : ℕ) → digits ≡ false
     → None ≡ cond (some && digits && below) (Some value) None
 none_by_test true digits below value not = rw not refl
 none_by_test false digits below value not = refl
 
--- bytes that are no text are no number
+-- bytes that aren't UTF-8 are no number
 pub not_text : (text : List ℕ) → (IsUtf8 text → ⊥) → None ≡ unsigned_of text
 not_text text no_text = by_test (is_all_digits text) refl
   where

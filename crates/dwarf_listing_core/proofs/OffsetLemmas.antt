@@ -1,4 +1,4 @@
--- The offsets of an input as they are read one line after the other.
+-- The offsets of an input, read one line after the other.
 use Rattle.std.proofs.Common.{arith, ◌≡◌, ◌<◌, ◌≤◌, ◌+◌, ◌-◌, ℕ, Bool, true, false, cond, List, [], ◌∷◌, ◌++◌, length, take, drop, map, nat_eq, nat_lt, add_comm, add-one, Option, Some, None, refl, ap, sym, ◌∙◌}
 use Rattle.std.proofs.lemmas.Bool.Decides.{nat_tests}
 use Rattle.std.proofs.lemmas.Grind.{common_steps}
@@ -10,7 +10,7 @@ use Rattle.dwarf_listing_core.specs.Offsets.{AreOffsets, lines_of}
 abbrev Offset : Type 0
 Offset = Option ℕ
 
--- the offsets of some lines and of one more
+-- one more line that is an offset adds that offset to the offsets
 pub offsets_more : (lines : List (List ℕ)) (line : List ℕ) (offsets : List ℕ) (offset : ℕ)
     → AreOffsets lines offsets → Some offset ≡ unsigned_of line
     → AreOffsets (lines ++ line ∷ []) (offsets ++ offset ∷ [])
@@ -24,7 +24,7 @@ offsets_more lines line offsets offset so named =
 abbrev pub is_end : ℕ → Bool
 is_end byte = nat_eq byte 10
 
--- the first line behind a byte
+-- one more byte in front of bytes is the end of a line, or belongs to the first line
 lines-behind : (byte : ℕ) (bytes : List ℕ) (test : Bool) → is_end byte ≡ test
     → lines_of bytes ≡ before_first is_end bytes ∷ lines_of (after_first is_end bytes)
     → lines_of (byte ∷ bytes) ≡ before_first is_end (byte ∷ bytes) ∷ lines_of (after_first is_end (byte ∷ bytes))
@@ -44,27 +44,27 @@ lines-first (byte ∷ []) some = by_test (is_end byte) refl
 lines-first (byte ∷ next ∷ bytes) some =
     lines-behind byte (next ∷ bytes) (is_end byte) refl (lines-first (next ∷ bytes) (omega arith))
 
--- a position that is found is the first, and inside
+-- if a position is found before the end, it is the first
 first_is : (first end here : ℕ) → Some here ≡ cond (nat_lt first end) (Some first) None → (here ≡ first) × (first < end)
 first_is first end here found = grind (arith, common_steps, nat_tests)
 
--- none is found if there is none inside
+-- if no position is found, the first isn't before the end
 none_is : (first end : ℕ) → None ≡ cond (nat_lt first end) (Some first) None → end ≤ first
 none_is first end found = grind (arith, common_steps, nat_tests)
 
--- what is behind the first line
+-- the bytes behind a position are all that remain there
 behind : (bytes : List ℕ) (here : ℕ) → take (length bytes - (here + 1)) (drop (here + 1) bytes) ≡ drop (here + 1) bytes
 behind bytes here =
     take_all (length bytes - (here + 1)) (drop (here + 1) bytes) (omega (arith, length-drop (here + 1) bytes))
 
--- the first line at a newline
+-- the first line ends at the first newline
 pub lines-at : (bytes : List ℕ) (here : ℕ) → Some here ≡ position is_end bytes
     → lines_of bytes ≡ take here bytes ∷ lines_of (take (length bytes - (here + 1)) (drop (here + 1) bytes))
 lines-at bytes here found =
     let is = first_is (position_or_len is_end bytes) (length bytes) here found in
     rw (behind bytes here, is.0) (lines-first bytes (omega (arith, is.1)))
 
--- without a newline there is one line
+-- bytes without a newline are one line
 pub lines-none : (bytes : List ℕ) → 0 < length bytes → None ≡ position is_end bytes → lines_of bytes ≡ bytes ∷ []
 lines-none bytes some found =
     let far = none_is (position_or_len is_end bytes) (length bytes) found in

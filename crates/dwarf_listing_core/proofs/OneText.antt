@@ -1,4 +1,4 @@
--- What has one result has one text.
+-- A section with exactly one result has exactly one text.
 use Rattle.std.proofs.Common.{◌≡◌, List, ℕ, Result, Ok, Err, refl, ap, ◌∙◌}
 use Rattle.dwarf_read_core.specs.declared.Error.{Error}
 use Rattle.dwarf_read_core.specs.Once.{HasOne}

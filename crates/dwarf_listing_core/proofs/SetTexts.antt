@@ -1,4 +1,4 @@
--- Sets have exactly one text, or one error.
+-- Sets have exactly one text or error.
 use Rattle.std.proofs.Common.{◌≡◌, ◌-◌, ◌^◌, ◌<◌, ℕ, zero, suc, List, [], ◌∷◌, ◌++◌, Result, Ok, Err, refl, sym, ap, ◌∙◌, arith, inl, inr, ◌⊎◌}
 use Rattle.std.specs.Prelude.{IsTrue}
 use Rattle.dwarf_read_core.specs.declared.Error.{Error}
@@ -18,7 +18,7 @@ use Rattle.dwarf_listing_core.specs.Sets.{SetListing, address_listing, offset_li
 abbrev Items : Type 0
 Items = List (Result ℕ Error)
 
--- items that are the same are the same numbers
+-- two lists of numbers are equal if their items are
 same_numbers : (a b : List ℕ) → without_error a ≡ without_error b → a ≡ b
 same_numbers [] [] e = refl
 same_numbers [] (y ∷ b) e = absurd cc
@@ -28,7 +28,7 @@ same_numbers (x ∷ a) (y ∷ b) e =
     let tails : without_error a ≡ without_error b = cc in
     rw (heads, same_numbers a b tails) refl
 
--- numbers end in no error
+-- numbers with an error behind them aren't numbers alone
 no_error : (a b : List ℕ) (e : Error) → without_error a ++ Err e ∷ [] ≡ without_error b → ⊥
 no_error [] [] e q = cc
 no_error [] (y ∷ b) e q = cc
@@ -36,7 +36,7 @@ no_error (x ∷ a) [] e q = cc
 no_error (x ∷ a) (y ∷ b) e q =
     no_error a b e (let tails : without_error a ++ Err e ∷ [] ≡ without_error b = cc in tails)
 
--- items that are the same end in the same error
+-- two lists of numbers, each with an error behind it, have the same error if their items are equal
 same_error : (a b : List ℕ) (d e : Error) → without_error a ++ Err d ∷ [] ≡ without_error b ++ Err e ∷ [] → d ≡ e
 same_error [] [] d e q = cc
 same_error [] (y ∷ b) d e q = absurd cc
@@ -44,18 +44,18 @@ same_error (x ∷ a) [] d e q = absurd cc
 same_error (x ∷ a) (y ∷ b) d e q =
     same_error a b d e (let tails : without_error a ++ Err d ∷ [] ≡ without_error b ++ Err e ∷ [] = cc in tails)
 
--- entries are numbers, or numbers and an error
+-- items are numbers, or numbers and then an error
 abbrev Split : Items → Type 0
 Split items =
     ((numbers : List ℕ) × (items ≡ without_error numbers))
     ⊎ ((numbers : List ℕ) × (e : Error) × (items ≡ without_error numbers ++ Err e ∷ []))
 
--- a number stands before entries of either form
+-- a number in front of numbers, or of numbers and an error, is of the same form
 longer : (n : ℕ) (items : Items) → Split items → Split (Ok n ∷ items)
 longer n items (inl h) = inl (n ∷ h.0, ap (λ (xs : Items). Ok n ∷ xs) h.1)
 longer n items (inr h) = inr (n ∷ h.0, h.1, ap (λ (xs : Items). Ok n ∷ xs) h.2)
 
--- all items have one of the forms
+-- the items of an input are numbers, or numbers and then an error
 split : {item : ℕ → Layout ℕ} {offset : ℕ} {old : Input} {items : Items} → AreItems item offset old items → Split items
 split (none empty) = inl ([], refl)
 split (more {x = x} {items = items} some h others) = longer x items (split others)
@@ -64,13 +64,13 @@ split (fault {e = e} some h) = inr ([], e, refl)
 abbrev Text : Type 0
 Text = Result (List ℕ) Error
 
--- the entries of each set that is read are one list
+-- each set that is read has exactly one list of entries
 pub record HasOneList {H : Type 0} (listing : SetListing H) : Type 0 where
   pub one : (greatest offset : ℕ) (old new : Input) (s : Set H)
       → read (set listing.header greatest offset) old ≡ Ok (s, new) → HasOne (HasEntries listing s)
 
 module _ {H : Type 0} {listing : SetListing H} (law : HasOneList listing) (greatest : ℕ) where
-  -- sets list one text at most, or one error
+  -- sets have at most one text or error
   one_text : {offset : ℕ} {old : Input} {items : List (Result (Set H) Error)}
       → AreItems (set listing.header greatest) offset old items → (one other : Text) → ListsSets listing items one
       → ListsSets listing items other → other ≡ one
@@ -108,7 +108,7 @@ module _ {H : Type 0} {listing : SetListing H} (law : HasOneList listing) (great
           absurd (let behind : ◌≡◌ {A = Text} (Ok y) (Err d) = again (Err d) (Ok y) l k in cc)
       both again one other (later _ _ m d i l) (later _ _ n e j k) = again (Err d) (Err e) l k
 
-  -- the text of a set and of those behind it
+  -- the text or error of a set and of those behind it
   behind : (s : Set H) (items : List (Result (Set H) Error)) (list : Items) → HasEntries listing s list
       → Split list → ((one : Text) × ListsSets listing items one)
       → (one : Text) × ListsSets listing (Ok s ∷ items) one
@@ -117,7 +117,7 @@ module _ {H : Type 0} {listing : SetListing H} (law : HasOneList listing) (great
   behind s items list is (inl h) (Err e, l) = (Err e, later s items h.0 e (rw h.1 at is) l)
   behind s items list is (inr h) l = (Err h.1, bad_entry s items h.0 h.1 (rw h.2 at is))
 
-  -- sets list a text, or an error
+  -- sets have a text or an error
   some_text : {offset : ℕ} {old : Input} {items : List (Result (Set H) Error)}
       → AreItems (set listing.header greatest) offset old items → (one : Text) × ListsSets listing items one
   some_text (none empty) = (Ok [], nothing)
@@ -128,7 +128,7 @@ module _ {H : Type 0} {listing : SetListing H} (law : HasOneList listing) (great
 
 module _ {H : Type 0} (listing : SetListing H) (law : HasOneList listing)
     (sets : (headers : Headers) → HasOne (HasSets listing headers)) where
-  -- a section lists exactly one text, or has one error
+  -- a section of sets has exactly one text or error
   pub one_section : (headers : Headers) → HasOne (ListsSection listing headers)
   one_section headers =
       let found = sets headers in
@@ -142,12 +142,12 @@ module _ {H : Type 0} (listing : SetListing H) (law : HasOneList listing)
 
 -- ---- sets of addresses
 
--- a size of addresses isn't 0
+-- a size of addresses is above 0
 positive : (width : ℕ) → IsTrue (is_number_size width) → 0 < width
 positive zero sized = absurd cc
 positive (suc width) sized = omega arith
 
--- the header of a set of addresses says a size of addresses
+-- the header of a set of addresses has a size above 0
 header_size : (unit : Input) {size : ℕ} {rest : Input} → read address_header unit ≡ Ok (size, rest) → 0 < size
 unfolding address_header
 header_size unit h =
@@ -159,7 +159,7 @@ header_size unit h =
     let flat = then_read _ _ _ segment.3 in
     rw (pure_read _ _ flat.3).0 (positive size.0 (check_read _ _ _ sized.2).0)
 
--- so does a set
+-- a set of addresses has a size above 0 in its header
 pub address_size : (greatest offset : ℕ) (old new : Input) (s : Set ℕ)
     → read (set address_header greatest offset) old ≡ Ok (s, new) → 0 < s.header
 unfolding set
@@ -170,7 +170,7 @@ address_size greatest offset old new s h =
     let said = then_read _ _ _ unit.3 in
     rw (pure_read _ _ said.3).0 (header_size unit.0 (inside_read _ _ _ said.2).0)
 
--- the addresses of each set are one list
+-- each set of addresses has exactly one list of entries
 pub addresses_one_list : ((e : Entries) → 0 < e.width → HasOne (StandsForEntries fixed e)) → HasOneList address_listing
 addresses_one_list entries =
     record {
@@ -180,12 +180,12 @@ addresses_one_list entries =
 
 -- ---- sets of string offsets
 
--- a word has bytes
+-- a word has at least one byte
 word_positive : (format : Format) → 0 < word_size format
 word_positive Dwarf32 = omega arith
 word_positive Dwarf64 = omega arith
 
--- the string offsets of each set are one list
+-- each set of string offsets has exactly one list of entries
 pub offsets_one_list : ((e : Entries) → 0 < e.width → HasOne (StandsForStringOffsets (2 ^ 64 - 1) e))
     → HasOneList offset_listing
 offsets_one_list entries =

@@ -1,4 +1,4 @@
--- The string at an offset of a section is a part of the section's bytes, with a zero byte behind it.
+-- The string at an offset of a section is a part of the section's bytes, followed by a zero byte.
 use Rattle.std.proofs.Common.{◌≡◌, ◌≢◌, ℕ, ◌+◌, ◌<◌, ◌≤◌, [], ◌∷◌, ◌++◌, Ok, Err, length, take, drop, set, ap, ◌∙◌, arith, length-take}
 use Rattle.std.proofs.Math.Seq.{take-append_seam}
 use Rattle.std.proofs.lemmas.List.{drop-take, drop-append-le, length-append, length-drop, take_more_set}
@@ -10,7 +10,7 @@ use Rattle.dwarf_read_core.proofs.LayoutErrors.{At_error_has}
 use Rattle.dwarf_read_core.proofs.lookups.Strings.{string-is_text}
 use Rattle.dwarf_listing_core.specs.Lines.{line}
 
--- its bytes are those from the offset on, as many as it has
+-- the bytes of a string are those of the section from its offset on, as many as it has
 pub string-is_part : (section : Input) (offset : ℕ) (found : Input) → StringAt section offset (Ok found)
     → drop offset (take (offset + length found.bytes) section.bytes) ≡ found.bytes
 string-is_part section offset found is =
@@ -19,7 +19,7 @@ string-is_part section offset found is =
     ∙ ap (take (length found.bytes)) text.parts
     ∙ take-append_seam found.bytes (0 ∷ text.rest)
 
--- the section goes on behind it
+-- the byte behind a string is still in its section
 pub string-ends_inside : (section : Input) (offset : ℕ) (found : Input) → StringAt section offset (Ok found)
     → offset + length found.bytes < length section.bytes
 string-ends_inside section offset found is =
@@ -27,7 +27,7 @@ string-ends_inside section offset found is =
     let long : length (drop offset section.bytes) ≡ length (found.bytes ++ 0 ∷ text.rest) = ap length text.parts in
     omega (arith, long, length-drop offset section.bytes, length-append found.bytes (0 ∷ text.rest))
 
--- with a line's end in the place of the byte behind it, it is a line
+-- a string is a line once the byte behind it is replaced by a line end
 pub string-becomes_line : (section : Input) (offset : ℕ) (found : Input) → StringAt section offset (Ok found)
     → drop offset (take (offset + length found.bytes + 1) (set section.bytes (offset + length found.bytes) 10))
     ≡ line found.bytes
@@ -39,9 +39,9 @@ string-becomes_line section offset found is =
     ∙ drop-append-le offset (take end section.bytes) (10 ∷ []) reached
     ∙ ap (λ bytes. bytes ++ 10 ∷ []) (string-is_part section offset found is)
 
--- the error of a section without a string at the offset isn't that of memory
-pub string-wants_no_memory : (section : Input) (offset : ℕ) (e : Error) → StringAt section offset (Err e)
+-- if a section has no string at an offset, the error isn't `OutOfMemory`
+pub string_error-not_memory : (section : Input) (offset : ℕ) (e : Error) → StringAt section offset (Err e)
     → e ≢ OutOfMemory
 unfolding StringAt string_at
-string-wants_no_memory section offset e is =
+string_error-not_memory section offset e is =
     At_error_has (λ e. e ≢ OutOfMemory) (λ position same. absurd cc) (string_at offset) (tt, λ _. tt) section is

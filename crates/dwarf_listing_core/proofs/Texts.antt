@@ -1,4 +1,4 @@
--- Arguments and an input have exactly one text, or one error.
+-- Arguments and an input have exactly one text or error.
 use Rattle.std.proofs.Common.{◌≡◌, ℕ, List, Option, Some, None, Result, Ok, Err, refl, sym, ap, ◌∙◌}
 use Rattle.std.specs.Prelude.{IsSomeAnd}
 use Rattle.dwarf_read_core.specs.declared.Error.{Error}
@@ -19,7 +19,7 @@ use Rattle.dwarf_listing_core.specs.declared.command.Command.TheVariants.{Abbrev
 abbrev Listing : Type 0
 Listing = Result (List ℕ) Error
 
--- what the laws of the crates below say
+-- the laws of the crates below
 pub record AreLaws : Type 0 where
   pub tables : (section : List ℕ) (offset : ℕ) → HasOne (ListsTable section offset)
   pub strict_tables : (section : List ℕ) (offset : ℕ) → HasOne (ListsStrictTable section offset)
@@ -42,7 +42,7 @@ module _ (laws : AreLaws) where
           (h.2 ∙ ap (λ (bytes : List ℕ). line (hex_text bytes)) (has.2 h.0 h.1))
       only (Err e) h = absurd h
 
-  -- a command lists exactly one text, or has one error
+  -- a command has exactly one text or error of an input
   has_one_listing : (c : Command) (input : List ℕ) → HasOne (Lists c input)
   has_one_listing (Abbrev offset) input = laws.tables input offset
   has_one_listing (Str offset) input = laws.strings input offset
@@ -52,7 +52,7 @@ module _ (laws : AreLaws) where
   has_one_listing (AbbrevStrict offset) input = laws.strict_tables input offset
   has_one_listing (StrOffsets endian) input = laws.string_offsets endian input
 
-  -- so it lists one thing at most
+  -- a command has at most one text or error of an input
   pub one_listing : (c : Command) (input : List ℕ) (one other : Listing) → Lists c input one
       → Lists c input other → other ≡ one
   one_listing c input one other a b =
@@ -62,12 +62,12 @@ module _ (laws : AreLaws) where
   abbrev RunResult : Type 0
   RunResult = Result (List ℕ) Fault
 
-  -- what the program makes of a listing
+  -- the result of the program for a listing
   run_result_of : Listing → RunResult
   run_result_of (Ok text) = Ok text
   run_result_of (Err e) = Err (Section e)
 
-  -- the result of words that give this command, or none
+  -- the result of arguments that name this command, or none
   abbrev IsRunResult : Option Command → List ℕ → RunResult → Type 0
   IsRunResult c input (Ok text) = IsSomeAnd c (λ command. Lists command input (Ok text))
   IsRunResult c input (Err (Section e)) = IsSomeAnd c (λ command. Lists command input (Err e))
@@ -122,7 +122,7 @@ module _ (laws : AreLaws) where
   from_text words input (Err Read) h = h
   from_text words input (Err Write) h = h
 
-  -- arguments and bytes have exactly one text, or one error
+  -- arguments and an input have exactly one text or error
   pub one_text : (words : List (List ℕ)) (input : List ℕ) → HasOne (IsText words input)
   one_text words input =
       let one = exactly_one_run_result (command_of words) input in

@@ -8,11 +8,11 @@ use Rattle.dwarf_listing_core.specs.Number.{signed_of, unsigned_of}
 use Rattle.dwarf_listing_core.specs.declared.command.Command.{Command}
 use Rattle.dwarf_listing_core.specs.declared.command.Command.TheVariants.{Abbrev, Str, Addr, Uleb, Sleb, AbbrevStrict, StrOffsets}
 
--- the byte order that a name gives
+-- the byte order that a name means
 abbrev pub endian_of : List ℕ → Option RunTimeEndian
 endian_of name = if bytes_eq name (codes "le") then Some Little else if bytes_eq name (codes "be") then Some Big else None
 
--- the command that a name and its argument give
+-- the command that a name and its argument mean
 abbrev pub named_command : List ℕ → List ℕ → Option Command
 named_command name argument =
     if bytes_eq name (codes "abbrev") then option_map Abbrev (unsigned_of argument) else (

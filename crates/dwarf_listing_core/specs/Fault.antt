@@ -1,11 +1,11 @@
--- What the program says of an error.
+-- How the program reports an error.
 use Rattle.std.specs.Prelude.{◌≡◌, ℕ, List, ◌++◌, ⊤, codes}
 use Rattle.dwarf_read_core.specs.ErrorText.{error_text}
 use Rattle.dwarf_read_core.specs.declared.Error.TheVariants.{OutOfMemory}
 use Rattle.dwarf_listing_core.specs.declared.fault.Fault.{Fault}
 use Rattle.dwarf_listing_core.specs.declared.fault.Fault.TheVariants.{Section, Usage, Read, Write}
 
--- the line on standard error, without its end
+-- the line on standard error, without its line end
 abbrev pub fault_text : Fault → List ℕ
 fault_text (Section error) = codes "error: " ++ error_text error
 fault_text Usage = codes "usage: dwarf_list abbrev OFFSET | str OFFSET | addr le|be | uleb N | sleb N | abbrev-strict OFFSET | str-offsets le|be"
@@ -19,7 +19,7 @@ fault_status Usage = 2
 fault_status Read = 3
 fault_status Write = 3
 
--- memory ran out
+-- the error is that memory ran out
 abbrev pub IsMemoryFault : Fault → Type 0
 IsMemoryFault fault = fault ≡ Section OutOfMemory
 

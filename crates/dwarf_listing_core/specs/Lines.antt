@@ -7,15 +7,15 @@ use Rattle.dwarf_read_core.specs.Input.{Input}
 use Rattle.dwarf_read_core.specs.Strings.{StringAt}
 use Rattle.dwarf_listing_core.specs.Listing.{ListsBy, section_of}
 
--- the bytes and a line's end
+-- bytes and a line end
 abbrev pub line : List ℕ → List ℕ
 line bytes = bytes ++ 10 ∷ []
 
--- two digits of a byte
+-- the two hexadecimal digits of a byte
 abbrev pub hex_byte : ℕ → List ℕ
 hex_byte byte = digit_glyph false (byte / 16) ∷ digit_glyph false (byte % 16) ∷ []
 
--- two digits of each byte, with one space between bytes
+-- the two digits of each byte, with a space between bytes
 abbrev pub hex_text : List ℕ → List ℕ
 hex_text bytes = join_with_byte 32 (map hex_byte bytes)
 

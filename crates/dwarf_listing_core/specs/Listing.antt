@@ -9,12 +9,12 @@ use Rattle.dwarf_read_core.specs.Input.{Input}
 abbrev pub section_of : List ℕ → Input
 section_of bytes = record { bytes = bytes; position = 0; is_big = false }
 
--- the text of the value that a section has, or the section's error
+-- the text of a section's value, or the section's error
 abbrev pub ListsBy : {A : Type 0} → (A → List ℕ) → (Result A Error → Type 0) → Result (List ℕ) Error → Type 0
 ListsBy {A} text_of Is (Ok text) = (value : A) × Is (Ok value) × (text ≡ text_of value)
 ListsBy text_of Is (Err error) = Is (Err error)
 
--- what is returned is what is listed, unless memory ran out
+-- what a call returned is the text or error that is listed, unless memory ran out
 abbrev pub ReturnsText : (Result (List ℕ) Error → Type 0) → Result (Vec ℕ Global) Error → Type 0
 ReturnsText Lists (Ok text) = Lists (Ok text.items)
 ReturnsText Lists (Err error) = error ≢ OutOfMemory → Lists (Err error)

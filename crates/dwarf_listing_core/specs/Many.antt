@@ -1,4 +1,4 @@
--- What the program of many offsets writes.
+-- What the program that takes many offsets writes.
 use Rattle.std.specs.Prelude.{◌≡◌, ℕ, List, [], ◌∷◌, ◌++◌, Option, IfSome, Result, Ok, Err, codes}
 use Rattle.std.specs.Io.Buffered.{writer_buffer, writer_contents}
 use Rattle.std.specs.Io.KnownBytes.{Appends}
@@ -12,17 +12,17 @@ use Rattle.dwarf_listing_core.specs.Tables.{ListsTable}
 use Rattle.dwarf_listing_core.specs.declared.arguments.Kind.{Kind}
 use Rattle.dwarf_listing_core.specs.declared.arguments.Kind.TheVariants.{Tables, Strings}
 
--- what comes before the lines at an offset
+-- the title of an offset, in front of its lines
 abbrev pub title : Kind → ℕ → List ℕ
 title Tables offset = line (codes "table 0x" ++ hexadecimal offset ++ codes ":")
 title Strings offset = codes "0x" ++ hexadecimal offset ++ codes ": "
 
--- the lines at an offset of a section, or the error
+-- the lines at an offset of a section, or the error there
 abbrev pub ListsOne : Kind → List ℕ → ℕ → Result (List ℕ) Error → Type 0
 ListsOne Tables = ListsTable
 ListsOne Strings = ListsString
 
--- the lines at each of these offsets, below their titles
+-- the lines at each of these offsets, each below its title
 pub data ListsAll (kind : Kind) (section : List ℕ) : List ℕ → List ℕ → Type 0 where
   nothing : ListsAll kind section [] []
   one_more : (offsets text lines : List ℕ) (offset : ℕ) → ListsAll kind section offsets text
@@ -37,21 +37,21 @@ pub record EndsAt (kind : Kind) (section offsets : List ℕ) (offset : ℕ) (err
   pub listed : ListsAll kind section before text
   pub fails : ListsOne kind section offset (Err error)
 
--- the text that the offsets on these lines request of a section
+-- the text that a section has for the offsets on these lines
 abbrev pub IsManyText : Kind → List ℕ → List (List ℕ) → List ℕ → Type 0
 IsManyText kind section lines text =
     (offsets : List ℕ) × AreOffsets lines offsets × ListsAll kind section offsets text
 
--- the first of the offsets on these lines with an error, and the text of those before it
+-- the first offset on these lines that has an error, and the text of the offsets before it
 abbrev pub EndsManyAt : Kind → List ℕ → List (List ℕ) → ℕ → Error → List ℕ → Type 0
 EndsManyAt kind section lines offset error text =
     (offsets : List ℕ) × AreOffsets lines offsets × EndsAt kind section offsets offset error text
 
--- where the bytes of a section and of its offsets are known, they have this property
+-- the bytes of a section and of its offsets have this property, if both are known
 abbrev pub IfKnown : Option (List ℕ) → Option (List ℕ) → (List ℕ → List ℕ → Type 0) → Type 0
 IfKnown section offsets Holds = IfSome section (λ bytes. IfSome offsets (λ lines. Holds bytes lines))
 
--- the text was written behind what was there, and nothing is left in the buffer
+-- the text was written behind what was there, and the buffer is empty
 abbrev pub WritesOut : {W : Type 0} → (W → Option (List ℕ)) → BufWriter W Global → BufWriter W Global → List ℕ → Type 0
 WritesOut contents old new text =
     Appends (writer_contents contents old) (writer_contents contents new) text × (writer_buffer new ≡ [])

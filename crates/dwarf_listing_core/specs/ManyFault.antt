@@ -1,4 +1,4 @@
--- What the program of many offsets says of an error.
+-- How the program that takes many offsets reports an error.
 use Rattle.std.specs.Prelude.{◌≡◌, ◌⊎◌, ℕ, List, ◌++◌, ⊤, codes, decimal}
 use Rattle.dwarf_read_core.specs.ErrorText.{error_text, hexadecimal}
 use Rattle.dwarf_listing_core.specs.Fault.{IsMemoryFault, fault_status, fault_text}
@@ -6,7 +6,7 @@ use Rattle.dwarf_listing_core.specs.declared.fault.Fault.TheVariants.{Section, U
 use Rattle.dwarf_listing_core.specs.declared.many.fault.ManyFault.{ManyFault}
 use Rattle.dwarf_listing_core.specs.declared.many.fault.ManyFault.TheVariants.{At, Line, ReadSection, ReadOffsets, Other}
 
--- the line on standard error, without its end
+-- the line on standard error, without its line end
 abbrev pub many_fault_text : ManyFault → List ℕ
 many_fault_text (At offset error) = codes "error at 0x" ++ hexadecimal offset ++ codes ": " ++ error_text error
 many_fault_text (Line number) = codes "error: line " ++ decimal number ++ codes " of the offsets is no offset"
@@ -17,7 +17,7 @@ many_fault_text (Other (Section error)) = fault_text (Section error)
 many_fault_text (Other Read) = fault_text Read
 many_fault_text (Other Write) = fault_text Write
 
--- the exit status: 1 for what is malformed, 3 for an input that can't be read
+-- the exit status: 1 for malformed input, 3 for an input that can't be read
 abbrev pub many_fault_status : ManyFault → ℕ
 many_fault_status (At _ _) = 1
 many_fault_status (Line _) = 1
@@ -25,7 +25,7 @@ many_fault_status ReadSection = 3
 many_fault_status ReadOffsets = 3
 many_fault_status (Other fault) = fault_status fault
 
--- an error of the offsets: a line that is none, or memory ran out
+-- an error of parsing the offsets: a line that isn't an offset, or memory ran out
 abbrev pub IsOffsetsFault : ManyFault → Type 0
 IsOffsetsFault (At _ _) = ⊥
 IsOffsetsFault (Line _) = ⊤
@@ -33,7 +33,7 @@ IsOffsetsFault ReadSection = ⊥
 IsOffsetsFault ReadOffsets = ⊥
 IsOffsetsFault (Other fault) = IsMemoryFault fault
 
--- an error of writing listings: what is at an offset, the output, or memory ran out
+-- an error of writing listings: that of an offset, of the output, or memory ran out
 abbrev pub IsListingFault : ManyFault → Type 0
 IsListingFault (At _ _) = ⊤
 IsListingFault (Line _) = ⊥

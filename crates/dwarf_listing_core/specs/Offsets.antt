@@ -3,16 +3,16 @@ use Rattle.std.specs.Prelude.{◌≡◌, ℕ, ◌+◌, List, [], ◌∷◌, ◌+
 use Rattle.std.specs.List.{onto_first}
 use Rattle.dwarf_listing_core.specs.Number.{unsigned_of}
 
--- the lines of an input: a newline ends each of them, and the end of the input the last that has none
+-- the lines of an input: each ends with a newline, except that the last may end with the input
 abbrev pub lines_of : List ℕ → List (List ℕ)
 lines_of [] = []
 lines_of (byte ∷ bytes) = if byte == 10 then [] ∷ lines_of bytes else onto_first byte (lines_of bytes)
 
--- these lines are these offsets, each a number of 64 bits in decimal digits
+-- each of these lines is the offset at the same place, in decimal digits and of 64 bits
 abbrev pub AreOffsets : List (List ℕ) → List ℕ → Type 0
 AreOffsets lines offsets = map unsigned_of lines ≡ map (λ offset. Some offset) offsets
 
--- the first of these lines that is no offset is this one, counted from 1
+-- the number of the first line that isn't an offset, counted from 1
 pub record IsBadLine (lines : List (List ℕ)) (number : ℕ) : Type 0 where
   pub before : List (List ℕ)
   pub line : List ℕ

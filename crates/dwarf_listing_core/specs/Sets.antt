@@ -11,13 +11,13 @@ use Rattle.dwarf_read_core.specs.Layout.{Layout, fixed}
 use Rattle.dwarf_read_core.specs.Sets.{Headers, Set, StandsForSets, address_header, addresses_of, string_offsets_header, string_offsets_of}
 use Rattle.dwarf_listing_core.specs.Lines.{line}
 
--- where a set begins, how many bytes follow its length, and of how many bits its format is
+-- the offset of a set, how many bytes follow its length, and the bits of its format
 abbrev pub set_text : ℕ → ℕ → ℕ → List ℕ
 set_text offset unit_length bits =
     codes "set " ++ decimal offset ++ codes ": length " ++ decimal unit_length
     ++ codes ", " ++ decimal bits ++ codes "-bit"
 
--- the line of a set of addresses, which tells how many bytes an address has
+-- the line of a set of addresses, with the number of bytes of an address
 abbrev pub address_header_line : ℕ → ℕ → ℕ → ℕ → List ℕ
 address_header_line offset unit_length bits size =
     line (set_text offset unit_length bits ++ codes ", address size " ++ decimal size)
@@ -34,8 +34,8 @@ address_line address = line (codes "  0x" ++ hexadecimal address)
 abbrev pub offset_line : ℕ → List ℕ
 offset_line offset = line (codes "  " ++ decimal offset)
 
--- what is listed of a section of sets: by the layout of a header and of an entry, the entries of a set and the
--- lines of a header and of an entry
+-- how a section of sets is listed: the layouts of a header and of an entry, the entries of a set, and the lines of a
+-- header and of an entry
 pub record SetListing (H : Type 0) : Type 1 where
   pub header : Layout H
   pub entry : ℕ → Layout ℕ
@@ -65,19 +65,19 @@ offset_listing =
       entry_line = λ offset. offset_line offset;
     }
 
--- a set and its entries
+-- the line of a set and those of its entries
 abbrev pub set_lines : {H : Type 0} → SetListing H → Set H → List ℕ → List ℕ
 set_lines listing s numbers = listing.header_line s ++ flat_map listing.entry_line numbers
 
--- numbers with no error behind them
+-- numbers, as items without an error
 abbrev pub without_error : List ℕ → List (Result ℕ Error)
 without_error numbers = map (λ n. Ok n) numbers
 
--- what the entries of a set are
+-- the items that the entries of a set are
 abbrev pub HasEntries : {H : Type 0} → SetListing H → Set H → List (Result ℕ Error) → Type 0
 HasEntries listing s items = StandsForEntries listing.entry (listing.entries s) items
 
--- the lines of sets, or the first error: of a header, or of a set's entries before the next header
+-- the lines of sets, or the first error: that of a header, or that of a set's entries before the next header
 pub data ListsSets {H : Type 0} (listing : SetListing H) : List (Result (Set H) Error) → Result (List ℕ) Error
     → Type 0 where
   nothing : ListsSets listing [] (Ok [])
@@ -91,12 +91,12 @@ pub data ListsSets {H : Type 0} (listing : SetListing H) : List (Result (Set H) 
       → HasEntries listing s (without_error numbers) → ListsSets listing items (Err e)
       → ListsSets listing (Ok s ∷ items) (Err e)
 
--- the bytes of a section of sets: the first set is at its start
+-- the sets of a whole section: the first one is at its start
 abbrev pub sets_section : RunTimeEndian → List ℕ → Headers
 sets_section endian section =
     record { offset = 0; rest = record { bytes = section; position = 0; is_big = is_big_at_run_time endian } }
 
--- the sets that remain, whose offsets have 64 bits
+-- the items of the sets that remain, whose offsets have 64 bits
 abbrev pub HasSets : {H : Type 0} → SetListing H → Headers → List (Result (Set H) Error) → Type 0
 HasSets listing headers items = StandsForSets listing.header (2 ^ 64 - 1) headers items
 

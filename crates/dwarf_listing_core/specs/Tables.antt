@@ -12,7 +12,7 @@ use Rattle.dwarf_read_core.specs.Grammar.{Declaration, Specification, Table}
 use Rattle.dwarf_listing_core.specs.Lines.{line}
 use Rattle.dwarf_listing_core.specs.Listing.{ListsBy, section_of}
 
--- a space and an implicit value, if there is one
+-- a space and the implicit value, or nothing
 abbrev pub value_text : Option ℤ → List ℕ
 value_text None = []
 value_text (Some value) = codes " " ++ signed_decimal value
@@ -31,7 +31,7 @@ declaration_lines d =
     line (decimal d.code ++ codes " " ++ tag_text d.tag ++ codes " " ++ yes_or_no d.children)
     ++ flat_map attribute_line d.attributes
 
--- the declarations of a table by rising code
+-- the lines of a table's declarations, in the order of their codes
 abbrev pub table_text : Table → List ℕ
 table_text t = flat_map declaration_lines (values t.by_code)
 
@@ -39,6 +39,6 @@ table_text t = flat_map declaration_lines (values t.by_code)
 abbrev pub ListsTable : List ℕ → ℕ → Result (List ℕ) Error → Type 0
 ListsTable section offset answer = ListsBy table_text (Answer (section_of section) offset) answer
 
--- the same of a table that a code of value 0 has to close
+-- the lines of the table at an offset that a code of value 0 has to close, or the section's error
 abbrev pub ListsStrictTable : List ℕ → ℕ → Result (List ℕ) Error → Type 0
 ListsStrictTable section offset answer = ListsBy table_text (StrictAnswer (section_of section) offset) answer

@@ -12,7 +12,7 @@ use Rattle.dwarf_listing_core.specs.declared.command.Command.TheVariants.{Abbrev
 use Rattle.dwarf_listing_core.specs.declared.fault.Fault.{Fault}
 use Rattle.dwarf_listing_core.specs.declared.fault.Fault.TheVariants.{Section, Usage, Read, Write}
 
--- the shortest encoding of a number, in hexadecimal; there is no error
+-- the shortest encoding of a number, in hexadecimal, and never an error
 abbrev pub ListsNumber : (k : Kind) → Number k → Result (List ℕ) Error → Type 0
 ListsNumber k number (Ok text) = (bytes : List ℕ) × IsShortest k number bytes × (text ≡ line (hex_text bytes))
 ListsNumber k number (Err error) = ⊥

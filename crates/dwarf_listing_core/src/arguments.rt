@@ -1,4 +1,4 @@
-//! The arguments that name a section and where its offsets are.
+//! The arguments, which name a section and say where its offsets are.
 
 ghost use Rattle.std.specs.Prelude.{◌≡◌, Some, None, MatchOption, map, string_bytes};
 ghost use Rattle.dwarf_listing_core.specs.Arguments.{arguments_of, kind_of, named_arguments};
@@ -28,8 +28,8 @@ pub struct Arguments<'a> {
 
 /// Returns what the arguments name: a kind, a section, and where its offsets are.
 ///
-/// Without a third word the offsets are standard input. `None` is returned if the arguments are
-/// none of this, or if both inputs are standard input.
+/// Without a third argument the offsets are read from standard input. Returns `None` if the
+/// arguments are anything else, or if both inputs are standard input.
 pub fn parse_arguments(words: &[String]) -> Option<Arguments<'_>>
     ensures { MatchOption result (arguments_of (map string_bytes words.now) ≡ None)
         (λ named. arguments_of (map string_bytes words.now)

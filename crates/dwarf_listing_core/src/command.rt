@@ -6,7 +6,7 @@ ghost use Rattle.dwarf_listing_core.specs.Command.{command_of, endian_of, named_
 use crate::number::{parse_signed, parse_unsigned};
 use dwarf_read_core::RunTimeEndian;
 
-/// What the program is asked to list.
+/// What the program lists.
 #[derive(Clone, Copy, Debug, PartialEq, Eq)]
 pub enum Command {
     /// The table of abbreviations at an offset, in bytes from the start of `.debug_abbrev`.
@@ -60,7 +60,7 @@ fn parse_endian(name: &str) -> Option<RunTimeEndian>
     }
 }
 
-/// Returns whether the command reads the input: it lists a part of a section.
+/// Returns whether the command lists a part of a section, and so reads the input.
 pub fn reads_input(command: Command) -> bool
     ensures { result ≡ reads_input command }
 {

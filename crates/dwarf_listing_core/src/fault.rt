@@ -1,4 +1,4 @@
-//! Why a listing failed, what is said of it, and the status that the program ends with.
+//! The errors of a run, their lines, and the status that the program ends with.
 
 ghost use Rattle.std.specs.Prelude.{◌≡◌, IfErr, OnOk};
 ghost use Rattle.std.specs.Process.{exit_status};
@@ -9,7 +9,7 @@ use std::alloc::{AllocError, AllocFailed};
 use std::fmt;
 use std::process::ExitCode;
 
-/// Why the program lists nothing.
+/// Why a run failed.
 #[derive(Clone, Copy, Debug, PartialEq, Eq)]
 pub enum Fault {
     /// The section is malformed, or memory ran out.
@@ -34,7 +34,7 @@ pub fn exit_code(outcome: Result<(), Fault>) -> ExitCode
 }
 
 impl Fault {
-    /// Returns the error that memory ran out.
+    /// Returns the error for a failed allocation.
     pub fn out_of_memory() -> Fault
         ensures { result ≡ Fault.Section Error.OutOfMemory }
     {
@@ -54,7 +54,7 @@ impl Fault {
     }
 }
 
-/// The line on standard error, without its end.
+/// Writes the line on standard error, without its line end.
 impl fmt::Display for Fault {
     ghost use Rattle.std.specs.Prelude.{Some};
     ghost use Rattle.dwarf_listing_core.specs.Fault.{fault_text};

@@ -8,7 +8,7 @@ use crate::fault::Fault;
 use std::alloc::Global;
 use std::io::{ErrorKind, Read};
 
-/// Returns all bytes of an input. A call that was interrupted is made again.
+/// Returns all bytes of an input. An interrupted call is repeated.
 ///
 /// # Errors
 ///
@@ -21,7 +21,7 @@ pub fn read_input<I: Read>(mem: Global, input: &mut I) -> Result<Vec<u8>, Fault>
 {
     let mut bytes = Vec::new(mem);
     let mut buffer = [0; 65536];
-    // No input has so many calls; the bound shows that the loop ends.
+    // No input takes so many calls; the bound shows that the loop ends.
     for _ in 0..u64::MAX {
         match input.read(&mut buffer) {
             Ok(0) => return Ok(bytes),

@@ -29,8 +29,8 @@ pub fn exactly_one_listing()
     laws::exactly_one_list_of_string_offsets();
 }
 
-/// The arguments and the bytes of an input have exactly one text, or one error. A command lists one
-/// text of an input at most, or has one error.
+/// The arguments and the bytes of an input have exactly one text or error. A command has at most
+/// one text or error of an input.
 pub fn exactly_one_text()
     ensures text { (words : List (List ℕ)) (input : List ℕ) → HasOne (IsText words input) }
     ensures listing { (command : _) (input : List ℕ) (one other : Result (List ℕ) Error)

@@ -1,11 +1,12 @@
-//! The text of listings, and the programs `dwarf_list` and `dwarf_list_many` but for their `main`.
+//! The text of listings, and the programs `dwarf_list` and `dwarf_list_many`, except for their
+//! `main`.
 //!
 //! The functions at the root take the bytes of a whole section of abbreviation tables, strings,
-//! addresses or string offsets. They return the lines, or the section's first error. The text is
-//! built whole before it is returned.
+//! addresses or string offsets. They return the lines, or the section's first error. The whole text
+//! is built before it is returned.
 //!
 //! [`run::run`] is a whole run of `dwarf_list`, and [`many::run_many`] one of `dwarf_list_many`.
-//! Both take the words that [`words::command_line`] returns.
+//! Both take the arguments that [`words::command_line`] returns.
 
 #![tactic(auto)]
 

@@ -7,12 +7,12 @@ ghost use Rattle.dwarf_listing_core.specs.Listing.{ReturnsText};
 use dwarf_read_core::{DebugStr, DebugStrOffset, Error, LittleEndian};
 use std::alloc::{AllocError, Global};
 
-/// Returns the string at an offset of `.debug_str` or `.debug_line_str`, byte for byte, and a
-/// line's end.
+/// Returns the string at an offset of `.debug_str` or `.debug_line_str`, byte for byte, and a line
+/// end.
 ///
 /// # Errors
 ///
-/// That of [`DebugStr::get_str`], or `OutOfMemory`.
+/// That of [`DebugStr::get_str`], or `OutOfMemory` if memory runs out.
 pub fn string(mem: Global, section: &[u8], offset: u64) -> Result<Vec<u8>, Error>
     ensures { ReturnsText (ListsString section.now offset) result }
 {
@@ -25,11 +25,11 @@ pub fn string(mem: Global, section: &[u8], offset: u64) -> Result<Vec<u8>, Error
 
 /// Returns the text that [`string`] returns, in the memory of the section.
 ///
-/// The line's end takes the place of the zero behind the string, which is then moved to the front.
+/// The line end replaces the zero byte behind the string, which is then moved to the front.
 ///
 /// # Errors
 ///
-/// That of [`DebugStr::get_str`]. No memory is needed.
+/// That of [`DebugStr::get_str`]. The call doesn't allocate.
 pub fn string_in_place(mut section: Vec<u8>, offset: u64) -> Result<Vec<u8>, Error>
     ensures answer { ReturnsText (ListsString section.items offset) result }
     ensures memory { IsErrOf result Error.OutOfMemory → ⊥ }
@@ -43,7 +43,7 @@ pub fn string_in_place(mut section: Vec<u8>, offset: u64) -> Result<Vec<u8>, Err
     Ok(section)
 }
 
-/// Two hexadecimal digits of each byte, with a space between bytes, and a line's end.
+/// Returns two hexadecimal digits of each byte, with a space between bytes, and a line end.
 ///
 /// # Errors
 ///

@@ -13,11 +13,11 @@ use std::alloc::Global;
 
 /// Returns the text that a command prints of an input.
 ///
-/// The text of a string is made in the memory of the input.
+/// The text of a string is built in the memory of the input.
 ///
 /// # Errors
 ///
-/// The section's error, or `OutOfMemory`.
+/// The section's error, or `OutOfMemory` if memory runs out.
 pub fn listing(mem: Global, command: Command, input: Vec<u8>) -> Result<Vec<u8>, Error>
     ensures { ReturnsText (Lists command input.items) result }
 {

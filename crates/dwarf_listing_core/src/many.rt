@@ -27,14 +27,14 @@ mod tests;
 /// Writes what is listed at each offset of a section, below its title.
 ///
 /// Both inputs are read to their ends, and all offsets are parsed: decimal numbers, one a line.
-/// Then each listing is written as soon as it is made. The output is flushed at the end, also
+/// Then each listing is written as soon as it is built. The output is flushed at the end, also
 /// before an error at an offset is returned.
 ///
 /// # Errors
 ///
-/// - `ReadSection` and `ReadOffsets` if an input can't be read, and `Line` if a line is no offset.
-///   Nothing is written then.
-/// - `At` if what is at an offset is malformed, with the first error. What comes before it is
+/// - `ReadSection` and `ReadOffsets` if an input can't be read, and `Line` if a line isn't an
+///   offset. Nothing is written then.
+/// - `At` if the section is malformed at an offset, with the first error. The lines before it are
 ///   written.
 /// - `Other` if memory runs out or the output can't be written. A part of the text may be written
 ///   then.
@@ -82,7 +82,7 @@ pub fn run_many<S: Read, I: Read, O: Write + Drop>(
 ///
 /// # Errors
 ///
-/// The first error. If it is that of a table or a string, what comes before it is written.
+/// The first error. If it is that of a table or a string, the lines before it are written.
 pub fn write_all_at<O: Write + Drop>(
     mem: Global,
     kind: Kind,

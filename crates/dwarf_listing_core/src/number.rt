@@ -3,8 +3,7 @@
 ghost use Rattle.std.specs.Prelude.{◌≡◌};
 ghost use Rattle.dwarf_listing_core.specs.Number.{is_all_digits, signed_of, unsigned_of, without_minus};
 
-/// Returns the number below 2^64 that one or more ASCII digits are, with any count of leading
-/// zeros.
+/// Parses one or more ASCII digits as a number below 2^64. Leading zeros are allowed.
 pub fn parse_unsigned(text: &str) -> Option<u64>
     ensures { result ≡ unsigned_of text.now }
 {
@@ -15,7 +14,7 @@ pub fn parse_unsigned(text: &str) -> Option<u64>
     }
 }
 
-/// Returns the same from -2^63 to 2^63 - 1, with or without a minus.
+/// Parses ASCII digits, with or without a minus in front, as a number from -2^63 to 2^63 - 1.
 pub fn parse_signed(text: &str) -> Option<i64>
     ensures { result ≡ signed_of text.now }
 {
@@ -26,7 +25,7 @@ pub fn parse_signed(text: &str) -> Option<i64>
     }
 }
 
-/// Returns what [`parse_unsigned`] returns, of bytes that may be no text.
+/// Parses like [`parse_unsigned`], from bytes that may not be UTF-8.
 pub fn parse_digits(text: &[u8]) -> Option<u64>
     ensures { result ≡ unsigned_of text.now }
 {

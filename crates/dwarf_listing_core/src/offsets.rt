@@ -14,7 +14,7 @@ use std::alloc::Global;
 ///
 /// # Errors
 ///
-/// `Line` with the number of the first line that is no such number, and `OutOfMemory` if memory
+/// `Line` with the number of the first line that isn't such a number, and `OutOfMemory` if memory
 /// runs out.
 pub fn parse_offsets(mem: Global, input: &[u8]) -> Result<Vec<u64>, ManyFault>
     ensures ok { IfOk result (λ offsets. AreOffsets (lines_of input.now) offsets.items) }
@@ -35,7 +35,7 @@ pub fn parse_offsets(mem: Global, input: &[u8]) -> Result<Vec<u64>, ManyFault>
     Ok(offsets)
 }
 
-// The first line, and what is behind its newline.
+// Returns the first line, and the bytes behind its newline.
 fn split_line(input: &[u8]) -> (&[u8], &[u8])
     requires { 0 < length input.now }
     ensures lines { lines_of input.now ≡ result.0.now ∷ lines_of result.1.now }

@@ -1,4 +1,4 @@
-//! The whole of a run: arguments, input, result, output.
+//! A whole run: arguments, input, result, output.
 
 ghost use Rattle.std.specs.Prelude.{◌≡◌, ◌≢◌, List, ℕ, ◌↔◌, Ok, Err, IfErr, OnOk, IfSome, map, string_bytes};
 ghost use Rattle.std.specs.Io.KnownBytes.{Appends, IsAtEnd};

@@ -20,8 +20,8 @@ use std::alloc::{AllocError, Global};
 ///
 /// # Errors
 ///
-/// The first error: that of a header, or that of a set's addresses before the next header. Or
-/// `OutOfMemory`.
+/// The first error: that of a header, or that of a set's addresses before the next header.
+/// `OutOfMemory` if memory runs out.
 pub fn addresses(mem: Global, section: &[u8], endian: RunTimeEndian) -> Result<Vec<u8>, Error>
     ensures { ReturnsText (ListsAddresses endian section.now) result }
 {
@@ -94,8 +94,8 @@ fn push_address(text: &mut Vec<u8>, address: u64) -> Result<(), AllocError>
     text.extend_from_slice(&line[start..])
 }
 
-// Puts the hexadecimal digits of a number before the last byte, and returns where they begin. A
-// section has many addresses, and formatting each by `{:x}` takes twice as long. A number has at
+// Puts the hexadecimal digits of a number in front of the last byte, and returns where they begin.
+// A section has many addresses, and formatting each by `{:x}` takes twice as long. A number has at
 // most 16 digits; there are 64 places because the definition of a number's digits has as many.
 fn put_digits(line: &mut [u8; 65], number: u64) -> usize
     ensures bound { result ≤ 65 }
@@ -125,7 +125,8 @@ fn hex_digit(value: u8) -> u8
     }
 }
 
-/// Returns the sets of string offsets of a whole `.debug_str_offsets`, in the same way.
+/// Returns the sets of string offsets of a whole `.debug_str_offsets`: a line for each header, and
+/// below it a line for each offset.
 ///
 /// # Errors
 ///

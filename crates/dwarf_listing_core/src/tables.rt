@@ -11,12 +11,13 @@ use dwarf_read_core::{
 };
 use std::alloc::{AllocError, Global};
 
-/// Returns the declarations of the table at an offset of `.debug_abbrev`, by rising code: a line
-/// with the code, the tag and whether there are children, and a line for each attribute.
+/// Returns the declarations of the table at an offset of `.debug_abbrev`, in the order of their
+/// codes: a line with the code, the tag and whether there are children, and a line for each
+/// attribute.
 ///
 /// # Errors
 ///
-/// That of [`DebugAbbrev::abbreviations`], or `OutOfMemory`.
+/// That of [`DebugAbbrev::abbreviations`], or `OutOfMemory` if memory runs out.
 pub fn abbreviations(mem: Global, section: &[u8], offset: u64) -> Result<Vec<u8>, Error>
     ensures { ReturnsText (ListsTable section.now offset) result }
 {
@@ -25,11 +26,11 @@ pub fn abbreviations(mem: Global, section: &[u8], offset: u64) -> Result<Vec<u8>
     Ok(table_text(mem, &table)?.into_bytes())
 }
 
-/// Returns the same lines, if a code of value 0 closes the table.
+/// Returns the lines of [`abbreviations`], if a code of value 0 closes the table.
 ///
 /// # Errors
 ///
-/// That of [`DebugAbbrev::abbreviations_strict`], or `OutOfMemory`.
+/// That of [`DebugAbbrev::abbreviations_strict`], or `OutOfMemory` if memory runs out.
 pub fn abbreviations_strict(mem: Global, section: &[u8], offset: u64) -> Result<Vec<u8>, Error>
     ensures { ReturnsText (ListsStrictTable section.now offset) result }
 {
@@ -79,8 +80,8 @@ fn push_attribute(text: &mut String, attribute: &AttributeSpecification) -> Resu
     }
 }
 
-// The line of an attribute that has names and no value, as nearly all have. Copying the names takes
-// less time than formatting them.
+// The line of an attribute whose numbers have names and that has no value, as nearly all do.
+// Copying the names is faster than formatting them.
 fn push_names(text: &mut String, name: &str, form: &str) -> Result<(), AllocError>
     ensures { OnOk result
         (string_bytes text.new

@@ -13,7 +13,7 @@ use std::{env, io};
 #[cfg(test)]
 pub(crate) mod tests;
 
-// The arguments behind the program's own name, which may be no text.
+// The arguments behind the program's own name, which may not be UTF-8.
 #[derive(Drop)]
 struct BehindName<'env, E: Env>(&'env E);
 
@@ -46,7 +46,7 @@ pub fn command_line<E: Env>(mem: Global, env: &E) -> Result<Vec<String>, Fault>
     }
 }
 
-// The fault of arguments that can't be taken.
+// The error of arguments that can't be read.
 fn fault_of(error: &io::Error) -> Fault
     ensures memory { error_kind error.now ≡ ErrorKind.OutOfMemory
         → result ≡ Fault.Section Error.OutOfMemory }

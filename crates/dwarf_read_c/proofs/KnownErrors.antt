@@ -1,4 +1,4 @@
--- The errors of the definitions have numbers of their own.
+-- The errors that a call for C can return have numbers of their own.
 use Rattle.std.proofs.Common.{◌≡◌, ◌≢◌, ℕ, ◌<◌, List, Result, Err, ap, arith, inl, inr}
 use Rattle.std.proofs.lemmas.Bool.{cases_lt}
 use Rattle.std.specs.Prelude.{IfErr, nat_lt}
@@ -21,40 +21,40 @@ use Rattle.dwarf_read_c.specs.Fault.{IsKnown, kind_of}
 use Rattle.dwarf_read_c.specs.Numbers.{LacksNumber, cut, bad}
 use Rattle.dwarf_read_c.specs.Sets.{LacksSet, set_at, outside as set_outside, faulty as set_faulty}
 
--- the error that refuses a number of a kind has a number of its own
+-- the error for a bad number of a kind has a number of its own
 known_refusal : (k : Kind) → IsKnown (refusal k)
 known_refusal unsigned64 = omega arith
 known_refusal unsigned16 = omega arith
 known_refusal signed64 = omega arith
 
--- of a number
+-- the error of bytes that begin with no number has a number of its own
 pub known_number : {k : Kind} {bytes : List ℕ} {e : Error} → LacksNumber k bytes e → IsKnown e
 known_number (cut is) = omega arith
 known_number {k} (bad is) = known_refusal k
 
 -- ---- layouts
 
--- bytes that are missing
+-- the error for missing bytes has a number of its own
 known_end : (position : ℕ) → IsKnown (eof position)
 known_end position = omega arith
 
--- each error that a layout names has a number of its own
+-- each error that a layout contains has a number of its own
 abbrev NamesKnown : {A : Type 0} → Layout A → Type 0
 NamesKnown f = Names IsKnown f
 
--- the answer for a string is a value or an error with a number of its own
+-- the error of a lookup of a string has a number of its own
 pub known_string :
     (section : Input) (offset : ℕ) (answer : Result Input Error) → StringAt section offset answer →
     IfErr answer IsKnown
 unfolding StringAt string_at
 known_string section offset answer is = At_error_has IsKnown known_end (string_at offset) (tt, λ _. tt) section is
 
--- so it is with the bytes in front of a slot
+-- each error on the way to a slot has a number of its own
 to_slot_known : (greatest : ℕ) (s : Slot) → NamesKnown (to_slot greatest s)
 unfolding to_slot
 to_slot_known greatest s = (tt, λ _. (check_names IsKnown _ _ (omega arith), λ _. tt))
 
--- with a word
+-- each error of a word has a number of its own
 word_known : (greatest : ℕ) (s : Slot) → NamesKnown (word greatest s)
 unfolding word string_offset
 word_known greatest s = (
@@ -62,13 +62,13 @@ word_known greatest s = (
   λ _. (number_names IsKnown s.width, λ n. (check_names IsKnown _ _ (omega arith), λ _. tt)),
 )
 
--- the answer for a word is a value or an error with a number of its own
+-- the error of a lookup of a word has a number of its own
 pub known_word :
     (greatest : ℕ) (s : Slot) (section : Input) (answer : Result ℕ Error) → WordAt greatest section s answer →
     IfErr answer IsKnown
 known_word greatest s section answer is = At_error_has IsKnown known_end (word greatest s) (word_known greatest s) section is
 
--- with an address
+-- each error of an address has a number of its own
 address_known : (greatest : ℕ) (s : Slot) → NamesKnown (address greatest s)
 unfolding address
 address_known greatest s = (
@@ -76,14 +76,14 @@ address_known greatest s = (
   λ _. (check_names IsKnown _ _ (omega arith), λ _. number_names IsKnown s.width),
 )
 
--- the answer for an address is a value or an error with a number of its own
+-- the error of a lookup of an address has a number of its own
 pub known_address :
     (greatest : ℕ) (s : Slot) (section : Input) (answer : Result ℕ Error) → AddressAt greatest section s answer →
     IfErr answer IsKnown
 known_address greatest s section answer is =
     At_error_has IsKnown known_end (address greatest s) (address_known greatest s) section is
 
--- the lengths of both formats, and a reserved one
+-- an initial length behind its first four bytes: that of either format, or a reserved one
 abbrev short_length : ℕ → Layout (Format × ℕ)
 short_length short = pure (Dwarf32, short)
 
@@ -93,15 +93,15 @@ long_length = fixed 8 >>= λ long. pure (Dwarf64, long)
 abbrev reserved : ℕ → Layout (Format × ℕ)
 reserved short = refuse (UnknownReservedLength short)
 
--- what a reserved length is has a number
+-- the error for a reserved length has a number of its own
 reserved_known : (short : ℕ) → NamesKnown (reserved short)
 reserved_known short = omega arith
 
--- the long one names no error
+-- the length behind the mark of the 64-bit format contains no error
 long_length_known : NamesKnown long_length
 long_length_known = (number_names IsKnown 8, λ long. tt)
 
--- so it is with an initial length
+-- each error of an initial length has a number of its own
 initial_length_known : NamesKnown initial_length
 unfolding initial_length
 initial_length_known = (
@@ -112,7 +112,7 @@ initial_length_known = (
       (reserved_known short) long_length_known),
 )
 
--- with the header of a set of addresses
+-- each error of the header of a set of addresses has a number of its own
 address_header_known : NamesKnown address_header
 unfolding address_header
 address_header_known = (
@@ -133,7 +133,7 @@ address_header_known = (
   ),
 )
 
--- with the header of a set of string offsets
+-- each error of the header of a set of string offsets has a number of its own
 string_offsets_header_known : NamesKnown string_offsets_header
 unfolding string_offsets_header
 string_offsets_header_known = (
@@ -141,59 +141,59 @@ string_offsets_header_known = (
   λ version. (check_names IsKnown _ _ (omega arith), λ _. (number_names IsKnown 2, λ padding. tt)),
 )
 
--- with a set, if it is so with the header
+-- each error of a set has a number of its own, if each error of its header has
 set_known : {H : Type 0} (header : Layout H) (offset : ℕ) → NamesKnown header → NamesKnown (set_at header offset)
 unfolding set
 set_known header offset law =
     (initial_length_known, λ initial. (check_names IsKnown _ _ (omega arith), λ _. (tt, λ unit. (law, λ said. tt))))
 
--- the error where no set is there has a number of its own, where those of its header have
+-- the error in place of a set has a number of its own, if each error of the header has
 lacked_set_known : {H : Type 0} {header : Layout H} {section : Input} {offset : ℕ} {e : Error} → NamesKnown header
     → LacksSet header section offset e → IsKnown e
 lacked_set_known law (set_outside past) = omega arith
 lacked_set_known {header = header} {offset = offset} law (set_faulty e some fails) =
     error_has IsKnown known_end (set_at header offset) (set_known header offset law) _ fails
 
--- where no set of addresses is there
+-- the error in place of a set of addresses has a number of its own
 pub known_address_set :
     {section : Input} {offset : ℕ} {e : Error} → LacksSet address_header section offset e → IsKnown e
 known_address_set lacks = lacked_set_known address_header_known lacks
 
--- where no set of string offsets is there
+-- the error in place of a set of string offsets has a number of its own
 pub known_str_offset_set :
     {section : Input} {offset : ℕ} {e : Error} → LacksSet string_offsets_header section offset e → IsKnown e
 known_str_offset_set lacks = lacked_set_known string_offsets_header_known lacks
 
 -- ---- tables
 
--- the fault of a declaration that breaks off or goes wrong has a number of its own
-known_faulty : {end : ℕ} {bytes : List ℕ} {e : Error} → IsFaulty end bytes e → IsKnown e
-known_faulty (number_cut front bytes k begins is) = omega arith
-known_faulty (number_bad front bytes k begins is) = known_refusal k
-known_faulty (children_cut front code tag head) = omega arith
-known_faulty (tag_zero front tag rest code is_code is_tag) = omega arith
-known_faulty (children_bad front rest code tag byte head above) = omega arith
-known_faulty (name_zero front name form rest d f is_front is_name is_form some) = omega arith
-known_faulty (form_zero front name form rest d n is_front is_name some is_form) = omega arith
+-- the error of bytes that begin like a declaration has a number of its own
+known_declaration_error : {end : ℕ} {bytes : List ℕ} {e : Error} → IsFaulty end bytes e → IsKnown e
+known_declaration_error (number_cut front bytes k begins is) = omega arith
+known_declaration_error (number_bad front bytes k begins is) = known_refusal k
+known_declaration_error (children_cut front code tag head) = omega arith
+known_declaration_error (tag_zero front tag rest code is_code is_tag) = omega arith
+known_declaration_error (children_bad front rest code tag byte head above) = omega arith
+known_declaration_error (name_zero front name form rest d f is_front is_name is_form some) = omega arith
+known_declaration_error (form_zero front name form rest d n is_front is_name some is_form) = omega arith
 
--- the first fault of bytes that begin with no table has a number of its own
-known_fault : {end : ℕ} {bytes : List ℕ} {e : Error} → IsFault end bytes e → IsKnown e
-known_fault (in_declaration bytes rest ds e are some is) = known_faulty is
-known_fault (repeated bytes declaration rest ds d are is there) = omega arith
+-- the first error of bytes that don't begin with a table has a number of its own
+known_first_error : {end : ℕ} {bytes : List ℕ} {e : Error} → IsFault end bytes e → IsKnown e
+known_first_error (in_declaration bytes rest ds e are some is) = known_declaration_error is
+known_first_error (repeated bytes declaration rest ds d are is there) = omega arith
 
--- the answer for a section and an offset is a table or an error with a number of its own
+-- the error that a section has at an offset, in place of a table, has a number of its own
 known_answer :
     {section : Input} {offset : ℕ} {answer : Result Table Error} → Answer section offset answer →
     IfErr answer IsKnown
 known_answer (table_outside past) = omega arith
 known_answer (table t within is) = tt
-known_answer (fault e within is) = known_fault is
+known_answer (fault e within is) = known_first_error is
 
--- an error without a number of its own is not want of memory
-no_want : (e : Error) → 19 < kind_of e → e ≢ OutOfMemory
-no_want e above same = let number : kind_of e ≡ 18 = ap kind_of same in omega arith
+-- an error without a number of its own isn't `OutOfMemory`
+no_memory_error : (e : Error) → 19 < kind_of e → e ≢ OutOfMemory
+no_memory_error e above same = let number : kind_of e ≡ 18 = ap kind_of same in omega arith
 
--- of a table; want of memory has a number too
+-- the error that a call returns in place of a table has a number of its own, also `OutOfMemory`
 pub known_table : (section : Input) (offset : ℕ) (e : Error) → Answers (Err e) section offset → IsKnown e
 known_table section offset e answers =
-    elim (cases_lt 19 (kind_of e)) [ inl above ↦ known_answer (answers (no_want e above)) | inr known ↦ known ]
+    elim (cases_lt 19 (kind_of e)) [ inl above ↦ known_answer (answers (no_memory_error e above)) | inr known ↦ known ]

@@ -1,4 +1,4 @@
--- Bytes that are refused as a number begin with none.
+-- Bytes that are read as an error, in place of a number, begin with no number.
 use Rattle.std.proofs.Common.{◌≡◌, ℕ, ◌+◌, List, length, sym, ap, subst, ◌∙◌, arith, inl, inr, false}
 use Rattle.dwarf_read_core.specs.declared.Error.{Error}
 use Rattle.dwarf_read_core.specs.Faults.{eof}
@@ -7,7 +7,7 @@ use Rattle.dwarf_read_core.specs.Leb128.{Kind, RefusesNumber}
 use Rattle.dwarf_read_c.specs.Numbers.{LacksNumber, cut, bad}
 use Rattle.dwarf_read_c.specs.Sections.{section_of}
 
--- the error of a refused reading says what is wrong with the bytes
+-- the error of reading a number is the one that the bytes have in its place
 pub lacks_number :
     (k : Kind) (bytes : List ℕ) (e : Error) (new : Input) → RefusesNumber k (section_of bytes false) e new →
     LacksNumber k bytes e

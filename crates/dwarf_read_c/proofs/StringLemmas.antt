@@ -1,4 +1,4 @@
--- A string that is found is a part of its section.
+-- A string that was found is a part of its section.
 use Rattle.std.proofs.Common.{◌≡◌, ℕ, ◌+◌, ◌∷◌, List, length, take, drop, Ok, sym, subst}
 use Rattle.std.proofs.Math.Seq.{take-append_seam}
 use Rattle.dwarf_read_core.specs.Input.{Input}
@@ -6,7 +6,7 @@ use Rattle.dwarf_read_core.specs.Strings.{StringAt}
 use Rattle.dwarf_read_core.proofs.lookups.Strings.{IsText, string-is_text}
 use Rattle.dwarf_read_c.specs.Sections.{part_of}
 
--- it is the part of its length at the offset
+-- a string that was found is the part of its length at the offset
 found_is_part : (section : Input) (offset : ℕ) {found : Input} → StringAt section offset (Ok found)
     → found ≡ part_of section offset (length found.bytes)
 found_is_part section offset {found} is = λ i. record {
@@ -21,7 +21,7 @@ found_is_part section offset {found} is = λ i. record {
     bytes : found.bytes ≡ take (length found.bytes) (drop offset section.bytes)
     bytes = sym (rw text.parts (take-append_seam found.bytes (0 ∷ text.rest)))
 
--- so that part is the string
+-- the part of the section at the offset and of the found length is the string there
 pub part_is_string :
     (section : Input) (offset : ℕ) (found : Input) → StringAt section offset (Ok found) →
     StringAt section offset (Ok (part_of section offset (length found.bytes)))

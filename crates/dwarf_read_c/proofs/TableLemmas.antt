@@ -1,4 +1,4 @@
--- Declarations that are laid out one after the other, and the places behind them.
+-- Declarations that are written one after the other, and the places behind them.
 use Rattle.std.proofs.Common.{◌≡◌, ℕ, suc, ◌+◌, ◌<◌, ◌≤◌, List, [], ◌∷◌, ◌++◌, length, take, drop, map, refl, sym, ap, ◌∙◌, append_assoc, arith, get_or, add-one}
 use Rattle.std.proofs.Math.ListN.{set}
 use Rattle.std.proofs.Math.Seq.{drop-cons, set-append_seam}
@@ -11,7 +11,7 @@ use Rattle.dwarf_read_c.specs.declared.tables.DwarfAttribute.{DwarfAttribute}
 use Rattle.dwarf_read_c.specs.declared.tables.DwarfAbbreviation.{DwarfAbbreviation}
 use Rattle.dwarf_read_c.specs.Tables.{abbreviation_of, attribute_of, laid_from}
 
--- how many attributes declarations have
+-- how many attributes declarations have together
 abbrev pub attributes_count : List Declaration → ℕ
 attributes_count ds = sum_by (λ d. length d.attributes) ds
 
@@ -19,7 +19,7 @@ attributes_count ds = sum_by (λ d. length d.attributes) ds
 pub values_len : (by_code : ByCode) → length (values by_code) ≡ len by_code
 values_len by_code = length-map (entries by_code) (λ e. e.1) ∙ sym (len-entries by_code)
 
--- a write behind the items so far
+-- writing one more item behind those so far fills one more place
 pub set_next :
     {A : Type 0} (items old now : List A) (n : ℕ) (x : A) → n ≡ length items → n < length old →
     now ≡ items ++ drop n old → set now n x ≡ (items ++ x ∷ []) ++ drop (n + 1) old
@@ -30,7 +30,7 @@ set_next items old now n x counted within is =
     let apart : (items ++ x ∷ []) ++ drop (n + 1) old ≡ items ++ x ∷ drop (suc n) old = rw (append_assoc, add-one) in
     moved ∙ set-append_seam items (get_or old n x) (drop (suc n) old) x ∙ sym apart
 
--- one declaration more
+-- one more declaration is one more abbreviation, whose attributes begin behind the others
 pub laid_next :
     (first : ℕ) (ds : List Declaration) (d : Declaration) →
     laid_from first (ds ++ d ∷ []) ≡ laid_from first ds ++ abbreviation_of (first + attributes_count ds) d ∷ []
@@ -44,12 +44,12 @@ laid_next first (x ∷ ds) d =
     (laid_next (first + length x.attributes) ds d
     ∙ ap (λ (n : ℕ). laid_from (first + length x.attributes) ds ++ abbreviation_of n d ∷ []) counted)
 
--- the abbreviations that are laid out from an index on are as many as the declarations
+-- declarations are as many abbreviations
 pub length-laid_from : (first : ℕ) (ds : List Declaration) → length (laid_from first ds) ≡ length ds
 length-laid_from first [] = refl
 length-laid_from first (d ∷ ds) = ap suc (length-laid_from (first + length d.attributes) ds)
 
--- where a declaration is left, fewer are done than the table has
+-- if a declaration is left, fewer are done than the table has
 pub less_done :
     (by_code : ByCode) (done left rest : List Declaration) (d : Declaration) → done ++ left ≡ values by_code →
     left ≡ d ∷ rest → length done < len by_code
@@ -58,7 +58,7 @@ less_done by_code done left rest d split next =
     ∙ values_len by_code in
     omega (arith, all, length-append done (d ∷ rest))
 
--- so there is a place for it
+-- if a declaration is left, there is a place for it
 pub index_fits :
     (by_code : ByCode) (done left rest : List Declaration) (d : Declaration) (index now old : ℕ) →
     done ++ left ≡ values by_code → left ≡ d ∷ rest → index ≡ length done → len by_code ≤ old → now ≡ old →
@@ -66,7 +66,7 @@ pub index_fits :
 index_fits by_code done left rest d index now old split next indexed room same =
     omega (arith, less_done by_code done left rest d split next)
 
--- its attributes are counted
+-- the attributes of a declaration are counted with those before it
 pub count_next :
     (done : List Declaration) (d : Declaration) (first n : ℕ) → first ≡ attributes_count done →
     n ≡ length d.attributes → first + n ≡ attributes_count (done ++ d ∷ [])
@@ -75,13 +75,13 @@ count_next done d first n counted is =
     ≡ attributes_count done + (length d.attributes + attributes_count []) = rw (sum_by-append, sum_by-cons) in
     omega (arith, parts)
 
--- a declaration is done
+-- one more declaration of the table is done
 pub split_next :
     (done left rest all : List Declaration) (d : Declaration) → done ++ left ≡ all → left ≡ d ∷ rest →
     (done ++ d ∷ []) ++ rest ≡ all
 split_next done left rest all d split next = append_assoc done (d ∷ []) rest ∙ ap (λ l. done ++ l) (sym next) ∙ split
 
--- the abbreviation of a declaration is written behind those so far
+-- the abbreviation of the next declaration is written behind those so far
 pub abbreviation_next :
     (done : List Declaration) (d : Declaration) (old now : List DwarfAbbreviation) (index first : ℕ) →
     index ≡ length done → first ≡ attributes_count done → index < length old →
@@ -95,7 +95,7 @@ abbreviation_next done d old now index first indexed counted within is =
     ∙ ap (λ (n : ℕ). laid_from 0 done ++ abbreviation_of n d ∷ []) (sym begins) in
     placed ∙ ap (λ l. l ++ drop (index + 1) old) (sym laid)
 
--- an attribute is written behind those so far
+-- the next attribute is written behind those so far
 pub attribute_next :
     (attributes : List Specification) (old now : List DwarfAttribute) (i : ℕ) (s : Specification) (x : DwarfAttribute) →
     i < length attributes → length attributes ≡ length old → s ≡ get_or attributes i s → x ≡ attribute_of s →

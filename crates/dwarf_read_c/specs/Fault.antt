@@ -1,11 +1,11 @@
--- How C sees an error: by its number, and the position or the value that it carries.
+-- How C sees an error: its number, and the position or value that it carries.
 use Rattle.std.specs.Prelude.{◌≡◌, ◌==◌, ◌^◌, ◌≤◌, ℕ, List, [], ◌∷◌, Option, Some, None, nat_lt, option_and_then, if◌then◌else◌}
 use Rattle.std.specs.Map.{lookup}
 use Rattle.dwarf_read_core.specs.declared.Error.{Error}
 use Rattle.dwarf_read_core.specs.declared.Error.TheVariants.{UnexpectedEof, BadUnsignedLeb128, BadSignedLeb128, AbbreviationTagZero, InvalidAbbreviationChildren, AttributeNameZero, AttributeFormZero, DuplicateAbbreviationCode, UnknownReservedLength, UnsupportedOffset, UnknownVersion, UnsupportedAddressSize, UnsupportedSegmentSize, UnsupportedOffsetSize, BadUtf8, AddressOverflow, UnsupportedRegister, OutOfMemory, UnterminatedAbbreviations}
 use Rattle.dwarf_read_c.specs.declared.fault.DwarfFault.{DwarfFault}
 
--- the number of an error; the errors of the layers above have one number
+-- the number of an error; all errors of higher layers have the same number
 abbrev pub kind_of : Error → ℕ
 kind_of (UnexpectedEof _) = 1
 kind_of BadUnsignedLeb128 = 2
@@ -49,7 +49,7 @@ fault_of error = record { kind = kind_of error; value = value_of error }
 abbrev pub IsKnown : Error → Type 0
 IsKnown error = kind_of error ≤ 19
 
--- a call returns an error of which this holds: the status is its number, and `fault` has its number and value
+-- a call returns an error with the property: the status is its number, and `fault` has its number and value
 pub record Refuses (Is : Error → Type 0) (status : ℕ) (fault : DwarfFault) : Type 0 where
   pub error : Error
   pub is : Is error
@@ -57,11 +57,11 @@ pub record Refuses (Is : Error → Type 0) (status : ℕ) (fault : DwarfFault) :
   pub numbered : status ≡ kind_of error
   pub told : fault ≡ fault_of error
 
--- an error with a value, which has to be below the bound
+-- the error with a value, if the value is below a bound
 abbrev pub with_value_below : ℕ → (ℕ → Error) → ℕ → Option Error
 with_value_below bound error value = if nat_lt value bound then Some (error value) else None
 
--- each number, and the error that it means with a value
+-- each number, and the error that it means with a value, if there is one
 unfoldable pub numbered_errors : List (ℕ × (ℕ → Option Error))
 numbered_errors =
     (1, λ value. Some (UnexpectedEof (record { 0 = value }))) ∷

@@ -11,7 +11,7 @@ pub data LacksNumber (k : Kind) (bytes : List ℕ) : Error → Type 0 where
   cut : IsCut k bytes → LacksNumber k bytes (eof (length bytes))
   bad : IsBad k bytes → LacksNumber k bytes (refusal k)
 
--- the shortest bytes of a number are put in front, and how many they are is written
+-- the shortest bytes of a number are written to the front, and their count is written
 pub record PutsShortest (k : Kind) (number : Number k) (old new : List ℕ) (len status : ℕ) : Type 0 where
   pub bytes : List ℕ
   pub shortest : IsShortest k number bytes

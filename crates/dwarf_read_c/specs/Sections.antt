@@ -6,13 +6,13 @@ use Rattle.dwarf_read_core.specs.Input.{Input}
 abbrev pub section_of : List ℕ → Bool → Input
 section_of bytes is_big = record { bytes = bytes; position = 0; is_big = is_big }
 
--- so many bytes from an offset on
+-- a part of a section: so many bytes from an offset on
 abbrev pub part_of : Input → ℕ → ℕ → Input
 part_of section offset len = record section {
   bytes = take len (drop offset section.bytes);
   position = section.position + offset;
 }
 
--- how many bytes an offset has
+-- how many bytes a string offset has
 abbrev pub offset_size : Bool → ℕ
 offset_size is_64 = if is_64 then 8 else 4

@@ -21,13 +21,13 @@ pub record HasSet {H : Type 0} (header : Layout H) (section : Input) (offset nex
   pub reads : read (set_at header offset) (after offset section) ≡ Ok (s, behind)
   pub ends : next + length behind.bytes ≡ length section.bytes
 
--- no set is there: the offset is past the end, or the bytes from there on begin with no set
+-- no set is at the offset: it is past the end, or the bytes from there on don't begin with a set
 pub data LacksSet {H : Type 0} (header : Layout H) (section : Input) (offset : ℕ) : Error → Type 0 where
   outside : length section.bytes < offset → LacksSet header section offset (end_fault section)
   faulty : (e : Error) → offset < length section.bytes
       → read (set_at header offset) (after offset section) ≡ Err e → LacksSet header section offset e
 
--- a set with its entries, and where the next one may begin
+-- a set as C sees it, with its entries and where the next set may begin
 abbrev pub shown : {H : Type 0} → Set H → Entries → ℕ → DwarfSet
 shown s entries next = record {
   next = next;
@@ -37,14 +37,14 @@ shown s entries next = record {
   entry_size = entries.width;
 }
 
--- C is told of a set that begins at an offset, and of its entries
+-- what is written for C describes a set that begins at an offset, and its entries
 pub record TellsSet {H : Type 0} (header : Layout H) (entries_of : Set H → Entries) (section : Input) (offset : ℕ)
     (told : DwarfSet) : Type 0 where
   pub s : Set H
   pub has : HasSet header section offset told.next s
   pub is : told ≡ shown s (entries_of s) told.next
 
--- a set whose header has four bytes, by its offset, its format, its length, and the size of its entries
+-- a set whose header has four bytes, by its offset, format, length and size of entries
 abbrev pub set_from : ℕ → Format → ℕ → ℕ → DwarfSet
 set_from offset format unit_length entry_size = record {
   next = offset + initial_length_size format + unit_length;

@@ -7,12 +7,12 @@ use Rattle.dwarf_read_c.specs.declared.tables.DwarfAbbreviation.{DwarfAbbreviati
 use Rattle.dwarf_read_c.specs.declared.tables.DwarfAttribute.{DwarfAttribute}
 use Rattle.dwarf_read_c.specs.declared.tables.DwarfMeasure.{DwarfMeasure}
 
--- 1 for true
+-- 1 for true, and 0 for false
 abbrev pub bit_of : Bool → ℕ
 bit_of true = 1
 bit_of false = 0
 
--- how many declarations and attributes a table has, and how it is closed
+-- how many declarations and attributes a table has, and what closes it
 abbrev pub measure_of : Table → DwarfMeasure
 measure_of t = record {
   abbreviations = len t.by_code;
@@ -34,22 +34,22 @@ abbreviation_of first d = record {
   attribute_count = length d.attributes;
 }
 
--- declarations, whose attributes follow one another from this index on
+-- declarations whose attributes follow each other from this index on
 abbrev pub laid_from : ℕ → List Declaration → List DwarfAbbreviation
 laid_from first [] = []
 laid_from first (d ∷ ds) = abbreviation_of first d ∷ laid_from (first + length d.attributes) ds
 
--- the declarations of a table by rising code
+-- the declarations of a table, in the order of their codes
 abbrev pub abbreviations_of : Table → List DwarfAbbreviation
 abbreviations_of t = laid_from 0 (values t.by_code)
 
--- their attributes, one after the other
+-- the attributes of declarations, one after the other
 abbrev pub attributes_in : List Declaration → List DwarfAttribute
 attributes_in ds = flat_map (λ d. map attribute_of d.attributes) ds
 
 abbrev pub attributes_of : Table → List DwarfAttribute
 attributes_of t = attributes_in (values t.by_code)
 
--- there are fewer places for abbreviations or for attributes than the table has of them
+-- there are fewer places for abbreviations, or for attributes, than the table has
 abbrev pub LacksRoom : DwarfMeasure → ℕ → ℕ → Type 0
 LacksRoom measure abbreviations attributes = (abbreviations < measure.abbreviations) ⊎ (attributes < measure.attributes)

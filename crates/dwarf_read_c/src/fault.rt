@@ -1,4 +1,4 @@
-//! Errors, as numbers.
+//! Errors as numbers.
 
 ghost use Rattle.std.specs.Prelude.{◌≡◌, ◌<◌};
 ghost use Rattle.dwarf_read_c.specs.Fault.{fault_of, kind_of};
@@ -16,7 +16,7 @@ pub struct DwarfFault {
     pub value: u64,
 }
 
-// The error by its number and its value. The header has the list of the numbers.
+// Returns the number and the value of an error. The header has the list of numbers.
 fn fault_of(error: Error) -> DwarfFault
     ensures told { result ≡ fault_of error }
     ensures refused { 0 < result.kind }

@@ -1,10 +1,10 @@
-//! The lowest layer of DWARF reading, for programs in C, C++ and Rust: `include/dwarf_read.h`
-//! declares these functions, and says what a caller has to promise.
+//! The lowest layer of DWARF reading, for programs in C, C++ and Rust. `include/dwarf_read.h`
+//! declares these functions, and says what a caller has to make sure of.
 //!
 //! A call returns [`DWARF_OK`](status::DWARF_OK), or a status that says why it failed. The caller
-//! owns all memory: a call reads the bytes that it is given and writes to the places that it is
-//! given, and no call returns a pointer. Offsets and positions are counted in bytes from the first
-//! byte that is given.
+//! owns all memory: a call reads the bytes that are passed and writes to the places that are
+//! passed, and no call returns a pointer. Offsets and positions are counted in bytes from the first
+//! byte that is passed.
 
 #![tactic(auto)]
 

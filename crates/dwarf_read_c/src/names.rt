@@ -11,9 +11,10 @@ use crate::room::put;
 use crate::status::DWARF_NO_NAME;
 use dwarf_read_core::{DwAt, DwForm, DwTag};
 
-/// Writes the name of a tag, as `DW_TAG_label`, to the front of `name`, with no zero byte behind it.
-/// `len` is how many bytes the name has. If `name` has no room for them, only `len` is written, and the
-/// call returns `DWARF_NO_ROOM`. It returns `DWARF_NO_NAME` if no constant has this value.
+/// Writes the name of a tag, such as `DW_TAG_label`, to the front of `name`, without a zero byte
+/// behind it. `len` is the number of its bytes. If `name` has no room for them, only `len` is
+/// written, and the call returns `DWARF_NO_ROOM`. It returns `DWARF_NO_NAME` if no constant has
+/// this value.
 #[unsafe(no_mangle)]
 pub extern "C" fn dwarf_tag_name(tag: u16, name: &mut [u8], len: &mut usize) -> u32
     ensures named { PutsName (name_of tag_names tag) name.old name.new len.old len.new result }
@@ -21,7 +22,7 @@ pub extern "C" fn dwarf_tag_name(tag: u16, name: &mut [u8], len: &mut usize) -> 
     put_name(DwTag(tag).static_string(), name, len)
 }
 
-/// Writes the name of an attribute, as `DW_AT_name`; otherwise as [`dwarf_tag_name`].
+/// Writes the name of an attribute, such as `DW_AT_name`; otherwise like [`dwarf_tag_name`].
 #[unsafe(no_mangle)]
 pub extern "C" fn dwarf_attribute_name(attribute: u16, name: &mut [u8], len: &mut usize) -> u32
     ensures named { PutsName (name_of attribute_names attribute)
@@ -30,7 +31,7 @@ pub extern "C" fn dwarf_attribute_name(attribute: u16, name: &mut [u8], len: &mu
     put_name(DwAt(attribute).static_string(), name, len)
 }
 
-/// Writes the name of a form, as `DW_FORM_string`; otherwise as [`dwarf_tag_name`].
+/// Writes the name of a form, such as `DW_FORM_string`; otherwise like [`dwarf_tag_name`].
 #[unsafe(no_mangle)]
 pub extern "C" fn dwarf_form_name(form: u16, name: &mut [u8], len: &mut usize) -> u32
     ensures named { PutsName (name_of form_names form) name.old name.new len.old len.new result }
@@ -38,7 +39,7 @@ pub extern "C" fn dwarf_form_name(form: u16, name: &mut [u8], len: &mut usize) -
     put_name(DwForm(form).static_string(), name, len)
 }
 
-// Writes a name to the front of the places, if there is one and there is room for it.
+// Writes a name to the front of the places, if there is a name and room for it.
 fn put_name(found: Option<&'static str>, places: &mut [u8], len: &mut usize) -> u32
     ensures { PutsName (option_map (λ s. s.now) found.entry)
         places.old places.new len.old len.new result }

@@ -11,8 +11,8 @@ use crate::status::DWARF_OK;
 use dwarf_read_core::leb128::write::Leb128;
 use dwarf_read_core::{EndianSlice, LittleEndian, Reader};
 
-/// Reads the unsigned number of at most 64 bits, in at most ten bytes, that `bytes` begin with.
-/// Bytes may follow it. `len` is how many the number has.
+/// Reads the unsigned number of at most 64 bits, in at most ten bytes, at the front of `bytes`.
+/// More bytes may follow it. `len` is how many bytes the number has.
 ///
 /// # Errors
 ///
@@ -42,8 +42,8 @@ pub extern "C" fn dwarf_uleb128(
     }
 }
 
-/// Reads the signed number of at most 64 bits, in at most ten bytes, that `bytes` begin with. Bytes
-/// may follow it. `len` is how many the number has.
+/// Reads the signed number of at most 64 bits, in at most ten bytes, at the front of `bytes`. More
+/// bytes may follow it. `len` is how many bytes the number has.
 ///
 /// # Errors
 ///
@@ -74,8 +74,8 @@ pub extern "C" fn dwarf_sleb128(
     }
 }
 
-/// Writes the shortest bytes of an unsigned number to the front of `bytes`. `len` is how many they
-/// are, from 1 to 10. If `bytes` has no room for them, only `len` is written, and the call returns
+/// Writes the shortest bytes of an unsigned number to the front of `bytes`. `len` is their count,
+/// from 1 to 10. If `bytes` has no room for them, only `len` is written, and the call returns
 /// `DWARF_NO_ROOM`.
 #[unsafe(no_mangle)]
 pub extern "C" fn dwarf_uleb128_write(value: u64, bytes: &mut [u8], len: &mut usize) -> u32
@@ -86,8 +86,8 @@ pub extern "C" fn dwarf_uleb128_write(value: u64, bytes: &mut [u8], len: &mut us
     put(number.bytes(), bytes)
 }
 
-/// Writes the shortest bytes of a signed number to the front of `bytes`. `len` is how many they are,
-/// from 1 to 10. If `bytes` has no room for them, only `len` is written, and the call returns
+/// Writes the shortest bytes of a signed number to the front of `bytes`. `len` is their count, from
+/// 1 to 10. If `bytes` has no room for them, only `len` is written, and the call returns
 /// `DWARF_NO_ROOM`.
 #[unsafe(no_mangle)]
 pub extern "C" fn dwarf_sleb128_write(value: i64, bytes: &mut [u8], len: &mut usize) -> u32

@@ -14,8 +14,8 @@ use dwarf_read_core::{
     DebugStrOffsetsBase, DebugStrOffsetsIndex, EndianSlice, Format, LittleEndian, RunTimeEndian,
 };
 
-/// Finds the string at `offset` of `.debug_str` or `.debug_line_str`: `len` bytes from the offset on,
-/// which a zero byte follows.
+/// Finds the string at `offset` of `.debug_str` or `.debug_line_str`: `len` bytes from the offset
+/// on, followed by a zero byte.
 ///
 /// # Errors
 ///
@@ -45,8 +45,8 @@ pub extern "C" fn dwarf_string(
     }
 }
 
-/// Reads the string offset at `index`, from 0, of those that follow one another from `base` on in
-/// `.debug_str_offsets`. Each has eight bytes if `is_64` is set, and else four.
+/// Reads the string offset at `index`, counted from 0, of those that follow each other from `base`
+/// on in `.debug_str_offsets`. Each has eight bytes if `is_64` is set, and four otherwise.
 ///
 /// # Errors
 ///
@@ -92,7 +92,7 @@ pub extern "C" fn dwarf_str_offset(
     }
 }
 
-/// Reads the address at `index`, from 0, of those that follow one another from `base` on in
+/// Reads the address at `index`, counted from 0, of those that follow each other from `base` on in
 /// `.debug_addr`. Each has `size` bytes.
 ///
 /// # Errors
@@ -132,7 +132,7 @@ pub extern "C" fn dwarf_address(
     }
 }
 
-// The byte order.
+// The byte order that a caller passes.
 pub(crate) fn order(is_big: bool) -> RunTimeEndian
     ensures { is_big_at_run_time result ≡ is_big }
 {

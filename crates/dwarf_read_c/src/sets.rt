@@ -25,11 +25,11 @@ pub struct DwarfSet {
     pub next: usize,
     /// How many bytes of the set follow its initial length.
     pub unit_length: usize,
-    /// The offset of its first entry.
+    /// The offset of the set's first entry.
     pub first_entry: usize,
     /// How many bytes a word of the set's format has: 4 or 8.
     pub word_size: u8,
-    /// How many bytes an entry has: 1, 2, 4 or 8. A string offset has those of a word.
+    /// How many bytes an entry has: 1, 2, 4 or 8. A string offset has as many as a word.
     pub entry_size: u8,
 }
 
@@ -46,12 +46,12 @@ pub struct DwarfSet {
 /// - 1 (`UnexpectedEof`) at 0 if `offset` is past the end;
 /// - 1 at `offset` if fewer than four bytes follow;
 /// - 9 (`UnknownReservedLength`) if those four are reserved;
-/// - 1 behind them if they are followed by a length of eight bytes, and fewer follow;
-/// - 1 behind the length if fewer bytes follow, or the set has no room for the version;
-/// - 11 (`UnknownVersion`) for another version than 5;
-/// - 1 at the address size or the segment size if the set ends before;
-/// - 12 (`UnsupportedAddressSize`) for another size than 1, 2, 4 or 8;
-/// - 13 (`UnsupportedSegmentSize`) for another size than 0.
+/// - 1 behind them if they announce a length of eight bytes, and fewer follow;
+/// - 1 behind the length if fewer bytes follow, or if the set ends before the version;
+/// - 11 (`UnknownVersion`) if the version isn't 5;
+/// - 1 at the address size or the segment size if the set ends before it;
+/// - 12 (`UnsupportedAddressSize`) if the address size isn't 1, 2, 4 or 8;
+/// - 13 (`UnsupportedSegmentSize`) if the segment size isn't 0.
 #[unsafe(no_mangle)]
 #[tactic(auto, using(crate::proofs::KnownErrors::known_address_set))]
 pub extern "C" fn dwarf_address_set(
@@ -93,10 +93,10 @@ pub extern "C" fn dwarf_address_set(
 /// - 1 (`UnexpectedEof`) at 0 if `offset` is past the end;
 /// - 1 at `offset` if fewer than four bytes follow;
 /// - 9 (`UnknownReservedLength`) if those four are reserved;
-/// - 1 behind them if they are followed by a length of eight bytes, and fewer follow;
-/// - 1 behind the length if fewer bytes follow, or the set has no room for the version;
-/// - 11 (`UnknownVersion`) for another version than 5;
-/// - 1 behind the version if the set has no room for two bytes of padding.
+/// - 1 behind them if they announce a length of eight bytes, and fewer follow;
+/// - 1 behind the length if fewer bytes follow, or if the set ends before the version;
+/// - 11 (`UnknownVersion`) if the version isn't 5;
+/// - 1 behind the version if the set ends before the two bytes of padding.
 #[unsafe(no_mangle)]
 #[tactic(auto, using(crate::proofs::KnownErrors::known_str_offset_set))]
 pub extern "C" fn dwarf_str_offset_set(
@@ -124,7 +124,7 @@ pub extern "C" fn dwarf_str_offset_set(
     }
 }
 
-// The set of addresses at an offset, or none at the section's end.
+// Returns the set of addresses at an offset, or `None` at the section's end.
 fn address_set_at(section: &[u8], is_big: bool, offset: usize) -> Result<Option<DwarfSet>, Error>
     ensures found { let s = section_of section.now is_big in
         IfOk result (λ found. IfSome found (TellsSet address_header addresses_of s offset)) }
@@ -141,7 +141,7 @@ fn address_set_at(section: &[u8], is_big: bool, offset: usize) -> Result<Option<
     }
 }
 
-// The set of string offsets at an offset, or none at the section's end.
+// Returns the set of string offsets at an offset, or `None` at the section's end.
 fn str_offset_set_at(section: &[u8], is_big: bool, offset: usize) -> Result<Option<DwarfSet>, Error>
     ensures found { let s = section_of section.now is_big in IfOk result
         (λ found. IfSome found (TellsSet string_offsets_header string_offsets_of s offset)) }
@@ -159,7 +159,7 @@ fn str_offset_set_at(section: &[u8], is_big: bool, offset: usize) -> Result<Opti
     }
 }
 
-// The bytes of a section from an offset on.
+// Returns the bytes of a section from an offset on.
 fn bytes_from<'input>(
     section: &'input [u8],
     is_big: bool,
@@ -175,7 +175,7 @@ fn bytes_from<'input>(
     Ok(bytes)
 }
 
-// A set whose header has four bytes, as C sees it.
+// Returns a set whose header has four bytes, as C sees it.
 fn set_from(offset: usize, format: Format, unit_length: usize, entry_size: u8) -> DwarfSet
     requires within { offset + initial_length_size format + unit_length < 2 ^ 64 }
     requires header { 4 ≤ unit_length }

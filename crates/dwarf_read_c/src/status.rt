@@ -3,14 +3,14 @@
 /// The call succeeded, and its outputs are written.
 pub const DWARF_OK: u32 = 0;
 
-/// Memory ran out, which is also the number of an error.
+/// Memory ran out. This is also the number of an error.
 pub const DWARF_OUT_OF_MEMORY: u32 = 18;
 
-/// There are more items than the caller has places for. The call has written how many there are, and
-/// nothing else.
+/// There are more items than the caller has places for. The call wrote their count, and nothing
+/// else.
 pub const DWARF_NO_ROOM: u32 = 100;
 
-/// No constant has this value, or no error this number and value. Nothing was written.
+/// No constant has this value, or no error has this number and value. Nothing was written.
 pub const DWARF_NO_NAME: u32 = 101;
 
 /// The offset is the end of the section, so there is nothing to read. Nothing was written.

@@ -16,7 +16,7 @@ use dwarf_read_core::{
 };
 use std::alloc::Global;
 
-/// How large an abbreviation table is, and how it is closed.
+/// How large an abbreviation table is, and what closes it.
 #[repr(C)]
 #[derive(Clone, Copy)]
 pub struct DwarfMeasure {
@@ -32,11 +32,11 @@ pub struct DwarfMeasure {
 #[repr(C)]
 #[derive(Clone, Copy)]
 pub struct DwarfAbbreviation {
-    /// The code by which entries name it. It is not 0.
+    /// The code by which entries refer to it. It is not 0.
     pub code: u64,
     /// The tag of the entries.
     pub tag: u16,
-    /// 1 if an entry is followed by its children, and else 0.
+    /// 1 if an entry is followed by its children, and 0 otherwise.
     pub has_children: u8,
     /// Where its attributes begin among those of the table.
     pub first_attribute: usize,
@@ -50,24 +50,24 @@ pub struct DwarfAbbreviation {
 pub struct DwarfAttribute {
     pub name: u16,
     pub form: u16,
-    /// The value that the table itself has for the form `DW_FORM_implicit_const`. It is 0 for
-    /// another form.
+    /// The value that is in the table itself, if the form is `DW_FORM_implicit_const`. It is 0 for
+    /// all other forms.
     pub implicit_const: i64,
 }
 
 /// Measures the table at `offset` of `.debug_abbrev`: how many abbreviations and attributes it has,
-/// and how it is closed.
+/// and what closes it.
 ///
 /// # Errors
 ///
-/// If the bytes from `offset` on begin with no table, the first error of them:
+/// If the bytes from `offset` on don't begin with a table, their first error:
 ///
 /// - 1 (`UnexpectedEof`) at 0 if `offset` is past the end, and at the section's end if a declaration
 ///   is cut short;
 /// - 2 or 3 (`BadUnsignedLeb128`, `BadSignedLeb128`) for a number that is too long or too large;
 /// - 4 to 7 for a field that no declaration has: a tag of 0, a byte for children other than 0 and 1,
 ///   a name of 0 with a form other than 0, or a form of 0 with another name;
-/// - 8 (`DuplicateAbbreviationCode`) for a whole declaration whose code was there before.
+/// - 8 (`DuplicateAbbreviationCode`) for a whole declaration with the code of an earlier one.
 ///
 /// 18 (`OutOfMemory`) if memory for the table runs out.
 #[unsafe(no_mangle)]
@@ -95,9 +95,9 @@ pub extern "C" fn dwarf_table_measure(
     }
 }
 
-/// Reads the table at `offset` of `.debug_abbrev`: its abbreviations by rising code, and their
-/// attributes, one abbreviation's behind the other's. `measure` is how many of each there are. The
-/// call doesn't change the places behind them.
+/// Reads the table at `offset` of `.debug_abbrev`: its abbreviations in the order of their codes,
+/// and the attributes of all of them in the same order. `measure` is how many of each there are.
+/// The call doesn't change the places behind them.
 ///
 /// If there are fewer places than abbreviations or attributes, only `measure` is written, and the call
 /// returns `DWARF_NO_ROOM`.
@@ -144,7 +144,7 @@ pub extern "C" fn dwarf_table_read(
     DWARF_OK
 }
 
-// The table at an offset, with as many attributes as can be counted.
+// Returns the table at an offset. Its attributes can be counted in a `usize`.
 fn table_at(mem: Global, section: &[u8], offset: usize) -> Result<Abbreviations, Error>
     ensures answer { Answers result (section_of section.now false) offset }
     ensures counted { IfOk result (λ t. attribute_count t.by_code < 2 ^ 64) }
@@ -152,7 +152,7 @@ fn table_at(mem: Global, section: &[u8], offset: usize) -> Result<Abbreviations,
     DebugAbbrev::new(section, LittleEndian).abbreviations(mem, DebugAbbrevOffset(offset))
 }
 
-// How large the table is.
+// Returns how large the table is.
 fn measure_of(table: &Abbreviations) -> DwarfMeasure
     requires { attribute_count table.now.by_code < 2 ^ 64 }
     ensures { result ≡ measure_of table.now }
@@ -168,7 +168,7 @@ fn measure_of(table: &Abbreviations) -> DwarfMeasure
     }
 }
 
-// Writes the abbreviations, by rising code, to the front of the places.
+// Writes the abbreviations, in the order of their codes, to the front of the places.
 fn fill_abbreviations(table: &Abbreviations, places: &mut [DwarfAbbreviation])
     requires room { finite.len table.now.by_code ≤ length places.old }
     requires counted { attribute_count table.now.by_code < 2 ^ 64 }
@@ -189,7 +189,8 @@ fn fill_abbreviations(table: &Abbreviations, places: &mut [DwarfAbbreviation])
     }
 }
 
-// Writes the attributes of all abbreviations, by rising code, to the front of the places.
+// Writes the attributes of all abbreviations, in the order of their codes, to the front of the
+// places.
 fn fill_attributes(table: &Abbreviations, places: &mut [DwarfAttribute])
     requires { attribute_count table.now.by_code ≤ length places.old }
     ensures { Fills (attributes_of table.now) places.old places.new }
@@ -223,7 +224,7 @@ fn attribute_of(attribute: &AttributeSpecification) -> DwarfAttribute
     }
 }
 
-// 1 for true.
+// 1 for true, and 0 for false.
 fn bit_of(is_set: bool) -> u8
     ensures { result ≡ bit_of is_set }
 {

@@ -1,4 +1,4 @@
-//! Each call on worked bytes. Outputs that a call doesn't write stay 7.
+//! Each call on worked bytes. Outputs that a call doesn't write keep the value 7.
 
 use crate::fault::DwarfFault;
 use std::fmt::Debug;
@@ -13,7 +13,7 @@ mod texts;
 
 const SEVEN: DwarfFault = DwarfFault { kind: 7, value: 7 };
 
-// Ends the test if a result isn't the one that is wanted, and says of what it is the result.
+// Asserts equality; `what` names the case if the assertion fails.
 fn same<T: PartialEq + Debug + Drop, W: Debug + Copy>(rt: &impl Abort, got: T, wanted: T, what: W) {
     assert_eq!(rt; got, wanted, "{what:?}");
 }

@@ -11,10 +11,11 @@ use crate::status::{DWARF_NO_NAME, DWARF_OUT_OF_MEMORY};
 use dwarf_read_core::{DwChildren, Error, ReaderOffsetId};
 use std::alloc::Global;
 
-/// Writes the text of an error, such as `unexpected end of input`, to the front of `text`, with no zero byte
-/// behind it. `len` is how many bytes the text has. If `text` has no room for them, only `len` is written,
-/// and the call returns `DWARF_NO_ROOM`. It returns `DWARF_NO_NAME` if no call writes such a number, and
-/// `DWARF_OUT_OF_MEMORY` if memory for the text runs out. Then nothing is written.
+/// Writes the text of an error, such as `unexpected end of input`, to the front of `text`, without
+/// a zero byte behind it. `len` is how many bytes the text has. If `text` has no room for them,
+/// only `len` is written, and the call returns `DWARF_NO_ROOM`. It returns `DWARF_NO_NAME` if no
+/// call returns such a number, and `DWARF_OUT_OF_MEMORY` if memory for the text runs out. Then
+/// nothing is written.
 #[unsafe(no_mangle)]
 pub extern "C" fn dwarf_fault_text(
     mem: Global,
@@ -39,7 +40,7 @@ pub extern "C" fn dwarf_fault_text(
     }
 }
 
-// The error with the number and the value of a fault, if there is one.
+// Returns the error with the number and the value of a `DwarfFault`, if there is one.
 #[tactic(auto, unfolding(crate::specs::Fault::numbered_errors))]
 fn error_of(fault: &DwarfFault) -> Option<Error>
     ensures { result ≡ error_from fault.now.kind fault.now.value }

@@ -1,4 +1,4 @@
--- The one answer for a section and an offset: the table there, or the first error.
+-- The one result that a section has at an offset: the table there, or the first error.
 use Rattle.std.specs.Prelude.{◌≡◌, ◌≢◌, ℕ, ◌<◌, ◌≤◌, ◌⊎◌, List, [], ◌∷◌, ◌++◌, length, drop, Result, Ok, Err, ⊤, if◌then◌else◌}
 use Rattle.dwarf_base_core.specs.declared.error.Error.{Error}
 use Rattle.dwarf_base_core.specs.declared.error.Error.TheVariants.{AbbreviationTagZero, InvalidAbbreviationChildren, AttributeNameZero, AttributeFormZero, DuplicateAbbreviationCode, OutOfMemory, UnterminatedAbbreviations}
@@ -8,7 +8,7 @@ use Rattle.dwarf_reader_core.specs.Input.{Input, end_of}
 use Rattle.dwarf_reader_core.specs.Appended.{IsNoEof}
 use Rattle.dwarf_read_core.specs.Grammar.{Declaration, implicit_const, Table, by_null, is_by_null, IsCode, IsHead, IsFront, IsDeclaration, Declares, AreDeclarations, IsTable}
 
--- a declaration that is cut before a number of this kind
+-- the beginning of a declaration, up to a number of this kind
 pub data IsBeginning : List ℕ → Kind → Type 0 where
   before_code : IsBeginning [] unsigned64
   before_tag : (bytes : List ℕ) (code : ℕ) → IsCode bytes code → IsBeginning bytes unsigned16
@@ -19,7 +19,7 @@ pub data IsBeginning : List ℕ → Kind → Type 0 where
       → IsNumber unsigned16 name n → 0 < n → IsNumber unsigned16 form implicit_const
       → IsBeginning (bytes ++ name ++ form) signed64
 
--- bytes that begin as a declaration and do not go on as one
+-- bytes that begin like a declaration, and then have this error
 pub data IsFaulty (end : ℕ) : List ℕ → Error → Type 0 where
   number_cut : (front bytes : List ℕ) (k : Kind) → IsBeginning front k → IsCut k bytes
       → IsFaulty end (front ++ bytes) (eof end)
@@ -37,7 +37,7 @@ pub data IsFaulty (end : ℕ) : List ℕ → Error → Type 0 where
       → IsNumber unsigned16 name n → 0 < n → IsNumber unsigned16 form 0
       → IsFaulty end (front ++ name ++ form ++ rest) AttributeFormZero
 
--- the first error of bytes that begin with no table
+-- the first error of bytes that don't begin with a table
 pub data IsFault (end : ℕ) : List ℕ → Error → Type 0 where
   in_declaration : (bytes rest : List ℕ) (ds : List Declaration) (e : Error) → AreDeclarations bytes ds → rest ≢ []
       → IsFaulty end rest e → IsFault end (bytes ++ rest) e
@@ -45,7 +45,7 @@ pub data IsFault (end : ℕ) : List ℕ → Error → Type 0 where
       → IsDeclaration declaration d → Declares ds d.code
       → IsFault end (bytes ++ declaration ++ rest) (DuplicateAbbreviationCode d.code)
 
--- the answer for a section and an offset
+-- the result for a section and an offset: the table there, or the first error
 pub data Answer (section : Input) (offset : ℕ) : Result Table Error → Type 0 where
   outside : length section.bytes < offset → Answer section offset (Err (end_fault section))
   table : (t : Table) → offset ≤ length section.bytes → IsTable (drop offset section.bytes) t
@@ -53,42 +53,43 @@ pub data Answer (section : Input) (offset : ℕ) : Result Table Error → Type 0
   fault : (e : Error) → offset ≤ length section.bytes → IsFault (end_of section) (drop offset section.bytes) e
       → Answer section offset (Err e)
 
--- what is returned is the answer, unless memory ran out
+-- what a call returned is the section's result at the offset, unless memory ran out
 abbrev pub Answers : Result Table Error → Input → ℕ → Type 0
 Answers (Ok t) section offset = Answer section offset (Ok t)
 Answers (Err e) section offset = e ≢ OutOfMemory → Answer section offset (Err e)
 
--- an answer that doesn't tell where the section ends
+-- a result that doesn't depend on where the section ends
 abbrev pub IsFinal : Result Table Error → Type 0
 IsFinal (Ok t) = t.close ≡ by_null
 IsFinal (Err e) = IsNoEof e
 
--- the offsets at which an answer needs no memory: outside, at the end, or at a code of value 0
+-- the offsets at which no memory is needed: past the end, at the end, or at a code of value 0
 abbrev pub TakesNoMemory : Input → ℕ → Type 0
 TakesNoMemory section offset =
     (length section.bytes ≤ offset) ⊎ ((zero_code rest : List ℕ) × (drop offset section.bytes ≡ zero_code ++ rest)
     × IsNumber unsigned64 zero_code 0)
 
--- the error that no code of value 0 closes a table, which the section's end at a position does
+-- the error for a table that only the section's end, at this position, closes
 abbrev pub unterminated : ℕ → Error
 unterminated position = UnterminatedAbbreviations (record { 0 = position })
 
--- a strict reading makes an error of a table that only the section's end closes, and changes nothing else
+-- a strict reading returns an error for a table that only the section's end closes, and changes nothing else
 abbrev pub strictly : Input → Result Table Error → Result Table Error
 strictly section (Ok t) = if is_by_null t.close then Ok t else Err (unterminated (end_of section))
 strictly section (Err e) = Err e
 
--- the strict answer for a section and an offset
+-- the strict result for a section and an offset
 abbrev pub StrictAnswer : Input → ℕ → Result Table Error → Type 0
 StrictAnswer section offset strict =
     (answer : Result Table Error) × Answer section offset answer × (strict ≡ strictly section answer)
 
--- what is returned is the strict answer, unless memory ran out
+-- what a call returned is the strict result, unless memory ran out
 abbrev pub AnswersStrictly : Result Table Error → Input → ℕ → Type 0
 AnswersStrictly (Ok t) section offset = StrictAnswer section offset (Ok t)
 AnswersStrictly (Err e) section offset = e ≢ OutOfMemory → StrictAnswer section offset (Err e)
 
--- a strict answer that doesn't tell where the section ends: every table, and every error except these two
+-- a strict result that doesn't depend on where the section ends: every table, and every error except `UnexpectedEof`
+-- and `UnterminatedAbbreviations`
 abbrev pub IsStrictlyFinal : Result Table Error → Type 0
 IsStrictlyFinal (Ok t) = ⊤
 IsStrictlyFinal (Err e) = IsNoEof e × ((position : ℕ) → e ≢ unterminated position)

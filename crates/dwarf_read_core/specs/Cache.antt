@@ -12,20 +12,20 @@ use Rattle.dwarf_read_core.specs.Grammar.{Table, is_by_null}
 use Rattle.dwarf_read_core.specs.declared.read.abbrev.cache.AbbreviationsCacheStrategy.{AbbreviationsCacheStrategy}
 use Rattle.dwarf_read_core.specs.declared.read.abbrev.cache.AbbreviationsCacheStrategy.TheVariants.{Duplicates, All}
 
--- an answer whose table is shared
+-- a result with a shared table, without the sharing
 abbrev pub answer_of : {Z : Type 0} → Result (Rc Table Z) Error → Result Table Error
 answer_of (Ok shared) = Ok shared.value
 answer_of (Err e) = Err e
 
--- the entries of a cache, whose tables are shared
+-- the entries of a cache, without the sharing of their tables
 abbrev pub shown_entries : {Z : Type 0} → List (ℕ × Result (Rc Table Z) Error) → List (ℕ × Result Table Error)
 shown_entries entries = map (λ entry. (entry.0, answer_of entry.1)) entries
 
--- the answers by offset
+-- the results that a cache keeps, by offset
 abbrev pub Cache : Type 0
 Cache = finite.FinMap nat_cmp (Result Table Error)
 
--- no `OutOfMemory` is kept
+-- the cache keeps no `OutOfMemory`
 abbrev pub KeepsNoWant : Cache → Type 0
 KeepsNoWant cache = (key : ℕ) → finite.get cache key ≢ Some (Err OutOfMemory)
 
@@ -38,22 +38,22 @@ least_count All = 1
 abbrev pub occurrences : ℕ → List ℕ → ℕ
 occurrences key offsets = count_by (λ offset. offset == key) offsets
 
--- exactly the offsets that occur often enough are kept, each with its answer
+-- exactly the offsets that occur often enough are kept, each with the section's result
 abbrev pub KeepsAnswers : ℕ → Input → List ℕ → (ℕ → Option (Result Table Error)) → Type 0
 KeepsAnswers least section offsets kept =
     (key : ℕ) → MatchOption (kept key) (occurrences key offsets < least)
     (λ answer. (least ≤ occurrences key offsets) × Answer section key answer)
 
--- each kept answer is that of the section
+-- each result that the cache keeps is that of the section
 abbrev pub IsFaithful : Cache → Input → Type 0
 IsFaithful cache section = (key : ℕ) → IfSome (finite.get cache key) (Answer section key)
 
--- nothing, or an error that is not `OutOfMemory`
+-- what comes behind the items: nothing, or an error that isn't `OutOfMemory`
 abbrev pub EndsItems : {T : Type 0} → Option (Result T Error) → Type 0
 EndsItems None = ⊤
 EndsItems (Some item) = MatchResult item (λ _. ⊥) (λ e. e ≢ OutOfMemory)
 
--- calls of `next` gave these items, each as an `Ok`, and then the end or a first error
+-- calls of `next` returned these items, each as an `Ok`, and then the end or a first error
 pub record GivesBeforeError {S T : Type 0} (steps : S → Option (Result T Error) → S → Type 0) (from : S)
     (items : List T) : Type 0 where
   pub last : Option (Result T Error)
@@ -74,21 +74,21 @@ pub record NamesOffsets {S T : Type 0} (steps : S → Option (Result T Error) �
   pub given : GivesBeforeError steps from items
   pub numbers : offsets ≡ map number items
 
--- a kept result is returned as it is, except that memory to share a table may run out; a kept error isn't
+-- a kept table is returned shared, unless memory to share it runs out; a kept error is returned unchanged, and isn't
 -- `OutOfMemory`
 abbrev pub HandsOut : {Z : Type 0} → Result Table Error → Result (Rc Table Z) Error → Type 0
 HandsOut kept result =
     MatchResult kept (λ table. MatchResult result (λ shared. shared.value ≡ table) (λ e. e ≡ OutOfMemory))
     (λ e. (result ≡ Err e) × (e ≢ OutOfMemory))
 
--- whether appended bytes leave an answer as it is: a table that a code of value 0 closes, or an error except
+-- whether appended bytes leave a result unchanged: a table that a code of value 0 closes, or an error except
 -- `UnexpectedEof`
 abbrev pub is_final : Result Table Error → Bool
 is_final (Ok t) = is_by_null t.close
 is_final (Err (UnexpectedEof _)) = false
 is_final (Err _) = true
 
--- what remains of an entry once the section has grown
+-- what a cache keeps of an entry once the section has grown
 abbrev pub still_kept : Option (Result Table Error) → Option (Result Table Error)
 still_kept None = None
 still_kept (Some answer) = if is_final answer then Some answer else None

@@ -8,20 +8,20 @@ use Rattle.dwarf_base_core.specs.Format.{word_size}
 use Rattle.dwarf_read_core.specs.Grammar.{Specification, Declaration, implicit_const}
 use Rattle.dwarf_read_core.specs.Sets.{SetOf}
 
--- the same name, form and value, if no value counts as 0
+-- equal names, forms and values, where a missing value counts as 0
 abbrev pub same_specification : Specification → Specification → Bool
 same_specification =
     eq_of_both (on (λ s. s.name) ◌==◌) (eq_of_both (on (λ s. s.form) ◌==◌)
     (on (λ s. unwrap_or s.value (pos 0)) int_eq))
 
--- the same code, tag, children and specifications
+-- equal codes, tags, children and specifications
 abbrev pub same_declaration : Declaration → Declaration → Bool
 same_declaration =
     eq_of_both (on (λ d. d.children) beq)
     (eq_of_both (on (λ d. d.code) ◌==◌) (eq_of_both (on (λ d. d.tag) ◌==◌)
     (on (λ d. d.attributes) (pointwise same_specification))))
 
--- a value is there exactly behind the form that has one, as in each `AttributeSpecification`
+-- a specification has a value exactly if its form has one in the table, as in each `AttributeSpecification`
 abbrev pub HasValueByForm : Specification → Type 0
 HasValueByForm s = IsSome s.value ↔ (s.form ≡ implicit_const)
 
@@ -38,14 +38,14 @@ same_declaration_equiv =
     (and_equiv (on_equiv (λ (d : Declaration). d.tag) nat_eq_equiv)
     (on_equiv (λ (d : Declaration). d.attributes) (lists_equiv same_specification_equiv))))
 
--- a header that says nothing is equal to any other
+-- headers without content are equal
 abbrev pub same_unit : Unit {0} → Unit {0} → Bool
 same_unit one other = true
 
 pub same_unit_equiv : IsEquivalence same_unit
 same_unit_equiv = record { refl = λ x. refl; symm = λ x y. refl; congr = λ x y z p. refl }
 
--- the same place, length and format, the same header, and equal entries
+-- equal offsets, lengths, formats, headers and entries
 abbrev pub same_set : {H E : Type 0} → (H → H → Bool) → (E → E → Bool) → SetOf H E → SetOf H E → Bool
 same_set same_header same_entries =
     eq_of_both (on (λ s. s.offset) ◌==◌)

@@ -4,14 +4,15 @@ use Rattle.std.specs.Map.{lookup}
 use Rattle.dwarf_base_core.specs.Format.{word_size}
 use Rattle.dwarf_base_core.specs.declared.common.Encoding.{Encoding}
 
--- the address size, a word of the format, or the one that DWARF 2 gave to references between units
+-- so many bytes, the address size, a word of the format, or the size of `DW_FORM_ref_addr`: in version 2 the address
+-- size, and later a word
 pub data Size : Type 0 where
   Bytes : ℕ → Size
   Address : Size
   Word : Size
   Reference : Size
 
--- each form whose value has a size, and that size
+-- each form whose values have a size, and that size
 unfoldable pub form_sizes : List (ℕ × Size)
 form_sizes =
     -- DW_FORM_addr
@@ -78,7 +79,7 @@ form_sizes =
     (0x1f21, Word) ∷
     []
 
--- the size in an encoding
+-- the number of bytes of a size in an encoding
 abbrev pub size_in : Encoding → Option Size → Option ℕ
 size_in e None = None
 size_in e (Some (Bytes n)) = Some n
@@ -86,6 +87,6 @@ size_in e (Some Address) = Some e.address_size
 size_in e (Some Word) = Some (word_size e.format)
 size_in e (Some Reference) = Some (if e.version == 2 then e.address_size else word_size e.format)
 
--- how many bytes a value of the form has
+-- how many bytes a value of the form has in an encoding
 abbrev pub form_size : ℕ → Encoding → Option ℕ
 form_size form e = size_in e (lookup (λ f. f == form) form_sizes)

@@ -1,4 +1,5 @@
--- Reading from the front, by functions: what is read and the bytes behind it, or the first error.
+-- Functions that read tables from the front of bytes. Each returns what it read and the bytes behind it, or the first
+-- error.
 use Rattle.std.specs.Prelude.{◌≡◌, ◌≢◌, ℕ, zero, suc, ◌+◌, Bool, true, false, ℤ, List, [], ◌∷◌, length, Option, Some, None, Result, Ok, Err, nat_lt, ◌==◌, if◌then◌else◌}
 use Rattle.std.specs.FinMap.{contains_key, insert}
 use Rattle.dwarf_base_core.specs.declared.error.Error.{Error}
@@ -12,7 +13,7 @@ abbrev pub ◌>>=◌ : {A B : Type 0} → Result A Error → (A → Result B Err
 (Ok x) >>= f = f x
 (Err e) >>= f = Err e
 
--- what a function returned, seen by view, is what reading gives, unless memory ran out
+-- what a call returned, seen by a view, is what the function reads, unless memory ran out
 abbrev pub Gives : {X Y : Type 0} → (X → Y) → Result X Error → Result Y Error → Type 0
 Gives view (Ok x) read = read ≡ Ok (view x)
 Gives view (Err e) read = e ≢ OutOfMemory → read ≡ Err e
@@ -21,7 +22,7 @@ abbrev pub with_byte : ℕ → Option (List ℕ × List ℕ) → Option (List �
 with_byte b None = None
 with_byte b (Some x) = Some (b ∷ x.0, x.1)
 
--- the bytes up to the first below 128, of at most so many, and the bytes behind
+-- the bytes up to the first one below 128, at most n of them, and the bytes behind
 unfoldable pub encoding_at : ℕ → List ℕ → Option (List ℕ × List ℕ)
 encoding_at zero bytes = None
 encoding_at (suc n) [] = None
@@ -46,7 +47,7 @@ children_at end (b ∷ bytes) =
     if b == 0 then Ok (false, bytes) else if b == 1 then Ok (true, bytes) else Err
     (InvalidAbbreviationChildren (record { 0 = b }))
 
--- the value behind a form
+-- the value behind a form, if the form has one in the table
 unfoldable pub value_at : ℕ → ℕ → List ℕ → Result (Option ℤ × List ℕ) Error
 value_at end form bytes =
     if form == implicit_const then (number_at signed64 end bytes >>= λ v. Ok (Some v.0, v.1)) else Ok (None, bytes)
@@ -68,7 +69,7 @@ abbrev pub and_others : Option Specification → List ℕ → Result (List Speci
 and_others None bytes others = Ok ([], bytes)
 and_others (Some s) bytes others = others >>= λ x. Ok (s ∷ x.0, x.1)
 
--- specifications up to the null one, of fewer than so many bytes
+-- specifications up to the null one, of fewer than n bytes
 unfoldable pub attributes_at : ℕ → ℕ → List ℕ → Result (List Specification × List ℕ) Error
 attributes_at zero end bytes = Err (eof end)
 attributes_at (suc n) end bytes =
@@ -82,7 +83,7 @@ abbrev pub declaration_of : ℕ → ℕ → Bool → List Specification → Decl
 declaration_of code tag children attributes =
     record { code = code; tag = tag; children = children; attributes = attributes }
 
--- what is behind a code
+-- the rest of a declaration, behind its code
 unfoldable pub declared_at : ℕ → ℕ → List ℕ → Result (Declaration × List ℕ) Error
 declared_at end code bytes = do
   tag ← tag_at end bytes
@@ -90,7 +91,7 @@ declared_at end code bytes = do
   attributes ← attributes_in end children.1
   Ok (declaration_of code tag.0 children.0 attributes.0, attributes.1)
 
--- a declaration, or None if the table ends
+-- a declaration, or None if the table ends there
 unfoldable pub declaration_at : ℕ → List ℕ → Result (Option Declaration × List ℕ) Error
 declaration_at end bytes =
     if length bytes == 0 then Ok (None, bytes) else
@@ -105,13 +106,13 @@ and_declared close t None others = Ok (closed t close)
 and_declared close t (Some d) others =
     if contains_key t d.code then Err (DuplicateAbbreviationCode d.code) else others (insert t d.code d)
 
--- the declarations at the front of fewer than so many bytes, beside those of a table
+-- the declarations at the front of fewer than n bytes, added to those of a table
 unfoldable pub table_at : ℕ → ℕ → ByCode → List ℕ → Result Table Error
 table_at zero end t bytes = Err (eof end)
 table_at (suc n) end t bytes =
     declaration_at end bytes >>= λ first. and_declared (close_of bytes) t first.0
     (λ more. table_at n end more first.1)
 
--- the declarations at the front, beside those of a table
+-- the declarations at the front of the bytes, added to those of a table
 unfoldable pub table_in : ℕ → ByCode → List ℕ → Result Table Error
 table_in end t bytes = table_at (length bytes + 1) end t bytes

@@ -4,13 +4,13 @@ use Rattle.dwarf_read_core.specs.Grammar.{Declaration}
 use Rattle.dwarf_read_core.specs.declared.read.abbrev.TableEntry.{TableEntry}
 use Rattle.dwarf_read_core.specs.declared.read.abbrev.TableEntry.TheVariants.{Declared, NullCode, End}
 
--- the declaration, if it is one
+-- the declaration of an entry, if it has one
 abbrev pub declared_in : TableEntry → Option Declaration
 declared_in (Declared d) = Some d
 declared_in NullCode = None
 declared_in End = None
 
--- a code of value 0 has bytes, and the end has none
+-- what closes a table at these bytes: a code of value 0 if there are bytes, and the end if there are none
 abbrev pub ClosesAt : List ℕ → TableEntry → Type 0
 ClosesAt bytes (Declared d) = ⊤
 ClosesAt bytes NullCode = bytes ≢ []

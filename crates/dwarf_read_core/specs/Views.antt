@@ -19,7 +19,7 @@ specification_view a =
       value = if a.form.0 == implicit_const then Some a.implicit_const_value else None;
     }
 
--- with no value the field is 0
+-- an attribute without a value has 0 in the field for the value
 abbrev pub IsCanonical : Inside → Type 0
 IsCanonical a = a.form.0 ≢ implicit_const → a.implicit_const_value ≡ pos 0
 
@@ -48,16 +48,16 @@ abbrev pub abbreviation_view : abbreviation.Inside → Declaration
 abbreviation_view a =
     record { code = a.code; tag = a.tag.0; children = a.has_children.0 == 1; attributes = a.attributes.items }
 
--- declarations by the codes from one on
+-- declarations with the codes from k on
 abbrev pub numbered : ℕ → List Declaration → List (ℕ × Declaration)
 numbered code [] = []
 numbered code (d ∷ ds) = (code, d) ∷ numbered (suc code) ds
 
--- those of a vector, by the codes from 1 on, and those of a map behind them
+-- the declarations of a vector with the codes from 1 on, and then those of a map
 abbrev pub entries_of : List Declaration → List (ℕ × Declaration) → List (ℕ × Declaration)
 entries_of ds es = numbered 1 ds ++ es
 
--- a table in memory, by its vector, its map and what closed it
+-- the table that a vector, a map and a close represent
 abbrev pub abbreviations_view : abbreviations.Inside → Table
 abbreviations_view a = closed (from_entries (entries_of a.vec.items a.map.entries)) (close_from a.closed_by_null)
 

@@ -17,27 +17,27 @@ pub record Slot : Type 0 where
 abbrev pub slot : ℕ → ℕ → ℕ → Slot
 slot base index width = record { base = base; index = index; width = width }
 
--- how far its first byte lies behind the base
+-- how many bytes behind the base the slot begins
 abbrev pub distance : Slot → ℕ
 distance s = s.index * s.width
 
--- the offset of its first byte
+-- the offset of the slot's first byte
 abbrev pub place : Slot → ℕ
 place s = s.base + distance s
 
--- the place lies in the section, or is its end, and the distance is an offset
+-- the slot begins in the section or at its end, and its distance from the base is an offset
 pub record IsPlaced (greatest : ℕ) (section : Input) (s : Slot) : Type 0 where
   pub based : s.base ≤ length section.bytes
   pub counted : distance s ≤ greatest
   pub within : place s ≤ length section.bytes
 
--- the whole slot lies in the section, and its bytes are the number x
+-- the whole slot is in the section, and its bytes encode the number x
 pub record Holds (section : Input) (s : Slot) (x : ℕ) : Type 0 where
   pub within : place s + s.width ≤ length section.bytes
   pub is : x ≡ number_of section.is_big (take s.width (drop (place s) section.bytes))
 
--- a section has no place for a slot: the base is past its end, or the distance is no offset, or the place is past the
--- end
+-- a section has no place for a slot: the base is past the end, the distance is too great for an offset, or the place
+-- is past the end
 pub data HasNoPlace (greatest : ℕ) (section : Input) (s : Slot) : Error → Type 0 where
   no_base : length section.bytes < s.base → HasNoPlace greatest section s (end_fault section)
   no_distance : s.base ≤ length section.bytes → greatest < distance s
@@ -45,7 +45,7 @@ pub data HasNoPlace (greatest : ℕ) (section : Input) (s : Slot) : Error → Ty
   no_place : s.base ≤ length section.bytes → distance s ≤ greatest → length section.bytes < place s
       → HasNoPlace greatest section s (end_fault (after s.base section))
 
--- a section has no word at a slot: no place for it, or too few bytes there, or a number that is no offset
+-- a section has no word at a slot: it has no place for it, too few bytes there, or a number too great for an offset
 pub data HasNoWord (greatest : ℕ) (section : Input) (s : Slot) : Error → Type 0 where
   word_unplaced : {e : Error} → HasNoPlace greatest section s e → HasNoWord greatest section s e
   word_cut : IsPlaced greatest section s → length section.bytes < place s + s.width
@@ -53,7 +53,7 @@ pub data HasNoWord (greatest : ℕ) (section : Input) (s : Slot) : Error → Typ
   word_too_great : (x : ℕ) → IsPlaced greatest section s → Holds section s x → greatest < x
       → HasNoWord greatest section s UnsupportedOffset
 
--- a section has no address at a slot: no place for it, or a width that is no size of addresses, or too few bytes there
+-- a section has no address at a slot: it has no place for it, addresses don't have its width, or bytes are missing
 pub data HasNoAddress (greatest : ℕ) (section : Input) (s : Slot) : Error → Type 0 where
   address_unplaced : {e : Error} → HasNoPlace greatest section s e → HasNoAddress greatest section s e
   address_unsized : IsPlaced greatest section s → is_number_size s.width ≡ false
@@ -62,19 +62,18 @@ pub data HasNoAddress (greatest : ℕ) (section : Input) (s : Slot) : Error → 
       → length section.bytes < place s + s.width
       → HasNoAddress greatest section s (end_fault (after (place s) section))
 
--- the bytes in front of the slot: those before the base, and behind it so many as the distance, which has to be an
--- offset
+-- the bytes in front of the slot: those before the base, and then as many as the distance, which has to be an offset
 unfoldable pub to_slot : ℕ → Slot → Layout Input
 to_slot greatest s = do
   based ← part s.base
   counted ← check (nat_le (distance s) greatest) UnsupportedOffset
   part (distance s)
 
--- the section has no such place: the first error
+-- the section has no place for the slot, with this first error
 abbrev pub Misplaced : ℕ → Input → Slot → Error → Type 0
 Misplaced greatest section s e = read (to_slot greatest s) section ≡ Err e
 
--- the word of a slot, which has to be an offset
+-- the word of a slot, which has to fit the offset type
 unfoldable pub word : ℕ → Slot → Layout ℕ
 word greatest s = to_slot greatest s >>= λ reached. string_offset greatest s.width
 

@@ -22,14 +22,14 @@ pub use dwarf_reader_core::laws::{
     exactly_one_outcome, exactly_one_shortest, no_encoding_begins_another, written_is_read,
 };
 
-/// Every section has exactly one answer at every offset: a table, or the first error.
+/// Every section has exactly one result at every offset: a table, or the first error.
 #[tactic(auto, using(crate::proofs::tables::ExactlyOneAnswer::answer_exactly_one))]
 pub fn exactly_one_answer()
     ensures { (section : Input) (offset : ℕ) → HasOne (Answer section offset) }
 {}
 
-/// Every section has exactly one strict answer at every offset. It doesn't change when bytes are
-/// appended, unless it tells of the section's end.
+/// Every section has exactly one strict result at every offset. Appended bytes don't change it,
+/// unless it depends on where the section ends.
 #[tactic(auto, using(crate::proofs::tables::StrictAnswers::strict_answer_exactly_one, crate::proofs::tables::StrictAnswers::strict_answer_more))]
 pub fn exactly_one_strict_answer()
     ensures one { (section : Input) (offset : ℕ) → HasOne (StrictAnswer section offset) }
@@ -38,7 +38,7 @@ pub fn exactly_one_strict_answer()
         → StrictAnswer (followed_by section more) offset answer }
 {}
 
-/// An answer that doesn't tell of the section's end is the answer whatever bytes are appended.
+/// Appended bytes don't change a result that doesn't depend on where the section ends.
 #[tactic(auto, using(crate::proofs::tables::AppendedBytes::answer_more))]
 pub fn appended_bytes_change_nothing()
     ensures { (section : Input) (more : List ℕ) (offset : ℕ) (answer : Result Table Error)
@@ -46,8 +46,8 @@ pub fn appended_bytes_change_nothing()
         → Answer (followed_by section more) offset answer }
 {}
 
-/// A strategy, a section and offsets determine what a cache keeps: at each offset its one answer, or
-/// nothing.
+/// A strategy, a section and offsets determine what a cache keeps: at each offset its one result,
+/// or nothing.
 pub fn exactly_one_cache()
     ensures some { (least : ℕ) (section : Input) (offsets : List ℕ)
         → (kept : ℕ → Option (Result Table Error)) × KeepsAnswers least section offsets kept }
@@ -89,9 +89,10 @@ pub fn exactly_one_address()
     ensures { (greatest : ℕ) (section : Input) (s : Slot) → HasOne (AddressAt greatest section s) }
 {}
 
-/// The string offset at a slot is the number that its bytes are, and so is the address at a slot. The
-/// bytes are so many as the width of the slot, from `base + index * width` on. If there is none, the
-/// error is that of the first thing that is missing or too great, with its position.
+/// The string offset at a slot is the number that its bytes encode, and so is the address at a
+/// slot. These are as many bytes as the width of the slot, from `base + index * width` on. Without
+/// such a number, the error is that of the first thing that is missing or too great, with its
+/// position.
 #[tactic(auto, using(crate::proofs::lookups::Words::word_held, crate::proofs::lookups::Words::address_held, crate::proofs::lookups::SlotErrors::word_none, crate::proofs::lookups::SlotErrors::address_none))]
 pub fn slots_hold_numbers()
     ensures word { (greatest : ℕ) (section : Input) (s : Slot) (x : ℕ)
@@ -129,7 +130,7 @@ pub fn exactly_one_range()
 {}
 
 /// The bytes that remain of a section have exactly one list of sets of addresses, and then at most
-/// one error. A set has at least eight bytes, and an error is at one byte or more.
+/// one error. A set has at least eight bytes, and an error takes up at least one byte.
 pub fn exactly_one_list_of_sets()
     ensures one { (greatest : ℕ) (headers : Headers)
         → HasOne (StandsForAddressSets greatest headers) }
@@ -139,7 +140,7 @@ pub fn exactly_one_list_of_sets()
 {}
 
 /// The bytes that remain of a section have exactly one list of sets of string offsets, and then at
-/// most one error. A set has at least eight bytes, and an error is at one byte or more.
+/// most one error. A set has at least eight bytes, and an error takes up at least one byte.
 pub fn exactly_one_list_of_offset_sets()
     ensures one { (greatest : ℕ) (headers : Headers)
         → HasOne (StandsForStringOffsetSets greatest headers) }
@@ -149,7 +150,7 @@ pub fn exactly_one_list_of_offset_sets()
         → sum_by (least_taken 8) items ≤ length headers.rest.bytes }
 {}
 
-/// A set that is read is the front of the bytes, and the rest remains.
+/// A set that is read is at the front of the bytes, and the rest remains.
 pub fn sets_are_fronts()
     ensures addresses { (greatest offset : ℕ) (old new : Input) (s : Set ℕ)
         → read (set address_header greatest offset) old ≡ Ok (s, new)
@@ -159,8 +160,8 @@ pub fn sets_are_fronts()
         → (count : ℕ) × Takes count old new }
 {}
 
-/// The bytes of a set that is read are those of its initial length, of its header and of its entries,
-/// one behind the other, and the rest remains. The length of the set is that of header and entries.
+/// The bytes of a set that is read are those of its initial length, its header and its entries,
+/// joined, and the rest remains. The length of the set is that of header and entries.
 pub fn sets_are_joined()
     ensures addresses { (greatest offset : ℕ) (old new : Input) (s : Set ℕ)
         → read (set address_header greatest offset) old ≡ Ok (s, new) → IsJoined old s new }
@@ -169,7 +170,7 @@ pub fn sets_are_joined()
 {}
 
 /// The bytes that remain of a set have exactly one list of addresses, and then at most one error.
-/// An address has as many bytes as its size, and an error is at one byte or more.
+/// An address has as many bytes as its size, and an error takes up at least one byte.
 #[tactic(auto, using(crate::proofs::sets::Entries::addresses_exactly_one, crate::proofs::sets::Entries::addresses_bounded))]
 pub fn exactly_one_list_of_entries()
     ensures one { (entries : Entries) → 0 < entries.width → HasOne (StandsForAddresses entries) }
@@ -179,7 +180,7 @@ pub fn exactly_one_list_of_entries()
 {}
 
 /// The bytes that remain of a set have exactly one list of string offsets, and then at most one
-/// error. An offset has as many bytes as a word, and an error is at one byte or more.
+/// error. An offset has as many bytes as a word, and an error takes up at least one byte.
 #[tactic(auto, using(crate::proofs::sets::Entries::string_offsets_exactly_one, crate::proofs::sets::Entries::string_offsets_bounded))]
 pub fn exactly_one_list_of_string_offsets()
     ensures one { (greatest : ℕ) (entries : Entries) → 0 < entries.width
@@ -189,8 +190,8 @@ pub fn exactly_one_list_of_string_offsets()
         → sum_by (least_taken entries.width) items ≤ length entries.rest.bytes }
 {}
 
-/// The first set of addresses stays first when bytes are appended. So does a first error, unless it
-/// is an `UnexpectedEof`.
+/// The first set of addresses stays the first when bytes are appended. So does a first error,
+/// unless it is an `UnexpectedEof`.
 pub fn appended_bytes_change_no_set()
     ensures set { (greatest : ℕ) (headers : Headers) (s : Set ℕ)
         (items others : List (Result (Set ℕ) Error)) (more : List ℕ)
@@ -202,8 +203,8 @@ pub fn appended_bytes_change_no_set()
         → StandsForAddressSets greatest (followed_headers more headers) (Err e ∷ []) }
 {}
 
-/// The first set of string offsets stays first when bytes are appended. So does a first error, unless
-/// it is an `UnexpectedEof`.
+/// The first set of string offsets stays the first when bytes are appended. So does a first error,
+/// unless it is an `UnexpectedEof`.
 pub fn appended_bytes_change_no_offset_set()
     ensures set { (greatest : ℕ) (headers : Headers) (s : Set (Unit {0}))
         (items others : List (Result (Set (Unit {0})) Error)) (more : List ℕ)

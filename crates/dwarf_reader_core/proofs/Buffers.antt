@@ -4,13 +4,13 @@ use Rattle.std.proofs.lemmas.List.{take_more_set, drop-set-lt, drop-drop, drop-r
 use Rattle.dwarf_reader_core.proofs.Shortest.{IsSpelled, IsEncoding-from}
 use Rattle.dwarf_reader_core.specs.Shortest.{IsPadded}
 
--- a buffer with a free place: zeros stand from there on
+-- a buffer has a free place, and all places from there on are zeros
 pub record HasRoom (bytes : List ℕ) (len : ℕ) : Type 0 where
   pub places : length bytes ≡ 10
   pub room : len < 10
   pub zeros : drop len bytes ≡ replicate (10 - len) 0
 
--- behind one byte more there are zeros still
+-- the places behind one more byte are still zeros
 zeros-more : (bytes : List ℕ) (len b : ℕ) → HasRoom bytes len
     → drop (len + 1) (set bytes len b) ≡ replicate (10 - (len + 1)) 0
 zeros-more bytes len b has_room =
@@ -26,18 +26,18 @@ HasRoom-more bytes len b has_room more = record {
   zeros = zeros-more bytes len b has_room;
 }
 
--- the bytes so far end with the one that was placed last
+-- the bytes so far, with one more byte placed behind them, end with that byte
 pub take-placed : (bytes : List ℕ) (len b : ℕ) → HasRoom bytes len
     → take (len + 1) (set bytes len b) ≡ take len bytes ++ b ∷ []
 take-placed bytes len b has_room = take_more_set bytes len b (rw has_room.places has_room.room)
 
--- so they do with others behind them
+-- the bytes so far, one more byte placed behind them and a tail are joined in that order
 pub take-placed-append : (bytes : List ℕ) (len b : ℕ) (tail : List ℕ) → HasRoom bytes len
     → take (len + 1) (set bytes len b) ++ tail ≡ take len bytes ++ b ∷ tail
 take-placed-append bytes len b tail has_room =
     ap (λ front. front ++ tail) (take-placed bytes len b has_room) ∙ append_assoc (take len bytes) (b ∷ []) tail
 
--- the last byte of an encoding is placed
+-- the buffer is padded once the last byte of an encoding is placed
 pub IsPadded-last : (bytes : List ℕ) (len b : ℕ) → HasRoom bytes len → IsSpelled (take len bytes ++ b ∷ [])
     → IsPadded record { bytes = set bytes len b; len = len + 1 }
 IsPadded-last bytes len b has_room spelled = record {

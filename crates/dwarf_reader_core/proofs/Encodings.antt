@@ -7,12 +7,12 @@ use Rattle.std.proofs.lemmas.List.{length-take-le}
 use Rattle.dwarf_reader_core.proofs.Bits.{pow_digits}
 use Rattle.dwarf_reader_core.specs.Leb128.{IsEncoding, NoneIsLast, unsigned_value, is_negative, is_in_range, signed64}
 
--- one more byte that isn't the last
+-- bytes of which none is the last of an encoding, and one more with a continuation bit, have no last one either
 pub NoneIsLast-push : (xs : List ℕ) (b : ℕ) → NoneIsLast xs → 128 ≤ b → NoneIsLast (xs ++ b ∷ [])
 NoneIsLast-push [] b none h = (h, tt)
 NoneIsLast-push (x ∷ xs) b none h = (none.0, NoneIsLast-push xs b none.1 h)
 
--- the last byte completes the encoding
+-- bytes of which none is the last, and a byte below 128, are an encoding
 pub IsEncoding-push : (xs : List ℕ) (b : ℕ) → NoneIsLast xs → b < 128 → IsEncoding (xs ++ b ∷ [])
 IsEncoding-push [] b none h = h
 IsEncoding-push (x ∷ []) b none h = (none.0, h)
@@ -24,18 +24,18 @@ IsEncoding-last [] b encoding = encoding
 IsEncoding-last (x ∷ []) b encoding = encoding.1
 IsEncoding-last (x ∷ y ∷ xs) b encoding = IsEncoding-last (y ∷ xs) b encoding.1
 
--- one more digit
+-- one more byte adds its digit to the value of bytes, at the place behind them
 pub unsigned_value-push : (xs : List ℕ) (b : ℕ)
     → unsigned_value (xs ++ b ∷ []) ≡ unsigned_value xs + b % 128 * 128 ^ length xs
 unsigned_value-push [] b = omega arith
 unsigned_value-push (x ∷ xs) b = rw pow-suc (omega (arith, unsigned_value-push xs b))
 
--- digits are worth less than the next place
+-- the value of n bytes is below 128 ^ n
 pub unsigned_value-lt : (xs : List ℕ) → unsigned_value xs < 128 ^ length xs
 unsigned_value-lt [] = omega arith
 unsigned_value-lt (x ∷ xs) = omega (arith, unsigned_value-lt xs, pow-suc 128 (length xs))
 
--- an encoding ends past bytes of which none is the last
+-- an encoding at the front is longer than bytes at the front of which none is the last
 pub past_none : (bytes : List ℕ) (k n : ℕ) → k ≤ length bytes → NoneIsLast (take k bytes)
     → IsEncoding (take n bytes) → k < n
 past_none bytes zero zero enough none encoding = absurd encoding
@@ -47,30 +47,30 @@ past_none (b ∷ []) (suc k) (suc (suc n)) enough none encoding = absurd (omega 
 past_none (b ∷ c ∷ bs) (suc k) (suc (suc n)) enough none encoding =
     omega (arith, past_none (c ∷ bs) k (suc n) (omega arith) none.1 encoding.1)
 
--- n digits are worth less than a place from n on
+-- the value of n bytes is below each place from n on
 pub worth_below : (bytes : List ℕ) (n m : ℕ) → n ≤ length bytes → n ≤ m → unsigned_value (take n bytes) < 2 ^ (7 * m)
 worth_below bytes n m enough within =
     let below = unsigned_value-lt (take n bytes) in
     let places : 128 ^ n ≤ 128 ^ m = pow-le-pow_right {n = 128} (lit< tt) within in
     rw pow_digits (omega (arith, rw (length-take-le n bytes enough) at below, places))
 
--- the last byte has the sign
+-- bytes are negative if their last byte has the sign bit
 pub is_negative-push : (xs : List ℕ) (b : ℕ) → is_negative (xs ++ b ∷ []) ≡ nat_le 64 (b % 128)
 is_negative-push [] b = refl
 is_negative-push (x ∷ []) b = refl
 is_negative-push (x ∷ y ∷ xs) b = is_negative-push (y ∷ xs) b
 
--- an i64 is in the range of its kind
+-- each i64 is in the range of signed numbers of 64 bits
 pub in_range_i64 : (v : ℤ) → FitsSigned w64 v → IsTrue (is_in_range signed64 v)
 in_range_i64 (pos n) fits = le-leb n (2 ^ 63 - 1) (omega (arith, fits.sfits))
 in_range_i64 (negsuc n) fits = rw (le-leb n (2 ^ 63 - 1) (omega (arith, fits.sfits))) refl
 
--- a number in the range of the kind is an i64
+-- each number in the range of signed numbers of 64 bits is an i64
 pub fits_i64 : (v : ℤ) → IsTrue (is_in_range signed64 v) → FitsSigned w64 v
 fits_i64 (pos n) has = record { sfits = grind (arith, nat_tests) }
 fits_i64 (negsuc n) has = record { sfits = grind (arith, nat_tests) }
 
--- no encoding begins another
+-- no encoding is the beginning of another
 pub same_encoding : (a b x y : List ℕ) → IsEncoding a → IsEncoding b → a ++ x ≡ b ++ y → (a ≡ b) × (x ≡ y)
 same_encoding [] b x y is_a is_b same = absurd is_a
 same_encoding (p ∷ ps) [] x y is_a is_b same = absurd is_b

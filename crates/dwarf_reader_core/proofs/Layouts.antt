@@ -16,76 +16,76 @@ use Rattle.dwarf_reader_core.proofs.Reading.{after-after}
 
 -- ---- steps of reading
 
--- what reading comes to: a value and what remains behind it, or an error
+-- what reading a layout returns: a value and what remains behind it, or an error
 abbrev pub Outcome : Type 0 → Type 0
 Outcome A = Result (A × Input) Error
 
 module _ {A B : Type 0} (p : Layout A) (f : A → Layout B) (old : Input) where
-  -- behind a value that is read, what follows is read
+  -- two layouts in a row are read by reading the second behind the first
   pub then_reads : {mid : Input} {x : A} → read p old ≡ Ok (x, mid) → read (p >>= f) old ≡ read (f x) mid
   unfolding read
   then_reads is = ap (λ (s : Outcome A). and_then s (λ x. read (f x.0) x.1)) is
 
-  -- an error of the first is an error of both
+  -- two layouts in a row fail with the error of the first
   pub then_fails : {e : Error} → read p old ≡ Err e → read (p >>= f) old ≡ Err e
   unfolding read
   then_fails is = ap (λ (s : Outcome A). and_then s (λ x. read (f x.0) x.1)) is
 
--- an error that is another name of one is this error
+-- an outcome that is an error is also an error that equals it
 pub error_is : {A : Type 0} {r : Outcome A} {d e : Error} → e ≡ d → r ≡ Err d → r ≡ Err e
 error_is same is = is ∙ λ i. Err ((sym same) i)
 
--- a value without bytes is read
+-- a value without bytes is read, and nothing is consumed
 pub pure_reads : {A : Type 0} (a : A) (old : Input) → read (pure a) old ≡ Ok (a, old)
 unfolding read
 pure_reads a old = refl
 
--- an error without bytes is the error
+-- an error without bytes is returned
 pub refuse_fails : {A : Type 0} (e : Error) (old : Input) → read (refuse {A = A} e) old ≡ Err e
 unfolding read
 refuse_fails e old = refl
 
--- a part that is there is read
+-- a part is read if the input has as many bytes
 pub part_reads : {n : ℕ} {old new unit : Input} → unit ≡ first n old → Takes n old new
     → read (part n) old ≡ Ok (unit, new)
 unfolding read
 part_reads {n} {old} is takes =
     rw (le-leb n (length old.bytes) takes.enough) (λ i. Ok ((sym is) i, (sym takes.left) i))
 
--- one that isn't there is `UnexpectedEof`
+-- a part fails with `UnexpectedEof` if the input has fewer bytes
 pub part_fails : {n : ℕ} {old new : Input} {e : Error} → EndsBefore n old e new → read (part n) old ≡ Err e
 unfolding read
 part_fails {n} {old} short = rw (lt-leb n (length old.bytes) short.short) (λ i. Err ((sym short.fault) i))
 
--- a number that a reader reads is read
+-- a number that a reader reads is read by its layout
 pub number_reads : {n : ℕ} {old new : Input} {x : ℕ} → TakesNumber n old x new → read (fixed n) old ≡ Ok (x, new)
 unfolding read fixed
 number_reads {n} {old} takes =
     rw (le-leb n (length old.bytes) takes.enough) (λ i. Ok ((sym takes.is) i, (sym takes.left) i))
 
--- fewer bytes than a number has are `UnexpectedEof`
+-- a number fails with `UnexpectedEof` if the input has fewer bytes
 pub number_fails : {n : ℕ} {old new : Input} {e : Error} → EndsBefore n old e new → read (fixed n) old ≡ Err e
 unfolding fixed
 number_fails short = then_fails _ _ _ (part_fails short)
 
--- the first byte is the first of one byte
+-- taking one byte of a list keeps its first byte
 first-byte : (bytes : List ℕ) → 1 ≤ length bytes → slice_index (take 1 bytes) 0 ≡ slice_index bytes 0
 first-byte [] some = absurd (omega (arith, some))
 first-byte (b ∷ bytes) some = refl
 
--- a byte that a reader reads is read
+-- a byte that a reader reads is read by its layout
 pub byte_reads : {old new : Input} {x : ℕ} → TakesByte old x new → read byte old ≡ Ok (x, new)
 unfolding read byte
 byte_reads {old} takes =
     rw (le-leb 1 (length old.bytes) takes.enough)
     (λ i. Ok ((first-byte old.bytes takes.enough ∙ sym takes.is) i, (sym takes.left) i))
 
--- no bytes are `UnexpectedEof`
+-- a byte fails with `UnexpectedEof` if the input has none
 pub byte_fails : {old new : Input} {e : Error} → EndsBefore 1 old e new → read byte old ≡ Err e
 unfolding byte
 byte_fails short = then_fails _ _ _ (part_fails short)
 
--- numbers that differ aren't equal by the test
+-- the test finds two numbers that differ not equal
 differs : (a b : ℕ) → a ≢ b → (a == b) ≡ false
 differs a b other = go (a == b) refl
   where
@@ -93,7 +93,7 @@ differs a b other = go (a == b) refl
     go true e = absurd (other (eqb-true a b e))
     go false e = refl
 
--- bytes are split where the end stands first
+-- bytes are split at the first byte with the sought value
 split-first : (end : ℕ) (bytes : List ℕ) (len : ℕ) → IsFirst end bytes len
     → split_at end bytes ≡ Some (take len bytes, drop (suc len) bytes)
 split-first end [] len is = absurd (omega (arith, is.within))
@@ -106,14 +106,14 @@ split-first end (b ∷ bytes) (suc len) is =
     } in
     rw (differs b end (All-head (λ x. x ≢ end) b (take len bytes) is.before), split-first end bytes len later) refl
 
--- bytes without the end aren't
+-- bytes without the sought value aren't split
 split-none : (end : ℕ) (bytes : List ℕ) → All (λ b. b ≢ end) bytes → split_at end bytes ≡ None
 split-none end [] none = refl
 split-none end (b ∷ bytes) none =
     rw (differs b end (All-head (λ x. x ≢ end) b bytes none), split-none end bytes (All-tail (λ x. x ≢ end) b bytes none))
     refl
 
--- a string that a reader reads is read
+-- a string that a reader reads is read by its layout
 pub string_reads : {old string new : Input} → TakesString old string new → read (ended 0) old ≡ Ok (string, new)
 unfolding read
 string_reads {old} {string} {new} t =
@@ -121,69 +121,69 @@ string_reads {old} {string} {new} t =
     let one : suc t.len ≡ t.len + 1 = omega arith in
     rw (split-first 0 old.bytes t.len t.ends, len, one) (λ i. Ok ((sym t.is) i, (sym t.left) i))
 
--- bytes without a zero byte are `UnexpectedEof`
+-- a string fails with `UnexpectedEof` if no byte is zero
 pub string_fails : {old : Input} {e : Error} → Lacks 0 old e → read (ended 0) old ≡ Err e
 unfolding read
 string_fails {old} none = rw (split-none 0 old.bytes none.none) (λ i. Err ((sym none.fault) i))
 
 module _ {B : Type 0} where
-  -- behind a number is what follows it
+  -- what follows a number is read behind that number
   pub after_number : {n : ℕ} {old mid : Input} {x : ℕ} (f : ℕ → Layout B) {r : Outcome B} → TakesNumber n old x mid
       → read (f x) mid ≡ r → read (fixed n >>= f) old ≡ r
   after_number f takes rest = then_reads _ f _ (number_reads takes) ∙ rest
 
-  -- no number is the error
+  -- a number and what follows it fail with the error of the number
   pub no_number : {n : ℕ} {old new : Input} {e : Error} (f : ℕ → Layout B) → EndsBefore n old e new
       → read (fixed n >>= f) old ≡ Err e
   no_number f short = then_fails _ f _ (number_fails short)
 
-  -- behind a byte is what follows it
+  -- what follows a byte is read behind that byte
   pub after_byte : {old mid : Input} {x : ℕ} (f : ℕ → Layout B) {r : Outcome B} → TakesByte old x mid
       → read (f x) mid ≡ r → read (byte >>= f) old ≡ r
   after_byte f takes rest = then_reads _ f _ (byte_reads takes) ∙ rest
 
-  -- no byte is the error
+  -- a byte and what follows it fail with the error of the byte
   pub no_byte : {old new : Input} {e : Error} (f : ℕ → Layout B) → EndsBefore 1 old e new
       → read (byte >>= f) old ≡ Err e
   no_byte f short = then_fails _ f _ (byte_fails short)
 
-  -- behind a part is what follows it
+  -- what follows a part is read behind that part
   pub after_part : {n : ℕ} {old mid unit : Input} (f : Input → Layout B) {r : Outcome B} → unit ≡ first n old
       → Takes n old mid → read (f unit) mid ≡ r → read (part n >>= f) old ≡ r
   after_part f is takes rest = then_reads _ f _ (part_reads is takes) ∙ rest
 
-  -- no part is the error
+  -- a part and what follows it fail with the error of the part
   pub no_part : {n : ℕ} {old new : Input} {e : Error} (f : Input → Layout B) → EndsBefore n old e new
       → read (part n >>= f) old ≡ Err e
   no_part f short = then_fails _ f _ (part_fails short)
 
-  -- behind a test that holds is what follows it
+  -- what follows a check is read if its test holds
   pub after_check : {b : Bool} (e : Error) (f : Unit {0} → Layout B) (old : Input) {r : Outcome B} → b ≡ true
       → read (f tt) old ≡ r → read (check b e >>= f) old ≡ r
   unfolding read check
   after_check e f old holds rest = rw holds rest
 
-  -- a test that doesn't hold is the error
+  -- a check and what follows it fail with the check's error if its test doesn't hold
   pub no_check : {b : Bool} (e : Error) (f : Unit {0} → Layout B) (old : Input) → b ≡ false
       → read (check b e >>= f) old ≡ Err e
   unfolding read check
   no_check e f old fails = rw fails refl
 
   module _ {A : Type 0} (g : Layout A) (unit : Input) (f : A × Input → Layout B) (old : Input) where
-    -- behind what is read inside a part is what follows it
+    -- what follows a layout inside a part is read behind the part
     pub after_inside : {x : A} {left : Input} {r : Outcome B} → read g unit ≡ Ok (x, left)
         → read (f (x, left)) old ≡ r → read (inside unit g >>= f) old ≡ r
     unfolding read
     after_inside {x} {left} is rest = rw is rest
 
-    -- an error inside a part is the error
+    -- a layout inside a part and what follows it fail with the error inside the part
     pub no_inside : {e : Error} → read g unit ≡ Err e → read (inside unit g >>= f) old ≡ Err e
     unfolding read
     no_inside is = rw is refl
 
 -- ---- what was read
 
--- a value behind which another follows was read, and the other behind it
+-- if two layouts in a row were read, the first was read, and the second behind it
 pub then_read : {A B : Type 0} (p : Layout A) (f : A → Layout B) (old : Input) {y : B} {new : Input}
     → read (p >>= f) old ≡ Ok (y, new)
     → (x : A) × (mid : Input) × (read p old ≡ Ok (x, mid)) × (read (f x) mid ≡ Ok (y, new))
@@ -195,7 +195,7 @@ then_read {A} {B} p f old {y} {new} is = go (read p old) refl is
     go (Ok (x, mid)) q h = (x, mid, q, h)
     go (Err e) q h = absurd cc
 
--- a test that was passed holds, and consumed nothing
+-- if a check was read, its test holds, and nothing was consumed
 pub check_read : (b : Bool) (e : Error) (old : Input) {x : Unit {0}} {new : Input}
     → read (check b e) old ≡ Ok (x, new) → (b ≡ true) × (new ≡ old)
 unfolding read check
@@ -204,7 +204,7 @@ check_read true e old {x} {new} is =
     (refl, λ i. ((sym same) i).1)
 check_read false e old is = absurd cc
 
--- a value that was read without bytes is this one, and nothing was consumed
+-- if a value without bytes was read, it is that value, and nothing was consumed
 pub pure_read : {A : Type 0} (a : A) (old : Input) {x : A} {new : Input} → read (pure a) old ≡ Ok (x, new)
     → (x ≡ a) × (new ≡ old)
 unfolding read
@@ -212,7 +212,7 @@ pure_read {A} a old {x} {new} is =
     let same : ◌≡◌ {A = A × Input} (a, old) (x, new) = cc in
     (λ i. ((sym same) i).0, λ i. ((sym same) i).1)
 
--- a part that was read is the first bytes, which were consumed
+-- if a part was read, it is the first bytes of the input, which were consumed
 pub part_read : (n : ℕ) (old : Input) {unit new : Input} → read (part n) old ≡ Ok (unit, new)
     → (unit ≡ first n old) × Takes n old new
 unfolding read
@@ -228,7 +228,7 @@ part_read n old {unit} {new} is = go (leb n (length old.bytes)) refl is
         )
     go false e h = absurd cc
 
--- what was read inside a part is at the front of the part, and nothing more was consumed
+-- if a layout inside a part was read, its value is at the front of the part, and nothing more was consumed
 pub inside_read : {A : Type 0} (unit : Input) (f : Layout A) (old : Input) {x : A × Input} {new : Input}
     → read (inside unit f) old ≡ Ok (x, new) → (read f unit ≡ Ok x) × (new ≡ old)
 unfolding read
@@ -244,21 +244,21 @@ inside_read {A} unit f old {x} {new} is = go (read f unit) refl is
 
 -- ---- exactly one outcome
 
--- a section has exactly one answer
+-- a section has exactly one value or error at its front
 pub At_one : {A : Type 0} (f : Layout A) (section : Input) → HasOne (At f section)
 At_one f section = (alone (read f section), refl, λ other is. is)
 
--- what is read at the front of a section is its answer
+-- a value that is read at the front of a section is its result there
 pub At_value : {A : Type 0} (f : Layout A) (section : Input) {new : Input} {x : A} → read f section ≡ Ok (x, new)
     → At f section (Ok x)
 At_value f section is = sym (ap alone is)
 
--- so is an error
+-- an error at the front of a section is its result there
 pub At_error : {A : Type 0} (f : Layout A) (section : Input) {e : Error} → read f section ≡ Err e
     → At f section (Err e)
 At_error f section is = sym (ap alone is)
 
--- an answer that is a value was read
+-- if the result at the front of a section is a value, that value was read
 pub At_read : {A : Type 0} (f : Layout A) (section : Input) {x : A} → At f section (Ok x)
     → (new : Input) × (read f section ≡ Ok (x, new))
 At_read {A} f section {x} is = go (read f section) refl is
@@ -270,12 +270,12 @@ At_read {A} f section {x} is = go (read f section) refl is
 
 -- ---- more bytes
 
--- more bytes behind change neither a value nor an error, unless it is an `UnexpectedEof`
+-- a result with more bytes behind is the same value, or the same error unless that is an `UnexpectedEof`
 abbrev Stays : {A : Type 0} → List ℕ → Outcome A → Outcome A → Type 0
 Stays more (Ok x) longer = longer ≡ Ok (x.0, followed_by x.1 more)
 Stays more (Err e) longer = IsNoEof e → longer ≡ Err e
 
--- a part that is there is the same part of more bytes, which stay behind it
+-- a part that is read stays the same with more bytes behind, which remain behind it
 part-stays : (n : ℕ) (more : List ℕ) (old : Input) (enough : Bool) → leb n (length old.bytes) ≡ enough
     → Stays more (cond enough (Ok (first n old, after n old)) (Err (end_fault old)))
     (read (part n) (followed_by old more))
@@ -285,7 +285,7 @@ part-stays n more old true e =
     rw (le-leb n (length (old.bytes ++ more)) (omega (arith, length-append old.bytes more)), take-append-le n old.bytes more le, drop-append-le n old.bytes more le) refl
 part-stays n more old false e = λ settled. absurd (settled old.position refl)
 
--- what two layouts one behind the other come to stays if what each comes to does
+-- the outcome of two layouts in a row stays if the outcome of each does
 then-stays : {A B : Type 0} (more : List ℕ) (f : A → Layout B)
     → ((x : A × Input) → Stays more (read (f x.0) x.1) (read (f x.0) (followed_by x.1 more)))
     → (r s : Outcome A) → Stays more r s
@@ -295,18 +295,18 @@ then-stays more f behind (Ok x) s h =
 then-stays more f behind (Err e) s h =
     λ settled. ap (λ (s : Outcome _). and_then s (λ x. read (f x.0) x.1)) (h settled)
 
--- a part has an end of its own
+-- what is read inside a part stays, as the part has an end of its own
 inside-stays : {A : Type 0} (more : List ℕ) (old : Input) (r : Outcome A)
     → Stays more (and_then r (λ x. Ok (x, old))) (and_then r (λ x. Ok (x, followed_by old more)))
 inside-stays more old (Ok x) = refl
 inside-stays more old (Err e) = λ settled. refl
 
--- with more bytes behind, an end that is found stays
+-- bytes that are split at an end are split there with more bytes behind
 abbrev EndStays : List ℕ → Option (List ℕ × List ℕ) → Option (List ℕ × List ℕ) → Type 0
 EndStays more None longer = ⊤
 EndStays more (Some x) longer = longer ≡ Some (x.0, x.1 ++ more)
 
--- so the first does
+-- a list is split at the same place with more bytes behind
 split-stays : (end : ℕ) (bytes more : List ℕ) → EndStays more (split_at end bytes) (split_at end (bytes ++ more))
 split-stays end [] more = tt
 split-stays end (b ∷ bytes) more =
@@ -318,13 +318,13 @@ split-stays end (b ∷ bytes) more =
     go false (Some x) s h = ap (with_byte b) h
     go false None s h = tt
 
--- bytes up to their end stay
+-- bytes up to an end stay the same with more bytes behind
 ended-stays : (more : List ℕ) (old : Input) (r s : Option (List ℕ × List ℕ)) → EndStays more r s
     → Stays more (before_end old r) (before_end (followed_by old more) s)
 ended-stays more old (Some x) s h = ap (before_end (followed_by old more)) h
 ended-stays more old None s h = λ settled. absurd (settled old.position refl)
 
--- so it is with every layout
+-- the outcome of every layout stays with more bytes behind
 stays : {A : Type 0} (f : Layout A) (more : List ℕ) (old : Input) → Stays more (read f old) (read f (followed_by old more))
 unfolding read
 stays (part n) more old = part-stays n more old (leb n (length old.bytes)) refl
@@ -335,18 +335,18 @@ stays (inside unit f) more old = inside-stays more old (read f unit)
 stays (p >>= f) more old =
     then-stays more f (λ x. stays (f x.0) more x.1) (read p old) (read p (followed_by old more)) (stays p more old)
 
--- what is read is read of more bytes
+-- a value that is read is still read with more bytes behind
 pub read_more : {A : Type 0} (f : Layout A) (more : List ℕ) (old : Input) {new : Input} {x : A} → read f old ≡ Ok (x, new)
     → read f (followed_by old more) ≡ Ok (x, followed_by new more)
 read_more f more old is = subst (λ (r : Outcome _). Stays more r (read f (followed_by old more))) is (stays f more old)
 
--- so is an error, unless it is an `UnexpectedEof`
+-- an error, unless it is an `UnexpectedEof`, is still the error with more bytes behind
 pub error_more : {A : Type 0} (f : Layout A) (more : List ℕ) (old : Input) {e : Error} → IsNoEof e
     → read f old ≡ Err e → read f (followed_by old more) ≡ Err e
 error_more f more old settled is =
     subst (λ (r : Outcome _). Stays more r (read f (followed_by old more))) is (stays f more old) settled
 
--- more bytes change no answer, unless it is an `UnexpectedEof`
+-- more bytes behind a section don't change the result at its front, unless that is an `UnexpectedEof`
 pub At_more : {A : Type 0} (f : Layout A) (section : Input) (answer : Result A Error) (more : List ℕ)
     → At f section answer → IfErr answer IsNoEof → At f (followed_by section more) answer
 At_more {A} f section answer more is settled =
@@ -359,11 +359,11 @@ At_more {A} f section answer more is settled =
 
 -- ---- the front of the bytes
 
--- what remains is as long as what was there, without what was consumed
+-- after n bytes are consumed, n fewer remain
 pub rest-length : (n : ℕ) (old new : Input) → Takes n old new → length new.bytes ≡ length old.bytes - n
 rest-length n old new takes = ap (λ (i : Input). length i.bytes) takes.left ∙ length-drop n old.bytes
 
--- nothing is consumed
+-- taking no bytes leaves the input as it is
 takes-nothing : (old : Input) → Takes 0 old old
 takes-nothing old = record {
   enough = omega arith;
@@ -374,19 +374,19 @@ takes-nothing old = record {
   };
 }
 
--- what is consumed in two steps is consumed in all
+-- bytes that are consumed in two steps are consumed in one step of both lengths
 pub takes-both : {m n : ℕ} {old mid new : Input} → Takes m old mid → Takes n mid new → Takes (m + n) old new
 takes-both {m} {n} {old} {mid} a b = record {
   enough = omega (arith, a.enough, b.enough, rest-length m old mid a);
   left = b.left ∙ ap (after n) a.left ∙ after-after n m old;
 }
 
--- the bytes before the end, the end and those behind it are the bytes
+-- a list is the bytes before an end, the end, and the bytes behind it
 abbrev AreSplit : ℕ → List ℕ → Option (List ℕ × List ℕ) → Type 0
 AreSplit end bytes None = ⊤
 AreSplit end bytes (Some x) = bytes ≡ x.0 ++ end ∷ x.1
 
--- so they are at the first end
+-- a list that is split at its first end is joined again from the parts
 split-parts : (end : ℕ) (bytes : List ℕ) → AreSplit end bytes (split_at end bytes)
 split-parts end [] = tt
 split-parts end (b ∷ bytes) = go (b == end) refl (split_at end bytes) (split-parts end bytes)
@@ -397,7 +397,7 @@ split-parts end (b ∷ bytes) = go (b == end) refl (split_at end bytes) (split-p
     go false e (Some x) h = ap (λ (l : List ℕ). b ∷ l) h
     go false e None h = tt
 
--- what is behind the end is behind as many bytes
+-- the bytes behind an end are those behind the bytes before it and the end
 behind-takes : (end : ℕ) (old : Input) (x : List ℕ × List ℕ) → old.bytes ≡ x.0 ++ end ∷ x.1
     → Takes (length x.0 + 1) old (record old { bytes = x.1; position = old.position + (length x.0 + 1) })
 behind-takes end old x is = record {
@@ -406,7 +406,7 @@ behind-takes end old x is = record {
       (sym (ap (drop (length x.0 + 1)) is ∙ drop-append-add x.0 (end ∷ x.1) 1));
 }
 
--- what is read is the front of the bytes, and the rest remains
+-- a value that is read is at the front of the bytes, and the rest remains
 pub read_front : {A : Type 0} (f : Layout A) (old : Input) {new : Input} {x : A} → read f old ≡ Ok (x, new)
     → (n : ℕ) × Takes n old new
 unfolding read
@@ -433,16 +433,16 @@ read_front (p >>= f) old is =
 
 -- ---- how many bytes are consumed
 
--- what is consumed, with a credit, is the size of the value
+-- reading consumes as many bytes as the value's size, less a credit that was consumed before
 pub record Spans {A : Type 0} (credit : ℕ) (size : A → ℕ) (f : Layout A) : Type 0 where
   pub by : (old new : Input) (x : A) → read f old ≡ Ok (x, new)
       → length new.bytes + size x ≡ length old.bytes + credit
 
--- at least so many bytes are consumed
+-- reading consumes at least so many bytes
 pub record TakesLeast {A : Type 0} (n : ℕ) (f : Layout A) : Type 0 where
   pub by : (old new : Input) (x : A) → read f old ≡ Ok (x, new) → length new.bytes + n ≤ length old.bytes
 
--- as many bytes are consumed as the value's size
+-- if a layout spans its value's size, reading consumes that many bytes
 pub spanned : {A : Type 0} {size : A → ℕ} {f : Layout A} → Spans 0 size f → (old : Input) {new : Input} {x : A}
     → read f old ≡ Ok (x, new) → Takes (size x) old new
 spanned {size = size} {f = f} law old {new} {x} is =
@@ -451,12 +451,12 @@ spanned {size = size} {f = f} law old {new} {x} is =
     (arith, law.by old new x is, taken.1.enough, rest-length taken.0 old new taken.1) in
     subst (λ (n : ℕ). Takes n old new) same taken.1
 
--- sizes that are at least so many take at least so many
+-- a layout whose values all have at least so many bytes consumes at least so many
 pub spans_least : {A : Type 0} {n : ℕ} {size : A → ℕ} {f : Layout A} → ((x : A) → n ≤ size x) → Spans 0 size f
     → TakesLeast n f
 spans_least fits law = record { by = λ old new x is. omega (arith, law.by old new x is, fits x) }
 
--- a part has its size
+-- a part consumes as many bytes as its size
 pub part_spans : (n : ℕ) → Spans 0 (λ _. n) (part n)
 part_spans n = record {
   by = λ old new x is.
@@ -464,7 +464,7 @@ part_spans n = record {
 }
 
 module _ {A : Type 0} {credit : ℕ} {size : A → ℕ} where
-  -- a value without bytes has the size that the credit is
+  -- a value without bytes has the size that is the credit
   pub pure_spans : {a : A} → size a ≡ credit → Spans credit size (pure a)
   pure_spans {a} same = record {
     by = λ old new x is.
@@ -472,18 +472,18 @@ module _ {A : Type 0} {credit : ℕ} {size : A → ℕ} where
         omega (arith, same, ap size h.0, ap (λ (i : Input). length i.bytes) h.1);
   }
 
-  -- an error reads nothing that has a size
+  -- an error spans any size, as it returns no value
   pub refuse_spans : {e : Error} → Spans credit size (refuse e)
   unfolding read
   refuse_spans = record { by = λ old new x is. absurd cc }
 
-  -- either of two layouts has the size of its value
+  -- a choice between two layouts spans the size of its value
   pub when_spans : {f g : Layout A} (b : Bool) → Spans credit size f → Spans credit size g
       → Spans credit size (when b then f else g)
   when_spans true f g = f
   when_spans false f g = g
 
-  -- the size of the first is a credit of the second
+  -- two layouts in a row span the value's size if the size of the first is the credit of the second
   pub then_spans : {B : Type 0} {p : Layout B} {f : B → Layout A} {front : B → ℕ} → Spans 0 front p
       → ((x : B) → Spans (credit + front x) size (f x)) → Spans credit size (p >>= f)
   then_spans {p = p} {f = f} a b = record {
@@ -491,12 +491,12 @@ module _ {A : Type 0} {credit : ℕ} {size : A → ℕ} where
         let h = then_read p f old is in omega (arith, a.by old h.1 h.0 h.2, (b h.0).by h.1 new y h.3);
   }
 
--- a number has its width
+-- a number consumes as many bytes as its width
 pub number_spans : (n : ℕ) → Spans 0 (λ _. n) (fixed n)
 unfolding fixed
 number_spans n = then_spans (part_spans n) (λ i. pure_spans (omega arith))
 
--- a byte is one
+-- a byte consumes one byte
 pub byte_spans : Spans 0 (λ _. 1) byte
 unfolding byte
 byte_spans = then_spans (part_spans 1) (λ i. pure_spans (omega arith))
@@ -506,7 +506,7 @@ pub check_spans : (b : Bool) (e : Error) → Spans 0 (λ _. 0) (check b e)
 unfolding check
 check_spans b e = when_spans b (pure_spans refl) refuse_spans
 
--- what is read inside a part consumes none behind it
+-- a layout inside a part consumes no bytes behind the part
 pub inside_spans : {A : Type 0} (unit : Input) (f : Layout A) → Spans 0 (λ _. 0) (inside unit f)
 inside_spans unit f = record {
   by = λ old new x is. omega (arith, ap (λ (i : Input). length i.bytes) (inside_read unit f old is).1);

@@ -4,7 +4,7 @@ use Rattle.std.proofs.lemmas.List.{take-take}
 use Rattle.dwarf_base_core.specs.Number.{number_of}
 use Rattle.dwarf_reader_core.specs.Input.{Input, Takes, TakesNumber}
 
--- a number whose bytes were copied into a buffer is the one at the front
+-- a number whose bytes were copied into a buffer is the number at the front of the input
 pub number_taken : (n : ℕ) (old new : Input) (buf : List ℕ) (is_big : Bool) (x : ℕ)
     → Takes n old new → buf ≡ take n old.bytes → is_big ≡ new.is_big → x ≡ number_of is_big (take n buf)
     → TakesNumber n old x new

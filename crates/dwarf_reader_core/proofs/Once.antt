@@ -1,4 +1,4 @@
--- Something is taken from bytes, or refused, and it is the only thing that can be.
+-- Bytes have exactly one outcome as a string, and exactly one as an initial length.
 use Rattle.std.proofs.Common.{◌≡◌, ◌≢◌, ℕ, zero, suc, ◌<◌, ◌+◌, ◌^◌, length, take, refl, sym, ap, subst, ◌∙◌, arith, ◌⊎◌, inl, inr, ⊎_elim, Ok, List, [], ◌∷◌, All}
 use Rattle.std.proofs.lemmas.List.{length-take-le}
 use Rattle.std.proofs.lemmas.List.Elements.{All-nil, All-cons, All-take}
@@ -21,11 +21,11 @@ one_string old s t x y a b =
     let same : ◌≡◌ {A = Input × Input} (s, x) (t, y) = cc in
     (λ i. (same i).0, λ i. (same i).1)
 
--- bytes that have a string don't lack the zero byte
+-- bytes that begin with a string have a zero byte
 pub string_or_none : (old s x : Input) (e : Error) → TakesString old s x → Lacks 0 old e → ⊥
 string_or_none old s x e a b = let both = sym (string_reads a) ∙ string_fails b in cc
 
--- bytes lack the zero byte, or it is first at a place
+-- bytes have no zero byte, or a first zero byte at some index
 zero_or_none : (bytes : List ℕ) → All (λ b. b ≢ 0) bytes ⊎ ((index : ℕ) × IsFirst 0 bytes index)
 zero_or_none [] = inl (All-nil (λ b. b ≢ 0))
 zero_or_none (zero ∷ bytes) =
@@ -44,11 +44,11 @@ zero_or_none (suc b ∷ bytes) =
           )
     ]
 
--- bytes begin with a string, or lack the zero byte
+-- bytes begin with a string, or have no zero byte
 abbrev pub HasString : Input → Type 0
 HasString old = ((s : Input) × (x : Input) × TakesString old s x) ⊎ ((e : Error) × Lacks 0 old e)
 
--- every input begins with a string, or lacks the zero byte
+-- every input begins with a string, or has no zero byte
 pub some_string : (old : Input) → HasString old
 some_string old =
     elim (zero_or_none old.bytes) [
@@ -70,12 +70,12 @@ string_was_read {old} {string} {new} is =
       | inr none ↦ absurd (let both = sym (string_fails none.1) ∙ is in cc)
     ]
 
--- the number at the front is one, and so is what remains
+-- the number at the front of an input and what remains behind it are unique
 same_number : (n : ℕ) (old : Input) (a b : ℕ) (x y : Input) → TakesNumber n old a x → TakesNumber n old b y
     → (a ≡ b) × (x ≡ y)
 same_number n old a b x y s t = (s.is ∙ sym t.is, s.left ∙ sym t.left)
 
--- the initial length at the front is one, with its format and what remains
+-- the initial length at the front of an input, its format and what remains behind it are unique
 pub one_length : (greatest m n : ℕ) (old x y : Input) (f g : Format) → TakesLength greatest old m f x
     → TakesLength greatest old n g y → (m ≡ n) × (f ≡ g) × (x ≡ y)
 one_length greatest m n old x y Dwarf32 Dwarf32 a b = let s = same_number 4 old m n x y a.0 b.0 in (s.0, refl, s.1)
@@ -84,7 +84,7 @@ one_length greatest m n old x y Dwarf64 Dwarf32 a b = absurd (omega (arith, b.0.
 one_length greatest m n old x y Dwarf64 Dwarf64 a b =
     let s = same_number 8 (after 4 old) m n x y a.1 b.1 in (s.0, refl, s.1)
 
--- an initial length that is read isn't refused
+-- an initial length that is read has no error
 pub length_or_none : (greatest n : ℕ) (old x y : Input) (f : Format) (e : Error) → TakesLength greatest old n f x
     → RefusesLength greatest old e y → ⊥
 length_or_none greatest n old x y Dwarf32 e a (inl b) = omega (arith, a.0.enough, b.short)
@@ -97,43 +97,43 @@ length_or_none greatest n old x y Dwarf64 e a (inr (inr (inl b))) = omega (arith
 length_or_none greatest n old x y Dwarf64 e a (inr (inr (inr b))) =
     omega (arith, a.1.is, a.2, b.rest.taken.is, b.rest.over)
 
--- an initial length is refused by one error
-pub one_fault : (greatest : ℕ) (old x y : Input) (d e : Error) → RefusesLength greatest old d x
+-- an input has at most one error in place of an initial length
+pub one_length_error : (greatest : ℕ) (old x y : Input) (d e : Error) → RefusesLength greatest old d x
     → RefusesLength greatest old e y → (d ≡ e) × (x ≡ y)
-one_fault greatest old x y d e (inl a) (inl b) = (a.fault ∙ sym b.fault, a.left ∙ sym b.left)
-one_fault greatest old x y d e (inl a) (inr (inl b)) = absurd (omega (arith, a.short, b.taken.enough))
-one_fault greatest old x y d e (inl a) (inr (inr (inl b))) = absurd (omega (arith, a.short, b.begins.enough))
-one_fault greatest old x y d e (inl a) (inr (inr (inr b))) = absurd (omega (arith, a.short, b.begins.enough))
-one_fault greatest old x y d e (inr (inl a)) (inl b) = absurd (omega (arith, b.short, a.taken.enough))
-one_fault greatest old x y d e (inr (inl a)) (inr (inl b)) =
+one_length_error greatest old x y d e (inl a) (inl b) = (a.fault ∙ sym b.fault, a.left ∙ sym b.left)
+one_length_error greatest old x y d e (inl a) (inr (inl b)) = absurd (omega (arith, a.short, b.taken.enough))
+one_length_error greatest old x y d e (inl a) (inr (inr (inl b))) = absurd (omega (arith, a.short, b.begins.enough))
+one_length_error greatest old x y d e (inl a) (inr (inr (inr b))) = absurd (omega (arith, a.short, b.begins.enough))
+one_length_error greatest old x y d e (inr (inl a)) (inl b) = absurd (omega (arith, b.short, a.taken.enough))
+one_length_error greatest old x y d e (inr (inl a)) (inr (inl b)) =
     let s = same_number 4 old a.number b.number x y a.taken b.taken in
     (a.fault ∙ ap UnknownReservedLength s.0 ∙ sym b.fault, s.1)
-one_fault greatest old x y d e (inr (inl a)) (inr (inr (inl b))) =
+one_length_error greatest old x y d e (inr (inl a)) (inr (inr (inl b))) =
     absurd (omega (arith, a.taken.is, a.high, b.begins.is))
-one_fault greatest old x y d e (inr (inl a)) (inr (inr (inr b))) =
+one_length_error greatest old x y d e (inr (inl a)) (inr (inr (inr b))) =
     absurd (omega (arith, a.taken.is, a.high, b.begins.is))
-one_fault greatest old x y d e (inr (inr (inl a))) (inl b) = absurd (omega (arith, b.short, a.begins.enough))
-one_fault greatest old x y d e (inr (inr (inl a))) (inr (inl b)) =
+one_length_error greatest old x y d e (inr (inr (inl a))) (inl b) = absurd (omega (arith, b.short, a.begins.enough))
+one_length_error greatest old x y d e (inr (inr (inl a))) (inr (inl b)) =
     absurd (omega (arith, b.taken.is, b.high, a.begins.is))
-one_fault greatest old x y d e (inr (inr (inl a))) (inr (inr (inl b))) =
+one_length_error greatest old x y d e (inr (inr (inl a))) (inr (inr (inl b))) =
     (a.rest.fault ∙ sym b.rest.fault, a.rest.left ∙ sym b.rest.left)
-one_fault greatest old x y d e (inr (inr (inl a))) (inr (inr (inr b))) =
+one_length_error greatest old x y d e (inr (inr (inl a))) (inr (inr (inr b))) =
     absurd (omega (arith, a.rest.short, b.rest.taken.enough))
-one_fault greatest old x y d e (inr (inr (inr a))) (inl b) = absurd (omega (arith, b.short, a.begins.enough))
-one_fault greatest old x y d e (inr (inr (inr a))) (inr (inl b)) =
+one_length_error greatest old x y d e (inr (inr (inr a))) (inl b) = absurd (omega (arith, b.short, a.begins.enough))
+one_length_error greatest old x y d e (inr (inr (inr a))) (inr (inl b)) =
     absurd (omega (arith, b.taken.is, b.high, a.begins.is))
-one_fault greatest old x y d e (inr (inr (inr a))) (inr (inr (inl b))) =
+one_length_error greatest old x y d e (inr (inr (inr a))) (inr (inr (inl b))) =
     absurd (omega (arith, b.rest.short, a.rest.taken.enough))
-one_fault greatest old x y d e (inr (inr (inr a))) (inr (inr (inr b))) =
+one_length_error greatest old x y d e (inr (inr (inr a))) (inr (inr (inr b))) =
     (a.rest.fault ∙ sym b.rest.fault, a.rest.taken.left ∙ sym b.rest.taken.left)
 
--- bytes begin with an initial length, or have an error
+-- bytes begin with an initial length, or have an error in its place
 abbrev pub HasLength : ℕ → Input → Type 0
 HasLength greatest old =
     ((n : ℕ) × (f : Format) × (x : Input) × TakesLength greatest old n f x)
     ⊎ ((e : Error) × (x : Input) × RefusesLength greatest old e x)
 
--- they do behind the first four bytes of the 64-bit format
+-- behind the first four bytes of the 64-bit format there is an initial length, or an error in its place
 length_behind : (greatest : ℕ) (old : Input) → BeginsDwarf64 old → HasLength greatest old
 length_behind greatest old begins =
     let rest = after 4 old in
@@ -153,7 +153,7 @@ length_behind greatest old begins =
     (cases_lt greatest len))
     (cases_lt (length rest.bytes) 8)
 
--- they do if they are bytes, whose number is bounded
+-- every list of bytes begins with an initial length, or has an error in its place
 pub some_length : NumberIsBounded → (greatest : ℕ) (old : Input) → All (λ b. b < 256) old.bytes
     → HasLength greatest old
 some_length bounded greatest old bytes =

@@ -1,4 +1,4 @@
--- Each list of bytes has one outcome.
+-- Every list of bytes has exactly one outcome.
 use Rattle.std.proofs.Common.{◌≡◌, ℕ, zero, suc, ◌<◌, ◌≤◌, List, [], ◌∷◌, length, take, drop, refl, sym, ap, ◌∙◌, arith, inl, inr, ◌⊎◌, ⊎_elim, Bool, true, false}
 use Rattle.std.proofs.lemmas.Bool.{cases_lt}
 use Rattle.std.proofs.lemmas.List.{take_all, length-take-le, take-append-drop}
@@ -6,12 +6,12 @@ use Rattle.dwarf_reader_core.specs.Leb128.{IsEncoding, NoneIsLast, Kind, Number,
 use Rattle.dwarf_reader_core.specs.Once.{HasOne}
 use Rattle.dwarf_reader_core.proofs.Encodings.{past_none, same_encoding}
 
--- a byte with a continuation bit before an encoding makes an encoding
+-- a byte with a continuation bit and an encoding behind it are an encoding
 IsEncoding-cons : (b : ℕ) (s : List ℕ) → 128 ≤ b → IsEncoding s → IsEncoding (b ∷ s)
 IsEncoding-cons b [] more encoding = absurd encoding
 IsEncoding-cons b (c ∷ s) more encoding = (more, encoding)
 
--- an encoding ends within the bound, or the bytes end before it, or no byte up to it is the last
+-- an encoding at the front ends within the bound
 record Ends (bound : ℕ) (bytes : List ℕ) : Type 0 where
   len : ℕ
   enough : len ≤ length bytes
@@ -25,7 +25,7 @@ record IsLong (bound : ℕ) (bytes : List ℕ) : Type 0 where
 abbrev AreShort : ℕ → List ℕ → Type 0
 AreShort bound bytes = (length bytes < bound) × NoneIsLast bytes
 
--- within a bound bytes end a number, end before it does, or go on past the bound
+-- bytes have an encoding that ends within the bound, end before it does, or go on past the bound
 three_ways : (bound : ℕ) (bytes : List ℕ) → Ends bound bytes ⊎ (AreShort bound bytes ⊎ IsLong bound bytes)
 three_ways zero bytes = inr (inr (record { enough = omega arith; none = tt }))
 three_ways (suc bound) [] = inr (inl (omega arith, tt))
@@ -48,7 +48,7 @@ three_ways (suc bound) (b ∷ bs) =
     (three_ways bound bs))
     (cases_lt b 128)
 
--- no encoding begins another
+-- two encodings at the front of the same bytes have the same length
 same_length : (bytes : List ℕ) (m n : ℕ) → m ≤ length bytes → n ≤ length bytes → IsEncoding (take m bytes)
     → IsEncoding (take n bytes) → m ≡ n
 same_length bytes m n p q s t =
@@ -63,7 +63,7 @@ module _ (k : Kind) (bytes : List ℕ) where
       (take_all (length bytes) bytes (omega arith)) cut.unended in
       omega (arith, past_none bytes (length bytes) n (omega arith) none found.is_number.encoding, found.enough)
 
-  -- a number has the length and the value of any other that begins the bytes
+  -- two numbers at the front of the same bytes have the same value and the same length
   same_number : (v w : Number k) (m n : ℕ) → HasNumber k bytes v m → HasNumber k bytes w n → (v ≡ w) × (m ≡ n)
   same_number v w m n f g =
       let e = same_length bytes m n f.enough g.enough f.is_number.encoding g.is_number.encoding in
@@ -80,7 +80,7 @@ module _ (k : Kind) (bytes : List ℕ) where
   unique Bad End f g = absurd (f.not_cut g)
   unique Bad Bad f g = refl
 
-  -- what an encoding is worth is in the range of the kind or not
+  -- bytes with an encoding at the front have an outcome, whether its value is in the range of the kind or not
   judged : (e : Ends (limit k) bytes) (b : Bool) → is_in_range k (value k (take e.len bytes)) ≡ b
       → (o : Outcome k) × HasOutcome k bytes o
   judged e true h =

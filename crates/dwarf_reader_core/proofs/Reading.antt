@@ -1,4 +1,4 @@
--- A reading of a LEB128 number, one byte after the other.
+-- Reading a LEB128 number, one byte after the other.
 use Rattle.std.proofs.Common.{◌≡◌, ℕ, suc, ◌+◌, ◌-◌, ◌*◌, ◌%◌, ◌^◌, ◌<◌, ◌≤◌, List, [], ◌∷◌, ◌++◌, length, get_or, take, drop, refl, sym, ap, ◌∙◌, subst, arith, inr, IsTrue, ◌↔◌, ⊎_elim, Bool, true, false, pos, ◌-ℤ◌, nat_le, if◌then◌else◌}
 use Rattle.std.proofs.lemmas.List.{take_more, length-take-le, drop-drop, get_or-drop, length-drop}
 use Rattle.std.proofs.lemmas.Bool.{cases_lt, false≢true, le-leb, lt-leb}
@@ -8,40 +8,40 @@ use Rattle.dwarf_reader_core.specs.Leb128.{IsEncoding, NoneIsLast, unsigned_valu
 use Rattle.dwarf_reader_core.proofs.Encodings.{NoneIsLast-push, IsEncoding-push, IsEncoding-last, unsigned_value-push, worth_below, past_none, is_negative-push}
 use Rattle.dwarf_reader_core.proofs.Bits.{pow_digits}
 
--- nothing is taken
+-- consuming no bytes leaves the input as it is
 pub after-zero : (input : Input) → after 0 input ≡ input
 after-zero input = ap (λ (p : ℕ). let i : Input = record input { position = p } in i) (add-zero input.position)
 
--- n bytes are taken, and then m
+-- consuming n bytes and then m is consuming n + m bytes
 pub after-after : (m n : ℕ) (input : Input) → after m (after n input) ≡ after (n + m) input
 after-after m n input = rw (drop-drop, add_assoc) refl
 
--- the first k bytes of old were taken, none of them the last of an encoding, and this is what their digits are worth
+-- the first k bytes are consumed, none of them is the last of an encoding, and the value is that of their digits
 pub record Begun (old : Input) (k : ℕ) (mid : Input) (value : ℕ) : Type 0 where
   pub enough : k ≤ length old.bytes
   pub none : NoneIsLast (take k old.bytes)
   pub left : mid ≡ after k old
   pub worth : value ≡ unsigned_value (take k old.bytes)
 
--- the byte behind the first k bytes
+-- the next byte behind the first k bytes is consumed
 pub record TakesNext (old : Input) (k byte : ℕ) (new : Input) : Type 0 where
   pub enough : k < length old.bytes
   pub taken : take (k + 1) old.bytes ≡ take k old.bytes ++ byte ∷ []
   pub left : new ≡ after (k + 1) old
 
--- before the first byte no digit is read
+-- before the first byte the value is 0
 pub begun_none : (old : Input) → Begun old 0 old 0
 begun_none old = record { enough = omega arith; none = tt; left = sym (after-zero old); worth = refl }
 
--- the same, by another number of bytes that is equal
+-- the state after k bytes is the state after n bytes if k and n are equal
 pub begun_at : {old mid : Input} {k n value : ℕ} → k ≡ n → Begun old k mid value → Begun old n mid value
 begun_at {old} {mid} {value = value} is b = subst (λ i. Begun old i mid value) is b
 
--- as many bytes are gone as digits are read
+-- after k bytes, k fewer bytes remain
 begun_rest : {old mid : Input} {k value : ℕ} → Begun old k mid value → length mid.bytes ≡ length old.bytes - k
 begun_rest {old} {mid} {k} b = ap (λ (i : Input). length i.bytes) b.left ∙ length-drop k old.bytes
 
--- what a read of a byte gives
+-- reading a byte gives the byte behind the first k
 pub begun_next : {old mid new : Input} {k value byte : ℕ} → Begun old k mid value → TakesByte mid byte new
     → TakesNext old k byte new
 begun_next {old} {mid} {new} {k} {value} {byte} b t =
@@ -57,7 +57,7 @@ begun_next {old} {mid} {new} {k} {value} {byte} b t =
       left = t.left ∙ ap (after 1) b.left ∙ after-after 1 k old;
     }
 
--- what k + 1 digits are worth
+-- the value of k + 1 digits is that of k digits and the next one
 worth_next : {old mid new : Input} {k value byte : ℕ} → Begun old k mid value → TakesNext old k byte new
     → unsigned_value (take (k + 1) old.bytes) ≡ value + byte % 128 * 128 ^ k
 worth_next {old} {k = k} {value = value} {byte = byte} b n =
@@ -66,12 +66,12 @@ worth_next {old} {k = k} {value = value} {byte = byte} b n =
     ∙ ap (λ v. v + byte % 128 * 128 ^ length (take k old.bytes)) (sym b.worth)
     ∙ ap (λ i. value + byte % 128 * 128 ^ i) (length-take-le k old.bytes b.enough)
 
--- the bits of the digits
+-- the value of k digits has at most 7 * k bits
 pub begun_below : {old mid : Input} {k value : ℕ} → Begun old k mid value → value < 2 ^ (7 * k)
 begun_below {old} {k = k} b =
     rw b.worth (worth_below old.bytes k k b.enough (omega arith))
 
--- one more byte that isn't the last
+-- a byte with a continuation bit leads to the state after k + 1 bytes
 pub begun_more : {old mid new : Input} {k value byte : ℕ} → Begun old k mid value → TakesNext old k byte new
     → 128 ≤ byte → Begun old (k + 1) new (value + byte % 128 * 2 ^ (7 * k))
 begun_more {old} {k = k} {value = value} {byte = byte} b n more =
@@ -82,19 +82,19 @@ begun_more {old} {k = k} {value = value} {byte = byte} b n more =
       worth = ap (λ p. value + byte % 128 * p) (pow_digits k) ∙ sym (worth_next b n);
     }
 
--- the same, by what the digits are worth with it
+-- a byte with a continuation bit leads to the state after k + 1 bytes, with a value that equals that of the digits
 pub begun_on : {old mid new : Input} {k value byte worth : ℕ} → Begun old k mid value → TakesNext old k byte new
     → 128 ≤ byte → worth ≡ value + byte % 128 * 2 ^ (7 * k) → Begun old (k + 1) new worth
 begun_on b n more is = rw is (begun_more b n more)
 
--- the byte is the last of an encoding
+-- the byte behind the first k is the last of an encoding
 pub record Ended (old : Input) (k byte : ℕ) (new : Input) (value : ℕ) : Type 0 where
   pub enough : k + 1 ≤ length old.bytes
   pub encoding : IsEncoding (take (k + 1) old.bytes)
   pub left : new ≡ after (k + 1) old
   pub worth : unsigned_value (take (k + 1) old.bytes) ≡ value + byte % 128 * 2 ^ (7 * k)
 
--- a byte without a continuation bit ends the number that has begun
+-- a byte without a continuation bit is the last of the encoding that has begun
 pub begun_ends : {old mid new : Input} {k value byte : ℕ} → Begun old k mid value → TakesNext old k byte new
     → byte < 128 → Ended old k byte new value
 begun_ends {old} {k = k} {value = value} {byte = byte} b n last =
@@ -105,7 +105,7 @@ begun_ends {old} {k = k} {value = value} {byte = byte} b n last =
       worth = worth_next b n ∙ ap (λ p. value + byte % 128 * p) (sym (pow_digits k));
     }
 
--- the number is read, where the encoding is worth one of the kind
+-- the number is read if its encoding ends within the limit and its value is in the range of the kind
 pub begun_reads : {old mid new : Input} {n worth byte : ℕ} (k : Kind) (v : Number k) → Begun old n mid worth
     → TakesNext old n byte new → byte < 128 → n < limit k → value k (take (n + 1) old.bytes) ≡ v
     → IsTrue (is_in_range k v) → ReadsNumber k old v new
@@ -127,7 +127,7 @@ begun_reads {old} {n = n} k v b next last short means in_range =
       left = e.left;
     }
 
--- the number is refused, where no encoding ends before the limit, and none that ends there is worth one of the kind
+-- reading fails at the limit if no encoding ends before it, and none that ends there has a value in range
 pub begun_bad : {old mid new : Input} {n worth byte : ℕ} (k : Kind) → Begun old n mid worth
     → TakesNext old n byte new → n + 1 ≡ limit k
     → (byte < 128 → Ended old n byte new worth → IsTrue (is_in_range k (value k (take (n + 1) old.bytes))) → ⊥)
@@ -144,7 +144,7 @@ begun_bad {old} {mid} {new} {n} {worth} {byte} k b next whole out =
     let cut : IsCut k old.bytes → ⊥ = λ h. omega (arith, next.enough, h.short, whole) in
     inr (record { bad = record { no_number = none; not_cut = cut }; left = rw (← whole) next.left; fault = refl })
 
--- an encoding is worth its digits, less the next place where its last digit is from 64
+-- a signed value is that of the digits, less the next place if the last digit is at least 64
 signed_next : {old mid new : Input} {k value byte : ℕ} → Begun old k mid value → TakesNext old k byte new
     → signed_value (take (k + 1) old.bytes)
     ≡ pos (value + byte % 128 * 2 ^ (7 * k)) -ℤ pos (if nat_le 64 (byte % 128) then 2 ^ (7 * (k + 1)) else 0)
@@ -161,13 +161,13 @@ signed_next {old} {k = k} {value = value} {byte = byte} b n =
     ∙ ap (λ c. pos (value + byte % 128 * 2 ^ (7 * k)) -ℤ pos (if c then 128 ^ length s else 0)) signs
     ∙ ap (λ p. pos (value + byte % 128 * 2 ^ (7 * k)) -ℤ pos (if sign then p else 0)) place
 
--- whether the digit has the sign, as it is found
+-- the test for the sign of a digit has the result that the code found
 pub is_sign : (sign : Bool) (digit : ℕ) → (IsTrue sign ↔ (64 ≤ digit)) → nat_le 64 digit ≡ sign
 is_sign true digit is = le-leb 64 digit (is.0 refl)
 is_sign false digit is =
     ⊎_elim (λ low. lt-leb 64 digit low) (λ high. absurd (false≢true (is.1 high))) (cases_lt digit 64)
 
--- the number that the loop makes of a last byte with its sign is the one of all bytes
+-- the signed number that the loop makes of its value and the last byte is that of all bytes
 pub signed_worth : {old mid new : Input} {k value byte : ℕ} → Begun old k mid value → TakesNext old k byte new
     → (sign : Bool) (worth bits : ℕ) → nat_le 64 (byte % 128) ≡ sign → worth ≡ value + byte % 128 * 2 ^ (7 * k)
     → bits ≡ 7 * (k + 1) → signed_value (take (k + 1) old.bytes) ≡ pos worth -ℤ pos (if sign then 2 ^ bits else 0)
@@ -177,7 +177,7 @@ signed_worth {old} {k = k} {value = value} {byte = byte} b n sign worth bits sig
     ∙ ap (λ w. pos w -ℤ pos (if sign then 2 ^ (7 * (k + 1)) else 0)) (sym is)
     ∙ ap (λ i. pos worth -ℤ pos (if sign then 2 ^ i else 0)) (sym bits_is)
 
--- one more digit fits below each place from the next on
+-- the value with one more digit is below each place from the next on
 pub next_below : {old mid new : Input} {k value byte : ℕ} → Begun old k mid value → TakesNext old k byte new
     → (m : ℕ) → k < m → value + byte % 128 * 2 ^ (7 * k) < 2 ^ (7 * m)
 next_below {old} {k = k} {value = value} {byte = byte} b n m within =
@@ -186,12 +186,12 @@ next_below {old} {k = k} {value = value} {byte = byte} b n m within =
     in
     rw worth (worth_below old.bytes (k + 1) m (omega (arith, n.enough)) (omega arith))
 
--- a byte that isn't the last, before an encoding
+-- a byte with a continuation bit before an encoding makes an encoding
 IsEncoding-before : (b : ℕ) (bytes : List ℕ) → 128 ≤ b → IsEncoding bytes → IsEncoding (b ∷ bytes)
 IsEncoding-before b [] more encoding = absurd encoding
 IsEncoding-before b (c ∷ bytes) more encoding = (more, encoding)
 
--- behind a first byte that goes on, the first one that doesn't ends the encoding
+-- behind a first byte with a continuation bit, the first byte without one ends the encoding
 IsEncoding-behind : (bytes : List ℕ) (n : ℕ) → n + 1 < length bytes → 128 ≤ get_or bytes 0 0
     → NoneIsLast (take n (drop 1 bytes)) → get_or (drop 1 bytes) n 0 < 128 → IsEncoding (take (n + 2) bytes)
 IsEncoding-behind [] n enough more none last = absurd (omega (arith, enough))
@@ -202,7 +202,7 @@ IsEncoding-behind (b ∷ bytes) n enough more none last =
     subst (λ k. IsEncoding (take k (b ∷ bytes))) next
     (IsEncoding-before b (take (n + 1) bytes) more (subst IsEncoding (sym (take_more bytes n 0 within)) encoding))
 
--- the encoding ends at the first byte that doesn't go on, behind one that does
+-- an encoding that begins with a continued byte ends at the first byte without a continuation bit
 pub encoding_found : {old mid new : Input} {byte : ℕ} (n : ℕ) → TakesByte old byte mid → 128 ≤ byte
     → NoneIsLast (take n mid.bytes) → get_or mid.bytes n 0 < 128 → Takes (n + 1) mid new → TakesEncoding old new
 encoding_found {old} {mid} {new} n t more none last next =

@@ -6,13 +6,13 @@ use Rattle.std.proofs.lemmas.List.Elements.{All-head, All-tail, All-from_recursi
 use Rattle.dwarf_reader_core.specs.Leb128.{IsEncoding, Kind, Number, value, limit, is_in_range, HasNumber}
 use Rattle.dwarf_reader_core.specs.Shortest.{Encodes, IsShortest}
 
--- an encoding of bytes
+-- an encoding of bytes below 256: all but the last have a continuation bit
 abbrev pub IsSpelled : List ℕ → Type 0
 IsSpelled [] = ⊥
 IsSpelled (b ∷ []) = b < 128
 IsSpelled (b ∷ c ∷ bytes) = (128 ≤ b) × (b < 256) × IsSpelled (c ∷ bytes)
 
--- worth v, and strictly shorter than every other that is
+-- bytes have the value v, and are strictly shorter than all other bytes that have it
 pub record IsLeast {V : Type 0} (worth : List ℕ → V) (v : V) (bytes : List ℕ) : Type 0 where
   pub is_spelled : IsSpelled bytes
   pub has_value : worth bytes ≡ v

@@ -10,7 +10,7 @@ use Rattle.dwarf_reader_core.proofs.Shortest.{IsLeast, IsShortest-from}
 use Rattle.dwarf_reader_core.proofs.ShortestSigned.{signed_last-is_least, signed_more-is_least, signed_value-high, signed_value-low}
 use Rattle.dwarf_reader_core.proofs.ShortestUnsigned.{unsigned_last-is_least, unsigned_more-is_least}
 
--- an unsigned number, by its digits from the lowest
+-- each unsigned number has a least spelling, which is made from its lowest digit on
 shortest_unsigned : (room v : ℕ) → v ≤ room → (bytes : List ℕ) × IsLeast unsigned_value v bytes
 shortest_unsigned zero v within = (v ∷ [], unsigned_last-is_least v (omega arith))
 shortest_unsigned (suc room) v within =
@@ -24,7 +24,7 @@ shortest_unsigned (suc room) v within =
           )
     ]
 
--- a signed number from 0 on
+-- each signed number from 0 on has a least spelling
 shortest_positive : (room n : ℕ) → n ≤ room → (bytes : List ℕ) × IsLeast signed_value (pos n) bytes
 shortest_positive zero n within =
     (n ∷ [], signed_last-is_least (pos n) n (omega arith) (signed_value-low n (omega arith)))
@@ -40,11 +40,11 @@ shortest_positive (suc room) n within =
           )
     ]
 
--- the last byte of a number from -64 to -1
+-- one byte spells each number from -64 to -1
 byte_of_negative : (n : ℕ) → n < 64 → signed_value ((127 - n) ∷ []) ≡ negsuc n
 byte_of_negative n small = let is = signed_value-high (127 - n) (omega arith) (omega arith) in omega (arith, ints, is)
 
--- a negative number
+-- each signed number below 0 has a least spelling
 shortest_negative : (room n : ℕ) → n ≤ room → (bytes : List ℕ) × IsLeast signed_value (negsuc n) bytes
 shortest_negative zero n within =
     ((127 - n) ∷ [], signed_last-is_least (negsuc n) (127 - n) (omega arith) (byte_of_negative n (omega arith)))
@@ -65,13 +65,13 @@ shortest_signed : (v : ℤ) → (bytes : List ℕ) × IsLeast signed_value v byt
 shortest_signed (pos n) = shortest_positive n n (omega arith)
 shortest_signed (negsuc n) = shortest_negative n n (omega arith)
 
--- some encoding is the shortest
+-- each number of each kind has a least spelling
 some_shortest : (k : Kind) (number : Number k) → (bytes : List ℕ) × IsLeast (value k) number bytes
 some_shortest unsigned64 number = shortest_unsigned number number (omega arith)
 some_shortest unsigned16 number = shortest_unsigned number number (omega arith)
 some_shortest signed64 number = shortest_signed number
 
--- two lists are equal or not
+-- two lists are equal, or they are not
 same_or_not : (a b : List ℕ) → (a ≡ b) ⊎ (a ≢ b)
 same_or_not [] [] = inl refl
 same_or_not [] (y ∷ ys) = inr (λ e. absurd cc)
@@ -82,7 +82,7 @@ same_or_not (x ∷ xs) (y ∷ ys) =
       | inr apart ↦ inr (λ e. apart cc)
     ]
 
--- and no other is
+-- two shortest encodings of a number are equal
 only_shortest : (k : Kind) (number : Number k) (a b : List ℕ) → IsShortest k number a → IsShortest k number b → a ≡ b
 only_shortest k number a b is_a is_b =
     elim (same_or_not a b) [

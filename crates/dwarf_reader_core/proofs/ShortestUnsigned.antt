@@ -19,7 +19,7 @@ unsigned_last-no_other v small (b ∷ []) spelled same apart =
     let b_is : b ≡ v = omega arith in absurd (apart (ap (λ x. x ∷ []) b_is))
 unsigned_last-no_other v small (b ∷ c ∷ bytes) spelled same apart = omega arith
 
--- any other spelling of a number from 128 on is longer than the least one
+-- any other spelling of a number of at least 128 is longer than the least one
 unsigned_more-no_other : (v digit rest : ℕ) (tail : List ℕ) → digit < 128 → 0 < rest → v ≡ digit + 128 * rest
     → IsLeast unsigned_value rest tail
     → (other : List ℕ) → IsSpelled other → unsigned_value other ≡ v → other ≢ ((digit + 128) ∷ tail)
@@ -33,7 +33,7 @@ unsigned_more-no_other v digit rest tail small more v_is shortest (b ∷ c ∷ b
     (λ tail_is. apart cc) in
     omega arith
 
--- a number below 128 is a byte of its own
+-- a number below 128 is spelled least by the one byte that it is
 pub unsigned_last-is_least : (v : ℕ) → v < 128 → IsLeast unsigned_value v (v ∷ [])
 unsigned_last-is_least v small = record {
   is_spelled = small;
@@ -41,7 +41,7 @@ unsigned_last-is_least v small = record {
   shorter = unsigned_last-no_other v small;
 }
 
--- the lowest digit goes before the shortest encoding of what stands above it
+-- the lowest digit goes before the shortest encoding of the number above it
 pub unsigned_more-is_least : (v digit rest : ℕ) (tail : List ℕ) → digit < 128 → 0 < rest → v ≡ digit + 128 * rest
     → IsLeast unsigned_value rest tail → IsLeast unsigned_value v ((digit + 128) ∷ tail)
 unsigned_more-is_least v digit rest tail small more v_is shortest = record {
@@ -50,12 +50,12 @@ unsigned_more-is_least v digit rest tail small more v_is shortest = record {
   shorter = unsigned_more-no_other v digit rest tail small more v_is shortest;
 }
 
--- a number above 0 has a digit
+-- a number from 1 up to the limit has room for at least one digit
 no_power_of_zero : (left n : ℕ) → 0 < n → n < 128 ^ left → 0 < left
 no_power_of_zero zero n some below = absurd (omega arith)
 no_power_of_zero (suc left) n some below = omega arith
 
--- a number that goes on for more than one byte leaves room for the next
+-- a number that needs more than one byte leaves room for the next byte
 pub unsigned_more-has_room : (len rest : ℕ) → len < 10 → rest < 128 ^ (10 - len) → 0 < rest / 128
     → (rest / 128 < 128 ^ (10 - (len + 1))) × (len + 1 < 10)
 unsigned_more-has_room len rest room fits more =
@@ -66,7 +66,7 @@ unsigned_more-has_room len rest room fits more =
     let some_left : 0 < left = no_power_of_zero left (rest / 128) more below in
     (below, omega arith)
 
--- the two, as the code computes the bytes
+-- the byte that the code computes for a number below 128 is its least spelling
 pub unsigned_last_of-is_least : (rest digit : ℕ) → rest / 128 ≡ 0 → digit ≡ rest % 128
     → IsLeast unsigned_value rest (digit ∷ [])
 unsigned_last_of-is_least rest digit none_above is =
@@ -74,7 +74,7 @@ unsigned_last_of-is_least rest digit none_above is =
     let digit_is : digit ≡ rest = omega arith in
     rw digit_is (unsigned_last-is_least rest small)
 
--- a digit with a continuation bit before the least spelling of the digits above is the least one
+-- the byte that the code computes, before the least spelling of the digits above, is the least spelling
 pub unsigned_more_of-is_least : (rest digit : ℕ) (tail : List ℕ) → 0 < rest / 128 → digit ≡ rest % 128
     → IsLeast unsigned_value (rest / 128) tail → IsLeast unsigned_value rest (bit_or digit 128 ∷ tail)
 unsigned_more_of-is_least rest digit tail more is least =

@@ -8,56 +8,56 @@ use Rattle.dwarf_reader_core.specs.Input.{Input, TakesByte, TakesNumber}
 abbrev pub eof : ℕ → Error
 eof position = UnexpectedEof (record { 0 = position })
 
--- the error that bytes are missing here
+-- the error that bytes are missing at the input's position
 abbrev pub end_fault : Input → Error
 end_fault input = eof input.position
 
--- fewer than n bytes remain, which is the error of the end, and none is consumed
+-- fewer than n bytes remain: the error is that of missing bytes, and nothing is consumed
 pub record EndsBefore (n : ℕ) (old : Input) (e : Error) (new : Input) : Type 0 where
   pub short : length old.bytes < n
   pub fault : e ≡ end_fault old
   pub left : new ≡ old
 
--- the byte isn't there, which is the error of the end
+-- none of the bytes that remain has this value: the error is that of missing bytes
 pub record Lacks (byte : ℕ) (input : Input) (e : Error) : Type 0 where
   pub none : All (λ b. b ≢ byte) input.bytes
   pub fault : e ≡ end_fault input
 
--- a clone that allocates found no memory
+-- a clone ran out of memory, which can only happen if clones allocate
 pub record WantsMemory (clone_is_free : Bool) (e : Error) : Type 0 where
   pub costs : clone_is_free ≡ false
   pub fault : e ≡ OutOfMemory
 
--- the number of n bytes is consumed, and is no offset
+-- a number of n bytes is consumed, and it is too great for an offset
 pub record IsNoOffset (greatest n : ℕ) (old : Input) (e : Error) (new : Input) : Type 0 where
   pub number : ℕ
   pub taken : TakesNumber n old number new
   pub over : greatest < number
   pub fault : e ≡ UnsupportedOffset
 
--- sizes of addresses and offsets
+-- the sizes that addresses and offsets may have
 abbrev pub is_number_size : ℕ → Bool
 is_number_size size = size == 1 || size == 2 || size == 4 || size == 8
 
--- the byte is consumed, and is no size of addresses
+-- a byte is consumed, and it is none of the sizes of addresses
 pub record IsNoAddressSize (old : Input) (e : Error) (new : Input) : Type 0 where
   pub size : ℕ
   pub taken : TakesByte old size new
   pub none : is_number_size size ≡ false
   pub fault : e ≡ UnsupportedAddressSize size
 
--- this is no size, and nothing is consumed
+-- the size is none of those that numbers have, and nothing is consumed
 pub record IsNoSize (refusal : ℕ → Error) (size : ℕ) (old : Input) (e : Error) (new : Input) : Type 0 where
   pub none : is_number_size size ≡ false
   pub fault : e ≡ refusal size
   pub left : new ≡ old
 
--- no address of this size: it is no size, or bytes are missing
+-- no address of this size is read: addresses don't have this size, or bytes are missing
 abbrev pub RefusesAddress : ℕ → Input → Error → Input → Type 0
 RefusesAddress size old e new =
     IsNoSize UnsupportedAddressSize size old e new ⊎ (IsTrue (is_number_size size) × EndsBefore size old e new)
 
--- no offset of this size: it is no size, bytes are missing, or the number is no offset
+-- no offset of this size is read: offsets don't have this size, bytes are missing, or the number is too great
 abbrev pub RefusesOffset : ℕ → ℕ → Input → Error → Input → Type 0
 RefusesOffset greatest size old e new =
     IsNoSize UnsupportedOffsetSize size old e new

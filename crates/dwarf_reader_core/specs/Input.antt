@@ -8,7 +8,7 @@ pub record Input : Type 0 where
   pub position : ℕ
   pub is_big : Bool
 
--- what holds of every reader: positions are below 2 ^ 64, lengths are offsets, and bytes are bytes
+-- what holds of every reader: positions are below 2 ^ 64, lengths are offsets, and bytes are below 256
 pub record IsBounded (greatest : ℕ) (input : Input) : Type 0 where
   pub positions : input.position + length input.bytes < 2 ^ 64
   pub lengths : length input.bytes ≤ greatest
@@ -49,24 +49,24 @@ pub record TakesSigned (n : ℕ) (old : Input) (x : ℤ) (new : Input) : Type 0 
   pub is : x ≡ signed_number n (number_of old.is_big (take n old.bytes))
   pub left : new ≡ after n old
 
--- the byte is at the index, and not before
+-- the index is that of the first byte with this value
 pub record IsFirst (byte : ℕ) (bytes : List ℕ) (index : ℕ) : Type 0 where
   pub within : index < length bytes
   pub here : slice_index bytes index ≡ byte
   pub before : All (λ b. b ≢ byte) (take index bytes)
 
--- the string up to the first zero byte is consumed, with that byte
+-- the bytes up to the first zero byte are consumed with that byte, and are the string without it
 pub record TakesString (old string new : Input) : Type 0 where
   pub len : ℕ
   pub ends : IsFirst 0 old.bytes len
   pub is : string ≡ first len old
   pub left : new ≡ after (len + 1) old
 
--- the place from its position to its end lies within the other's
+-- the part lies within the whole, from its position to its end
 pub record IsPartOf (part whole : Input) : Type 0 where
   pub starts : whole.position ≤ part.position
   pub ends : end_of part ≤ end_of whole
 
--- the position is one of its own, or that of its end
+-- the position is that of a byte that remains, or that of the end
 abbrev pub Covers : Input → ℕ → Type 0
 Covers input id = (input.position ≤ id) × (id ≤ end_of input)

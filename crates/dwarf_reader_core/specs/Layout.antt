@@ -7,35 +7,35 @@ use Rattle.dwarf_reader_core.specs.Input.{Input, after, first}
 
 infixl 10 ◌>>=◌
 pub data Layout : Type 0 → Type 1 where
-  -- so many bytes, as an input of their own
+  -- the next bytes, as many as the number says, as an input of their own
   part : ℕ → Layout Input
-  -- the bytes before the first that is this one, which is consumed with them
+  -- the bytes before the first byte with this value, which is consumed with them
   ended : ℕ → Layout Input
-  -- no bytes, and this value
+  -- this value, without any bytes
   pure : {A : Type 0} → A → Layout A
-  -- no value, but this error
+  -- this error, in place of a value
   refuse : {A : Type 0} → Error → Layout A
-  -- what is at the front of a part that was consumed, and what the part has behind it
+  -- a value at the front of a part that was read before, and what remains of that part
   inside : {A : Type 0} → Input → Layout A → Layout (A × Input)
-  -- a layout and behind it another, which the value of the first determines
+  -- a layout and, behind it, a second one that depends on the value of the first
   ◌>>=◌ : {A B : Type 0} → Layout A → (A → Layout B) → Layout B
 
--- what follows from a value, or the error
+-- what a function makes of a value, or the error unchanged
 abbrev pub and_then : {A B : Type 0} → Result A Error → (A → Result B Error) → Result B Error
 and_then (Ok x) next = next x
 and_then (Err e) next = Err e
 
--- a byte more in front
+-- one more byte in front of the bytes before the end
 abbrev pub with_byte : ℕ → Option (List ℕ × List ℕ) → Option (List ℕ × List ℕ)
 with_byte b None = None
 with_byte b (Some x) = Some (b ∷ x.0, x.1)
 
--- the bytes before the first that is this one, and those behind it
+-- the bytes before the first byte with this value, and those behind it
 abbrev pub split_at : ℕ → List ℕ → Option (List ℕ × List ℕ)
 split_at end [] = None
 split_at end (b ∷ bytes) = if b == end then Some ([], bytes) else with_byte b (split_at end bytes)
 
--- the bytes before the end, and what remains behind it; or that the end is missing
+-- the bytes before the end and what remains behind it, or the error that the end is missing
 abbrev pub before_end : Input → Option (List ℕ × List ℕ) → Result (Input × Input) Error
 before_end old None = Err (end_fault old)
 before_end old (Some x) =
@@ -50,26 +50,26 @@ read (refuse e) old = Err e
 read (inside unit f) old = and_then (read f unit) (λ x. Ok (x, old))
 read (p >>= f) old = and_then (read p old) (λ x. read (f x.0) x.1)
 
--- the number that so many bytes are
+-- a number of as many bytes as the width
 unfoldable pub fixed : ℕ → Layout ℕ
 fixed width = part width >>= λ i. pure (number_of i.is_big i.bytes)
 
--- a byte
+-- one byte
 unfoldable pub byte : Layout ℕ
 byte = part 1 >>= λ i. pure (slice_index i.bytes 0)
 
--- the one layout or the other, by a test
+-- one of two layouts, which a test chooses
 infixr 15 when◌then◌else◌
 abbrev pub when◌then◌else◌ : {A : Type 0} → Bool → Layout A → Layout A → Layout A
 when true then f else g = f
 when false then f else g = g
 
--- no bytes if the test holds, and this error if it doesn't
+-- nothing is read, and the error is returned unless the test holds
 unfoldable pub check : Bool → Error → Layout (Unit {0})
 check holds error = when holds then pure tt else refuse error
 
--- the items of an input, the first of which has the offset: values up to the end of its bytes, and then at most one
--- error
+-- the items of an input, the first of which is at the offset: values up to the end of the bytes, or up to one error,
+-- which is the last item
 pub data AreItems {A : Type 0} (item : ℕ → Layout A) : ℕ → Input → List (Result A Error) → Type 0 where
   none : {offset : ℕ} {old : Input} → old.bytes ≡ [] → AreItems item offset old []
   more : {offset : ℕ} {old new : Input} {x : A} {items : List (Result A Error)} → old.bytes ≢ []
@@ -79,7 +79,7 @@ pub data AreItems {A : Type 0} (item : ℕ → Layout A) : ℕ → Input → Lis
   fault : {offset : ℕ} {old : Input} {e : Error} → old.bytes ≢ [] → read (item offset) old ≡ Err e
       → AreItems item offset old (Err e ∷ [])
 
--- a value without what remains behind it, or the error
+-- the value without what remains behind it, or the error
 abbrev pub alone : {A : Type 0} → Result (A × Input) Error → Result A Error
 alone (Ok x) = Ok x.0
 alone (Err e) = Err e

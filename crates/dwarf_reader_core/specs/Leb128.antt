@@ -1,4 +1,4 @@
--- LEB128 numbers (DWARF 5, 7.6): the bytes that encode one, and what a reading of bytes comes to.
+-- LEB128 numbers (DWARF 5, 7.6): the bytes that encode one, and what is read from bytes.
 use Rattle.std.specs.Prelude.{◌≡◌, ℕ, ◌+◌, ◌*◌, ◌-◌, ◌%◌, ◌^◌, ◌<◌, ◌≤◌, List, [], ◌∷◌, length, take, Bool, false, IsTrue, nat_lt, nat_le, ◌&&◌, ℤ, pos, negsuc, ◌-ℤ◌, int_le, if◌then◌else◌, ◌⊎◌}
 use Rattle.std.specs.List.{AllByRecursion}
 use Rattle.dwarf_base_core.specs.declared.error.Error.{Error}
@@ -16,7 +16,7 @@ IsEncoding (b ∷ c ∷ bytes) = (128 ≤ b) × IsEncoding (c ∷ bytes)
 abbrev pub NoneIsLast : List ℕ → Type 0
 NoneIsLast bytes = AllByRecursion (λ b. 128 ≤ b) bytes
 
--- byte i, from 0, carries the digit b % 128, worth 128 ^ i
+-- byte i, counted from 0, has the digit b % 128, which counts 128 ^ i times
 abbrev pub unsigned_value : List ℕ → ℕ
 unsigned_value [] = 0
 unsigned_value (b ∷ bytes) = b % 128 + 128 * unsigned_value bytes
@@ -27,11 +27,11 @@ is_negative [] = false
 is_negative (b ∷ []) = nat_le 64 (b % 128)
 is_negative (b ∷ c ∷ bytes) = is_negative (c ∷ bytes)
 
--- n bytes are worth their digits, less 128 ^ n if they are negative
+-- the value of n bytes is the sum of their digits, less 128 ^ n if they are negative
 abbrev pub signed_value : List ℕ → ℤ
 signed_value bytes = pos (unsigned_value bytes) -ℤ pos (if is_negative bytes then 128 ^ length bytes else 0)
 
--- the kinds of number that are read
+-- the kinds of numbers that are read
 pub data Kind : Type 0 where
   unsigned64 : Kind
   unsigned16 : Kind
@@ -48,7 +48,7 @@ limit unsigned64 = 10
 limit unsigned16 = 3
 limit signed64 = 10
 
--- what bytes are worth
+-- the value of bytes that encode a number of the kind
 abbrev pub value : (k : Kind) → List ℕ → Number k
 value unsigned64 bytes = unsigned_value bytes
 value unsigned16 bytes = unsigned_value bytes
@@ -59,7 +59,7 @@ is_in_range unsigned64 n = nat_lt n (2 ^ 64)
 is_in_range unsigned16 n = nat_lt n (2 ^ 16)
 is_in_range signed64 n = int_le (negsuc (2 ^ 63 - 1)) n && int_le n (pos (2 ^ 63 - 1))
 
--- the error of bytes that are no number of the kind
+-- the error for bytes that are no number of the kind
 abbrev pub refusal : Kind → Error
 refusal unsigned64 = BadUnsignedLeb128
 refusal unsigned16 = BadUnsignedLeb128
@@ -77,23 +77,23 @@ pub record HasNumber (k : Kind) (bytes : List ℕ) (number : Number k) (n : ℕ)
   pub enough : n ≤ length bytes
   pub is_number : IsNumber k (take n bytes) number
 
--- the bytes end before the limit, and before a last byte
+-- the bytes end before the limit of the kind, and none of them is the last of an encoding
 pub record IsCut (k : Kind) (bytes : List ℕ) : Type 0 where
   pub short : length bytes < limit k
   pub unended : NoneIsLast bytes
 
--- the bytes begin with no number of the kind, and not because they end
+-- the bytes begin with no number of the kind, and not just because they end too early
 pub record IsBad (k : Kind) (bytes : List ℕ) : Type 0 where
   pub no_number : (number : Number k) (n : ℕ) → HasNumber k bytes number n → ⊥
   pub not_cut : IsCut k bytes → ⊥
 
--- what a reading of bytes comes to
+-- what is read from bytes
 pub data Outcome (k : Kind) : Type 0 where
-  -- a number, by so many bytes
+  -- a number, and how many bytes it has
   Value : Number k → ℕ → Outcome k
   -- the bytes end before the number does
   End : Outcome k
-  -- no number of the kind
+  -- the bytes are no number of the kind
   Bad : Outcome k
 
 abbrev pub HasOutcome : (k : Kind) → List ℕ → Outcome k → Type 0
@@ -101,7 +101,7 @@ HasOutcome k bytes (Value number n) = HasNumber k bytes number n
 HasOutcome k bytes End = IsCut k bytes
 HasOutcome k bytes Bad = IsBad k bytes
 
--- the number is read, and its bytes are consumed
+-- a number is read, and its bytes are consumed
 pub record ReadsNumber (k : Kind) (old : Input) (number : Number k) (new : Input) : Type 0 where
   pub len : ℕ
   pub is : HasNumber k old.bytes number len
@@ -113,30 +113,30 @@ pub record EndsInNumber (k : Kind) (old : Input) (e : Error) (new : Input) : Typ
   pub left : new ≡ after (length old.bytes) old
   pub fault : e ≡ end_fault new
 
--- the bytes are bad, and as many as the limit are consumed
+-- the bytes are bad, and as many as the limit of the kind are consumed
 pub record IsNoNumber (k : Kind) (old : Input) (e : Error) (new : Input) : Type 0 where
   pub bad : IsBad k old.bytes
   pub left : new ≡ after (limit k) old
   pub fault : e ≡ refusal k
 
--- no number is read, which is one of two errors
+-- no number is read, with one of two errors
 abbrev pub RefusesNumber : Kind → Input → Error → Input → Type 0
 RefusesNumber k old e new = EndsInNumber k old e new ⊎ IsNoNumber k old e new
 
--- an encoding is consumed, of any length
+-- an encoding of any length is consumed
 pub record TakesEncoding (old new : Input) : Type 0 where
   pub len : ℕ
   pub enough : len ≤ length old.bytes
   pub is : IsEncoding (take len old.bytes)
   pub left : new ≡ after len old
 
--- no encoding begins the bytes: all are consumed, which is the error of the end
+-- no encoding is at the front: all bytes are consumed, and the error is that of missing bytes
 pub record LacksEncoding (old : Input) (e : Error) (new : Input) : Type 0 where
   pub none : NoneIsLast old.bytes
   pub left : new ≡ after (length old.bytes) old
   pub fault : e ≡ end_fault new
 
--- a number is read that is the bound or more
+-- a number is read, and it is at least the bound
 pub record IsOver (bound : ℕ) (old : Input) (e : Error) (new : Input) : Type 0 where
   pub number : ℕ
   pub taken : ReadsNumber unsigned64 old number new

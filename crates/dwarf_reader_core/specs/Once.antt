@@ -1,6 +1,6 @@
--- That there is exactly one.
+-- Exactly one value has a property.
 use Rattle.std.specs.Prelude.{◌≡◌}
 
--- something is so, and nothing else is
+-- a value has the property, and no other value has it
 abbrev pub HasOne : {A : Type 0} → (A → Type 0) → Type 0
 HasOne {A = A} Is = (one : A) × Is one × ((other : A) → Is other → other ≡ one)

@@ -16,13 +16,13 @@ pub record IsShortest (k : Kind) (number : Number k) (bytes : List ℕ) : Type 0
   pub encodes : Encodes k bytes number
   pub shorter : (other : List ℕ) → Encodes k other number → other ≢ bytes → length bytes < length other
 
--- the shortest bytes that encode the number are so many
+-- the length of the shortest bytes that encode the number
 pub record IsShortestLength (k : Kind) (number : Number k) (len : ℕ) : Type 0 where
   pub bytes : List ℕ
   pub shortest : IsShortest k number bytes
   pub is : len ≡ length bytes
 
--- ten places: first an encoding of `len` bytes, then zeros
+-- ten places: an encoding of `len` bytes, and zeros behind it
 pub record IsPadded (buffer : Inside) : Type 0 where
   pub places : length buffer.bytes ≡ 10
   pub within : buffer.len ≤ 10
@@ -32,7 +32,7 @@ pub record IsPadded (buffer : Inside) : Type 0 where
 abbrev pub encoding_of : Inside → List ℕ
 encoding_of buffer = take buffer.len buffer.bytes
 
--- the encoding with its zeros
+-- an encoding with zeros behind it, in ten places
 abbrev pub padded : List ℕ → Inside
 padded bytes = record { bytes = bytes ++ replicate (10 - length bytes) 0; len = length bytes }
 

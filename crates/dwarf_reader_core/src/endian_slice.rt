@@ -33,8 +33,7 @@ use std::ops::{Range, RangeFrom, RangeTo};
 pub struct EndianSlice<'input, Endian: Endianity> {
     slice: &'input [u8],
     endian: Endian,
-    // The position after the last byte. It is the same after bytes are consumed, so that consuming
-    // a byte costs no second store.
+    // The position after the last byte. Consuming bytes leaves it unchanged, which saves a store.
     end: u64,
     ghost starts: { length slice.now ≤ end },
     ghost ends: { end < 2 ^ 64 },
@@ -170,7 +169,8 @@ impl<'input, Endian: Endianity> EndianSlice<'input, Endian> {
         (self.range_to(..idx), self.range_from(idx..))
     }
 
-    /// Returns the offset, in bytes from the position, of the first byte of this value, or `None`.
+    /// Returns the offset, in bytes from the position, of the first byte with this value, or
+    /// `None`.
     #[inline]
     pub fn find(&self, byte: u8) -> Option<usize>
         ensures found { let reader = ⟦<EndianSlice<'input, Endian> as Reader>⟧ in
@@ -211,8 +211,8 @@ impl<'input, Endian: Endianity> EndianSlice<'input, Endian> {
         str::from_utf8(self.slice).map_err(|_| Error::BadUtf8)
     }
 
-    /// Returns the bytes that remain, as text. Each incomplete beginning of a sequence, as long as
-    /// it can be, becomes one U+FFFD, and so does each other bad byte.
+    /// Returns the bytes that remain, as text. Each truncated sequence, as long as possible, and
+    /// each other invalid byte becomes one U+FFFD, as in `String::from_utf8_lossy`.
     ///
     /// # Errors
     ///
@@ -292,7 +292,7 @@ impl<'input, Endian: Endianity> EndianSlice<'input, Endian> {
         self.end - self.slice.len() as u64
     }
 
-    // `CLONE_IS_FREE`, as contracts have it.
+    // The value of `CLONE_IS_FREE`, tied by a contract to the ghost that contracts read.
     const fn takes_no_memory() -> bool
         ensures { result ≡ ⟦<EndianSlice<'input, Endian> as Reader>⟧.clone_is_free }
     {
@@ -433,7 +433,7 @@ impl<'input, Endian: Endianity> Reader for EndianSlice<'input, Endian> {
         Ok(CowStr::Borrowed(self.to_string()?))
     }
 
-    /// As the trait's call. Memory is allocated only if the bytes aren't UTF-8.
+    /// Like the trait's call, but allocates only if the bytes aren't UTF-8.
     #[inline]
     fn to_string_lossy(&self, mem: Global) -> Result<CowStr<'_>>
         ensures ok { let reader = ⟦<EndianSlice<'input, Endian> as Reader>⟧ in
@@ -465,8 +465,8 @@ impl<'input, Endian: Endianity> Reader for EndianSlice<'input, Endian> {
         Ok(*byte)
     }
 
-    // Most numbers have one byte. The last byte of a longer one is found by its index, since reading
-    // one byte at a time would move the slice each time.
+    // Most numbers have one byte. The last byte of a longer one is found by its index, since
+    // reading byte by byte would move the slice each time.
     #[inline(always)]
     fn skip_leb128(&mut self) -> Result<()> {
         let first = self.read_u8()?;
@@ -482,8 +482,8 @@ impl<'input, Endian: Endianity> Reader for EndianSlice<'input, Endian> {
         Err(Error::UnexpectedEof(self.offset_id()))
     }
 
-    // The next two have the bodies of the trait. A default body is called out of line, whatever its
-    // hint says. These are inlined, and the caller then has the bytes that remain in registers.
+    // The next two repeat the bodies of the trait. A default body is called out of line, whatever
+    // its hint says. These are inlined, so that the caller keeps the remaining bytes in registers.
     #[inline(always)]
     fn read_uleb128(&mut self) -> Result<u64> {
         // Most numbers have one byte.

@@ -12,8 +12,8 @@ ghost use Rattle.dwarf_reader_core.specs.Shortest.{Encodes, IsShortest};
 
 use dwarf_base_core::laws::numbers_of_bytes;
 
-/// Bytes begin with one number of each kind, or end before one does, or are bad, and exactly one of
-/// these holds.
+/// Bytes have exactly one outcome for each kind of number: they begin with a number, end before it
+/// does, or are bad.
 pub fn exactly_one_outcome()
     ensures unsigned { (bytes : List ℕ) → HasOne (HasOutcome unsigned64 bytes) }
     ensures short { (bytes : List ℕ) → HasOne (HasOutcome unsigned16 bytes) }
@@ -39,7 +39,7 @@ pub fn written_is_read()
         → HasNumber k (bytes ++ rest) number (length bytes) }
 {}
 
-/// Bytes begin with one string, or have no zero byte, and exactly one of these holds.
+/// Bytes either begin with exactly one string, or have no zero byte.
 pub fn one_string()
     ensures taken { (old s t x y : Input) → TakesString old s x → TakesString old t y
         → (s ≡ t) × (x ≡ y) }
@@ -48,7 +48,7 @@ pub fn one_string()
         ⊎ ((e : Error) × Lacks 0 old e) }
 {}
 
-/// Bytes begin with one initial length, or have one error, and exactly one of these holds.
+/// Bytes either begin with exactly one initial length, or have exactly one error in its place.
 pub fn one_length()
     ensures taken { (greatest m n : ℕ) (old x y : Input) (f g : Format)
         → TakesLength greatest old m f x → TakesLength greatest old n g y

@@ -40,7 +40,7 @@ pub(crate) fn has_sign_bit(byte: u8) -> bool
     byte & SIGN_BIT != 0
 }
 
-// The signed number of `bits` bits: a negative one has ones from there on.
+// The signed number of `bits` bits; a negative one has ones above them.
 #[inline]
 pub(crate) fn with_sign(value: u64, is_negative: bool, bits: u32) -> i64
     requires bits { bits < 64 }

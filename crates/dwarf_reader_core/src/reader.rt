@@ -55,7 +55,7 @@ pub trait Reader: Debug + Drop + Sized {
 
     ghost view: { Self → Input };
 
-    // the byte order itself, of which `view` has whether the highest byte comes first
+    // The byte order itself; `view` only has whether the highest byte comes first.
     ghost order: { Self → Self.Endian };
 
     /// Returns whether clones allocate no memory, as [`CLONE_IS_FREE`](Reader::CLONE_IS_FREE) says.
@@ -120,7 +120,7 @@ pub trait Reader: Debug + Drop + Sized {
             (λ offset. (view self.now).position + Self.Offset.value offset ≡ id.0) }
         ensures covered { IsSome result ↔ Covers (view self.now) id.0 };
 
-    /// Returns the offset, in bytes from the position, of the first byte of this value.
+    /// Returns the offset, in bytes from the position, of the first byte with this value.
     ///
     /// # Errors
     ///
@@ -182,8 +182,8 @@ pub trait Reader: Debug + Drop + Sized {
 
     /// Returns all bytes that remain as text, and consumes none.
     ///
-    /// If they aren't UTF-8, each incomplete beginning of a sequence, as long as it can be, becomes
-    /// one U+FFFD, and so does each other bad byte.
+    /// If they aren't UTF-8, each truncated sequence, as long as possible, and each other invalid
+    /// byte becomes one U+FFFD, as in `String::from_utf8_lossy`.
     ///
     /// # Errors
     ///
@@ -546,7 +546,8 @@ pub trait Reader: Debug + Drop + Sized {
     ///   or if they are `0xffffffff` and some of the eight behind them are missing, and then four
     ///   are consumed.
     /// - [`Error::UnknownReservedLength`] if the first four bytes are reserved. They are consumed.
-    /// - [`Error::UnsupportedOffset`] if the length is no offset. All twelve bytes are consumed.
+    /// - [`Error::UnsupportedOffset`] if the length doesn't fit the offset type. All twelve bytes
+    ///   are consumed.
     #[inline]
     fn read_initial_length(&mut self) -> Result<(Self::Offset, Format)>
         ensures ok { IfOk result
@@ -623,7 +624,7 @@ pub trait Reader: Debug + Drop + Sized {
     /// # Errors
     ///
     /// - [`Error::UnexpectedEof`] if fewer bytes remain. None is consumed.
-    /// - [`Error::UnsupportedOffset`] if the word is no offset. It is consumed.
+    /// - [`Error::UnsupportedOffset`] if the word doesn't fit the offset type. It is consumed.
     #[inline]
     fn read_word(&mut self, format: Format) -> Result<Self::Offset>
         ensures ok { IfOk result
@@ -686,7 +687,7 @@ pub trait Reader: Debug + Drop + Sized {
     ///
     /// - [`Error::UnsupportedOffsetSize`] if `size` isn't 1, 2, 4 or 8. No byte is consumed.
     /// - [`Error::UnexpectedEof`] if fewer bytes remain. None is consumed.
-    /// - [`Error::UnsupportedOffset`] if the number is no offset. It is consumed.
+    /// - [`Error::UnsupportedOffset`] if the number doesn't fit the offset type. It is consumed.
     #[inline]
     fn read_sized_offset(&mut self, size: u8) -> Result<Self::Offset>
         ensures ok { IfOk result

@@ -1,9 +1,9 @@
-//! Errors: a number and a value of the library, as a type of Rust.
+//! Errors: a number and a value of the library, as a Rust type.
 
 use crate::{sys, text};
 use std::fmt;
 
-/// What a call returns.
+/// The result of a call.
 pub type Result<T> = std::result::Result<T, Error>;
 
 /// What is wrong with the bytes, or with what was to be read of them.
@@ -32,7 +32,7 @@ pub enum ErrorKind {
     UnterminatedAbbreviations,
 }
 
-// By rising number, from 1.
+// In the order of their numbers, from 1.
 const KINDS: [ErrorKind; 19] = [
     ErrorKind::UnexpectedEof,
     ErrorKind::BadUnsignedLeb128,
@@ -55,7 +55,7 @@ const KINDS: [ErrorKind; 19] = [
     ErrorKind::UnterminatedAbbreviations,
 ];
 
-/// The error of a call. It is shown as its text.
+/// The error of a call. `Display` writes its text.
 ///
 /// ```
 /// use dwarf_read::{ErrorKind, Table};
@@ -71,14 +71,14 @@ pub struct Error(sys::Fault);
 impl Error {
     pub(crate) const OUT_OF_MEMORY: Error = Error(sys::Fault { kind: 18, value: 0 });
 
-    /// What is wrong.
+    /// Which error it is.
     pub fn kind(&self) -> ErrorKind {
         KINDS[self.0.kind as usize - 1]
     }
 
-    /// The value of the error: for the end of the input and an unterminated table a position in bytes
-    /// from the section's start, else the code, length, version, size or register that is wrong. It is
-    /// 0 for an error without one.
+    /// The value of the error. This is a position in bytes from the section's start for the end of
+    /// the input and an unterminated table, and otherwise the code, length, version, size or
+    /// register that is wrong. It is 0 for an error without a value.
     pub fn value(&self) -> u64 {
         self.0.value
     }
@@ -101,7 +101,7 @@ impl fmt::Display for Error {
 
 impl std::error::Error for Error {}
 
-/// Makes a call. Its status may be one of these two, which is returned, or else the number of an error.
+/// Makes a call. Its status is one of these two, which is returned, or the number of an error.
 pub(crate) fn check(call: impl FnOnce(&mut sys::Fault) -> u32) -> Result<u32> {
     let mut fault = sys::Fault::default();
     match call(&mut fault) {

@@ -9,7 +9,7 @@ unsafe extern "C" {
     fn free(block: *mut c_void);
 }
 
-/// Whether there was memory, and the block.
+/// Whether the allocation succeeded, and the block.
 #[repr(C)]
 pub struct Tried {
     is_block: bool,
@@ -21,7 +21,7 @@ fn tried(block: *mut c_void) -> Tried {
     Tried { is_block: block.is_some(), block: block.unwrap_or(NonNull::dangling()) }
 }
 
-// A block of no bytes has as many as its alignment, so that null means that there is no memory.
+// A block of no bytes has as many as its alignment, so that null means that the allocation failed.
 fn size_of(size: usize, align: usize) -> usize {
     if size == 0 { align } else { size }
 }

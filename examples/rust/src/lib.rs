@@ -39,7 +39,7 @@ pub use error::{Error, ErrorKind, Result};
 pub use sets::{Entries, Set, Sets, address_sets, str_offset_sets};
 pub use table::{Abbreviation, Abbreviations, Attribute, Table};
 
-/// In which order the bytes of a number are.
+/// The order of the bytes of a number.
 #[derive(Debug, Clone, Copy, PartialEq, Eq, Hash)]
 pub enum ByteOrder {
     /// The lowest byte is first.
@@ -54,7 +54,7 @@ impl ByteOrder {
     }
 }
 
-/// The unsigned LEB128 number that the bytes begin with, and how many bytes it has.
+/// Returns the unsigned LEB128 number that the bytes begin with, and how many bytes it has.
 ///
 /// ```
 /// assert_eq!(dwarf_read::uleb128(&[0xb9, 0x64, 7]), Ok((12857, 2)));
@@ -68,7 +68,7 @@ pub fn uleb128(bytes: &[u8]) -> Result<(u64, usize)> {
     Ok((value, len))
 }
 
-/// The signed LEB128 number that the bytes begin with, and how many bytes it has.
+/// Returns the signed LEB128 number that the bytes begin with, and how many bytes it has.
 ///
 /// ```
 /// assert_eq!(dwarf_read::sleb128(&[0x56]), Ok((-42, 1)));
@@ -82,7 +82,8 @@ pub fn sleb128(bytes: &[u8]) -> Result<(i64, usize)> {
     Ok((value, len))
 }
 
-/// The string at an offset of `.debug_str` or `.debug_line_str`, without the zero byte that ends it.
+/// Returns the string at an offset of `.debug_str` or `.debug_line_str`, without the zero byte that
+/// ends it.
 ///
 /// ```
 /// assert_eq!(dwarf_read::string(b"one\0two\0", 4), Ok(&b"two"[..]));
@@ -96,8 +97,8 @@ pub fn string(section: &[u8], offset: usize) -> Result<&[u8]> {
     Ok(&section[offset..][..len])
 }
 
-/// The string offset at an index, among those that are in a row from `base` on. Each has eight bytes if
-/// `is_64` is set, and else four.
+/// Returns the string offset at an index, among those that follow each other from `base` on. Each
+/// has eight bytes if `is_64` is set, and four otherwise.
 pub fn str_offset(
     section: &[u8], order: ByteOrder, is_64: bool, base: usize, index: usize,
 ) -> Result<usize> {
@@ -109,7 +110,8 @@ pub fn str_offset(
     Ok(offset)
 }
 
-/// The address at an index, among those that are in a row from `base` on. Each has `size` bytes: 1, 2, 4 or 8.
+/// Returns the address at an index, among those that follow each other from `base` on. Each has
+/// `size` bytes: 1, 2, 4 or 8.
 pub fn address(
     section: &[u8], order: ByteOrder, size: u8, base: usize, index: usize,
 ) -> Result<u64> {
@@ -121,19 +123,19 @@ pub fn address(
     Ok(address)
 }
 
-/// The name of a tag, if it has one.
+/// Returns the name of a tag, if it has one.
 pub fn tag_name(tag: u16) -> Option<String> {
     // SAFETY: `text` passes places that nothing else refers to.
     text(|at, room, len| unsafe { sys::dwarf_tag_name(tag, at, room, len) })
 }
 
-/// The name of an attribute, if it has one.
+/// Returns the name of an attribute, if it has one.
 pub fn attribute_name(name: u16) -> Option<String> {
     // SAFETY: `text` passes places that nothing else refers to.
     text(|at, room, len| unsafe { sys::dwarf_attribute_name(name, at, room, len) })
 }
 
-/// The name of a form, if it has one.
+/// Returns the name of a form, if it has one.
 pub fn form_name(form: u16) -> Option<String> {
     // SAFETY: `text` passes places that nothing else refers to.
     text(|at, room, len| unsafe { sys::dwarf_form_name(form, at, room, len) })

@@ -10,7 +10,7 @@ enum Kind {
     StrOffsets,
 }
 
-/// The sets of addresses of a whole `.debug_addr`.
+/// Returns the sets of addresses of a whole `.debug_addr`.
 ///
 /// ```
 /// # fn main() -> Result<(), dwarf_read::Error> {
@@ -28,7 +28,7 @@ pub fn address_sets(section: &[u8], order: ByteOrder) -> Sets<'_> {
     Sets { section, order, kind: Kind::Addresses, offset: Some(0) }
 }
 
-/// The sets of string offsets of a whole `.debug_str_offsets`.
+/// Returns the sets of string offsets of a whole `.debug_str_offsets`.
 ///
 /// ```
 /// # fn main() -> Result<(), dwarf_read::Error> {
@@ -45,7 +45,7 @@ pub fn str_offset_sets(section: &[u8], order: ByteOrder) -> Sets<'_> {
     Sets { section, order, kind: Kind::StrOffsets, offset: Some(0) }
 }
 
-/// The sets of a section, by rising offset. An error is the last item.
+/// The sets of a section, in the order of their offsets. If there is an error, it is the last item.
 #[derive(Debug, Clone)]
 pub struct Sets<'s> {
     section: &'s [u8],
@@ -99,32 +99,33 @@ pub struct Set<'s> {
 }
 
 impl<'s> Set<'s> {
-    /// The offset of the set in its section.
+    /// Returns the offset of the set in its section.
     pub fn offset(&self) -> usize {
         self.offset
     }
 
-    /// The offset of its first entry in its section, which units name as their base.
+    /// Returns the offset of the set's first entry in its section, which units name as their base.
     pub fn base(&self) -> usize {
         self.header.first_entry
     }
 
-    /// How many bytes of the set follow its initial length.
+    /// Returns how many bytes of the set follow its initial length.
     pub fn unit_length(&self) -> usize {
         self.header.unit_length
     }
 
-    /// Whether the set is of the 64-bit format.
+    /// Returns whether the set is of the 64-bit format.
     pub fn is_64(&self) -> bool {
         self.header.word_size == 8
     }
 
-    /// How many bytes an entry has.
+    /// Returns how many bytes an entry has.
     pub fn entry_size(&self) -> u8 {
         self.header.entry_size
     }
 
-    /// The address or string offset at an index, from 0. It is an error if it isn't whole in the set.
+    /// Returns the address or string offset at an index, counted from 0, or an error if the set
+    /// doesn't contain all of its bytes.
     pub fn get(&self, index: usize) -> Result<u64> {
         let (base, size) = (self.header.first_entry, self.header.entry_size);
         match self.kind {
@@ -136,7 +137,7 @@ impl<'s> Set<'s> {
         }
     }
 
-    /// The entries of the set. An error is the last item: that the set's end cuts an entry.
+    /// Returns the entries of the set. If the set's end cuts an entry, that error is the last item.
     pub fn entries(&self) -> Entries<'s> {
         Entries { set: *self, index: Some(0) }
     }
@@ -156,7 +157,7 @@ impl Iterator for Entries<'_> {
     fn next(&mut self) -> Option<Result<u64>> {
         let index = self.index.take()?;
         let header = &self.set.header;
-        // An entry that is cut counts too, so that reading it is an error.
+        // An entry that is cut counts, too, so that reading it is an error.
         let count = (header.next - header.first_entry).div_ceil(header.entry_size.into());
         if index == count {
             return None;

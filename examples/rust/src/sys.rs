@@ -1,8 +1,8 @@
-//! What this crate uses of `include/dwarf_read.h`, which says what each call does.
+//! The declarations of `include/dwarf_read.h`, which says what each call does.
 //!
-//! A call is safe if what a caller promises there holds. So it is for each call of this crate: a slice is valid for
-//! as many items as its length says, all bytes of an output are initialized, and an output overlaps nothing, since
-//! it is borrowed mutably for the call.
+//! A call is safe if what a caller promises there holds. This is so for each call of this crate: a
+//! slice is valid for as many items as its length says, all bytes of an output are initialized, and
+//! an output overlaps nothing, since it is borrowed mutably for the call.
 
 use crate::table::Attribute;
 

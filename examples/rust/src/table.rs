@@ -8,7 +8,7 @@ use std::slice;
 /// The form whose value is in the table itself.
 const IMPLICIT_CONST: u16 = 0x21;
 
-/// The abbreviation table at an offset of `.debug_abbrev`.
+/// An abbreviation table of `.debug_abbrev`.
 ///
 /// ```
 /// # fn main() -> Result<(), dwarf_read::Error> {
@@ -26,14 +26,14 @@ const IMPLICIT_CONST: u16 = 0x21;
 /// ```
 #[derive(Debug, Clone, PartialEq, Eq)]
 pub struct Table {
-    // By rising code.
+    // In the order of their codes.
     rows: Vec<sys::Abbreviation>,
-    // Those of all abbreviations, in the same order.
+    // The attributes of all abbreviations, in the same order.
     attributes: Vec<Attribute>,
     is_closed_by_null: bool,
 }
 
-// So many items of zeros, or the error that memory ran out.
+// Returns so many items of zeros, or an error if memory runs out.
 fn zeros<T: Clone + Default>(count: usize) -> Result<Vec<T>> {
     let mut items = Vec::new();
     items.try_reserve_exact(count).map_err(|_| Error::OUT_OF_MEMORY)?;
@@ -70,7 +70,7 @@ impl Table {
         Ok(Table { rows, attributes, is_closed_by_null: measure.closed_by_null == 1 })
     }
 
-    /// The abbreviation with a code.
+    /// Returns the abbreviation with a code.
     pub fn get(&self, code: u64) -> Option<Abbreviation<'_>> {
         // In most tables the codes count from 1.
         let guess = usize::try_from(code.wrapping_sub(1)).unwrap_or(usize::MAX);
@@ -81,22 +81,22 @@ impl Table {
         Some(self.of(row))
     }
 
-    /// The abbreviations by rising code.
+    /// Returns the abbreviations in the order of their codes.
     pub fn iter(&self) -> Abbreviations<'_> {
         Abbreviations { table: self, rows: self.rows.iter() }
     }
 
-    /// How many abbreviations the table has.
+    /// Returns how many abbreviations the table has.
     pub fn len(&self) -> usize {
         self.rows.len()
     }
 
-    /// Whether the table has no abbreviation.
+    /// Returns whether the table has no abbreviations.
     pub fn is_empty(&self) -> bool {
         self.rows.is_empty()
     }
 
-    /// Whether a code of value 0 closes the table, and not the end of the section.
+    /// Returns whether a code of value 0 closes the table, and not the section's end.
     pub fn is_closed_by_null(&self) -> bool {
         self.is_closed_by_null
     }
@@ -118,7 +118,7 @@ impl<'t> IntoIterator for &'t Table {
     }
 }
 
-/// The abbreviations of a table, by rising code.
+/// The abbreviations of a table, in the order of their codes.
 #[derive(Debug, Clone)]
 pub struct Abbreviations<'t> {
     table: &'t Table,
@@ -155,22 +155,22 @@ pub struct Abbreviation<'t> {
 }
 
 impl<'t> Abbreviation<'t> {
-    /// Its code, which isn't 0.
+    /// Returns the code of the abbreviation, which isn't 0.
     pub fn code(&self) -> u64 {
         self.row.code
     }
 
-    /// Its tag, whose name [`tag_name`](crate::tag_name) returns.
+    /// Returns the tag of the entries, whose name [`tag_name`](crate::tag_name) returns.
     pub fn tag(&self) -> u16 {
         self.row.tag
     }
 
-    /// Whether its entries have children.
+    /// Returns whether the entries have children.
     pub fn has_children(&self) -> bool {
         self.row.has_children == 1
     }
 
-    /// Its attributes, in the order of the table.
+    /// Returns the attributes, in the order of the table.
     pub fn attributes(&self) -> &'t [Attribute] {
         self.attributes
     }
@@ -186,17 +186,18 @@ pub struct Attribute {
 }
 
 impl Attribute {
-    /// What it is, whose name [`attribute_name`](crate::attribute_name) returns.
+    /// Returns the attribute's name as a number, which [`attribute_name`](crate::attribute_name)
+    /// converts to text.
     pub fn name(&self) -> u16 {
         self.name
     }
 
-    /// How its values are encoded, whose name [`form_name`](crate::form_name) returns.
+    /// Returns the form of the values, whose name [`form_name`](crate::form_name) returns.
     pub fn form(&self) -> u16 {
         self.form
     }
 
-    /// Its value, if that is in the table itself.
+    /// Returns the attribute's value, if that is in the table itself.
     pub fn implicit_const(&self) -> Option<i64> {
         (self.form == IMPLICIT_CONST).then_some(self.implicit_const)
     }

@@ -24,7 +24,7 @@ fn an_empty_section_is_an_empty_table() {
 
 #[test]
 fn an_error_is_the_last_item() {
-    // A set of two bytes that are left after the first entry, and the beginning of another set.
+    // Two bytes of a set remain after its first entry, and another set begins behind them.
     let section = [10, 0, 0, 0, 5, 0, 4, 0, 1, 0, 0, 0, 2, 0, 9];
     let mut sets = address_sets(&section, ByteOrder::Little);
     let set = sets.next().unwrap().unwrap();

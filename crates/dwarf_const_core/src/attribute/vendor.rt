@@ -110,7 +110,7 @@ pub const DW_AT_GNU_addr_base: DwAt = DwAt(0x2133);
 pub const DW_AT_GNU_pubnames: DwAt = DwAt(0x2134);
 /// Marks a unit with an index of public types.
 pub const DW_AT_GNU_pubtypes: DwAt = DwAt(0x2135);
-/// Tells blocks on one line apart.
+/// Distinguishes blocks on the same line.
 pub const DW_AT_GNU_discriminator: DwAt = DwAt(0x2136);
 /// The view numbers that go with a location list.
 pub const DW_AT_GNU_locviews: DwAt = DwAt(0x2137);

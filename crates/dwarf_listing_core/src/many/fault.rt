@@ -1,4 +1,4 @@
-//! Why a run over many offsets ended early.
+//! The errors of a run over many offsets.
 
 ghost use Rattle.std.specs.Prelude.{◌≡◌, ◌≢◌};
 ghost use Rattle.std.specs.IoError.{error_kind};
@@ -11,18 +11,18 @@ use std::alloc::{AllocError, AllocFailed};
 use std::io::ErrorKind;
 use std::{fmt, io};
 
-/// Why a run over many offsets ended early.
+/// Why a run over many offsets failed.
 #[derive(Clone, Copy, Debug, PartialEq, Eq)]
 pub enum ManyFault {
-    /// What is at this offset has this error.
+    /// The section has this error at this offset.
     At(u64, Error),
-    /// This line of the offsets, counted from 1, is no offset.
+    /// This line of the offsets, counted from 1, isn't an offset.
     Line(u64),
     /// The section can't be opened or read.
     ReadSection,
     /// The offsets can't be opened or read.
     ReadOffsets,
-    /// Another fault, of no offset.
+    /// Any other error.
     Other(Fault),
 }
 
@@ -53,8 +53,8 @@ impl ManyFault {
         }
     }
 
-    /// Returns the exit status: 1 for what is malformed, 3 for an input that can't be read, and else
-    /// that of the other fault.
+    /// Returns the exit status: 1 for malformed input, 3 for an input that can't be read, and
+    /// otherwise that of the other error.
     pub fn status(&self) -> u8
         ensures { result ≡ many_fault_status self.now }
     {
@@ -66,7 +66,7 @@ impl ManyFault {
     }
 }
 
-/// The line on standard error, without its end.
+/// Writes the line on standard error, without its line end.
 impl fmt::Display for ManyFault {
     ghost use Rattle.std.specs.Prelude.{Some};
     ghost use Rattle.dwarf_listing_core.specs.ManyFault.{many_fault_text};

@@ -1,5 +1,5 @@
-//! Whole runs over tables and strings, with enough memory and where a request is refused, and
-//! inputs and outputs that fail.
+//! Whole runs over tables and strings, with enough memory and with failed allocations, and inputs
+//! and outputs that fail.
 
 use super::fault::ManyFault;
 use super::run_many;
@@ -50,7 +50,7 @@ static RUNS: &[Run] = &[
         b"0x0: one\n",
         Err(ManyFault::At(4, Error::UnexpectedEof(ReaderOffsetId(4)))),
     ),
-    // Nothing is written if a line is no offset.
+    // Nothing is written if a line isn't an offset.
     (
         Kind::Strings,
         b"one\0",
@@ -102,7 +102,7 @@ static RUNS: &[Run] = &[
     ),
 ];
 
-// The buffer is shorter than the text, and all of the text leaves it.
+// The buffer is shorter than the text, and all of the text is flushed from it.
 fn check(rt: &impl Abort, mem: Global, run: &Run) -> Result<(), Fail> {
     let (kind, section, offsets, text, wanted) = run;
     let mut output = BufWriter::with_capacity(mem, 16, Vec::new(mem))?;
@@ -158,7 +158,7 @@ fn takes_names(rt: HostRuntime) -> Result<(), Fail> {
     Ok(())
 }
 
-// Every call of an input may fail: that of each byte, and that which says there is no other.
+// Each call of an input may fail: that for each byte, and the one that finds the end.
 #[test]
 fn inputs_fail_at_each_call(rt: HostRuntime) -> Result<(), Fail> {
     let mem = rt.alloc();
@@ -207,8 +207,8 @@ fn outputs_fail_at_each_call(rt: HostRuntime) -> Result<(), Fail> {
     Ok(())
 }
 
-// A run writes the whole text, or tells that memory ran out and writes a front of it.
-// `tools/fail-alloc` refuses each request.
+// A run writes the whole text, or it returns that memory ran out and has written a front of the
+// text. `tools/fail-alloc` makes each allocation fail.
 fn check_refused<R: Abort + Print>(rt: &R, mem: Global, run: Run) -> Result<(), Fail> {
     let (kind, section, offsets, text, wanted) = run;
     let Ok(room) = Vec::with_capacity(mem, 64) else {
@@ -227,7 +227,7 @@ fn check_refused<R: Abort + Print>(rt: &R, mem: Global, run: Run) -> Result<(), 
             (text, 0, wanted)
         );
     }
-    // The last request. Where it is refused, each one before it was refused in an earlier run.
+    // The last allocation. If it fails, each one before it failed in an earlier run.
     if Vec::from_slice(mem, &[0u8]).is_err() {
         println!(rt; "every request was refused")?;
     }

@@ -1,4 +1,4 @@
-//! Whole runs: what the words and the bytes of an input write, and what is said of a fault.
+//! Whole runs: what is written for arguments and an input, and how an error is reported.
 
 use super::run;
 use crate::fault::Fault;
@@ -20,7 +20,7 @@ const UNIT: &[u8] = b"\x01\x11\x01\x03\x08\0\0\0\xff";
 
 const UNIT_TEXT: &[u8] = b"1 DW_TAG_compile_unit yes\n  DW_AT_name DW_FORM_string\n";
 
-// The text that a run writes, or the line and the status of its fault.
+// The text that a run writes, or the line and the status of its error.
 type Outcome<'a> = Result<&'a [u8], (&'a str, u8)>;
 
 fn words(mem: Global, texts: &[&str]) -> Result<Vec<String>, AllocError> {
@@ -31,7 +31,7 @@ fn words(mem: Global, texts: &[&str]) -> Result<Vec<String>, AllocError> {
     Ok(words)
 }
 
-// Ends the test where a run has another outcome, or has a fault and writes something.
+// Ends the test if a run has another outcome, or if it has an error and writes something.
 fn check<I: Read>(
     rt: &impl Abort,
     mem: Global,
@@ -63,7 +63,7 @@ fn check_outcome(
     Ok(())
 }
 
-// Words, an input, and the text.
+// Arguments, an input, and the text.
 static TEXTS: &[(&[&str], &[u8], &[u8])] = &[
     (&["abbrev", "0"], UNIT, UNIT_TEXT),
     (&["abbrev-strict", "0"], UNIT, UNIT_TEXT),
@@ -80,8 +80,8 @@ static TEXTS: &[(&[&str], &[u8], &[u8])] = &[
     ),
 ];
 
-// Each command, by a reader that gives one byte a call. What the program prints of whole inputs is
-// in the worked cases of `dwarf_list`, which are data.
+// Each command, with a reader that returns one byte a call. What the program prints of whole inputs
+// is in the worked cases of `dwarf_list`, which are data.
 #[test]
 fn lists_byte_by_byte(rt: HostRuntime) -> Result<(), Fail> {
     for (texts, bytes, text) in TEXTS {

@@ -4,7 +4,7 @@ use std::alloc::Global;
 use std::env::{Env, FillError};
 use std::test::Fail;
 
-// A system that gives these words, the program's name first.
+// A system with these arguments, the program's name first.
 #[derive(Drop)]
 pub(crate) struct Given<'list, 'word>(pub(crate) &'list [&'word [u8]]);
 
@@ -27,7 +27,7 @@ impl Env for Given<'_, '_> {
     }
 }
 
-// The words that are taken from a system, each with a `;` behind it.
+// The arguments that are read from a system, each with a `;` behind it.
 fn taken(mem: Global, given: &[&[u8]]) -> Result<String, Fault> {
     let mut text = String::new(mem);
     for word in command_line(mem, &Given(given))?.iter() {
@@ -51,7 +51,7 @@ fn words_of_the_system(rt: HostRuntime) -> Result<(), Fail> {
     Ok(())
 }
 
-// `tools/fail-alloc` refuses each request.
+// `tools/fail-alloc` makes each allocation fail.
 #[test]
 fn refused_memory_for_words(rt: HostRuntime) -> Result<(), Fail> {
     let mem = rt.alloc();
@@ -59,7 +59,7 @@ fn refused_memory_for_words(rt: HostRuntime) -> Result<(), Fail> {
         Ok(text) => assert_eq!(rt; text.as_str(), "abbrev;0;"),
         Err(fault) => assert_eq!(rt; fault, Fault::out_of_memory()),
     }
-    // The last request. Where it is refused, each one before it was refused in an earlier run.
+    // The last allocation. If it fails, each one before it failed in an earlier run.
     if Vec::from_slice(mem, &[0u8]).is_err() {
         println!(rt; "every request was refused")?;
     }

@@ -6,7 +6,7 @@ use crate::status::DWARF_NO_ROOM;
 
 #[test]
 fn numbers_are_read(rt: HostRuntime) {
-    // The status, the value, the bytes of the number, and the fault.
+    // The status, the value, the bytes of the number, and the error.
     let unsigned: [(&[u8], (u32, u64, usize, (u32, u64))); 5] = [
         (b"\xb9\x64\x01", (0, 12857, 2, (7, 7))),
         (

@@ -5,7 +5,7 @@ use crate::sections::{dwarf_address, dwarf_str_offset, dwarf_string};
 
 #[test]
 fn strings_are_found(rt: HostRuntime) {
-    // The offset; the status, the length and the fault.
+    // The offset; the status, the length and the error.
     let rows: [(usize, (u32, usize, (u32, u64))); 5] = [
         (0, (0, 3, (7, 7))),
         (4, (0, 3, (7, 7))),

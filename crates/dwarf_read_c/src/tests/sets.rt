@@ -11,7 +11,8 @@ const NO_SET: DwarfSet = DwarfSet {
     entry_size: 7,
 };
 
-// Two sets of either kind, and one that is a set of string offsets alone: 3 is no size of addresses.
+// Two sets of either kind, and one that is only a set of string offsets: 3 isn't a size of
+// addresses.
 const SETS: &[u8] = b"\x0c\x00\x00\x00\x05\x00\x04\x00\x78\x56\x34\x12\xef\xbe\xad\xde\
     \xff\xff\xff\xff\x14\x00\x00\x00\x00\x00\x00\x00\x05\x00\x02\x00\
     \xf0\xde\xbc\x9a\x78\x56\x34\x12\xef\xbe\xad\xde\xef\xbe\xad\xde\
@@ -19,7 +20,7 @@ const SETS: &[u8] = b"\x0c\x00\x00\x00\x05\x00\x04\x00\x78\x56\x34\x12\xef\xbe\x
 
 #[test]
 fn sets_are_found(rt: HostRuntime) {
-    // Whether the set is one of addresses, and its offset; the status, the set and the fault.
+    // Whether the set is one of addresses, and its offset; the status, the set and the error.
     let rows: [(
         bool,
         usize,

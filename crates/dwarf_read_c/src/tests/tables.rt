@@ -31,7 +31,7 @@ const NO_ATTRIBUTE: DwarfAttribute = DwarfAttribute {
 
 #[test]
 fn tables_are_measured(rt: HostRuntime) {
-    // The offset; the status, the measure and the fault.
+    // The offset; the status, the measure and the error.
     let rows: [(usize, (u32, (usize, usize, u8), (u32, u64))); 6] = [
         (0, (0, (2, 3, 1), (7, 7))),
         (8, (0, (1, 2, 1), (7, 7))),
@@ -118,14 +118,14 @@ fn few_places_are_left_alone(rt: HostRuntime) {
     );
 }
 
-// Meant for runs in which a request for memory is refused. The other tests need all their memory.
+// Meant for runs in which an allocation fails. The other tests need all their memory.
 #[test]
 fn refused_memory(rt: HostRuntime) {
     let (mut m, mut fault) = (NOTHING, SEVEN);
     let status = dwarf_table_measure(rt.alloc(), TABLE, 0, &mut m, &mut fault);
     let wanted = if status == 0 { (2, 7) } else { (7, 18) };
     same(&rt, (m.abbreviations, fault.kind), wanted, status);
-    // One request more: if it is refused, each one before it was refused in an earlier run.
+    // One more allocation: if it fails, each one before it failed in an earlier run.
     if Vec::from_slice(rt.alloc(), &[0u8]).is_err() {
         let _ = println!(rt; "every request was refused");
     }

@@ -7,7 +7,7 @@ use crate::texts::dwarf_fault_text;
 
 #[test]
 fn faults_have_texts(rt: HostRuntime) {
-    // The number and the value; the status, how many bytes are told, and the bytes.
+    // The number and the value; the status, how many bytes are counted, and the bytes.
     let rows: [(u32, u64, (u32, usize, &[u8])); 7] = [
         (10, 0, (0, 15, b"offset overflow.................")),
         (11, 4, (0, 24, b"unknown DWARF version: 4........")),

@@ -1,4 +1,4 @@
--- One more offset, and what a cache keeps of those so far.
+-- What a cache keeps after one more offset.
 use Rattle.std.proofs.Common.{◌≡◌, ◌≢◌, ℕ, ◌+◌, ◌<◌, ◌≤◌, Bool, true, false, cond, eqb, List, [], ◌∷◌, ◌++◌, length, take, get_or, map, Option, Some, None, Result, MatchOption, refl, sym, ap, subst, ◌∙◌, arith}
 use Rattle.std.proofs.lemmas.Bool.{eqb-true, eqb-false, eq-eqb, ne_eqb}
 use Rattle.std.proofs.lemmas.List.{take_more, map_push}
@@ -9,12 +9,12 @@ use Rattle.dwarf_read_core.specs.Answer.{Answer}
 use Rattle.dwarf_read_core.specs.Cache.{KeepsAnswers, occurrences}
 use Rattle.dwarf_read_core.specs.Grammar.{Table}
 
--- an offset occurs once more if it is the new one
+-- after one more offset, that offset occurs once more, and the others as often as before
 pub occurrences-push : (q key : ℕ) (seen : List ℕ)
     → occurrences q (seen ++ key ∷ []) ≡ occurrences q seen + cond (eqb key q) 1 0
 occurrences-push q key seen = sum_by_push (λ o. cond (eqb o q) 1 0) seen key
 
--- one more of the offsets
+-- one more item of a list of offsets adds its number to the numbers
 pub seen_more : {O : Type 0} (number : O → ℕ) (offsets : List O) (i : ℕ) (offset : O) (key : ℕ)
     → i < length offsets → get_or offsets i offset ≡ offset → key ≡ number offset
     → map number (take (i + 1) offsets) ≡ map number (take i offsets) ++ key ∷ []
@@ -27,13 +27,13 @@ abbrev Keeps : ℕ → Input → ℕ → ℕ → Option (Result Table Error) →
 Keeps least section key count kept =
     MatchOption kept (count < least) (λ answer. (least ≤ count) × Answer section key answer)
 
--- as often as before, or more often but not just often enough
+-- what is kept at an offset stays as it is while the count of the offset rises without reaching the least count
 stays_kept : (least : ℕ) (section : Input) (key before now : ℕ) (kept : Option (Result Table Error)) → before ≤ now
     → (before < least → now < least) → Keeps least section key before kept → Keeps least section key now kept
 stays_kept least section key before now None more short h = short h
 stays_kept least section key before now (Some answer) more short h = (omega (arith, h.0, more), h.1)
 
--- the offset doesn't occur just often enough
+-- what is kept stays the same if the new offset doesn't occur just often enough
 pub kept_same : (least : ℕ) (section : Input) (seen : List ℕ) (key : ℕ) (kept : ℕ → Option (Result Table Error))
     → KeepsAnswers least section seen kept → occurrences key seen + 1 ≢ least
     → KeepsAnswers least section (seen ++ key ∷ []) kept
@@ -56,7 +56,7 @@ kept_same least section seen key kept h other q = go (eqb q key) refl
         rw count (stays_kept least section q (occurrences q seen) (occurrences q seen + 0) (kept q) (omega arith)
         (λ lt. omega arith) (h q))
 
--- it does, and its answer is kept
+-- if the new offset occurs just often enough, it is kept with the section's result
 pub kept_more : (least : ℕ) (section : Input) (seen : List ℕ) (key : ℕ) (answer : Result Table Error)
     (kept new : ℕ → Option (Result Table Error)) → KeepsAnswers least section seen kept
     → occurrences key seen + 1 ≡ least → Answer section key answer

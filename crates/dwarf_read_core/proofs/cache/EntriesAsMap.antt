@@ -1,4 +1,4 @@
--- A cache's entries against the finite map that they show.
+-- The entries of a cache are one finite map.
 use Rattle.std.proofs.Common.{◌≡◌, ℕ, List, [], ◌∷◌, Bool, true, false, cond, Option, Some, None, Result, option_map, refl, sym, ap, ◌∙◌}
 use Rattle.std.specs.BTreeMap.{is_at}
 use Rattle.std.specs.Cmp.{nat_cmp_total, eq_by_cmp_equiv}
@@ -20,7 +20,7 @@ mapped_choice : {X Y : Type 0} (f : X → Y) (b : Bool) (x : X) (o : Option X)
 mapped_choice f true x o = refl
 mapped_choice f false x o = refl
 
--- a test of the answers chooses as it does of the shared tables
+-- retaining the final results is the same before and after the sharing of tables is dropped
 mapped_filter : {X : Type 0} (f : X → Result Table Error) (o : Option X)
     → option_map f (option_filter (λ x. is_final (f x)) o) ≡ still_kept (option_map f o)
 mapped_filter f None = refl
@@ -43,7 +43,7 @@ module _ {Z : Type 0} where
       ap (cond (is_at (nat_cmp key) e.0) (Some (answer_of e.1))) (find-shown es key)
       ∙ mapped_choice answer_of (is_at (nat_cmp key) e.0) e.1 _
 
-  -- what the map has at a key
+  -- the map that entries show has at a key what a search of the entries finds
   pub get-shown : (entries : SharedEntries Z) (key : ℕ)
       → get (shown entries) key ≡ option_map answer_of (lookup (is_at (nat_cmp key)) entries)
   get-shown entries key = get-from_entries nat_cmp_total (shown_entries entries) key ∙ find-shown entries key
@@ -60,7 +60,7 @@ module _ {Z : Type 0} where
       ∙ sym (get-insert nat_cmp_total (shown es) key (answer_of v) q
       ∙ ap (cond (is_at (nat_cmp q) key) (Some (answer_of v))) (get-shown es q)))
 
-  -- entries of which those that are final were retained
+  -- entries of which only the final ones are retained show the map that remains once the section has grown
   pub get-shown-final : (es fs : SharedEntries Z) → fs ≡ filter (λ entry. is_final (answer_of entry.1)) es
       → IsStrictlySortedBy nat_cmp (keys_of es) → (key : ℕ) → get (shown fs) key ≡ still_kept (get (shown es) key)
   get-shown-final es fs retained sorted key =

@@ -1,4 +1,4 @@
--- What an iterator gives first, by what it gave.
+-- The first item of an iterator, by what it yielded.
 use Rattle.std.proofs.Common.{◌≡◌, ◌≢◌, List, [], ◌∷◌, map, Option, Some, Result, Ok, Err, refl, subst}
 use Rattle.std.specs.Prelude.{OnErr}
 use Rattle.std.specs.Iterator.{Yields, YieldsThen}
@@ -6,7 +6,7 @@ use Rattle.dwarf_base_core.specs.declared.error.Error.{Error}
 use Rattle.dwarf_base_core.specs.declared.error.Error.TheVariants.{OutOfMemory}
 use Rattle.dwarf_read_core.specs.Cache.{GivesSome}
 
--- the first of the items, if there is one
+-- an iterator that yielded some items yielded an item first
 pub first_item-of_items : {S T A : Type 0} (steps : S → Option (Result T Error) → S → Type 0) (from : S)
     (items : List T) (last : Option (Result T Error)) (left : S) (r : Result A Error)
     → items ≢ [] → YieldsThen steps from
@@ -15,14 +15,14 @@ first_item-of_items steps from items last left (Ok a) some given = tt
 first_item-of_items steps from [] last left (Err e) some given = absurd (some refl)
 first_item-of_items steps from (x ∷ xs) last left (Err e) some (t, (j, first, others), after) = (Ok x, j, first, tt)
 
--- the first of what was given before memory ran out
-pub first_item-of_want : {S T : Type 0} (steps : S → Option (Result T Error) → S → Type 0) (from now left : S)
+-- an iterator that yielded items and then `OutOfMemory` yielded an item or `OutOfMemory` first
+pub first_item-of_memory_error : {S T : Type 0} (steps : S → Option (Result T Error) → S → Type 0) (from now left : S)
     (given : List (Result T Error)) (items : List T) (item : Result T Error)
     → item ≡ Err OutOfMemory → given ≡ map (λ (item : T). let r : Result T Error = Ok item in r) items
     → Yields steps from given now → steps now (Some item) left → GivesSome steps from
-first_item-of_want {T = T} steps from now left [] items item want same given after =
+first_item-of_memory_error {T = T} steps from now left [] items item want same given after =
     rw given (Err OutOfMemory, left, subst (λ (y : Result T Error). steps now (Some y) left) want after, refl)
-first_item-of_want steps from now left (x ∷ xs) [] item want same given after = absurd cc
-first_item-of_want {T = T} steps from now left (x ∷ xs) (y ∷ items) item want same (j, first, others) after =
+first_item-of_memory_error steps from now left (x ∷ xs) [] item want same given after = absurd cc
+first_item-of_memory_error {T = T} steps from now left (x ∷ xs) (y ∷ items) item want same (j, first, others) after =
     let is : x ≡ Ok y = cc in
     (Ok y, j, subst (λ (z : Result T Error). steps from (Some z) j) is first, tt)

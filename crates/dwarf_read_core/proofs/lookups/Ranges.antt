@@ -7,36 +7,36 @@ use Rattle.dwarf_reader_core.specs.Input.{Input, first, Takes}
 use Rattle.dwarf_reader_core.specs.Once.{HasOne}
 use Rattle.dwarf_reader_core.proofs.Layouts.{At_one, At_value, At_error, after_part, no_part, part_reads, part_fails}
 use Rattle.dwarf_read_core.specs.Lookups.{AnswersBy}
-use Rattle.dwarf_read_core.proofs.lookups.Returned.{propagated-answer}
+use Rattle.dwarf_read_core.proofs.lookups.Returned.{propagated-result}
 use Rattle.dwarf_read_core.specs.Ranges.{RangeAt, range_at}
 
--- the first bytes of what remains behind an offset are the range there, if as many as its size remain
+-- the first bytes behind an offset are the range there, if the section has as many
 pub range_taken : (section : Input) (offset size : ℕ) (rest part : Input) → Takes offset section rest
     → size ≤ length rest.bytes → part ≡ first size rest → RangeAt section offset size (Ok part)
 unfolding RangeAt range_at
 range_taken section offset size rest part takes enough is =
     At_value _ _ (after_part _ refl takes (part_reads is (record { enough = enough; left = refl })))
 
--- a range has `UnexpectedEof`, if fewer than its size remain behind its offset
+-- a range is an `UnexpectedEof` if fewer bytes than its size remain behind its offset
 pub range_cut : (section : Input) (offset size : ℕ) (rest : Input) (e : Error) (new : Input)
     → Takes offset section rest → EndsBefore size rest e new → RangeAt section offset size (Err e)
 unfolding RangeAt range_at
 range_cut section offset size rest e new takes short = At_error _ _ (after_part _ refl takes (part_fails short))
 
--- a range has `UnexpectedEof`, if the section ends before its offset
+-- a range is an `UnexpectedEof` if the section ends before its offset
 pub range_outside : (section : Input) (offset size : ℕ) (e : Error) (new : Input) → EndsBefore offset section e new
     → RangeAt section offset size (Err e)
 unfolding RangeAt range_at
 range_outside section offset size e new short = At_error _ _ (no_part _ short)
 
--- the error that a lookup of a range propagates is its answer
+-- an error that `?` propagates is the result of the lookup of a range
 pub range-propagated : {X : Type 0} (section : Input) (offset size : ℕ) (view : X → Input) (clone_is_free : Bool)
     (e : Error) (r : Result X Error) → IsErrAnd r (λ x. x ≡ e) → RangeAt section offset size (Err e)
     → AnswersBy (RangeAt section offset size) view clone_is_free r
 range-propagated section offset size view clone_is_free e r h is =
-    propagated-answer (RangeAt section offset size) view clone_is_free r h (inl is)
+    propagated-result (RangeAt section offset size) view clone_is_free r h (inl is)
 
--- each offset and size of a section has exactly one answer
+-- a section has exactly one range or error at each offset and size
 pub range_exactly_one : (section : Input) (offset size : ℕ) → HasOne (RangeAt section offset size)
 unfolding RangeAt
 range_exactly_one section offset size = At_one (range_at offset size) section

@@ -1,4 +1,4 @@
--- Where a slot has no word or no address, and which error that is.
+-- When a slot has no word or no address, and which error that is.
 use Rattle.std.proofs.Common.{◌≡◌, ℕ, ◌+◌, ◌<◌, ◌≤◌, Bool, true, false, List, length, take, drop, Result, Ok, Err, refl, sym, subst, ◌∙◌, arith, ◌⊎◌, inl, inr, leb}
 use Rattle.std.proofs.lemmas.Bool.{leb-true, leb-false}
 use Rattle.std.proofs.lemmas.List.{length-drop}
@@ -10,24 +10,24 @@ use Rattle.dwarf_reader_core.specs.Input.{Input, after, Takes, TakesNumber}
 use Rattle.dwarf_read_core.specs.Words.{Slot, distance, place, IsPlaced, Misplaced, Holds, HasNoPlace, no_base, no_distance, no_place, HasNoWord, word_unplaced, word_cut, word_too_great, HasNoAddress, address_unplaced, address_unsized, address_cut, WordAt, AddressAt}
 use Rattle.dwarf_read_core.proofs.lookups.Words as w
 
--- so many bytes are consumed if there are as many
+-- n bytes are consumed if the input has as many
 taken : (n : ℕ) (old : Input) → n ≤ length old.bytes → Takes n old (after n old)
 taken n old enough = record { enough = enough; left = refl }
 
--- fewer bytes than are needed are the error of the end
+-- if the input has fewer than n bytes, the error is that of missing bytes
 cut : (n : ℕ) (old : Input) → length old.bytes < n → EndsBefore n old (end_fault old) old
 cut n old short = record { short = short; fault = refl; left = refl }
 
--- the number of the first bytes
+-- the number that the first n bytes encode
 first_number : ℕ → Input → ℕ
 first_number n old = number_of old.is_big (take n old.bytes)
 
--- the number of the first bytes is consumed if there are as many
+-- the number of the first n bytes is consumed if the input has as many
 number_taken : (n : ℕ) (old : Input) → n ≤ length old.bytes → TakesNumber n old (first_number n old) (after n old)
 unfolding first_number
 number_taken n old enough = record { enough = enough; is = refl; left = refl }
 
--- a section has a place for a slot, or an error says why it has none
+-- a section has a place for a slot, or an error in its stead
 place_or_none : (greatest : ℕ) (section : Input) (s : Slot) → IsPlaced greatest section s
     ⊎ ((e : Error) × Misplaced greatest section s e × HasNoPlace greatest section s e)
 place_or_none greatest section s =
@@ -66,7 +66,7 @@ place_or_none greatest section s =
       within = leb-true (place s) (length section.bytes) past;
     })
 
--- a section has a word at a slot, or an error says why it has none
+-- a section has a word at a slot, or an error in its stead
 word_or_none : (greatest : ℕ) (section : Input) (s : Slot) → ((x : ℕ) × WordAt greatest section s (Ok x))
     ⊎ ((e : Error) × WordAt greatest section s (Err e) × HasNoWord greatest section s e)
 word_or_none greatest section s = elim (place_or_none greatest section s) [
@@ -84,7 +84,7 @@ word_or_none greatest section s = elim (place_or_none greatest section s) [
         let short = leb-false s.width (length rest.bytes) b in
         inr (
           end_fault rest,
-          w.word_refused greatest section s rest _ rest placed (taken (place s) section placed.within)
+          w.word_fails greatest section s rest _ rest placed (taken (place s) section placed.within)
               (inl (cut s.width rest short)),
           word_cut placed (omega (arith, short, length-drop (place s) section.bytes)),
         )
@@ -94,7 +94,7 @@ word_or_none greatest section s = elim (place_or_none greatest section s) [
         let to = taken (place s) section placed.within in
         inr (
           UnsupportedOffset,
-          w.word_refused greatest section s rest _ (after s.width rest) placed to
+          w.word_fails greatest section s rest _ (after s.width rest) placed to
               (inr (record { number = first_number s.width rest; taken = number; over = over; fault = refl })),
           word_too_great _ placed (w.slot_holds section s _ rest _ to number) over,
         )
@@ -106,7 +106,7 @@ word_or_none greatest section s = elim (place_or_none greatest section s) [
               number (leb-true (first_number s.width rest) greatest fits),
         )
 
--- a section has an address at a slot, or an error says why it has none
+-- a section has an address at a slot, or an error in its stead
 address_or_none : (greatest : ℕ) (section : Input) (s : Slot) → ((x : ℕ) × AddressAt greatest section s (Ok x))
     ⊎ ((e : Error) × AddressAt greatest section s (Err e) × HasNoAddress greatest section s e)
 address_or_none greatest section s = elim (place_or_none greatest section s) [
@@ -123,7 +123,7 @@ address_or_none greatest section s = elim (place_or_none greatest section s) [
     there placed false size b enough =
         inr (
           UnsupportedAddressSize s.width,
-          w.address_refused greatest section s rest _ rest placed
+          w.address_fails greatest section s rest _ rest placed
               (taken (place s) section placed.within) (inl (record { none = size; fault = refl; left = refl })),
           address_unsized placed size,
         )
@@ -131,7 +131,7 @@ address_or_none greatest section s = elim (place_or_none greatest section s) [
         let short = leb-false s.width (length rest.bytes) enough in
         inr (
           end_fault rest,
-          w.address_refused greatest section s rest _ rest placed
+          w.address_fails greatest section s rest _ rest placed
               (taken (place s) section placed.within) (inr (size, cut s.width rest short)),
           address_cut placed size (omega (arith, short, length-drop (place s) section.bytes)),
         )
@@ -143,7 +143,7 @@ address_or_none greatest section s = elim (place_or_none greatest section s) [
               (number_taken s.width rest (leb-true s.width (length rest.bytes) enough)) size,
         )
 
--- the error of a word is the one that says why there is none
+-- if the word of a slot is an error, the section has no word there, with this error
 pub word_none : (greatest : ℕ) (section : Input) (s : Slot) (e : Error) → WordAt greatest section s (Err e)
     → HasNoWord greatest section s e
 word_none greatest section s e is = elim (word_or_none greatest section s) [
@@ -152,7 +152,7 @@ word_none greatest section s e is = elim (word_or_none greatest section s) [
       subst (HasNoWord greatest section s) (let x : none.0 ≡ e = cc in x) none.2)
 ]
 
--- the error of an address is the one that says why there is none
+-- if the address of a slot is an error, the section has no address there, with this error
 pub address_none : (greatest : ℕ) (section : Input) (s : Slot) (e : Error) → AddressAt greatest section s (Err e)
     → HasNoAddress greatest section s e
 address_none greatest section s e is = elim (address_or_none greatest section s) [

@@ -1,4 +1,4 @@
--- A string that is read is the one at the offset.
+-- A string that is read at an offset is the section's string there.
 use Rattle.std.proofs.Common.{◌≡◌, ◌≢◌, ℕ, zero, suc, ◌+◌, ◌<◌, ◌≤◌, List, [], ◌∷◌, ◌++◌, length, take, drop, Result, Ok, Err, refl, sym, ap, subst, ◌∙◌, arith, ◌⊎◌, inl, inr, Bool}
 use Rattle.std.specs.Prelude.{slice_index, IfOk, IfErr, All}
 use Rattle.dwarf_base_core.specs.declared.error.Error.{Error}
@@ -10,23 +10,23 @@ use Rattle.dwarf_reader_core.proofs.Layouts.{At_one, At_more, At_value, At_error
 use Rattle.dwarf_reader_core.proofs.Once.{string_was_read}
 use Rattle.dwarf_read_core.specs.Lookups.{AnswersBy, StaysBy}
 use Rattle.dwarf_read_core.specs.Strings.{StringAt, string_at}
-use Rattle.dwarf_read_core.proofs.lookups.Returned.{answer-stays}
+use Rattle.dwarf_read_core.proofs.lookups.Returned.{result-stays}
 
 -- ---- what a lookup returns
 
--- a string that is read from what remains behind the offset is the section's string at the offset
+-- a string that is read behind an offset is the section's string at the offset
 string_taken : (section : Input) (offset : ℕ) (rest found new : Input) → Takes offset section rest
     → TakesString rest found new → StringAt section offset (Ok found)
 unfolding StringAt string_at
 string_taken section offset rest found new takes t = At_value _ _ (after_part _ refl takes (string_reads t))
 
--- an error that no zero byte remains behind the offset is the section's answer for a string there
+-- if no zero byte remains behind an offset, that error is the section's result there
 string_lacks : (section : Input) (offset : ℕ) (rest : Input) (e : Error) → Takes offset section rest
     → Lacks 0 rest e → StringAt section offset (Err e)
 unfolding StringAt string_at
 string_lacks section offset rest e takes lacks = At_error _ _ (after_part _ refl takes (string_fails lacks))
 
--- what a reader returns that reads a string behind the offset is the section's answer for a string there
+-- what a reader returns for a string behind an offset is the section's result there
 pub string-read : {X : Type 0} (section : Input) (offset : ℕ) (rest new : Input) (view : X → Input)
     (clone_is_free : Bool) (r : Result X Error) → Takes offset section rest
     → IfOk r (λ x. TakesString rest (view x) new)
@@ -38,13 +38,13 @@ string-read section offset rest new view clone_is_free (Err e) takes read (inl l
     inl (string_lacks section offset rest e takes lacks)
 string-read section offset rest new view clone_is_free (Err e) takes read (inr want) = inr want
 
--- an error that the section ends before the offset is the section's answer for a string there
+-- if the section ends before an offset, that error is its result there
 pub string_outside : (section : Input) (offset : ℕ) (e : Error) (new : Input) → EndsBefore offset section e new
     → StringAt section offset (Err e)
 unfolding StringAt string_at
 string_outside section offset e new short = At_error _ _ (no_part _ short)
 
--- every offset of a section has exactly one answer for a string there
+-- a section has exactly one string or error at each offset
 pub string_exactly_one : (section : Input) (offset : ℕ) → HasOne (StringAt section offset)
 unfolding StringAt
 string_exactly_one section offset = At_one (string_at offset) section
@@ -55,24 +55,24 @@ pub string_more : (section : Input) (offset : ℕ) (found : Input) (more : List 
 unfolding StringAt
 string_more section offset found more is = At_more (string_at offset) section (Ok found) more is tt
 
--- the string that a lookup returned stays
+-- the string that a lookup returned stays when bytes are appended
 pub string-stays : {X : Type 0} (section : Input) (offset : ℕ) (view : X → Input) (clone_is_free : Bool)
     (r : Result X Error) → AnswersBy (StringAt section offset) view clone_is_free r
     → StaysBy (λ input. StringAt input offset) view clone_is_free section r
 unfolding StringAt
 string-stays section offset view clone_is_free r =
-    answer-stays (λ input. StringAt input offset) view clone_is_free section r (At_more (string_at offset) section)
+    result-stays (λ input. StringAt input offset) view clone_is_free section r (At_more (string_at offset) section)
 
 -- ---- what a string is
 
--- a list round an item
+-- a list is the items before an index, the item there and the items behind it
 cut_at : (bytes : List ℕ) (index item : ℕ) → index < length bytes → slice_index bytes index ≡ item
     → bytes ≡ take index bytes ++ item ∷ drop (suc index) bytes
 cut_at [] index item within is = absurd (omega arith)
 cut_at (b ∷ bytes) zero item within is = ap (λ (x : ℕ). x ∷ bytes) is
 cut_at (b ∷ bytes) (suc index) item within is = ap (λ (x : List ℕ). b ∷ x) (cut_at bytes index item (omega arith) is)
 
--- the bytes of a section from an offset on are a string, a zero byte and others
+-- the bytes of a section from an offset on are a string, a zero byte and any others
 pub record IsText (section : Input) (offset : ℕ) (found : Input) : Type 0 where
   pub rest : List ℕ
   pub within : offset ≤ length section.bytes
@@ -81,7 +81,7 @@ pub record IsText (section : Input) (offset : ℕ) (found : Input) : Type 0 wher
   pub place : found.position ≡ section.position + offset
   pub order : found.is_big ≡ section.is_big
 
--- so they are if the string is found there
+-- a string that is found at an offset is there, with a zero byte behind it
 pub string-is_text : {section : Input} {offset : ℕ} {found : Input} → StringAt section offset (Ok found)
     → IsText section offset found
 unfolding StringAt string_at

@@ -1,4 +1,4 @@
--- A number that is looked up is a layout, and has the laws of layouts; what a reader reads of it.
+-- Lookups of numbers by an index, as layouts.
 use Rattle.std.proofs.Common.{◌≡◌, ℕ, ◌<◌, ◌≤◌, List, take, Bool, Result, Ok, Err, refl, sym, ap, subst, ◌∙◌, arith, ◌⊎◌, inl, inr}
 use Rattle.std.proofs.lemmas.Bool.{le-leb, lt-leb}
 use Rattle.std.specs.Prelude.{IsTrue, IfOk, IfErr, IsErrAnd}
@@ -15,25 +15,25 @@ use Rattle.dwarf_read_core.specs.Words.{Slot, distance, place, IsPlaced, Misplac
 use Rattle.dwarf_read_core.specs.Entries.{string_offset}
 use Rattle.dwarf_base_core.specs.Number.{number_of}
 use Rattle.dwarf_reader_core.proofs.Layouts.{At_one, At_more, At_value, At_error, then_reads, then_fails, error_is, part_reads, part_fails, number_reads, number_fails, after_part, no_part, after_check, no_check, rest-length, takes-both, At_read, then_read, check_read, part_read, pure_read}
-use Rattle.dwarf_read_core.proofs.lookups.Returned.{answer-stays, propagated-answer}
+use Rattle.dwarf_read_core.proofs.lookups.Returned.{result-stays, propagated-result}
 use Rattle.dwarf_read_core.proofs.sets.Entries.{offset_reads, offset_fails}
 
 -- ---- going to the place
 
--- a base past the end is the first error
+-- if the base is past the end, that is the first error
 pub no_base : (greatest : ℕ) (section : Input) (s : Slot) (e : Error) (new : Input)
     → EndsBefore s.base section e new → Misplaced greatest section s e
 unfolding to_slot
 no_base greatest section s e new short = no_part _ short
 
--- then a distance that is no offset
+-- if the distance is too great for an offset, that is the error behind the base
 pub too_far_off : (greatest : ℕ) (section : Input) (s : Slot) (rest : Input) → Takes s.base section rest
     → greatest < distance s → Misplaced greatest section s UnsupportedOffset
 unfolding to_slot
 too_far_off greatest section s rest takes over =
     after_part _ refl takes (no_check _ _ _ (lt-leb (distance s) greatest over))
 
--- then a place past the end
+-- if the place is past the end, that is the error behind the base
 pub past_end : (greatest : ℕ) (section : Input) (s : Slot) (rest : Input) (e : Error) (new : Input)
     → Takes s.base section rest → distance s ≤ greatest → EndsBefore (distance s) rest e new
     → Misplaced greatest section s e
@@ -41,7 +41,7 @@ unfolding to_slot
 past_end greatest section s rest e new takes counted short =
     after_part _ refl takes (after_check _ _ _ (le-leb (distance s) greatest counted) (part_fails short))
 
--- the same, if the distance was counted by the code
+-- a place past the end is the error, also with a distance that the code computed
 pub past_end_found : {A : Type 0} (greatest : ℕ) (section : Input) (s : Slot) (rest new : Input) (far : ℕ)
     (r : Result A Error) → Takes s.base section rest → far ≡ distance s → far ≤ greatest
     → IfErr r (λ e. EndsBefore far rest e new) → IfErr r (Misplaced greatest section s)
@@ -50,7 +50,7 @@ past_end_found greatest section s rest new far (Err e) takes is counted h =
     past_end greatest section s rest e new takes (subst (λ (n : ℕ). n ≤ greatest) is counted)
     (subst (λ (n : ℕ). EndsBefore n rest e new) is h)
 
--- if both steps go, the place lies in the section
+-- if the bytes before the base and the distance are consumed, the slot has a place in the section
 pub placed : (greatest : ℕ) (section : Input) (s : Slot) (rest new : Input) → Takes s.base section rest
     → distance s ≤ greatest → Takes (distance s) rest new → IsPlaced greatest section s
 placed greatest section s rest new takes counted further = record {
@@ -59,12 +59,12 @@ placed greatest section s rest new takes counted further = record {
   within = omega (arith, takes.enough, further.enough, rest-length s.base section rest takes);
 }
 
--- and its bytes are consumed in all
+-- the bytes before the base and the distance are the bytes before the slot's place
 pub skipped : (section : Input) (s : Slot) (rest new : Input) → Takes s.base section rest
     → Takes (distance s) rest new → Takes (place s) section new
 skipped section s rest new takes further = takes-both takes further
 
--- the bytes before a place in the section are those in front of the slot
+-- the bytes before a slot are read if it has a place in the section
 slot_reached : (greatest : ℕ) (section : Input) (s : Slot) (rest : Input) → IsPlaced greatest section s
     → Takes (place s) section rest
     → read (to_slot greatest s) section ≡ Ok (first (distance s) (after s.base section), rest)
@@ -82,7 +82,7 @@ slot_reached greatest section s rest is_placed takes =
 
 -- ---- the number there
 
--- an offset that is read at the place is the word
+-- an offset that is read at the place of a slot is the slot's word
 pub word_taken : (greatest : ℕ) (section : Input) (s : Slot) (rest : Input) (x : ℕ) (new : Input)
     → IsPlaced greatest section s → Takes (place s) section rest → TakesNumber s.width rest x new → x ≤ greatest
     → WordAt greatest section s (Ok x)
@@ -91,22 +91,22 @@ word_taken greatest section s rest x new is_placed takes number fits =
     At_value _ _ (then_reads _ _ _ (slot_reached greatest section s rest is_placed takes)
     ∙ offset_reads greatest number fits)
 
--- one that isn't there, or is no offset, is the error
-pub word_refused : (greatest : ℕ) (section : Input) (s : Slot) (rest : Input) (e : Error) (new : Input)
+-- if the word is cut, or too great for an offset, that is the error at the slot
+pub word_fails : (greatest : ℕ) (section : Input) (s : Slot) (rest : Input) (e : Error) (new : Input)
     → IsPlaced greatest section s → Takes (place s) section rest
     → (EndsBefore s.width rest e new ⊎ IsNoOffset greatest s.width rest e new) → WordAt greatest section s (Err e)
 unfolding word
-word_refused greatest section s rest e new is_placed takes refused =
+word_fails greatest section s rest e new is_placed takes failed =
     At_error _ _ (then_reads _ _ _ (slot_reached greatest section s rest is_placed takes)
-    ∙ offset_fails greatest refused)
+    ∙ offset_fails greatest failed)
 
--- so is a place that isn't there
+-- if a slot has no place, its word is that error
 pub word_misplaced : (greatest : ℕ) (section : Input) (s : Slot) (e : Error) → Misplaced greatest section s e
     → WordAt greatest section s (Err e)
 unfolding word
 word_misplaced greatest section s e misplaced = At_error _ _ (then_fails _ _ _ misplaced)
 
--- a number that is read at the place is the address
+-- a number that is read at the place of a slot is the slot's address
 pub address_taken : (greatest : ℕ) (section : Input) (s : Slot) (rest : Input) (x : ℕ) (new : Input)
     → IsPlaced greatest section s → Takes (place s) section rest → TakesNumber s.width rest x new
     → IsTrue (is_number_size s.width) → AddressAt greatest section s (Ok x)
@@ -115,25 +115,25 @@ address_taken greatest section s rest x new is_placed takes number size =
     At_value _ _ (then_reads _ _ _ (slot_reached greatest section s rest is_placed takes)
     ∙ after_check _ _ _ size (number_reads number))
 
--- a width that is no size, or bytes that aren't there, are the error
-pub address_refused : (greatest : ℕ) (section : Input) (s : Slot) (rest : Input) (e : Error) (new : Input)
+-- if addresses don't have the width, or bytes are missing, that is the error at the slot
+pub address_fails : (greatest : ℕ) (section : Input) (s : Slot) (rest : Input) (e : Error) (new : Input)
     → IsPlaced greatest section s → Takes (place s) section rest → RefusesAddress s.width rest e new
     → AddressAt greatest section s (Err e)
 unfolding address
-address_refused greatest section s rest e new is_placed takes (inl other) =
+address_fails greatest section s rest e new is_placed takes (inl other) =
     At_error _ _ (then_reads _ _ _ (slot_reached greatest section s rest is_placed takes)
     ∙ error_is other.fault (no_check _ _ _ other.none))
-address_refused greatest section s rest e new is_placed takes (inr (size, short)) =
+address_fails greatest section s rest e new is_placed takes (inr (size, short)) =
     At_error _ _ (then_reads _ _ _ (slot_reached greatest section s rest is_placed takes)
     ∙ after_check _ _ _ size (number_fails short))
 
--- so is a place that isn't there
+-- if a slot has no place, its address is that error
 pub address_misplaced : (greatest : ℕ) (section : Input) (s : Slot) (e : Error) → Misplaced greatest section s e
     → AddressAt greatest section s (Err e)
 unfolding address
 address_misplaced greatest section s e misplaced = At_error _ _ (then_fails _ _ _ misplaced)
 
--- what a reader returns that reads an address at the place is the section's answer there
+-- what a reader returns for an address at the place of a slot is the section's result there
 pub address-read : (greatest : ℕ) (section : Input) (s : Slot) (rest new : Input) (clone_is_free : Bool)
     (r : Result ℕ Error) → IsPlaced greatest section s → Takes (place s) section rest
     → IfOk r (λ x. TakesNumber s.width rest x new × IsTrue (is_number_size s.width))
@@ -142,11 +142,11 @@ pub address-read : (greatest : ℕ) (section : Input) (s : Slot) (rest new : Inp
 address-read greatest section s rest new clone_is_free (Ok x) is_placed takes (number, size) h =
     address_taken greatest section s rest x new is_placed takes number size
 address-read greatest section s rest new clone_is_free (Err e) is_placed takes read h =
-    inl (address_refused greatest section s rest e new is_placed takes h)
+    inl (address_fails greatest section s rest e new is_placed takes h)
 
 -- ---- the number at a place
 
--- a number that is read was consumed
+-- if a number was read by its layout, its bytes were consumed
 fixed_read : (n : ℕ) (old : Input) {x : ℕ} {new : Input} → read (fixed n) old ≡ Ok (x, new) → TakesNumber n old x new
 unfolding fixed
 fixed_read n old is =
@@ -159,7 +159,7 @@ fixed_read n old is =
       left = value.1 ∙ part.1.left;
     }
 
--- the bytes in front of a slot that were read are those before its place
+-- if the bytes before a slot were read, those before its place were consumed
 slot_read : (greatest : ℕ) (section : Input) (s : Slot) {front rest : Input}
     → read (to_slot greatest s) section ≡ Ok (front, rest) → Takes (place s) section rest
 unfolding to_slot
@@ -170,7 +170,7 @@ slot_read greatest section s {rest = rest} is =
     takes-both (part_read _ _ based.2).1
     (subst (λ (i : Input). Takes (distance s) i rest) (check_read _ _ _ counted.2).1 further.1)
 
--- the number that is consumed at the place of a slot is the one that the slot holds
+-- a number that is consumed at the place of a slot is the one that the slot holds
 pub slot_holds : (section : Input) (s : Slot) (x : ℕ) (rest new : Input) → Takes (place s) section rest
     → TakesNumber s.width rest x new → Holds section s x
 slot_holds section s x rest new takes number = record {
@@ -203,24 +203,24 @@ address_held greatest section s x is =
     (sym (check_read _ _ _ sized.2).1) (slot_read greatest section s reached.2) in
     slot_holds section s x sized.1 found.0 there (fixed_read s.width sized.1 sized.3)
 
--- ---- one answer
+-- ---- exactly one result
 
--- a slot has exactly one word, or one error
+-- a slot has exactly one word or error
 pub word_exactly_one : (greatest : ℕ) (section : Input) (s : Slot) → HasOne (WordAt greatest section s)
 word_exactly_one greatest section s = At_one (word greatest s) section
 
--- a slot has exactly one address, or one error
+-- a slot has exactly one address or error
 pub address_exactly_one : (greatest : ℕ) (section : Input) (s : Slot) → HasOne (AddressAt greatest section s)
 address_exactly_one greatest section s = At_one (address greatest s) section
 
--- ---- more bytes
+-- ---- appended bytes
 
--- more bytes change no word, and no error but that bytes are missing
+-- appended bytes change neither a word nor its error, unless that is an `UnexpectedEof`
 pub word_more : (greatest : ℕ) (section : Input) (s : Slot) (answer : Result ℕ Error) (more : List ℕ)
     → WordAt greatest section s answer → IfErr answer IsNoEof → WordAt greatest (followed_by section more) s answer
 word_more greatest section s = At_more (word greatest s) section
 
--- more bytes change no address, and no error but that bytes are missing
+-- appended bytes change neither an address nor its error, unless that is an `UnexpectedEof`
 pub address_more : (greatest : ℕ) (section : Input) (s : Slot) (answer : Result ℕ Error) (more : List ℕ)
     → AddressAt greatest section s answer → IfErr answer IsNoEof
     → AddressAt greatest (followed_by section more) s answer
@@ -228,37 +228,37 @@ address_more greatest section s = At_more (address greatest s) section
 
 -- ---- what a lookup returns
 
--- the word that a lookup returned stays
+-- the word that a lookup returned stays when bytes are appended
 pub word-stays : {X : Type 0} (greatest : ℕ) (section : Input) (s : Slot) (view : X → ℕ) (clone_is_free : Bool)
     (r : Result X Error) → AnswersBy (WordAt greatest section s) view clone_is_free r
     → StaysBy (λ input. WordAt greatest input s) view clone_is_free section r
 word-stays greatest section s view clone_is_free r =
-    answer-stays (λ input. WordAt greatest input s) view clone_is_free section r (word_more greatest section s)
+    result-stays (λ input. WordAt greatest input s) view clone_is_free section r (word_more greatest section s)
 
--- the error that a lookup of a word propagates is its answer
+-- an error that `?` propagates is the result of the lookup of a word
 pub word-propagated : {X : Type 0} (greatest : ℕ) (section : Input) (s : Slot) (view : X → ℕ) (clone_is_free : Bool)
     {e : Error} (r : Result X Error) → IsErrAnd r (λ x. x ≡ e) → WordAt greatest section s (Err e)
     → AnswersBy (WordAt greatest section s) view clone_is_free r
 word-propagated greatest section s view clone_is_free r h is =
-    propagated-answer (WordAt greatest section s) view clone_is_free r h (inl is)
+    propagated-result (WordAt greatest section s) view clone_is_free r h (inl is)
 
--- the address that a lookup returned stays
+-- the address that a lookup returned stays when bytes are appended
 pub address-stays : (greatest : ℕ) (section : Input) (s : Slot) (clone_is_free : Bool) (r : Result ℕ Error)
     → AnswersBy (AddressAt greatest section s) (λ x. x) clone_is_free r
     → StaysBy (λ input. AddressAt greatest input s) (λ x. x) clone_is_free section r
 address-stays greatest section s clone_is_free r =
-    answer-stays (λ input. AddressAt greatest input s) (λ x. x) clone_is_free section r
+    result-stays (λ input. AddressAt greatest input s) (λ x. x) clone_is_free section r
     (address_more greatest section s)
 
--- the error that a lookup of an address propagates is its answer
+-- an error that `?` propagates is the result of the lookup of an address
 pub address-propagated : (greatest : ℕ) (section : Input) (s : Slot) (clone_is_free : Bool) {e : Error}
     (r : Result ℕ Error) → IsErrAnd r (λ x. x ≡ e) → AddressAt greatest section s (Err e)
     → AnswersBy (AddressAt greatest section s) (λ x. x) clone_is_free r
 address-propagated greatest section s clone_is_free r h is =
-    propagated-answer (AddressAt greatest section s) (λ x. x) clone_is_free r h (inl is)
+    propagated-result (AddressAt greatest section s) (λ x. x) clone_is_free r h (inl is)
 
--- a word at a slot, or its error
-pub ruleset word_steps = (word_taken, word_refused, word_misplaced)
+-- each way a lookup of a word can return
+pub ruleset word_steps = (word_taken, word_fails, word_misplaced)
 
--- an address at a slot, or its error
-pub ruleset address_steps = (address_taken, address_refused, address_misplaced)
+-- each way a lookup of an address can return
+pub ruleset address_steps = (address_taken, address_fails, address_misplaced)

@@ -1,4 +1,4 @@
--- Entries are layouts, and have the laws of layouts; what a call gives of them.
+-- The entries of sets, as layouts, and what `next` returns of them.
 use Rattle.std.proofs.Common.{◌≡◌, ◌≢◌, ℕ, zero, suc, ◌<◌, ◌≤◌, List, [], ◌∷◌, length, Result, Ok, Err, sym, ◌∙◌, arith, inl, inr, ◌⊎◌}
 use Rattle.std.specs.List.{sum_by}
 use Rattle.std.specs.Prelude.{IsTrue}
@@ -14,11 +14,11 @@ use Rattle.dwarf_read_core.specs.Entries.{Entries, StandsForAddresses, StandsFor
 use Rattle.dwarf_read_core.specs.Items.{ComesFirst, least_taken}
 use Rattle.dwarf_reader_core.specs.Layout.{Layout, read, AreItems, none, more, fixed}
 use Rattle.dwarf_reader_core.proofs.Layouts.{TakesLeast, spans_least, number_spans, pure_spans, check_spans, then_spans, number_reads, number_fails, pure_reads, after_number, no_number, after_check, no_check}
-use Rattle.dwarf_read_core.proofs.sets.ItemLists.{items-exactly_one, items-bounded, items-anywhere, fault-first}
+use Rattle.dwarf_read_core.proofs.sets.ItemLists.{items-exactly_one, items-bounded, items-anywhere, error-first}
 
 module _ {f : Layout ℕ} {width : ℕ} (least : TakesLeast width f) (positive : 1 ≤ width) {old new : Input}
     (some : old.bytes ≢ []) where
-  -- an entry that is read comes first, and the others behind it
+  -- an entry that is read is the first item, and the others are behind it
   entry-first : {x : ℕ} → read f old ≡ Ok (x, new)
       → ((others : List (Result ℕ Error)) × AreItems (λ _. f) 0 new others)
       × ((others : List (Result ℕ Error)) → AreItems (λ _. f) 0 new others
@@ -30,64 +30,64 @@ module _ {f : Layout ℕ} {width : ℕ} (least : TakesLeast width f) (positive :
 abbrev entries_in : ℕ → Input → Entries
 entries_in width rest = record { width = width; rest = rest }
 
--- no bytes have no entries
+-- an input without bytes has no entries
 pub entries_none : (entry : ℕ → Layout ℕ) (entries : Entries) → entries.rest.bytes ≡ []
     → StandsForEntries entry entries []
 entries_none entry entries empty = none empty
 
 -- ---- addresses
 
--- an address has its width
+-- an address consumes as many bytes as its width
 number_least : (width : ℕ) → TakesLeast width (fixed width)
 number_least width = spans_least {size = λ _. width} (λ x. omega arith) (number_spans width)
 
--- bytes have exactly one list of addresses
+-- the bytes that remain have exactly one list of addresses
 pub addresses_exactly_one : (entries : Entries) → 0 < entries.width → HasOne (StandsForAddresses entries)
 addresses_exactly_one entries positive =
     items-exactly_one (λ _. number_least entries.width) (omega (arith, positive)) 0 entries.rest
 
--- addresses take no more bytes than there are
+-- addresses consume no more bytes than there are
 pub addresses_bounded : (entries : Entries) (items : List (Result ℕ Error)) → StandsForAddresses entries items
     → sum_by (least_taken entries.width) items ≤ length entries.rest.bytes
-addresses_bounded entries items stands = items-bounded (λ _. number_least entries.width) stands
+addresses_bounded entries items are_items = items-bounded (λ _. number_least entries.width) are_items
 
--- a size of addresses isn't 0
+-- a size of addresses is above 0
 size-positive : (width : ℕ) → IsTrue (is_number_size width) → 0 < width
 size-positive zero sized = absurd cc
 size-positive (suc width) sized = omega arith
 
 module _ (width : ℕ) (old new : Input) (sized : IsTrue (is_number_size width)) (some : old.bytes ≢ []) where
-  -- an address that is read comes first
+  -- an address that is read is the first item
   pub address_first : {x : ℕ} → TakesNumber width old x new
       → ComesFirst StandsForAddresses (entries_in width old) (Ok x) (entries_in width new)
   address_first takes =
       entry-first (number_least width) (size-positive width sized) some (number_reads takes)
 
-  -- fewer bytes are `UnexpectedEof`, and nothing remains
-  pub address_fault : {e : Error} {left : Input} → RefusesAddress width old e new → left.bytes ≡ []
+  -- an address that is cut is the first item, as an error behind which nothing remains
+  pub address_error_first : {e : Error} {left : Input} → RefusesAddress width old e new → left.bytes ≡ []
       → ComesFirst StandsForAddresses (entries_in width old) (Err e) (entries_in width left)
-  address_fault (inl size) empty = absurd (let n = size.none in cc)
-  address_fault {e} {left} (inr (_, short)) empty =
-      fault-first 0 0 old left e some (number_fails short) empty
+  address_error_first (inl size) empty = absurd (let n = size.none in cc)
+  address_error_first {e} {left} (inr (_, short)) empty =
+      error-first 0 0 old left e some (number_fails short) empty
 
 -- ---- offsets of strings
 
 module _ (greatest : ℕ) where
-  -- an offset has its width
+  -- a string offset consumes as many bytes as its width
   string_offset-least : (width : ℕ) → TakesLeast width (string_offset greatest width)
   unfolding string_offset
   string_offset-least width =
       spans_least {size = λ _. width} (λ x. omega arith)
       (then_spans (number_spans width) (λ number. then_spans (check_spans _ _) (λ fits. pure_spans (omega arith))))
 
-  -- a number that is read, and is an offset, is read as one
+  -- a number that is read, and fits the offset type, is a string offset
   pub offset_reads : {width : ℕ} {old new : Input} {x : ℕ} → TakesNumber width old x new → x ≤ greatest
       → read (string_offset greatest width) old ≡ Ok (x, new)
   unfolding string_offset
   offset_reads {x = x} takes fits =
       after_number _ takes (after_check _ _ _ (le-leb x greatest fits) (pure_reads x _))
 
-  -- fewer bytes, and a number that is no offset, are its errors
+  -- a string offset fails if bytes are missing, or if the number is too great for an offset
   pub offset_fails : {width : ℕ} {old new : Input} {e : Error}
       → EndsBefore width old e new ⊎ IsNoOffset greatest width old e new
       → read (string_offset greatest width) old ≡ Err e
@@ -97,25 +97,25 @@ module _ (greatest : ℕ) where
       after_number _ unfit.taken (no_check _ _ _ (lt-leb unfit.number greatest unfit.over))
       ∙ λ i. Err ((sym unfit.fault) i)
 
-  -- bytes have exactly one list of offsets
+  -- the bytes that remain have exactly one list of string offsets
   pub string_offsets_exactly_one : (entries : Entries) → 0 < entries.width
       → HasOne (StandsForStringOffsets greatest entries)
   string_offsets_exactly_one entries positive =
       items-exactly_one (λ _. string_offset-least entries.width) (omega (arith, positive)) 0 entries.rest
 
-  -- offsets take no more bytes than there are
+  -- string offsets consume no more bytes than there are
   pub string_offsets_bounded : (entries : Entries) (items : List (Result ℕ Error))
       → StandsForStringOffsets greatest entries items
       → sum_by (least_taken entries.width) items ≤ length entries.rest.bytes
-  string_offsets_bounded entries items stands = items-bounded (λ _. string_offset-least entries.width) stands
+  string_offsets_bounded entries items are_items = items-bounded (λ _. string_offset-least entries.width) are_items
 
-  -- a word has bytes
+  -- a word has at least one byte
   word_size-positive : (format : Format) → 1 ≤ word_size format
   word_size-positive Dwarf32 = omega arith
   word_size-positive Dwarf64 = omega arith
 
   module _ (format : Format) (old new : Input) (some : old.bytes ≢ []) where
-    -- an offset that is read comes first
+    -- a string offset that is read is the first item
     pub string_offset_first : {x : ℕ} → TakesNumber (word_size format) old x new → x ≤ greatest
         → ComesFirst (StandsForStringOffsets greatest) (entries_in (word_size format) old) (Ok x)
         (entries_in (word_size format) new)
@@ -123,9 +123,9 @@ module _ (greatest : ℕ) where
         entry-first (string_offset-least (word_size format)) (word_size-positive format) some
         (offset_reads takes fits)
 
-    -- fewer bytes are `UnexpectedEof`, and a number that is no offset is refused; nothing remains
-    pub string_offset_fault : {e : Error} {left : Input}
+    -- a string offset that is cut or too great is the first item, as an error behind which nothing remains
+    pub string_offset_error_first : {e : Error} {left : Input}
         → EndsBefore (word_size format) old e new ⊎ IsNoOffset greatest (word_size format) old e new
         → left.bytes ≡ [] → ComesFirst (StandsForStringOffsets greatest) (entries_in (word_size format) old)
         (Err e) (entries_in (word_size format) left)
-    string_offset_fault {e} {left} refused empty = fault-first 0 0 old left e some (offset_fails refused) empty
+    string_offset_error_first {e} {left} failed empty = error-first 0 0 old left e some (offset_fails failed) empty

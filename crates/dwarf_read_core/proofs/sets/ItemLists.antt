@@ -1,4 +1,4 @@
--- Bytes have one list of items, and a call gives the first.
+-- Bytes have exactly one list of items, and a call returns the first.
 use Rattle.std.proofs.Common.{◌≡◌, ◌≢◌, ℕ, zero, suc, ◌+◌, ◌-◌, ◌<◌, ◌≤◌, List, [], ◌∷◌, ◌++◌, length, Result, Ok, Err, refl, sym, subst, ◌∙◌, arith, inl, inr, ◌⊎◌}
 use Rattle.std.specs.List.{sum_by}
 use Rattle.std.proofs.lemmas.List.Sums.{sum_by-cons}
@@ -10,23 +10,23 @@ use Rattle.dwarf_read_core.specs.Items.{least_taken}
 use Rattle.dwarf_reader_core.specs.Layout.{Layout, read, AreItems, none, more, fault}
 use Rattle.dwarf_reader_core.proofs.Layouts.{Outcome, TakesLeast, read_more, error_more}
 
--- bytes that aren't none are one at least
+-- bytes that aren't empty are at least one
 bytes-some : (bytes : List ℕ) → bytes ≢ [] → 1 ≤ length bytes
 bytes-some [] some = absurd (some refl)
 bytes-some (b ∷ bytes) some = omega arith
 
--- bytes are none, or some
+-- bytes are empty, or they aren't
 bytes-none_or_some : (bytes : List ℕ) → (bytes ≡ []) ⊎ (bytes ≢ [])
 bytes-none_or_some [] = inl refl
 bytes-none_or_some (b ∷ bytes) = inr (λ e. cc)
 
--- some bytes stay some when more follow
+-- bytes that aren't empty stay so with more bytes behind them
 pub bytes-still_some : (bytes behind : List ℕ) → bytes ≢ [] → bytes ++ behind ≢ []
 bytes-still_some [] behind some e = some refl
 bytes-still_some (x ∷ bytes) behind some e = cc
 
 module _ {A : Type 0} {item : ℕ → Layout A} {n : ℕ} (least : (offset : ℕ) → TakesLeast n (item offset)) where
-  -- the items take no more bytes than there are
+  -- items consume no more bytes than there are
   pub items-bounded : {offset : ℕ} {old : Input} {items : List (Result A Error)} → AreItems item offset old items
       → sum_by (least_taken n) items ≤ length old.bytes
   items-bounded (none e) = omega arith
@@ -36,20 +36,20 @@ module _ {A : Type 0} {item : ℕ → Layout A} {n : ℕ} (least : (offset : ℕ
   items-bounded {offset} {old} (fault {e = e} full h) =
       rw (sum_by-cons (least_taken n) (Err e) []) (omega (arith, bytes-some old.bytes full))
 
--- if items don't depend on their offset, they are the same from every offset on
+-- items that don't depend on their offset are the same at every offset
 pub items-anywhere : {A : Type 0} {f : Layout A} {from : ℕ} (offset : ℕ) {old : Input}
     {items : List (Result A Error)} → AreItems (λ _. f) from old items → AreItems (λ _. f) offset old items
 items-anywhere offset (none e) = none e
 items-anywhere offset (more some h rest) = more some h (items-anywhere _ rest)
 items-anywhere offset (fault some h) = fault some h
 
--- the same outcome has the same value and rest
+-- two readings with the same outcome have the same value, and the same bytes remain
 item-taken : {A : Type 0} {r : Outcome A} {x y : A} {i j : Input} → r ≡ Ok (x, i) → r ≡ Ok (y, j)
     → ◌≡◌ {A = A × Input} (x, i) (y, j)
 item-taken h k = cc
 
 module _ {A : Type 0} {item : ℕ → Layout A} where
-  -- what is behind an item is behind it however the item was read
+  -- the items behind an item don't depend on how the item was read
   items-behind : (offset : ℕ) (old i j : Input) (x y : A) (ys : List (Result A Error))
       → ◌≡◌ {A = A × Input} (x, i) (y, j)
       → AreItems item (offset + (length old.bytes - length j.bytes)) j ys
@@ -58,7 +58,7 @@ module _ {A : Type 0} {item : ℕ → Layout A} where
       subst (λ (z : A × Input). AreItems item (offset + (length old.bytes - length (z.1).bytes)) z.1 ys)
       (sym e) behind
 
-  -- two lists of items are the same
+  -- two lists of items of the same bytes are equal
   pub items-same : {offset : ℕ} {old : Input} {items others : List (Result A Error)} → AreItems item offset old items
       → AreItems item offset old others → items ≡ others
   items-same (none e) (none f) = refl
@@ -75,9 +75,9 @@ module _ {A : Type 0} {item : ℕ → Layout A} where
   items-same (fault {e = d} some h) (fault {e = c} full k) =
       let q = sym h ∙ k in let s : d ≡ c = cc in λ i. Err (s i) ∷ []
 
-  -- ---- if each item has bytes
+  -- ---- if each item has at least one byte
   module _ {n : ℕ} (least : (offset : ℕ) → TakesLeast n (item offset)) (positive : 1 ≤ n) where
-    -- there are items, in at least as many steps as there are bytes
+    -- bytes have a list of items, by induction on a number above their length
     items-some : (steps offset : ℕ) (old : Input) → length old.bytes < steps
         → (items : List (Result A Error)) × AreItems item offset old items
     items-some zero offset old few = absurd (omega arith)
@@ -100,7 +100,7 @@ module _ {A : Type 0} {item : ℕ → Layout A} where
         let found = items-some (suc (length old.bytes)) offset old (omega arith) in
         (found.0, found.1, λ others a. items-same a found.1)
 
-    -- an item that is read comes first, and the others behind it
+    -- an item that is read is the first, and the others are behind it
     pub item-first : (offset behind : ℕ) (old new : Input) (x : A) → old.bytes ≢ []
         → read (item offset) old ≡ Ok (x, new) → behind ≡ offset + (length old.bytes - length new.bytes)
         → ((others : List (Result A Error)) × AreItems item behind new others)
@@ -110,26 +110,26 @@ module _ {A : Type 0} {item : ℕ → Layout A} where
         let found = items-exactly_one behind new in
         ((found.0, found.1), λ others k. more some h (subst (λ (o : ℕ). AreItems item o new others) place k))
 
-  -- an error comes first, and nothing remains behind it
-  pub fault-first : (offset behind : ℕ) (old left : Input) (e : Error) → old.bytes ≢ []
+  -- an error is the first item, and no others are behind it
+  pub error-first : (offset behind : ℕ) (old left : Input) (e : Error) → old.bytes ≢ []
       → read (item offset) old ≡ Err e → left.bytes ≡ []
       → ((others : List (Result A Error)) × AreItems item behind left others)
       × ((others : List (Result A Error)) → AreItems item behind left others
       → AreItems item offset old (Err e ∷ others))
-  fault-first offset behind old left e some h empty = (
+  error-first offset behind old left e some h empty = (
     ([], none empty),
     λ others k. subst (λ (all : List (Result A Error)). AreItems item offset old (Err e ∷ all))
         (items-same (none empty) k) (fault some h),
   )
 
-  -- ---- more bytes
+  -- ---- appended bytes
 
-  -- an item that comes first comes first also when more bytes follow
+  -- the first item stays the first when bytes are appended
   pub item-stays : {offset : ℕ} {old : Input} {x : A} {items : List (Result A Error)}
       → AreItems item offset old (Ok x ∷ items) → (behind : List ℕ) (others : List (Result A Error))
       → AreItems item offset (followed_by old behind) others
       → (rest : List (Result A Error)) × (others ≡ Ok x ∷ rest)
-  item-stays {offset} {old} {x} (more {new = new} some h rest) behind others stands = go stands
+  item-stays {offset} {old} {x} (more {new = new} some h rest) behind others are_items = go are_items
     where
       here : read (item offset) (followed_by old behind) ≡ Ok (x, followed_by new behind)
       here = read_more (item offset) behind old h
@@ -140,8 +140,8 @@ module _ {A : Type 0} {item : ℕ → Layout A} where
       go (more {x = y} {items = ys} full k after) = let e = item-taken k here in (ys, λ i. Ok ((e i).0) ∷ ys)
       go (fault full k) = absurd (let c = sym k ∙ here in cc)
 
-  -- so does an error, unless it is an `UnexpectedEof`
-  pub fault-stays : {offset : ℕ} {old : Input} {e : Error} → AreItems item offset old (Err e ∷ [])
+  -- an error, unless it is an `UnexpectedEof`, stays the only item when bytes are appended
+  pub error-stays : {offset : ℕ} {old : Input} {e : Error} → AreItems item offset old (Err e ∷ [])
       → IsNoEof e → (behind : List ℕ) → AreItems item offset (followed_by old behind) (Err e ∷ [])
-  fault-stays {offset} {old} (fault some h) settled behind =
+  error-stays {offset} {old} (fault some h) settled behind =
       fault (bytes-still_some old.bytes behind some) (error_more (item offset) behind old settled h)

@@ -1,4 +1,4 @@
--- Sets are layouts; what a reader reads of one, and what a call gives.
+-- Sets as layouts: what a reader reads of one, and what `next` returns.
 use Rattle.std.proofs.Common.{◌≡◌, ◌≢◌, ℕ, ◌+◌, ◌-◌, ◌≤◌, List, [], ◌∷◌, ◌++◌, length, take, Result, Ok, Err, refl, sym, ap, subst, arith, Bool, true, false, ◌⊎◌, inl, inr, ◌∙◌, append_assoc}
 use Rattle.std.specs.List.{sum_by}
 use Rattle.std.specs.Prelude.{nat_lt}
@@ -19,11 +19,11 @@ use Rattle.dwarf_reader_core.specs.Layout.{Layout, read, none, fault, part, insi
 use Rattle.dwarf_read_core.specs.Sets.{initial_length, Set, set, IsJoined, address_header, string_offsets_header, Headers, StandsForSets, followed_headers}
 use Rattle.dwarf_reader_core.proofs.Layouts.{Outcome, then_reads, then_fails, error_is, pure_reads, refuse_fails, after_number, no_number, after_part, no_part, after_check, no_check, after_inside, no_inside, read_more, error_more}
 use Rattle.dwarf_reader_core.proofs.Layouts.{Spans, TakesLeast, spanned, number_spans, byte_spans, check_spans, pure_spans, refuse_spans, when_spans, then_spans, part_spans, inside_spans, then_read, check_read, part_read, inside_read, pure_read}
-use Rattle.dwarf_read_core.proofs.sets.ItemLists.{items-exactly_one, items-bounded, item-first, fault-first, item-stays, fault-stays, bytes-still_some}
+use Rattle.dwarf_read_core.proofs.sets.ItemLists.{items-exactly_one, items-bounded, item-first, error-first, item-stays, error-stays, bytes-still_some}
 
 -- ---- how many bytes a set has
 
--- an initial length has as many bytes as its format says
+-- an initial length consumes as many bytes as its format says
 pub initial_length-spans : Spans 0 (λ i. initial_length_size i.0) initial_length
 unfolding initial_length
 initial_length-spans =
@@ -32,7 +32,7 @@ initial_length-spans =
     (when_spans (nat_lt short 0xffff_ffff) refuse_spans
     (then_spans (number_spans 8) (λ long. pure_spans refl))))
 
--- a set has those and as many as its length says
+-- a set consumes the bytes of its initial length and as many as that length says
 pub set-spans : {H : Type 0} (header : Layout H) (greatest offset : ℕ)
     → Spans 0 (λ s. initial_length_size s.format + s.unit_length) (set header greatest offset)
 unfolding set
@@ -41,20 +41,20 @@ set-spans header greatest offset =
     (λ fits. then_spans (part_spans initial.1)
     (λ unit. then_spans (inside_spans unit header) (λ said. pure_spans (omega arith)))))
 
--- a header of four bytes
+-- the header has four bytes
 abbrev pub HasFour : {H : Type 0} → Layout H → Type 0
 HasFour header = Spans 0 (λ _. 4) header
 
--- what a set that is read has: the bytes of its header, and its entries behind them
+-- the parts of a set that is read: the bytes of its header, and its entries behind them
 pub record HasParts {H : Type 0} (old : Input) (s : Set H) : Type 0 where
   pub four : 4 ≤ s.unit_length
   pub place : s.entries.position ≡ old.position + initial_length_size s.format + 4
 
--- the same input has one position
+-- equal inputs have equal positions
 same_place : {i j : Input} → i ≡ j → i.position ≡ j.position
 same_place same = ap (λ (i : Input). i.position) same
 
--- so it is if the header has four
+-- a set that is read has its parts, if the header has four bytes
 pub set-parts : {H : Type 0} {header : Layout H} (greatest offset : ℕ) → HasFour header → (old : Input)
     {s : Set H} {new : Input} → read (set header greatest offset) old ≡ Ok (s, new) → HasParts old s
 unfolding set
@@ -82,18 +82,18 @@ set-parts greatest offset header_four old is =
       );
     })
 
--- bytes that are consumed are the first, and those that remain are behind them
+-- bytes that are consumed are the first ones, and the rest remains behind them
 taken_front : {n : ℕ} {old new : Input} → Takes n old new → old.bytes ≡ take n old.bytes ++ new.bytes
 taken_front {n} {old} takes =
     sym (take-append-drop n old.bytes) ∙ ap (λ (i : Input). take n old.bytes ++ i.bytes) (sym takes.left)
 
--- four lists that are joined from the right are joined from the left
+-- four lists that are joined from the right are the same as joined from the left
 joined_left : (a b c d : List ℕ) → a ++ (b ++ c ++ d) ≡ a ++ b ++ c ++ d
 joined_left a b c d =
     ap (λ (x : List ℕ). a ++ x) (append_assoc b c d) ∙ sym (append_assoc a b (c ++ d))
     ∙ sym (append_assoc (a ++ b) c d)
 
--- the bytes of a set that is read are its parts, joined
+-- a set that is read has its parts joined, if the header has four bytes
 pub set-joined : {H : Type 0} {header : Layout H} (greatest offset : ℕ) → HasFour header → (old : Input) {s : Set H}
     {new : Input} → read (set header greatest offset) old ≡ Ok (s, new) → IsJoined old s new
 unfolding set
@@ -137,22 +137,22 @@ address_header-four =
     (λ sized. then_spans byte_spans (λ segment. then_spans (check_spans _ _)
     (λ flat. pure_spans refl))))))
 
--- so has the header of a set of string offsets
+-- the header of a set of string offsets has four bytes
 pub string_offsets_header-four : HasFour string_offsets_header
 unfolding string_offsets_header
 string_offsets_header-four =
     then_spans (number_spans 2) (λ version. then_spans (check_spans _ _)
     (λ known. then_spans (number_spans 2) (λ padding. pure_spans refl)))
 
--- ---- a set by what a reader reads
+-- ---- a set, by what a reader reads
 
--- the length of the 64-bit format
+-- a length in the 64-bit format is read by the layout of initial lengths
 long_length-reads : {old new : Input} {n : ℕ} → BeginsDwarf64 old → TakesNumber 8 (after 4 old) n new
     → read initial_length old ≡ Ok ((Dwarf64, n), new)
 unfolding initial_length
 long_length-reads begins takes = after_number _ begins (after_number _ takes (pure_reads _ _))
 
--- the contract of an initial length is its layout
+-- an initial length that a reader reads is read by its layout
 initial_length-reads : (greatest : ℕ) (old : Input) (n : ℕ) (format : Format) (new : Input)
     → TakesLength greatest old n format new → read initial_length old ≡ Ok ((format, n), new)
 unfolding initial_length
@@ -160,13 +160,13 @@ initial_length-reads greatest old n Dwarf32 new takes =
     after_number _ takes.0 (rw (lt-ltb n 0xffff_fff0 takes.1) (pure_reads _ _))
 initial_length-reads greatest old n Dwarf64 new takes = long_length-reads takes.0 takes.1
 
--- a number that is reserved is the error of an initial length
+-- a reserved number is the error of an initial length
 reserved-fails : {old new : Input} {n : ℕ} → TakesNumber 4 old n new → nat_lt n 0xffff_fff0 ≡ false
     → nat_lt n 0xffff_ffff ≡ true → read initial_length old ≡ Err (UnknownReservedLength n)
 unfolding initial_length
 reserved-fails taken low high = after_number _ taken (rw (low, high) (refuse_fails _ _))
 
--- so are fewer bytes than it has
+-- an initial length fails if it is cut
 short_length-fails : {old new : Input} {e : Error}
     → EndsBefore 4 old e new ⊎ (BeginsDwarf64 old × EndsBefore 8 (after 4 old) e new) → read initial_length old ≡ Err e
 unfolding initial_length
@@ -174,7 +174,7 @@ short_length-fails (inl short) = no_number _ short
 short_length-fails (inr (begins, short)) = after_number _ begins (no_number _ short)
 
 module _ {H : Type 0} (header : Layout H) (greatest offset : ℕ) (old : Input) where
-  -- a length that is refused is the set's error
+  -- a set fails with the error of its initial length
   pub set_length_fails : {e : Error} (new : Input) → RefusesLength greatest old e new
       → read (set header greatest offset) old ≡ Err e
   unfolding set
@@ -188,7 +188,7 @@ module _ {H : Type 0} (header : Layout H) (greatest offset : ℕ) (old : Input) 
       (then_reads _ _ _ (long_length-reads unfit.begins unfit.rest.taken)
       ∙ no_check _ _ _ (lt-leb unfit.rest.number greatest unfit.rest.over))
 
-  -- what is behind the length
+  -- what follows the initial length of a set
   abbrev behind_length : Format → ℕ → Layout (Set H)
   behind_length format n =
       part n >>= λ unit. inside unit header >>= λ said. pure
@@ -196,7 +196,7 @@ module _ {H : Type 0} (header : Layout H) (greatest offset : ℕ) (old : Input) 
 
   module _ (n : ℕ) (format : Format) (behind : Input) (takes : TakesLength greatest old n format behind)
       (fits : n ≤ greatest) where
-    -- it is read there
+    -- a set is read by reading what follows its initial length
     after_length : {r : Outcome (Set H)} → read (behind_length format n) behind ≡ r
         → read (set header greatest offset) old ≡ r
     unfolding set
@@ -204,70 +204,70 @@ module _ {H : Type 0} (header : Layout H) (greatest offset : ℕ) (old : Input) 
         then_reads _ _ _ (initial_length-reads greatest old n format behind takes)
         ∙ after_check _ _ _ (le-leb n greatest fits) rest
 
-    -- fewer bytes than the length says are the set's error
+    -- a set fails if fewer bytes remain than its length says
     pub set_part_fails : {e : Error} (new : Input) → EndsBefore n behind e new
         → read (set header greatest offset) old ≡ Err e
     set_part_fails new short = after_length (no_part _ short)
 
     module _ {unit new : Input} (is : unit ≡ first n behind) (taken : Takes n behind new) where
-      -- so is the error of the header
+      -- a set fails with the error of its header
       pub set_header_fails : {e : Error} → read header unit ≡ Err e → read (set header greatest offset) old ≡ Err e
       set_header_fails h = after_length (after_part _ is taken (no_inside _ _ _ _ h))
 
-      -- a header that is read is the set's
+      -- a set is read if its header is, with the entries that remain behind the header
       pub set_reads : {h : H} {entries : Input} → read header unit ≡ Ok (h, entries)
           → read (set header greatest offset) old
           ≡ Ok (record { offset = offset; format = format; unit_length = n; header = h; entries = entries }, new)
       set_reads r = after_length (after_part _ is taken (after_inside _ _ _ _ r (pure_reads _ _)))
 
--- ---- the lists that sets are, and what a call gives
+-- ---- the lists of sets, and what `next` returns
 
--- no bytes have no sets
+-- an input without bytes has no sets
 pub sets_none : {H : Type 0} (header : Layout H) (greatest : ℕ) (headers : Headers) → headers.rest.bytes ≡ []
     → StandsForSets header greatest headers []
 sets_none header greatest headers empty = none empty
 
 module _ {H : Type 0} (header : Layout H) (greatest : ℕ) where
-  -- the first set stays first when more bytes follow
+  -- the first set stays the first when bytes are appended
   pub set_more : (headers : Headers) (s : Set H) (items others : List (Result (Set H) Error)) (more : List ℕ)
       → StandsForSets header greatest headers (Ok s ∷ items)
       → StandsForSets header greatest (followed_headers more headers) others
       → (rest : List (Result (Set H) Error)) × (others ≡ Ok s ∷ rest)
-  set_more headers s items others more stands h = item-stays stands more others h
+  set_more headers s items others more are_items h = item-stays are_items more others h
 
-  -- so does an error, unless it is an `UnexpectedEof`
+  -- an error, unless it is an `UnexpectedEof`, stays the only item of the sets when bytes are appended
   pub set_error_more : (headers : Headers) (e : Error) (more : List ℕ)
       → StandsForSets header greatest headers (Err e ∷ []) → IsNoEof e
       → StandsForSets header greatest (followed_headers more headers) (Err e ∷ [])
-  set_error_more headers e more stands settled = fault-stays stands settled more
+  set_error_more headers e more are_items settled = error-stays are_items settled more
 
-  -- what `next` returns if there is no set: the first error, or that memory ran out; and nothing remains
-  pub set_refused : (old new : Headers) {e : Error} (is_free : Bool) → old.rest.bytes ≢ []
+  -- an error in place of a set is the first item, or memory ran out; nothing remains behind either
+  pub set_error_first : (old new : Headers) {e : Error} (is_free : Bool) → old.rest.bytes ≢ []
       → ((read (set header greatest old.offset) old.rest ≡ Err e) ⊎ WantsMemory is_free e) → new.rest.bytes ≡ []
       → ComesFirst (StandsForSets header greatest) old (Err e) new
       ⊎ (WantsMemory is_free e × StandsForSets header greatest new [])
-  set_refused old new {e} is_free some (inl fails) empty =
-      inl (fault-first old.offset new.offset old.rest new.rest e some fails empty)
-  set_refused old new is_free some (inr want) empty = inr (want, none empty)
+  set_error_first old new {e} is_free some (inl fails) empty =
+      inl (error-first old.offset new.offset old.rest new.rest e some fails empty)
+  set_error_first old new is_free some (inr want) empty = inr (want, none empty)
 
-  -- so it is when more bytes follow, unless it is an `UnexpectedEof`
-  pub set_refused_stays : (old : Headers) {e : Error} (is_free : Bool) → old.rest.bytes ≢ []
+  -- an error in place of a set, unless it is an `UnexpectedEof`, stays the only item when bytes are appended
+  pub set_error_stays : (old : Headers) {e : Error} (is_free : Bool) → old.rest.bytes ≢ []
       → ((read (set header greatest old.offset) old.rest ≡ Err e) ⊎ WantsMemory is_free e) → IsNoEof e
       → (more : List ℕ)
       → StandsForSets header greatest (followed_headers more old) (Err e ∷ []) ⊎ WantsMemory is_free e
-  set_refused_stays old is_free some (inl fails) settled more =
+  set_error_stays old is_free some (inl fails) settled more =
       inl (fault (bytes-still_some old.rest.bytes more some)
       (error_more (set header greatest old.offset) more old.rest settled fails))
-  set_refused_stays old is_free some (inr want) settled more = inr want
+  set_error_stays old is_free some (inr want) settled more = inr want
 
--- an initial length has four bytes at least
+-- an initial length has at least four bytes
 initial_length_size-least : (format : Format) → 4 ≤ initial_length_size format
 initial_length_size-least Dwarf32 = omega arith
 initial_length_size-least Dwarf64 = omega arith
 
 -- ---- if the header has four bytes
 module _ {H : Type 0} {header : Layout H} (four : HasFour header) (greatest : ℕ) where
-  -- a set has eight bytes
+  -- a set has at least eight bytes
   pub set_least : (offset : ℕ) → TakesLeast 8 (set header greatest offset)
   set_least offset = record {
     by = λ old new s is. omega (
@@ -278,16 +278,16 @@ module _ {H : Type 0} {header : Layout H} (four : HasFour header) (greatest : �
     );
   }
 
-  -- bytes have exactly one list of sets
+  -- the bytes that remain have exactly one list of sets
   pub sets_exactly_one : (headers : Headers) → HasOne (StandsForSets header greatest headers)
   sets_exactly_one headers = items-exactly_one set_least (omega arith) headers.offset headers.rest
 
-  -- sets take no more bytes than there are
+  -- sets consume no more bytes than there are
   pub sets_bounded : (headers : Headers) (items : List (Result (Set H) Error))
       → StandsForSets header greatest headers items → sum_by (least_taken 8) items ≤ length headers.rest.bytes
-  sets_bounded headers items stands = items-bounded set_least stands
+  sets_bounded headers items are_items = items-bounded set_least are_items
 
-  -- a set that is read comes first
+  -- a set that is read is the first item
   pub set_first : (old new : Headers) {s : Set H} → old.rest.bytes ≢ []
       → read (set header greatest old.offset) old.rest ≡ Ok (s, new.rest)
       → new.offset ≡ old.offset + (length old.rest.bytes - length new.rest.bytes)
@@ -295,7 +295,7 @@ module _ {H : Type 0} {header : Layout H} (four : HasFour header) (greatest : �
   set_first old new {s} some h place =
       item-first set_least (omega arith) old.offset new.offset old.rest new.rest s some h place
 
-  -- it does so also when more bytes follow
+  -- a set that is read stays the first item when bytes are appended
   pub set_stays : (old new : Headers) {s : Set H} → old.rest.bytes ≢ []
       → read (set header greatest old.offset) old.rest ≡ Ok (s, new.rest)
       → new.offset ≡ old.offset + (length old.rest.bytes - length new.rest.bytes) → (more : List ℕ)

@@ -1,4 +1,4 @@
--- Bytes that are appended change no answer that is final.
+-- Appended bytes change no result that is final.
 use Rattle.std.proofs.Common.{◌≡◌, ◌≢◌, ℕ, List, [], ◌∷◌, ◌++◌, length, take, drop, Result, Ok, Err, refl, sym, ap, subst, append_assoc, arith}
 use Rattle.std.proofs.lemmas.List.{length-append, drop-append-le, take-append-drop}
 use Rattle.dwarf_reader_core.specs.Input.{Input, end_of}
@@ -12,18 +12,18 @@ use Rattle.dwarf_read_core.specs.Answer.{IsFaulty, number_cut, number_bad, child
 
 -- ---- bad numbers
 
--- two ways to cut one list
+-- one list is cut in two ways
 data Cuts (front rest bytes more : List ℕ) : Type 0 where
   sooner : (r : List ℕ) → bytes ≡ front ++ r → Cuts front rest bytes more
   later : (b : ℕ) (r : List ℕ) → front ≡ bytes ++ b ∷ r → Cuts front rest bytes more
 
--- two ways to cut one list are still two ways to cut it with one more byte in front
+-- two ways to cut a list are two ways to cut it with one more byte in front
 one_more : (x : ℕ) (front rest bytes more : List ℕ) → Cuts front rest bytes more
     → Cuts (x ∷ front) rest (x ∷ bytes) more
 one_more x front rest bytes more (sooner r e) = sooner r (ap (λ (b : List ℕ). x ∷ b) e)
 one_more x front rest bytes more (later b r e) = later b r (ap (λ (b : List ℕ). x ∷ b) e)
 
--- a list that is two parts in two ways has one of the two first parts at the front of the other
+-- if a list is joined of two parts in two ways, one first part is at the front of the other
 cuts : (front rest bytes more : List ℕ) → bytes ++ more ≡ front ++ rest → Cuts front rest bytes more
 cuts [] rest bytes more e = sooner bytes refl
 cuts (x ∷ front) rest [] more e = later x front refl
@@ -33,18 +33,18 @@ cuts (x ∷ front) rest (y ∷ bytes) more e =
     subst (λ (z : ℕ). Cuts (x ∷ front) rest (z ∷ bytes) more) (sym head)
     (one_more x front rest bytes more (cuts front rest bytes more tail))
 
--- the bytes of an encoding that have another byte of it behind them are not its last
+-- if an encoding goes on behind bytes, none of these is its last
 unended : (bytes : List ℕ) (b : ℕ) (r : List ℕ) → IsEncoding (bytes ++ b ∷ r) → NoneIsLast bytes
 unended [] b r h = tt
 unended (x ∷ []) b r h = (h.0, tt)
 unended (x ∷ y ∷ bytes) b r h = (h.0, unended (y ∷ bytes) b r h.1)
 
--- the front of bytes of which none is the last of an encoding has none that is, either
+-- if none of the bytes is the last of an encoding, neither is one of their front
 all_front : (bytes more : List ℕ) → NoneIsLast (bytes ++ more) → NoneIsLast bytes
 all_front [] more h = tt
 all_front (x ∷ bytes) more h = (h.0, all_front bytes more h.1)
 
--- bytes that begin with a bad number still begin with a bad number with more bytes behind them
+-- bytes that begin with a bad number still do with more bytes behind them
 bad_more : (k : Kind) (bytes more : List ℕ) → IsBad k bytes → IsBad k (bytes ++ more)
 bad_more k bytes more bad = record {
   no_number = λ number n h. go (take n (bytes ++ more)) (drop n (bytes ++ more)) number h.is_number
@@ -67,7 +67,7 @@ bad_more k bytes more bad = record {
 
 -- ---- tables and errors
 
--- bytes that begin with a table that a code of 0 closes still begin with it with more bytes behind them
+-- bytes that begin with a table that a code of value 0 closes still do with more bytes behind them
 table_more : {bytes : List ℕ} {t : Table} (more : List ℕ) → IsTable bytes t → t.close ≡ by_null
     → IsTable (bytes ++ more) t
 table_more more (closed_by_null bytes zero_code rest ds are is) final =
@@ -76,46 +76,47 @@ table_more more (closed_by_null bytes zero_code rest ds are is) final =
     (closed_by_null bytes zero_code (rest ++ more) ds are is)
 table_more more (closed_by_end bytes ds are) final = absurd cc
 
--- an error in a declaration, other than that the bytes end, stays the error with more bytes behind them
-faulty_more : {end : ℕ} {bytes : List ℕ} {e : Error} (longer : ℕ) (more : List ℕ) → IsFaulty end bytes e
+-- an error in a declaration, unless it is an `UnexpectedEof`, stays the error with more bytes behind
+declaration_error_more : {end : ℕ} {bytes : List ℕ} {e : Error} (longer : ℕ) (more : List ℕ) → IsFaulty end bytes e
     → IsNoEof e → IsFaulty longer (bytes ++ more) e
-faulty_more {end = end} longer more (number_cut front bytes k b c) final = absurd (final end refl)
-faulty_more longer more (number_bad front bytes k b c) final =
+declaration_error_more {end = end} longer more (number_cut front bytes k b c) final = absurd (final end refl)
+declaration_error_more longer more (number_bad front bytes k b c) final =
     subst (λ (x : List ℕ). IsFaulty longer x (refusal k)) (sym (append_assoc front bytes more))
     (number_bad front (bytes ++ more) k b (bad_more k bytes more c))
-faulty_more {end = end} longer more (children_cut front code tag is) final = absurd (final end refl)
-faulty_more longer more (tag_zero front tag rest code is zero_tag) final =
+declaration_error_more {end = end} longer more (children_cut front code tag is) final = absurd (final end refl)
+declaration_error_more longer more (tag_zero front tag rest code is zero_tag) final =
     subst (λ (x : List ℕ). IsFaulty longer x AbbreviationTagZero) (sym (append_assoc (front ++ tag) rest more))
     (tag_zero front tag (rest ++ more) code is zero_tag)
-faulty_more longer more (children_bad front rest code tag byte is lt) final =
+declaration_error_more longer more (children_bad front rest code tag byte is lt) final =
     subst (λ (x : List ℕ). IsFaulty longer x (InvalidAbbreviationChildren (record { 0 = byte })))
     (sym (append_assoc front (byte ∷ rest) more)) (children_bad front (rest ++ more) code tag byte is lt)
-faulty_more longer more (name_zero front name form rest d f is is_name is_form formed) final =
+declaration_error_more longer more (name_zero front name form rest d f is is_name is_form formed) final =
     subst (λ (x : List ℕ). IsFaulty longer x AttributeNameZero)
     (sym (append_assoc (front ++ name ++ form) rest more))
     (name_zero front name form (rest ++ more) d f is is_name is_form formed)
-faulty_more longer more (form_zero front name form rest d n is is_name named is_form) final =
+declaration_error_more longer more (form_zero front name form rest d n is is_name named is_form) final =
     subst (λ (x : List ℕ). IsFaulty longer x AttributeFormZero)
     (sym (append_assoc (front ++ name ++ form) rest more))
     (form_zero front name form (rest ++ more) d n is is_name named is_form)
 
--- bytes that are not empty are still not empty with more bytes behind them
+-- bytes that aren't empty stay so with more bytes behind them
 still_some : (rest more : List ℕ) → rest ≢ [] → rest ++ more ≢ []
 still_some [] more some e = some refl
 still_some (x ∷ rest) more some e = cc
 
--- the first error of bytes, other than that they end, stays their first error with more bytes behind them
+-- the first error of bytes, unless it is an `UnexpectedEof`, stays the first with more bytes behind
 first_error_more : {end : ℕ} {bytes : List ℕ} {e : Error} (longer : ℕ) (more : List ℕ) → IsFault end bytes e
     → IsNoEof e → IsFault longer (bytes ++ more) e
 first_error_more longer more (in_declaration bytes rest ds e are some f) final =
     subst (λ (x : List ℕ). IsFault longer x e) (sym (append_assoc bytes rest more))
-    (in_declaration bytes (rest ++ more) ds e are (still_some rest more some) (faulty_more longer more f final))
+    (in_declaration bytes (rest ++ more) ds e are (still_some rest more some)
+    (declaration_error_more longer more f final))
 first_error_more longer more (repeated bytes declaration rest ds d are is twice) final =
     subst (λ (x : List ℕ). IsFault longer x (DuplicateAbbreviationCode d.code))
     (sym (append_assoc (bytes ++ declaration) rest more))
     (repeated bytes declaration (rest ++ more) ds d are is twice)
 
--- an answer that is final is still the answer with more bytes behind the section
+-- a final result is still the result when bytes are appended to the section
 pub answer_more : {section : Input} {offset : ℕ} {r : Result Table Error} (more : List ℕ) → Answer section offset r
     → IsFinal r → Answer (followed_by section more) offset r
 answer_more {section} more (outside lt) final = absurd (final section.position refl)
@@ -129,7 +130,7 @@ answer_more {section} {offset} more (fault e le is) final =
     (sym (drop-append-le offset section.bytes more le))
     (first_error_more (end_of (followed_by section more)) more is final))
 
--- a final result that is the answer, unless memory ran out, is still so with more bytes behind the section
+-- a final result that a call returned is still the section's result when bytes are appended
 pub returned_stays : (r : Result Table Error) (section : Input) (offset : ℕ) → Answers r section offset → IsFinal r
     → (more : List ℕ) → Answers r (followed_by section more) offset
 returned_stays (Ok t) section offset h final more = answer_more more h final

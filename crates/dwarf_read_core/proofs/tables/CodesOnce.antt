@@ -1,4 +1,4 @@
--- Codes of declarations: the map of a table has those that its declarations have, and each occurs once.
+-- The map of a table has the codes of its declarations, and each code occurs once.
 use Rattle.std.proofs.Common.{◌≡◌, ℕ, Bool, true, false, cond, eqb, List, [], ◌∷◌, ◌++◌, map, Some, None, refl, sym, ap, ◌∙◌, arith, ◌⊎◌, inl, inr}
 use Rattle.std.specs.Prelude.{is_some}
 use Rattle.std.specs.Ordering.{nat_cmp, eq_by_cmp}
@@ -12,23 +12,23 @@ use Rattle.dwarf_read_core.specs.Grammar.{Declaration, Declares, AreDistinct, by
 abbrev pub entries_by_code : List Declaration → List (ℕ × Declaration)
 entries_by_code ds = map (λ d. (d.code, d)) ds
 
--- two codes are equal by their order exactly if they are equal as numbers
+-- the order of codes finds two of them equal exactly if they are equal numbers
 same_code_in_order : (a b : ℕ) → eq_by_cmp nat_cmp a b ≡ eqb a b
 same_code_in_order a b = grind (arith, nat_tests)
 
--- a code finds the first declaration if that one has it, and otherwise what it finds among the others
+-- a search for a code finds the first declaration if it has the code, and otherwise searches the others
 looked_up : (code : ℕ) (x : Declaration) (ds : List Declaration) (t : Bool) → eqb code x.code ≡ t
     → find nat_cmp code (entries_by_code (x ∷ ds)) ≡ cond t (Some x) (find nat_cmp code (entries_by_code ds))
 looked_up code x ds t e =
     ap (λ b. cond b (Some x) (find nat_cmp code (entries_by_code ds))) (same_code_in_order code x.code ∙ e)
 
--- a code that none of the declarations has finds nothing among them
+-- a search for a code that no declaration has finds nothing
 find_none : (ds : List Declaration) (code : ℕ) → (Declares ds code → ⊥) → find nat_cmp code (entries_by_code ds) ≡ None
 find_none [] code h = refl
 find_none (x ∷ ds) code h =
     looked_up code x ds false (ne_eqb code x.code (λ e. h (inl (sym e)))) ∙ find_none ds code (λ w. h (inr w))
 
--- a code that one of the declarations has finds something among them
+-- a search for a code that a declaration has finds something
 find_some : (ds : List Declaration) (code : ℕ) → Declares ds code
     → is_some (find nat_cmp code (entries_by_code ds)) ≡ true
 find_some [] code h = absurd h
@@ -40,7 +40,7 @@ find_some (x ∷ ds) code h = go (eqb code x.code) refl (λ w. find_some ds code
     go false e later (inl same) = absurd (eqb-false code x.code e (sym same))
     go false e later (inr w) = ap is_some (looked_up code x ds false e) ∙ later w
 
--- a code that finds something among declarations is the code of one of them
+-- if a search for a code finds something, a declaration has the code
 declared_from_find : (ds : List Declaration) (code : ℕ) → is_some (find nat_cmp code (entries_by_code ds)) ≡ true
     → Declares ds code
 declared_from_find [] code h = absurd cc
@@ -51,7 +51,7 @@ declared_from_find (x ∷ ds) code h = go (eqb code x.code) refl (λ w. declared
     go true e later = inl (sym (eqb-true code x.code e))
     go false e later = inr (later (sym (ap is_some (looked_up code x ds false e)) ∙ h))
 
--- the map of declarations has a code exactly if the code finds something among them
+-- the map of declarations has a code exactly if a search for the code finds something
 contains_is : (ds : List Declaration) (code : ℕ)
     → contains_key (by_code_of ds) code ≡ is_some (find nat_cmp code (entries_by_code ds))
 contains_is ds code = ap is_some (get-from_entries nat_cmp_total (entries_by_code ds) code)
@@ -64,16 +64,16 @@ fresh_code ds code h = contains_is ds code ∙ ap is_some (find_none ds code h)
 pub repeated_code : (ds : List Declaration) (code : ℕ) → Declares ds code → contains_key (by_code_of ds) code ≡ true
 repeated_code ds code h = contains_is ds code ∙ find_some ds code h
 
--- a code that the map of declarations has is the code of one of them
+-- if the map of declarations has a code, a declaration has it
 pub declared_from_key : (ds : List Declaration) (code : ℕ) → contains_key (by_code_of ds) code ≡ true → Declares ds code
 declared_from_key ds code e = declared_from_find ds code (sym (contains_is ds code) ∙ e)
 
--- a code that the map of declarations lacks is the code of none of them
+-- if the map of declarations lacks a code, no declaration has it
 pub fresh_from_key : (ds : List Declaration) (code : ℕ) → contains_key (by_code_of ds) code ≡ false
     → Declares ds code → ⊥
 fresh_from_key ds code e h = true≢false (sym (repeated_code ds code h) ∙ e)
 
--- the map of declarations and one more, whose code is new, is their map with an insert of that one
+-- one more declaration with a new code is an insertion into the map of declarations
 pub table_push : (ds : List Declaration) (d : Declaration) → (Declares ds d.code → ⊥)
     → by_code_of (ds ++ d ∷ []) ≡ insert (by_code_of ds) d.code d
 table_push ds d h =
@@ -81,7 +81,7 @@ table_push ds d h =
     (map_push (λ (x : Declaration). (x.code, x)) ds d)
     ∙ from_entries_push nat_cmp_total nat_cmp-IsAntisymmetric (entries_by_code ds) d.code d (find_none ds d.code h)
 
--- a code of declarations and one more is a code of those declarations, or that of the one more
+-- a code of some declarations and one more is a code of those, or that of the one more
 declared_later : (ds : List Declaration) (d : Declaration) (code : ℕ) → Declares (ds ++ d ∷ []) code
     → Declares ds code ⊎ (d.code ≡ code)
 declared_later [] d code (inl e) = inr e
@@ -89,7 +89,7 @@ declared_later [] d code (inr h) = absurd h
 declared_later (x ∷ ds) d code (inl e) = inl (inl e)
 declared_later (x ∷ ds) d code (inr h) = elim (declared_later ds d code h) [ inl w ↦ inl (inr w) | inr w ↦ inr w ]
 
--- declarations with distinct codes still have distinct codes with one more behind them whose code is new
+-- declarations with distinct codes still have distinct codes with one more whose code is new
 pub distinct_push : (ds : List Declaration) (d : Declaration) → AreDistinct ds → (Declares ds d.code → ⊥)
     → AreDistinct (ds ++ d ∷ [])
 distinct_push [] d h new = (λ w. w, tt)
@@ -99,13 +99,13 @@ distinct_push (x ∷ ds) d h new = (
       (λ w. new (inr w)),
 )
 
--- a declaration among those with distinct codes has a code that none before it has
+-- among declarations with distinct codes, no declaration before another has its code
 pub distinct_front : (ds more : List Declaration) (d : Declaration) → AreDistinct (ds ++ d ∷ more)
     → Declares ds d.code → ⊥
 distinct_front [] more d h w = w
-distinct_front (x ∷ ds) more d h (inl e) = h.0 (stands ds)
+distinct_front (x ∷ ds) more d h (inl e) = h.0 (declares ds)
   where
-    stands : (xs : List Declaration) → Declares (xs ++ d ∷ more) x.code
-    stands [] = inl (sym e)
-    stands (y ∷ xs) = inr (stands xs)
+    declares : (xs : List Declaration) → Declares (xs ++ d ∷ more) x.code
+    declares [] = inl (sym e)
+    declares (y ∷ xs) = inr (declares xs)
 distinct_front (x ∷ ds) more d h (inr w) = distinct_front ds more d h.1 w

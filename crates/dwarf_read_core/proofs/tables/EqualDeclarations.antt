@@ -1,4 +1,4 @@
--- Abbreviations that are equal are the same declaration.
+-- Two abbreviations are equal exactly if they are the same declaration.
 use Rattle.std.proofs.Common.{◌≡◌, ℕ, Bool, true, false, ◌&&◌, List, [], ◌∷◌, Option, Some, None, ap, refl, ◌∙◌, eqb}
 use Rattle.std.specs.Prelude.{◌↔◌, ℤ, pos, unwrap_or, IsTrue, IsSome, All}
 use Rattle.std.specs.Bool.{beq}
@@ -10,23 +10,23 @@ use Rattle.std.proofs.lemmas.List.Elements.{All-head, All-tail}
 use Rattle.dwarf_read_core.specs.Equality.{HasValueByForm, same_declaration, same_declaration_equiv, same_specification}
 use Rattle.dwarf_read_core.specs.Grammar.{Declaration, Specification}
 
--- both of two tests
+-- if the conjunction of two tests is true, both are
 both : (s t : Bool) → (s && t) ≡ true → (s ≡ true) × (t ≡ true)
 both true t h = (refl, h)
 both false t h = absurd cc
 
--- two booleans that the test finds equal are the same
+-- two booleans that the test finds equal are equal
 same_bool : (s t : Bool) → beq s t ≡ true → s ≡ t
 same_bool true true h = refl
 same_bool true false h = absurd cc
 same_bool false true h = absurd cc
 same_bool false false h = refl
 
--- two integers that the test finds equal are the same
+-- two integers that the test finds equal are equal
 same_int : (x y : ℤ) → int_eq x y ≡ true → x ≡ y
 same_int x y h = (Decides-int_eq x y).0 h
 
--- values that are there in both or in neither
+-- two values, both there or both missing, are equal if they are with 0 in place of a missing one
 same_value : (v w : Option ℤ) → (IsSome v → IsSome w) → (IsSome w → IsSome v)
     → unwrap_or v (pos 0) ≡ unwrap_or w (pos 0) → v ≡ w
 same_value None None to from same = refl
@@ -34,7 +34,7 @@ same_value None (Some y) to from same = let h : IsSome (let n : Option ℤ = Non
 same_value (Some x) None to from same = let h : IsSome (let n : Option ℤ = None in n) = to refl in absurd cc
 same_value (Some x) (Some y) to from same = ap (λ (z : ℤ). Some z) same
 
--- the same name, form and value
+-- two specifications are equal if their names, forms and values are
 by_fields : (s t : Specification) → s.name ≡ t.name → s.form ≡ t.form → s.value ≡ t.value → s ≡ t
 by_fields s t name form value =
     let named : ℕ → Specification = λ n. record { name = n; form = s.form; value = s.value } in
@@ -42,7 +42,7 @@ by_fields s t name form value =
     let valued : Option ℤ → Specification = λ v. record { name = t.name; form = t.form; value = v } in
     ap named name ∙ ap formed form ∙ ap valued value
 
--- equal specifications are the same
+-- two specifications that the test finds equal are equal if their values are as their forms say
 same_one : (s t : Specification) → HasValueByForm s → HasValueByForm t → same_specification s t ≡ true → s ≡ t
 same_one s t of_s of_t same =
     let parts = both (eqb s.name t.name) _ same in
@@ -55,7 +55,7 @@ same_one s t of_s of_t same =
     in
     by_fields s t name form value
 
--- and so are equal lists of them
+-- two lists of specifications that the test finds equal are equal if their values are as their forms say
 same_all : (ss ts : List Specification) → All HasValueByForm ss → All HasValueByForm ts
     → pointwise same_specification ss ts ≡ true → ss ≡ ts
 same_all [] [] of_s of_t same = refl
@@ -67,7 +67,7 @@ same_all (s ∷ ss) (t ∷ ts) of_s of_t same =
     let others = same_all ss ts (All-tail HasValueByForm s ss of_s) (All-tail HasValueByForm t ts of_t) parts.1 in
     cc
 
--- equal declarations are the same
+-- two declarations that the test finds equal are equal if their values are as their forms say
 same_by_parts : (a b : Declaration) → All HasValueByForm a.attributes → All HasValueByForm b.attributes
     → same_declaration a b ≡ true → a ≡ b
 same_by_parts a b of_a of_b same =
@@ -104,7 +104,7 @@ same_by_parts a b of_a of_b same =
     } in
     ap coded code ∙ ap tagged tag ∙ ap flagged children ∙ ap listed attributes
 
--- the test finds two declarations equal exactly if they are the same, if their values are as their forms say
+-- the test finds two declarations equal exactly if they are equal, if their values are as their forms say
 pub same_declaration_is_equality : (a b : Declaration) → All HasValueByForm a.attributes
     → All HasValueByForm b.attributes → IsTrue (same_declaration a b) ↔ (a ≡ b)
 same_declaration_is_equality a b of_a of_b =

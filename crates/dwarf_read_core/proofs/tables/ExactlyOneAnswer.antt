@@ -1,4 +1,4 @@
--- A section has exactly one answer at each offset, and the parser returns it.
+-- A section has exactly one result at each offset, and the parser returns it.
 use Rattle.std.proofs.Common.{◌≡◌, ℕ, ◌+◌, ◌≤◌, Bool, true, false, cond, ltb, List, [], length, drop, None, Ok, Err, refl, sym, ap, subst, ◌∙◌, arith, inl, inr}
 use Rattle.std.specs.FinMap.{empty}
 use Rattle.std.proofs.lemmas.Bool.{lt-ltb, le-ltb, ltb-true, ltb-false}
@@ -12,17 +12,17 @@ use Rattle.dwarf_read_core.specs.Answer.{Answer, Answers, TakesNoMemory, outside
 use Rattle.dwarf_read_core.specs.Reading.{Gives, declaration_at, table_in}
 use Rattle.dwarf_read_core.proofs.tables.ReadingIsComplete.{zero_again, end_again}
 use Rattle.dwarf_read_core.proofs.tables.ReadingTables.{TableRead}
-use Rattle.dwarf_read_core.proofs.tables.TablesAreRead.{Reads, reads_by, table_again, faults_again}
+use Rattle.dwarf_read_core.proofs.tables.TablesAreRead.{Reads, reads_by, table_again, first_error_again}
 
 abbrev AnswerBy : Bool → Input → ℕ → TableRead
 AnswerBy t section offset =
     cond t (Err (end_fault section)) (table_in (end_of section) empty (drop offset section.bytes))
 
--- the table that is read at an offset of a section
+-- what the functions read at an offset of a section
 unfoldable pub answer_at : Input → ℕ → TableRead
 answer_at section offset = AnswerBy (ltb (length section.bytes) offset) section offset
 
--- what is read at an offset of a section is an answer for them
+-- what the functions read at an offset is a result that the section has there
 pub is_answer : (section : Input) (offset : ℕ) → Answer section offset (answer_at section offset)
 unfolding answer_at table_in
 is_answer section offset = go (ltb (length section.bytes) offset) refl
@@ -40,16 +40,16 @@ is_answer section offset = go (ltb (length section.bytes) offset) refl
         (reads_by (length (drop offset section.bytes) + 1) (end_of section) [] (drop offset section.bytes) []
         (omega arith) (record { each = refl; distinct = tt }))
 
--- every answer for a section and an offset is what is read there
+-- every result that a section has at an offset is what the functions read there
 pub only_answer : {section : Input} {offset : ℕ} {r : TableRead} → Answer section offset r
     → answer_at section offset ≡ r
 unfolding answer_at
 only_answer {section} {offset} (outside lt) = rw (lt-ltb (length section.bytes) offset lt) refl
 only_answer {section} {offset} (table t le is) =
     rw (le-ltb (length section.bytes) offset le, table_again (end_of section) is) refl
-only_answer {section} {offset} (fault e le is) = rw (le-ltb (length section.bytes) offset le, faults_again is) refl
+only_answer {section} {offset} (fault e le is) = rw (le-ltb (length section.bytes) offset le, first_error_again is) refl
 
--- what the code reads behind the offset is the answer
+-- what the parser returns behind the offset is the section's result there
 pub answer_returned : (r : TableRead) (section : Input) (offset : ℕ) (rest : Input) → Takes offset section rest
     → Gives (λ t. t) r (table_in (end_of rest) empty rest.bytes) → Answers r section offset
 unfolding answer_at
@@ -66,17 +66,17 @@ answer_returned r section offset rest takes given =
     go (Ok t) h = subst (Answer section offset) h (is_answer section offset)
     go (Err e) h = λ memory. subst (Answer section offset) (h memory) (is_answer section offset)
 
--- a section and an offset have exactly one answer
+-- a section has exactly one result at each offset
 pub answer_exactly_one : (section : Input) (offset : ℕ) → HasOne (Answer section offset)
 answer_exactly_one section offset = (answer_at section offset, is_answer section offset, λ s a. sym (only_answer a))
 
--- an offset past the section's end is answered by the error of a read that ends before it
+-- if a read ends before an offset past the section's end, its error is the section's result there
 pub outside_of : (section : Input) (offset : ℕ) (e : Error) (new : Input) → EndsBefore offset section e new
     → Answer section offset (Err e)
 outside_of section offset e new short =
     subst (λ (x : Error). Answer section offset (Err x)) (sym short.fault) (outside short.short)
 
--- no declaration is read where the answer takes no memory: at the end or before a code of value 0
+-- no declaration is read at an offset that needs no memory: at the end, or at a code of value 0
 pub nothing_declared : (end : ℕ) (section : Input) (offset : ℕ) (rest : List ℕ) → TakesNoMemory section offset
     → rest ≡ drop offset section.bytes → (behind : List ℕ) × (declaration_at end rest ≡ Ok (None, behind))
 nothing_declared end section offset rest (inl past) is =

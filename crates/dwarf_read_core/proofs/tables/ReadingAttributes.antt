@@ -1,4 +1,4 @@
--- Reading specifications up to the null one, as a loop does and as the grammar says.
+-- Reading the specifications up to the null one, as the loop does and as the grammar says.
 use Rattle.std.proofs.Common.{◌≡◌, ℕ, zero, suc, ◌+◌, ◌<◌, List, [], ◌∷◌, ◌++◌, length, Option, Some, None, Result, Ok, Err, refl, sym, ap, subst, ◌∙◌, append_assoc, arith, inl, inr}
 use Rattle.std.proofs.lemmas.List.{append-nil}
 use Rattle.dwarf_base_core.specs.declared.error.Error.{Error}
@@ -7,18 +7,18 @@ use Rattle.dwarf_read_core.specs.Answer.{IsFaulty}
 use Rattle.dwarf_read_core.specs.Reading.{◌>>=◌, specification_at, and_others, attributes_at, attributes_in, declaration_of}
 use Rattle.dwarf_read_core.proofs.tables.Sequences.{Sequence-push}
 use Rattle.dwarf_read_core.proofs.ResultLemmas.{bind_ok, bind_err}
-use Rattle.dwarf_read_core.proofs.tables.ReadingSpecifications.{NullFound, SpecificationFound, specification_found, specification_fault, specification_again, null_again, specification_shorter}
+use Rattle.dwarf_read_core.proofs.tables.ReadingSpecifications.{NullFound, SpecificationFound, specification_found, specification_error, specification_again, null_again, specification_shorter}
 
 abbrev pub AttributesRead : Type 0
 AttributesRead = Result (List Specification × List ℕ) Error
 
--- those before, and those that are read
+-- some specifications in front of those that are read
 abbrev pub with_front : List Specification → AttributesRead → AttributesRead
 with_front front read = read >>= λ x. Ok (front ++ x.0, x.1)
 
 -- ---- one specification after the other
 
--- more fuel than bytes is enough
+-- reading specifications has the same outcome under any two bounds above the number of bytes
 attributes_enough : (n m end : ℕ) (bytes : List ℕ) → length bytes < n → length bytes < m
     → attributes_at n end bytes ≡ attributes_at m end bytes
 unfolding attributes_at
@@ -34,7 +34,7 @@ attributes_enough (suc n) (suc m) end bytes short other =
     go others (Err e) q = refl
     go others (Ok x) q = ap (and_others x.0 x.1) (others x.1 (specification_shorter end bytes x.0 x.1 q))
 
--- reading a list of specifications reads the first, and then the list behind it unless that is the null one
+-- reading a list of specifications is reading the first, and then the others unless it is the null one
 next : (end : ℕ) (bytes : List ℕ) (x : Option Specification × List ℕ) → specification_at end bytes ≡ Ok x
     → attributes_in end bytes ≡ and_others x.0 x.1 (attributes_in end x.1)
 unfolding attributes_in attributes_at
@@ -44,22 +44,22 @@ next end bytes x q =
     ∙ rw q (ap (and_others x.0 x.1) (attributes_enough (length bytes) (length x.1 + 1) end x.1 (omega arith)
     (omega arith)))
 
--- reading a list of specifications fails with the error with which reading the first one fails
+-- reading a list of specifications fails with the error of the first one
 pub attributes_fail : (end : ℕ) (bytes : List ℕ) (e : Error) → specification_at end bytes ≡ Err e
     → attributes_in end bytes ≡ Err e
 unfolding attributes_in attributes_at
 attributes_fail end bytes e q =
     attributes_enough (length bytes + 1) (suc (length bytes)) end bytes (omega arith) (omega arith) ∙ rw q refl
 
--- ---- as a loop does
+-- ---- as the loop does
 
--- a specification put before what is read, and a front before both, is the front with that one at its end
+-- a specification in front of those that are read, and a list in front of both, is the list with that one at its end
 front-regrouped : (front : List Specification) (s : Specification) (read : AttributesRead)
     → with_front front (read >>= λ x. Ok (s ∷ x.0, x.1)) ≡ with_front (front ++ s ∷ []) read
 front-regrouped front s (Ok x) = ap (λ (all : List Specification). Ok (all, x.1)) (simp append_assoc)
 front-regrouped front s (Err e) = refl
 
--- a whole made of a front and the list read behind it stays the same if the next one joins the front
+-- reading behind a list of specifications goes on behind the list with the next one at its end
 pub front-goes_on : (front : List Specification) (end : ℕ) (bytes : List ℕ) (s : Specification) (after : List ℕ)
     (total : AttributesRead) → specification_at end bytes ≡ Ok (Some s, after)
     → with_front front (attributes_in end bytes) ≡ total
@@ -68,7 +68,7 @@ front-goes_on front end bytes s after total q so_far =
     sym (front-regrouped front s (attributes_in end after))
     ∙ ap (with_front front) (sym (next end bytes (Some s, after) q)) ∙ so_far
 
--- a whole reading is the front and the bytes behind the null specification, if that one is read next
+-- reading behind a list of specifications ends with that list if the null one is next
 pub front-ends : (front : List Specification) (end : ℕ) (bytes : List ℕ) (o : Option Specification) (after : List ℕ)
     (total : AttributesRead) → specification_at end bytes ≡ Ok (o, after) → o ≡ None
     → with_front front (attributes_in end bytes) ≡ total → total ≡ Ok (front, after)
@@ -77,12 +77,12 @@ front-ends front end bytes o after total q none so_far =
     sym so_far ∙ ap (with_front front) (next end bytes (None, after) r)
     ∙ ap (λ (all : List Specification). Ok (all, after)) (append-nil front)
 
--- a whole reading fails with the error with which reading the next specification fails
+-- reading behind a list of specifications fails with the error of the next one
 pub front-fails : (front : List Specification) (end : ℕ) (bytes : List ℕ) (e : Error) (total : AttributesRead)
     → specification_at end bytes ≡ Err e → with_front front (attributes_in end bytes) ≡ total → total ≡ Err e
 front-fails front end bytes e total q so_far = sym so_far ∙ ap (with_front front) (attributes_fail end bytes e q)
 
--- an empty front changes nothing of what is read
+-- an empty list in front of what is read changes nothing
 pub front-begins : (read : AttributesRead) → with_front [] read ≡ read
 front-begins (Ok x) = refl
 front-begins (Err e) = refl
@@ -96,7 +96,7 @@ pub record AttributesFound (bytes : List ℕ) (ss : List Specification) (rest : 
   pub are : Sequence IsSpecification specifications ss
   pub is_null : IsNull null
 
--- a specification found before a list that is found makes a list that is found, with it as the first
+-- a specification in front of a list that the grammar allows is a longer list that it allows
 more_found : (bytes : List ℕ) (s : Specification) (ss : List Specification) (behind rest : List ℕ)
     → SpecificationFound bytes s behind → AttributesFound behind ss rest → AttributesFound bytes (s ∷ ss) rest
 more_found bytes s ss behind rest f g = record {
@@ -107,7 +107,7 @@ more_found bytes s ss behind rest f g = record {
   is_null = g.is_null;
 }
 
--- specifications read up to the null one, with any fuel, are at the front of the bytes as the grammar has them
+-- specifications that are read under any bound are those that the grammar has at the front
 found_by : (n end : ℕ) (bytes : List ℕ) (x : List Specification × List ℕ) → attributes_at n end bytes ≡ Ok x
     → AttributesFound bytes x.0 x.1
 unfolding attributes_at
@@ -133,17 +133,17 @@ found_by (suc n) end bytes x e =
         subst (λ (y : List Specification × List ℕ). AttributesFound bytes y.0 y.1) p
         (more_found bytes s b.0.0 behind b.0.1 f (others behind b.0 b.1))
 
--- specifications read up to the null one are at the front of the bytes as the grammar has them
+-- specifications that are read are those that the grammar has at the front
 pub attributes_found : (end : ℕ) (bytes : List ℕ) (x : List Specification × List ℕ)
     → attributes_in end bytes ≡ Ok x → AttributesFound bytes x.0 x.1
 unfolding attributes_in
 attributes_found end bytes x e = found_by (length bytes + 1) end bytes x e
 
--- one more specification behind the front of a declaration
+-- a declaration with more attributes behind its own
 abbrev pub with_attributes : Declaration → List Specification → Declaration
 with_attributes d more = declaration_of d.code d.tag d.children (d.attributes ++ more)
 
--- the front of a declaration, with a specification's bytes behind it, is the front with one more attribute
+-- the front of a declaration with the bytes of a specification behind it is a front with one more attribute
 front_push : (front first : List ℕ) (d : Declaration) (s : Specification) → IsFront front d
     → IsSpecification first s → IsFront (front ++ first) (with_attributes d (s ∷ []))
 front_push front first d s is one = record {
@@ -154,16 +154,16 @@ front_push front first d s is one = record {
   are_attributes = Sequence-push IsSpecification is.specifications d.attributes first s is.are_attributes one;
 }
 
--- an error of reading specifications behind a front, with more fuel than bytes, is an error of both together
-fault_by : (n end : ℕ) (front bytes : List ℕ) (d : Declaration) (e : Error) → length bytes < n → IsFront front d
+-- an error in the specifications behind a front, under a bound above the bytes, is an error of both together
+error_by : (n end : ℕ) (front bytes : List ℕ) (d : Declaration) (e : Error) → length bytes < n → IsFront front d
     → attributes_at n end bytes ≡ Err e → IsFaulty end (front ++ bytes) e
 unfolding attributes_at
-fault_by zero end front bytes d e short is q = absurd (omega arith)
-fault_by (suc n) end front bytes d e short is q =
+error_by zero end front bytes d e short is q = absurd (omega arith)
+error_by (suc n) end front bytes d e short is q =
     elim (bind_err (specification_at end bytes)
     (λ first. and_others first.0 first.1 (attributes_at n end first.1)) e q) [
-      | inl r ↦ specification_fault end front bytes d e is r
-      | inr r ↦ go (λ others f c h. fault_by n end f others c e (omega arith)) r.0.0 r.0.1 r.1 r.2
+      | inl r ↦ specification_error end front bytes d e is r
+      | inr r ↦ go (λ others f c h. error_by n end f others c e (omega arith)) r.0.0 r.0.1 r.1 r.2
     ]
   where
     go : ((others f : List ℕ) (c : Declaration) → length others < length bytes → IsFront f c
@@ -183,21 +183,21 @@ fault_by (suc n) end front bytes d e short is q =
           | inr w ↦ absurd (let v = w.2 in cc)
         ]
 
--- an error of reading the specifications behind the front of a declaration is an error of both together
-pub attributes_fault : (end : ℕ) (front bytes : List ℕ) (d : Declaration) (e : Error) → IsFront front d
+-- an error in the specifications behind a front is an error of both together
+pub attributes_error : (end : ℕ) (front bytes : List ℕ) (d : Declaration) (e : Error) → IsFront front d
     → attributes_in end bytes ≡ Err e → IsFaulty end (front ++ bytes) e
 unfolding attributes_in
-attributes_fault end front bytes d e is q = fault_by (length bytes + 1) end front bytes d e (omega arith) is q
+attributes_error end front bytes d e is q = error_by (length bytes + 1) end front bytes d e (omega arith) is q
 
 -- ---- what is in the grammar is read
 
--- one specification put before a reading that has others before it is all of them put before that reading
+-- one specification in front of others in front of a reading are all of them in front of that reading
 twice : (s : Specification) (ss : List Specification) (read : AttributesRead)
     → (with_front ss read >>= λ x. Ok (s ∷ x.0, x.1)) ≡ with_front (s ∷ ss) read
 twice s ss (Ok x) = refl
 twice s ss (Err e) = refl
 
--- bytes of a list of specifications are read as that list, put before what is read behind them
+-- the bytes of specifications are read as those, in front of what is read behind them
 pub attributes_again : (end : ℕ) (bytes rest : List ℕ) (ss : List Specification)
     → Sequence IsSpecification bytes ss → attributes_in end (bytes ++ rest) ≡ with_front ss (attributes_in end rest)
 attributes_again end bytes rest [] e = rw e (sym (front-begins (attributes_in end rest)))
@@ -208,9 +208,9 @@ attributes_again end bytes rest (s ∷ ss) q =
     ∙ ap (λ (read : AttributesRead). read >>= λ x. Ok (s ∷ x.0, x.1)) (attributes_again end q.1 rest ss q.4)
     ∙ twice s ss (attributes_in end rest)
 
--- bytes of the null specification are read as an empty list, whatever bytes follow
+-- the bytes of the null specification are read as an empty list, whatever follows
 pub attributes_end : (end : ℕ) (bytes rest : List ℕ) → IsNull bytes → attributes_in end (bytes ++ rest) ≡ Ok ([], rest)
 attributes_end end bytes rest is = next end (bytes ++ rest) (None, rest) (null_again end bytes rest is)
 
--- what one more specification that is read makes of the attributes
+-- how the attributes so far change with the next specification
 pub ruleset attribute_steps = (front-goes_on, front-ends, front-fails, front-begins, specification_shorter)

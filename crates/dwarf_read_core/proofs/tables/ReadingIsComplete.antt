@@ -1,4 +1,4 @@
--- What the grammar has at the front is read, and so is each error.
+-- What the grammar has at the front is read, and so is each of its errors.
 use Rattle.std.proofs.Common.{◌≡◌, ◌≢◌, ℕ, ◌<◌, Bool, true, false, eqb, List, [], ◌∷◌, ◌++◌, length, Option, Some, None, Result, Ok, Err, refl, sym, ap, ◌∙◌, append_assoc, arith}
 use Rattle.std.proofs.lemmas.Bool.{ne_eqb}
 use Rattle.std.proofs.lemmas.List.{length-append, append-nil, nil_from_length}
@@ -27,13 +27,13 @@ abbrev after_attributes : ℕ → ℕ → Bool → AttributesRead → EntryRead
 after_attributes code tag children read =
     found (read >>= λ attributes. Ok (declaration_of code tag children attributes.0, attributes.1))
 
--- a number above 0 isn't equal to 0 when it is tested
+-- the test finds a number above 0 not equal to 0
 nonzero : (n : ℕ) → 0 < n → eqb n 0 ≡ false
 nonzero n lt = ne_eqb n 0 (λ e. omega arith)
 
 -- ---- field by field
 
--- a declaration that begins with a code above 0 is read as that code and what is declared behind it
+-- a declaration that begins with a code above 0 is read as that code and what follows it
 code_again : (end : ℕ) (front rest : List ℕ) (code : ℕ) → IsCode front code
     → declaration_at end (front ++ rest) ≡ found (declared_at end code rest)
 unfolding declaration_at
@@ -43,13 +43,13 @@ code_again end front rest code is =
     (omega (arith, length-append front rest, encoding-nonempty front is.is_code.encoding)) in
     rw (some, number_at-string unsigned64 end front rest code is.is_code, nonzero code is.nonzero) refl
 
--- a tag above 0 at the front is read as that tag, and the rest remains
+-- a tag above 0 is read as that tag, and the rest remains
 tag_again : (end : ℕ) (front rest : List ℕ) (tag : ℕ) → IsNumber unsigned16 front tag → 0 < tag
     → tag_at end (front ++ rest) ≡ Ok (tag, rest)
 unfolding tag_at
 tag_again end front rest tag is lt = rw (number_at-string unsigned16 end front rest tag is, nonzero tag lt) refl
 
--- a declaration that begins with a code and a tag is read as these two and what is behind the tag
+-- a declaration that begins with a code and a tag is read as these two and what follows the tag
 head_again : (end : ℕ) (front rest : List ℕ) (code tag : ℕ) → IsHead front code tag
     → declaration_at end (front ++ rest) ≡ after_tag end code tag rest
 unfolding declared_at
@@ -59,14 +59,14 @@ head_again end front rest code tag is =
     ap (declaration_at end) same ∙ code_again end is.first (is.second ++ rest) code is.is_code
     ∙ rw (tag_again end is.second rest tag is.is_tag is.tagged) refl
 
--- the byte that says whether there are children is read as what it says, and the rest remains
+-- the byte for children is read as what it says, and the rest remains
 children_again : (end : ℕ) (children : Bool) (rest : List ℕ)
     → children_at end (children_byte children ∷ rest) ≡ Ok (children, rest)
 unfolding children_at
 children_again end true rest = refl
 children_again end false rest = refl
 
--- a declaration that begins with a front is read as that front and the attributes that are behind it
+-- a declaration that begins with a front is read as that front and the attributes behind it
 front_again : (end : ℕ) (front rest : List ℕ) (d : Declaration) → IsFront front d
     → declaration_at end (front ++ rest)
     ≡ after_attributes d.code d.tag d.children (with_front d.attributes (attributes_in end rest))
@@ -82,7 +82,7 @@ front_again end front rest d is =
       attributes_again end is.specifications rest d.attributes is.are_attributes,
     ) refl
 
--- a whole declaration
+-- the bytes of a declaration are read as that declaration, and the rest remains
 pub declaration_again : (end : ℕ) (bytes rest : List ℕ) (d : Declaration) → IsDeclaration bytes d
     → declaration_at end (bytes ++ rest) ≡ Ok (Some d, rest)
 declaration_again end bytes rest d is =
@@ -92,7 +92,7 @@ declaration_again end bytes rest d is =
     ∙ front_again end is.front (is.null ++ rest) d is.is_front
     ∙ rw (attributes_end end is.null rest is.is_null, append-nil d.attributes) refl
 
--- a code of value 0 at the front is read as no declaration, and the rest remains
+-- a code of value 0 is read as the end of the table, and the rest remains
 pub zero_again : (end : ℕ) (bytes rest : List ℕ) → IsNumber unsigned64 bytes 0
     → declaration_at end (bytes ++ rest) ≡ Ok (None, rest)
 unfolding declaration_at
@@ -102,25 +102,25 @@ zero_again end bytes rest is =
     (omega (arith, length-append bytes rest, encoding-nonempty bytes is.encoding)) in
     rw (some, number_at-string unsigned64 end bytes rest 0 is) refl
 
--- the end of the bytes is read as no declaration, and nothing remains
+-- the end of the bytes is read as the end of the table
 pub end_again : (end : ℕ) → declaration_at end [] ≡ Ok (None, [])
 unfolding declaration_at
 end_again end = refl
 
 -- ---- errors
 
--- a specification that is refused behind a front
+-- a declaration fails with the error of a specification behind its front
 front_fails : (end : ℕ) (front bytes : List ℕ) (d : Declaration) (e : Error) → IsFront front d
     → specification_at end bytes ≡ Err e → declaration_at end (front ++ bytes) ≡ Err e
 front_fails end front bytes d e is q = front_again end front bytes d is ∙ rw (attributes_fail end bytes e q) refl
 
--- a specification whose form is refused behind a name is refused with the same error
+-- a specification fails with the error of its form behind the name
 form_fails : (end : ℕ) (name bytes : List ℕ) (n : ℕ) (e : Error) → IsNumber unsigned16 name n
     → number_at unsigned16 end bytes ≡ Err e → specification_at end (name ++ bytes) ≡ Err e
 unfolding specification_at
 form_fails end name bytes n e is q = rw (number_at-string unsigned16 end name bytes n is, q) refl
 
--- a specification whose value is refused, behind a name and the form that has one, is refused with that error
+-- a specification fails with the error of its value behind the name and a form that has one
 value_fails : (end : ℕ) (name form bytes : List ℕ) (n : ℕ) (e : Error) → IsNumber unsigned16 name n → 0 < n
     → IsNumber unsigned16 form implicit_const → number_at signed64 end bytes ≡ Err e
     → specification_at end (name ++ (form ++ bytes)) ≡ Err e
@@ -130,7 +130,7 @@ value_fails end name form bytes n e is_name named is_form q =
     let read_form = number_at-string unsigned16 end form bytes implicit_const is_form in
     rw (read_name, read_form, nonzero n named, q) refl
 
--- a number that is refused behind a beginning
+-- a declaration fails with the error of a number behind its beginning
 stops : {k : Kind} {front : List ℕ} (end : ℕ) (bytes : List ℕ) (e : Error) → IsBeginning front k
     → front ++ bytes ≢ [] → number_at k end bytes ≡ Err e → declaration_at end (front ++ bytes) ≡ Err e
 unfolding declaration_at declared_at tag_at specification_at
@@ -147,21 +147,21 @@ stops end bytes e (before_value front name form d n is is_name named is_form) so
     ap (declaration_at end) same ∙ front_fails end front (name ++ (form ++ bytes)) d e is
     (value_fails end name form bytes n e is_name named is_form q)
 
--- bytes that begin as a declaration and do not go on as one are read as their error, unless there are none
-pub fault_again : {bytes : List ℕ} {e : Error} (end : ℕ) → IsFaulty end bytes e → bytes ≢ []
+-- bytes that begin like a declaration and then have an error are read as that error, unless there are none
+pub error_again : {bytes : List ℕ} {e : Error} (end : ℕ) → IsFaulty end bytes e → bytes ≢ []
     → declaration_at end bytes ≡ Err e
 unfolding tag_at children_at declared_at specification_at
-fault_again end (number_cut front bytes k b c) some = stops end bytes (eof end) b some (number_at-cut k end bytes c)
-fault_again end (number_bad front bytes k b c) some = stops end bytes (refusal k) b some (number_at-bad k end bytes c)
-fault_again end (children_cut front code tag is) some =
+error_again end (number_cut front bytes k b c) some = stops end bytes (eof end) b some (number_at-cut k end bytes c)
+error_again end (number_bad front bytes k b c) some = stops end bytes (refusal k) b some (number_at-bad k end bytes c)
+error_again end (children_cut front code tag is) some =
     ap (declaration_at end) (sym (append-nil front)) ∙ head_again end front [] code tag is
-fault_again end (tag_zero front tag rest code is zero_tag) some =
+error_again end (tag_zero front tag rest code is zero_tag) some =
     ap (declaration_at end) (append_assoc front tag rest) ∙ code_again end front (tag ++ rest) code is
     ∙ rw (number_at-string unsigned16 end tag rest 0 zero_tag) refl
-fault_again end (children_bad front rest code tag byte is lt) some =
+error_again end (children_bad front rest code tag byte is lt) some =
     head_again end front (byte ∷ rest) code tag is
     ∙ rw (nonzero byte (omega arith), ne_eqb byte 1 (λ e. omega arith)) refl
-fault_again end (name_zero front name form rest d f is is_name is_form formed) some =
+error_again end (name_zero front name form rest d f is is_name is_form formed) some =
     let same : front ++ name ++ form ++ rest ≡ front ++ (name ++ (form ++ rest)) = simp append_assoc in
     ap (declaration_at end) same ∙ front_fails end front (name ++ (form ++ rest)) d AttributeNameZero is
     (rw (
@@ -170,7 +170,7 @@ fault_again end (name_zero front name form rest d f is is_name is_form formed) s
       number_at-string unsigned16 end form rest f is_form,
       nonzero f formed,
     ) refl)
-fault_again end (form_zero front name form rest d n is is_name named is_form) some =
+error_again end (form_zero front name form rest d n is is_name named is_form) some =
     let same : front ++ name ++ form ++ rest ≡ front ++ (name ++ (form ++ rest)) = simp append_assoc in
     ap (declaration_at end) same ∙ front_fails end front (name ++ (form ++ rest)) d AttributeFormZero is
     (rw (

@@ -1,4 +1,4 @@
--- Reading one declaration is the grammar's.
+-- A declaration that is read, or its error, is what the grammar says.
 use Rattle.std.proofs.Common.{◌≡◌, ◌≢◌, ℕ, ◌<◌, ◌≤◌, Bool, true, false, cond, eqb, List, [], ◌∷◌, ◌++◌, length, Option, Some, None, Result, Ok, Err, refl, sym, ap, subst, ◌∙◌, append_assoc, arith, inl, inr}
 use Rattle.std.proofs.lemmas.Bool.{eqb-true, eqb-false}
 use Rattle.std.proofs.lemmas.List.{length-append, append-nil, nil_from_length}
@@ -11,8 +11,8 @@ use Rattle.dwarf_read_core.specs.Answer.{before_code, before_tag, IsFaulty, chil
 use Rattle.dwarf_read_core.specs.Reading.{◌>>=◌, number_at, attributes_in, tag_at, children_at, declaration_of, declared_at, declaration_at}
 use Rattle.dwarf_read_core.proofs.ResultLemmas.{bind_ok, bind_err, chosen}
 use Rattle.dwarf_read_core.proofs.tables.ReadingNumbers.{encoding-nonempty, number-positive, number_at-ok, Found}
-use Rattle.dwarf_read_core.proofs.tables.ReadingSpecifications.{number_fault}
-use Rattle.dwarf_read_core.proofs.tables.ReadingAttributes.{attributes_found, attributes_fault}
+use Rattle.dwarf_read_core.proofs.tables.ReadingSpecifications.{number_error}
+use Rattle.dwarf_read_core.proofs.tables.ReadingAttributes.{attributes_found, attributes_error}
 
 abbrev children_by : Bool → Bool → ℕ → List ℕ → Result (Bool × List ℕ) Error
 children_by s t b bytes =
@@ -33,7 +33,7 @@ pub record TagFound (bytes : List ℕ) (tag : ℕ) (rest : List ℕ) : Type 0 wh
   pub found : Found unsigned16 bytes tag rest
   pub tagged : 0 < tag
 
--- a tag that is read is at the front of the bytes as a number, and isn't 0
+-- a tag that is read is a number at the front that isn't 0
 tag_found : (end : ℕ) (bytes : List ℕ) (x : ℕ × List ℕ) → tag_at end bytes ≡ Ok x → TagFound bytes x.0 x.1
 unfolding tag_at
 tag_found end bytes x e =
@@ -47,14 +47,14 @@ tag_found end bytes x e =
           (record { found = number_at-ok unsigned16 end bytes a.0.0 a.0.1 a.1; tagged = number-positive a.0.0 c.0 })
     ]
 
--- an error of reading the tag behind a code is an error of both together
-tag_fault : (end : ℕ) (front bytes : List ℕ) (code : ℕ) (e : Error) → IsCode front code → tag_at end bytes ≡ Err e
+-- an error in the tag behind a code is an error of both together
+tag_error : (end : ℕ) (front bytes : List ℕ) (code : ℕ) (e : Error) → IsCode front code → tag_at end bytes ≡ Err e
     → IsFaulty end (front ++ bytes) e
 unfolding tag_at
-tag_fault end front bytes code e is q =
+tag_error end front bytes code e is q =
     elim (bind_err (number_at unsigned16 end bytes)
     (λ tag. cond (eqb tag.0 0) (Err AbbreviationTagZero) (Ok tag)) e q) [
-      | inl r ↦ number_fault unsigned16 end front bytes e (before_tag front code is) r
+      | inl r ↦ number_error unsigned16 end front bytes e (before_tag front code is) r
       | inr r ↦
           elim (chosen (eqb r.0.0 0) (Err AbbreviationTagZero) (Ok r.0) (Err e) r.2) [
             | inl c ↦
@@ -70,7 +70,7 @@ tag_fault end front bytes code e is q =
           ]
     ]
 
--- a children flag that is read is at the front of the bytes as its byte
+-- a flag for children that is read is the byte at the front
 children_found : (end : ℕ) (bytes : List ℕ) (x : Bool × List ℕ) → children_at end bytes ≡ Ok x
     → bytes ≡ children_byte x.0 ∷ x.1
 unfolding children_at
@@ -89,15 +89,15 @@ children_found end (b ∷ bytes) x e = go (eqb b 0) refl (eqb b 1) refl e
         (ap (λ (c : ℕ). c ∷ bytes) (eqb-true b 1 u))
     go false s false u e = absurd cc
 
--- an error of reading the children flag behind a code and a tag is an error of all of them together
-children_fault : (end : ℕ) (front bytes : List ℕ) (code tag : ℕ) (e : Error) → IsHead front code tag
+-- an error in the flag for children behind a code and a tag is an error of all of them together
+children_error : (end : ℕ) (front bytes : List ℕ) (code tag : ℕ) (e : Error) → IsHead front code tag
     → children_at end bytes ≡ Err e → IsFaulty end (front ++ bytes) e
 unfolding children_at
-children_fault end front [] code tag e is q =
+children_error end front [] code tag e is q =
     let p : eof end ≡ e = cc in
     subst (IsFaulty end (front ++ [])) p
     (subst (λ (b : List ℕ). IsFaulty end b (eof end)) (sym (append-nil front)) (children_cut front code tag is))
-children_fault end front (b ∷ bytes) code tag e is q = go (eqb b 0) refl (eqb b 1) refl q
+children_error end front (b ∷ bytes) code tag e is q = go (eqb b 0) refl (eqb b 1) refl q
   where
     go : (s : Bool) → eqb b 0 ≡ s → (t : Bool) → eqb b 1 ≡ t → children_by s t b bytes ≡ Err e
         → IsFaulty end (front ++ b ∷ bytes) e
@@ -114,7 +114,7 @@ pub record DeclarationFound (bytes : List ℕ) (d : Declaration) (rest : List �
   pub parts : bytes ≡ front ++ rest
   pub is_declaration : IsDeclaration front d
 
--- what is behind a code
+-- what is read behind a code is, together with the code, a declaration at the front of the bytes
 declared_found : (end code : ℕ) (front bytes : List ℕ) (x : Declaration × List ℕ) → IsCode front code
     → declared_at end code bytes ≡ Ok x → DeclarationFound (front ++ bytes) x.0 x.1
 unfolding declared_at
@@ -157,13 +157,13 @@ declared_found end code front bytes x is e =
       };
     })
 
--- an error of reading what is behind a code is an error of both together
-declared_fault : (end code : ℕ) (front bytes : List ℕ) (e : Error) → IsCode front code
+-- an error in what follows a code is an error of both together
+declared_error : (end code : ℕ) (front bytes : List ℕ) (e : Error) → IsCode front code
     → declared_at end code bytes ≡ Err e → IsFaulty end (front ++ bytes) e
 unfolding declared_at
-declared_fault end code front bytes e is q =
+declared_error end code front bytes e is q =
     elim (bind_err (tag_at end bytes) (behind_tag end code) e q) [
-      | inl r ↦ tag_fault end front bytes code e is r
+      | inl r ↦ tag_error end front bytes code e is r
       | inr a ↦ at_children a.0.0 a.0.1 (tag_found end bytes a.0 a.1) a.2
     ]
   where
@@ -186,7 +186,7 @@ declared_fault end code front bytes e is q =
         let same : (head ++ children_byte children ∷ []) ++ behind ≡ front
         ++ bytes = sym (rw (t.found.parts, h) (simp append_assoc)) in
         subst (λ (b : List ℕ). IsFaulty end b e) same
-        (attributes_fault end (head ++ children_byte children ∷ []) behind
+        (attributes_error end (head ++ children_byte children ∷ []) behind
         (declaration_of code tag children []) e is_front r)
 
     at_children : (tag : ℕ) (behind : List ℕ) → TagFound bytes tag behind
@@ -206,7 +206,7 @@ declared_fault end code front bytes e is q =
               ++ bytes = append_assoc front t.found.front behind
               ∙ ap (λ (b : List ℕ). front ++ b) (sym t.found.parts) in
               subst (λ (b : List ℕ). IsFaulty end b e) same
-              (children_fault end (front ++ t.found.front) behind code tag e is_head w)
+              (children_error end (front ++ t.found.front) behind code tag e is_head w)
           | inr b ↦
               elim (bind_err (attributes_in end b.0.1) (declared code tag b.0.0) e b.2) [
                 | inl w ↦ at_attributes tag behind b.0.0 b.0.1 t (children_found end behind b.0 b.1) w
@@ -219,7 +219,7 @@ pub record ZeroFound (bytes rest : List ℕ) : Type 0 where
   pub parts : bytes ≡ front ++ rest
   pub is_zero : IsNumber unsigned64 front 0
 
--- the end of the bytes, or a code of value 0
+-- the table ends: no bytes remain, or a code of value 0 is at the front
 pub data EndFound : List ℕ → List ℕ → Type 0 where
   at_end : EndFound [] []
   at_zero : (bytes rest : List ℕ) → ZeroFound bytes rest → EndFound bytes rest
@@ -236,7 +236,7 @@ entry_by t end bytes =
     cond t (Ok (None, bytes)) (number_at unsigned64 end bytes >>= λ code. behind_code
     (eqb code.0 0) end code.0 code.1)
 
--- what is read is a declaration at the front of the bytes, or the end of the table, as the grammar has it
+-- what is read is a declaration at the front or the end of the table, as the grammar has it
 pub declaration_found : (end : ℕ) (bytes : List ℕ) (x : Option Declaration × List ℕ)
     → declaration_at end bytes ≡ Ok x → EntryFound bytes x.0 x.1
 unfolding declaration_at
@@ -270,11 +270,11 @@ declaration_found end bytes x e = go (eqb (length bytes) 0) refl e
         let a = bind_ok (number_at unsigned64 end bytes) (λ code. behind_code (eqb code.0 0) end code.0 code.1) x e in
         coded a.0.0 a.0.1 (number_at-ok unsigned64 end bytes a.0.0 a.0.1 a.1) (eqb a.0.0 0) refl a.2
 
--- bytes at which reading a declaration fails are some, and the error is an error of theirs
-pub declaration_fault : (end : ℕ) (bytes : List ℕ) (e : Error) → declaration_at end bytes ≡ Err e
+-- if reading a declaration fails, there are bytes, and the error is one that the grammar has for them
+pub declaration_error : (end : ℕ) (bytes : List ℕ) (e : Error) → declaration_at end bytes ≡ Err e
     → (bytes ≢ []) × IsFaulty end bytes e
 unfolding declaration_at
-declaration_fault end bytes e q = go (eqb (length bytes) 0) refl q
+declaration_error end bytes e q = go (eqb (length bytes) 0) refl q
   where
     coded : (code : ℕ) (behind : List ℕ) → Found unsigned64 bytes code behind → (t : Bool) → eqb code 0 ≡ t
         → behind_code t end code behind ≡ Err e → IsFaulty end bytes e
@@ -282,7 +282,7 @@ declaration_fault end bytes e q = go (eqb (length bytes) 0) refl q
     coded code behind f false t q =
         elim (bind_err (declared_at end code behind) (λ d. Ok (Some d.0, d.1)) e q) [
           | inl r ↦ subst (λ (b : List ℕ). IsFaulty end b e) (sym f.parts)
-              (declared_fault end code f.front behind e
+              (declared_error end code f.front behind e
               (record { is_code = f.string; nonzero = number-positive code t }) r)
           | inr r ↦ absurd (let h = r.2 in cc)
         ]
@@ -293,7 +293,7 @@ declaration_fault end bytes e q = go (eqb (length bytes) 0) refl q
         let n = eqb-false (length bytes) 0 t in (
           λ h. n (ap length h),
           elim (bind_err (number_at unsigned64 end bytes) (λ code. behind_code (eqb code.0 0) end code.0 code.1) e q) [
-            | inl r ↦ number_fault unsigned64 end [] bytes e before_code r
+            | inl r ↦ number_error unsigned64 end [] bytes e before_code r
             | inr r ↦ coded r.0.0 r.0.1 (number_at-ok unsigned64 end bytes r.0.0 r.0.1 r.1) (eqb r.0.0 0) refl r.2
           ],
         )
@@ -310,7 +310,7 @@ front_long bytes d is =
     let w : length bytes ≡ length (is.head ++ children_byte d.children ∷ is.specifications) = ap length is.parts in
     omega (arith, length-append h.first h.second, length-append is.head (children_byte d.children ∷ is.specifications))
 
--- the bytes behind a declaration that is read are fewer than those it is read from
+-- fewer bytes remain behind a declaration that is read
 pub declaration_shorter : (end : ℕ) (bytes : List ℕ) (d : Declaration) (rest : List ℕ)
     → declaration_at end bytes ≡ Ok (Some d, rest) → length rest < length bytes
 declaration_shorter end bytes d rest e =

@@ -1,4 +1,4 @@
--- The function that reads a number returns what the definition of LEB128 numbers says, and nothing else.
+-- The function that reads a LEB128 number returns what the definition says, and nothing else.
 use Rattle.std.proofs.Common.{◌≡◌, ℕ, zero, suc, ◌<◌, ◌≤◌, Bool, true, false, cond, eqb, ltb, List, [], ◌∷◌, ◌++◌, length, drop, Option, Some, None, Result, Ok, Err, refl, sym, ap, subst, ◌∙◌, arith, ◌⊎◌, inl, inr}
 use Rattle.std.proofs.lemmas.Bool.{eqb-false, ltb-true, ltb-false, lt-ltb, le-ltb}
 use Rattle.std.proofs.lemmas.List.{length-append, length-drop, take-append-drop}
@@ -16,13 +16,13 @@ pub encoding-nonempty : (bytes : List ℕ) → IsEncoding bytes → 0 < length b
 encoding-nonempty [] h = absurd h
 encoding-nonempty (b ∷ bytes) h = omega arith
 
--- a number that the test tells from 0 is greater than 0
+-- a number that the test finds not equal to 0 is above 0
 pub number-positive : (n : ℕ) → eqb n 0 ≡ false → 0 < n
 number-positive n e = let h = eqb-false n 0 e in omega arith
 
--- ---- the string at the front
+-- ---- the encoding at the front
 
--- an encoding of at most so many bytes is split from the front of the bytes, whatever follows it
+-- an encoding of at most n bytes is split from the front of the bytes, whatever follows it
 pub encoding_at-string : (s rest : List ℕ) (n : ℕ) → IsEncoding s → length s ≤ n
     → encoding_at n (s ++ rest) ≡ Some (s, rest)
 unfolding encoding_at
@@ -37,7 +37,7 @@ pub record IsSplit (n : ℕ) (bytes front rest : List ℕ) : Type 0 where
   pub encoding : IsEncoding front
   pub short : length front ≤ n
 
--- one more byte before a string
+-- an encoding with one more byte in front of it is split from the front in one more step
 longer : (n b : ℕ) (bytes front rest : List ℕ) → 128 ≤ b → IsSplit n bytes front rest
     → IsSplit (suc n) (b ∷ bytes) (b ∷ front) rest
 longer n b bytes [] rest high s = absurd s.encoding
@@ -48,7 +48,7 @@ longer n b bytes (c ∷ front) rest high s =
       short = let h = s.short in omega arith;
     }
 
--- the front that is split from the bytes is an encoding of at most so many, and the bytes are it and the rest
+-- what is split from the front is an encoding of at most n bytes, and the rest remains
 pub split_from_some : (n : ℕ) (bytes front rest : List ℕ) → encoding_at n bytes ≡ Some (front, rest)
     → IsSplit n bytes front rest
 unfolding encoding_at
@@ -70,7 +70,7 @@ split_from_some (suc n) (b ∷ bytes) front rest e = go (ltb b 128) refl (encodi
         subst (λ (y : List ℕ × List ℕ). IsSplit (suc n) (b ∷ bytes) y.0 y.1) p
         (longer n b bytes x.0 x.1 (ltb-false b 128 high) (shorter x.0 x.1 refl))
 
--- bytes that are too few and from which no encoding is split have none that is the last of an encoding
+-- if nothing is split from too few bytes, none of them is the last of an encoding
 pub unended_from_none : (n : ℕ) (bytes : List ℕ) → encoding_at n bytes ≡ None → length bytes < n → NoneIsLast bytes
 unfolding encoding_at
 unended_from_none zero bytes e short = absurd (omega arith)
@@ -84,7 +84,7 @@ unended_from_none (suc n) (b ∷ bytes) e short =
     go false high None others e = (ltb-false b 128 high, others refl)
     go false high (Some x) others e = absurd cc
 
--- no encoding is split from bytes of which none is the last of an encoding
+-- if none of the bytes is the last of an encoding, nothing is split from their front
 pub encoding_at-unended : (n : ℕ) (bytes : List ℕ) → NoneIsLast bytes → encoding_at n bytes ≡ None
 unfolding encoding_at
 encoding_at-unended zero bytes high = refl
@@ -93,14 +93,14 @@ encoding_at-unended (suc n) (b ∷ bytes) high = rw (le-ltb b 128 high.0, encodi
 
 -- ---- the number at the front
 
--- the number that bytes encode is read from their front, and what follows them remains
+-- a number that bytes encode is read from their front, and what follows them remains
 pub number_at-string : (k : Kind) (end : ℕ) (front rest : List ℕ) (number : Number k) → IsNumber k front number
     → number_at k end (front ++ rest) ≡ Ok (number, rest)
 unfolding number_at
 number_at-string k end front rest number s =
     rw (encoding_at-string front rest (limit k) s.encoding s.within, s.means, s.in_range) refl
 
--- bytes that end before their number does have `UnexpectedEof` at the end
+-- bytes that end before their number does are read as an `UnexpectedEof` at the end
 pub number_at-cut : (k : Kind) (end : ℕ) (bytes : List ℕ) → IsCut k bytes → number_at k end bytes ≡ Err (eof end)
 unfolding number_at
 number_at-cut k end bytes c =
@@ -111,7 +111,7 @@ pub record Found (k : Kind) (bytes : List ℕ) (number : Number k) (rest : List 
   pub parts : bytes ≡ front ++ rest
   pub string : IsNumber k front number
 
--- a number that is read is one that a front of the bytes encodes, with the rest behind it
+-- a number that is read is encoded by bytes at the front, and the rest remains
 pub number_at-ok : (k : Kind) (end : ℕ) (bytes : List ℕ) (number : Number k) (rest : List ℕ)
     → number_at k end bytes ≡ Ok (number, rest) → Found k bytes number rest
 unfolding number_at
@@ -136,34 +136,34 @@ number_at-ok k end bytes number rest e = go (encoding_at (limit k) bytes) refl e
           | inr c ↦ absurd (let h = c.1 in cc)
         ]
 
--- the number that the first bytes encode is read, and the bytes behind them remain
+-- a number that the first n bytes encode is read, and the bytes behind them remain
 pub number_at-has : (k : Kind) (end : ℕ) (bytes : List ℕ) (number : Number k) (n : ℕ) → HasNumber k bytes number n
     → number_at k end bytes ≡ Ok (number, drop n bytes)
 number_at-has k end bytes number n h =
     ap (number_at k end) (sym (take-append-drop n bytes))
     ∙ number_at-string k end (take n bytes) (drop n bytes) number h.is_number
 
--- `UnexpectedEof` at the end is never the error that refuses a number
+-- an `UnexpectedEof` is never the error of a bad number
 eof≢refusal : (k : Kind) (end : ℕ) → eof end ≡ refusal k → ⊥
 eof≢refusal unsigned64 end e = cc
 eof≢refusal unsigned16 end e = cc
 eof≢refusal signed64 end e = cc
 
--- what is refused is bad
+-- bytes that are read as the error of a bad number are bad
 is_bad : (k : Kind) (end : ℕ) (bytes : List ℕ) → number_at k end bytes ≡ Err (refusal k) → IsBad k bytes
 is_bad k end bytes e = record {
   no_number = λ number n h. let a = number_at-has k end bytes number n h in cc;
   not_cut = λ c. eof≢refusal k end (let a = number_at-cut k end bytes c in cc);
 }
 
--- an error that is returned is `UnexpectedEof` at the end, for cut bytes, or the refusal of a number, for bad bytes
+-- an error that is read is an `UnexpectedEof` for cut bytes, or the error of a bad number for bad bytes
 pub number_at-err : (k : Kind) (end : ℕ) (bytes : List ℕ) (d : Error) → number_at k end bytes ≡ Err d
     → (IsCut k bytes × (d ≡ eof end)) ⊎ (IsBad k bytes × (d ≡ refusal k))
 unfolding number_at
 number_at-err k end bytes d e = go (encoding_at (limit k) bytes) refl e
   where
-    refuses : refusal k ≡ d → IsBad k bytes × (d ≡ refusal k)
-    refuses h = (is_bad k end bytes (e ∙ ap (λ (x : Error). Err x) (sym h)), sym h)
+    bad : refusal k ≡ d → IsBad k bytes × (d ≡ refusal k)
+    bad h = (is_bad k end bytes (e ∙ ap (λ (x : Error). Err x) (sym h)), sym h)
 
     go : (o : Option (List ℕ × List ℕ)) → encoding_at (limit k) bytes ≡ o → number_from k end bytes o ≡ Err d
         → (IsCut k bytes × (d ≡ eof end)) ⊎ (IsBad k bytes × (d ≡ refusal k))
@@ -173,15 +173,15 @@ number_at-err k end bytes d e = go (encoding_at (limit k) bytes) refl e
               let short = ltb-true (length bytes) (limit k) c.0 in
               let is : d ≡ eof end = let h = c.1 in cc in
               inl (record { short = short; unended = unended_from_none (limit k) bytes q short }, is)
-          | inr c ↦ inr (refuses (let h = c.1 in cc))
+          | inr c ↦ inr (bad (let h = c.1 in cc))
         ]
     go (Some x) q e =
         elim (chosen (is_in_range k (value k x.0)) (Ok (value k x.0, x.1)) (Err (refusal k)) (Err d) e) [
           | inl c ↦ absurd (let h = c.1 in cc)
-          | inr c ↦ inr (refuses (let h = c.1 in cc))
+          | inr c ↦ inr (bad (let h = c.1 in cc))
         ]
 
--- the number that was found, by the count of its bytes
+-- a number that is read is encoded by as many bytes as were consumed
 pub found_has : {k : Kind} {bytes : List ℕ} {number : Number k} {rest : List ℕ} → (f : Found k bytes number rest)
     → HasNumber k bytes number (length f.front)
 found_has {k = k} {bytes = bytes} {number = number} {rest = rest} f = record {
@@ -191,7 +191,7 @@ found_has {k = k} {bytes = bytes} {number = number} {rest = rest} f = record {
       (sym (ap (take (length f.front)) f.parts ∙ take-append_seam f.front rest)) f.string;
 }
 
--- bytes that are bad have the refusal of a number
+-- bad bytes are read as the error of a bad number
 pub number_at-bad : (k : Kind) (end : ℕ) (bytes : List ℕ) → IsBad k bytes → number_at k end bytes ≡ Err (refusal k)
 number_at-bad k end bytes b = go (number_at k end bytes) refl
   where
@@ -204,31 +204,31 @@ number_at-bad k end bytes b = go (number_at k end bytes) refl
               (λ (x : Error). Err x) g.1
         ]
 
--- ---- what a reader's contract says of a number that it reads
+-- ---- what a reader reads, and what the function reads
 
--- the function returns the error with which a reader refuses a number
-pub number_refused : {k : Kind} {old : Input} {e : Error} {new : Input} → RefusesNumber k old e new
+-- the error that a reader returns in place of a number is what the function reads
+pub number_not_read : {k : Kind} {old : Input} {e : Error} {new : Input} → RefusesNumber k old e new
     → number_at k (end_of old) old.bytes ≡ Err e
-number_refused {k = k} {old = old} (inl r) =
+number_not_read {k = k} {old = old} (inl r) =
     number_at-cut k (end_of old) old.bytes r.cut
     ∙ ap (λ (x : Error). Err x) (sym (r.fault ∙ ap (λ (i : Input). eof i.position) r.left))
-number_refused {k = k} {old = old} (inr r) =
+number_not_read {k = k} {old = old} (inr r) =
     number_at-bad k (end_of old) old.bytes r.bad ∙ ap (λ (x : Error). Err x) (sym r.fault)
 
--- the function returns the number that a reader reads, and with the bytes that remain after it
+-- the number that a reader reads is what the function reads, and the same bytes remain
 pub number_read : {k : Kind} {old : Input} {number : Number k} {new : Input} (end : ℕ)
     → ReadsNumber k old number new → number_at k end old.bytes ≡ Ok (number, new.bytes)
 number_read {k = k} {old = old} {number = number} end r =
     number_at-has k end old.bytes number r.len r.is ∙ ap (λ (i : Input). Ok (number, i.bytes)) (sym r.left)
 
--- consumed bytes move no end
+-- consuming bytes doesn't change the position of the end
 pub end_after : (n : ℕ) (old : Input) → n ≤ length old.bytes → end_of (after n old) ≡ end_of old
 end_after n old le = omega (arith, length-drop n old.bytes)
 
--- a number that is read doesn't move the end of the input
+-- reading a number doesn't change the position of the end
 pub end_stays : {k : Kind} {old : Input} {number : Number k} {new : Input} → ReadsNumber k old number new
     → end_of new ≡ end_of old
 end_stays {old = old} r = ap end_of r.left ∙ end_after r.len old r.is.enough
 
--- what a reader that reads a number says of the function that reads it
-pub ruleset number_steps = (number_read, number_refused, end_stays)
+-- the function reads what a reader reads
+pub ruleset number_steps = (number_read, number_not_read, end_stays)

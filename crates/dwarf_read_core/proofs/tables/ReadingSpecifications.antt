@@ -1,4 +1,4 @@
--- Reading one specification is the grammar's.
+-- A specification that is read, or its error, is what the grammar says, and conversely.
 use Rattle.std.proofs.Common.{◌≡◌, ℕ, ◌<◌, ◌≤◌, Bool, true, false, cond, eqb, ℤ, List, [], ◌++◌, length, Option, Some, None, Result, Ok, Err, refl, sym, ap, subst, ◌∙◌, append_assoc, arith, inl, inr}
 use Rattle.std.proofs.lemmas.Bool.{eqb-true, eqb-false, eq-eqb, ne_eqb}
 use Rattle.std.proofs.lemmas.List.{length-append}
@@ -11,7 +11,7 @@ use Rattle.dwarf_read_core.specs.Reading.{◌>>=◌, number_at, value_at, specif
 use Rattle.dwarf_read_core.proofs.ResultLemmas.{bind_ok, bind_err, chosen}
 use Rattle.dwarf_read_core.proofs.tables.ReadingNumbers.{encoding-nonempty, number-positive, number_at-string, number_at-ok, number_at-err, Found}
 
--- what is behind the name and the form
+-- what a name and a form mean: a specification, the null one, or an error
 abbrev judged_by : Bool → Bool → ℕ → ℕ → ℕ → List ℕ → Result (Option Specification × List ℕ) Error
 judged_by s t end name form bytes =
     cond s (cond t (Ok (None, bytes)) (Err AttributeNameZero))
@@ -28,7 +28,7 @@ pub record ValueFound (form : ℕ) (bytes : List ℕ) (value : Option ℤ) (rest
   pub parts : bytes ≡ front ++ rest
   pub is_value : IsImplicit form front value
 
--- what is read as the value behind a form is at the front of the bytes as the grammar has it
+-- a value that is read behind a form is at the front of the bytes as the grammar has it
 value_found : (end form : ℕ) (bytes : List ℕ) (x : Option ℤ × List ℕ) → value_at end form bytes ≡ Ok x
     → ValueFound form bytes x.0 x.1
 unfolding value_at
@@ -61,15 +61,15 @@ abbrev pub SomeFound : List ℕ → Option Specification → List ℕ → Type 0
 SomeFound bytes None rest = NullFound bytes rest
 SomeFound bytes (Some s) rest = SpecificationFound bytes s rest
 
--- three parts, and what is behind them
+-- three parts that begin a list one behind the other begin it joined
 regroup3 : (a b c d x y z : List ℕ) → x ≡ a ++ y → y ≡ b ++ z → z ≡ c ++ d → x ≡ (a ++ b ++ c) ++ d
 regroup3 a b c d x y z e f g = rw (e, f, g) (simp append_assoc)
 
--- bytes that begin with one part and go on with another begin with the two parts joined
+-- two parts that begin a list one behind the other begin it joined
 regroup2 : (a b c x y : List ℕ) → x ≡ a ++ y → y ≡ b ++ c → x ≡ (a ++ b) ++ c
 regroup2 a b c x y e f = rw (e, f) (simp append_assoc)
 
--- a specification that is read, or the null one, is at the front of the bytes as the grammar has it
+-- a specification that is read, or the null one, is at the front as the grammar has it
 pub specification_found : (end : ℕ) (bytes : List ℕ) (x : Option Specification × List ℕ)
     → specification_at end bytes ≡ Ok x → SomeFound bytes x.0 x.1
 unfolding specification_at
@@ -124,7 +124,7 @@ specification_found end bytes x e =
 
 -- ---- what is in the grammar is read
 
--- bytes that the grammar has for the value behind a form are read as that value, whatever bytes follow
+-- the bytes of the value behind a form are read as that value, whatever follows
 value_again : (end form : ℕ) (bytes rest : List ℕ) (value : Option ℤ) → IsImplicit form bytes value
     → value_at end form (bytes ++ rest) ≡ Ok (value, rest)
 unfolding value_at
@@ -132,7 +132,7 @@ value_again end form bytes rest None h = rw (ne_eqb form implicit_const h.0, h.1
 value_again end form bytes rest (Some v) h =
     rw (eq-eqb form implicit_const h.0, number_at-string signed64 end bytes rest v h.1) refl
 
--- bytes of a specification are read as that specification, whatever bytes follow
+-- the bytes of a specification are read as that specification, whatever follows
 pub specification_again : (end : ℕ) (bytes rest : List ℕ) (s : Specification) → IsSpecification bytes s
     → specification_at end (bytes ++ rest) ≡ Ok (Some s, rest)
 unfolding specification_at
@@ -145,7 +145,7 @@ specification_again end bytes rest s is =
     let value = value_again end s.form is.value rest s.value is.is_value in
     ap (specification_at end) regrouped ∙ rw (name, form, named, formed, value) refl
 
--- bytes of the null specification are read as the null one, whatever bytes follow
+-- the bytes of the null specification are read as the null one, whatever follows
 pub null_again : (end : ℕ) (bytes rest : List ℕ) → IsNull bytes → specification_at end (bytes ++ rest) ≡ Ok (None, rest)
 unfolding specification_at
 null_again end bytes rest is =
@@ -156,25 +156,25 @@ null_again end bytes rest is =
       number_at-string unsigned16 end is.form rest 0 is.is_form,
     ) refl
 
--- ---- what is no specification
+-- ---- errors of a specification
 
--- a number behind a beginning that is refused
-pub number_fault : (k : Kind) (end : ℕ) (front bytes : List ℕ) (d : Error) → IsBeginning front k
+-- an error in a number behind the beginning of a declaration is an error of both together
+pub number_error : (k : Kind) (end : ℕ) (front bytes : List ℕ) (d : Error) → IsBeginning front k
     → number_at k end bytes ≡ Err d → IsFaulty end (front ++ bytes) d
-number_fault k end front bytes d b e =
+number_error k end front bytes d b e =
     elim (number_at-err k end bytes d e) [
       | inl c ↦ subst (IsFaulty end (front ++ bytes)) (sym c.1) (number_cut front bytes k b c.0)
       | inr c ↦ subst (IsFaulty end (front ++ bytes)) (sym c.1) (number_bad front bytes k b c.0)
     ]
 
--- a specification behind the front of a declaration that is refused
-pub specification_fault : (end : ℕ) (front bytes : List ℕ) (d : Declaration) (e : Error) → IsFront front d
+-- an error in a specification behind the front of a declaration is an error of both together
+pub specification_error : (end : ℕ) (front bytes : List ℕ) (d : Declaration) (e : Error) → IsFront front d
     → specification_at end bytes ≡ Err e → IsFaulty end (front ++ bytes) e
 unfolding specification_at value_at
-specification_fault end front bytes d e is h =
+specification_error end front bytes d e is h =
     elim (bind_err (number_at unsigned16 end bytes)
     (λ name. number_at unsigned16 end name.1 >>= λ form. judged end name.0 form.0 form.1) e h) [
-      | inl q ↦ number_fault unsigned16 end front bytes e (before_name front d is) q
+      | inl q ↦ number_error unsigned16 end front bytes e (before_name front d is) q
       | inr a ↦ at_form a.0.0 a.0.1 (number_at-ok unsigned16 end bytes a.0.0 a.0.1 a.1) a.2
     ]
   where
@@ -193,7 +193,7 @@ specification_fault end front bytes d e is h =
               (subst (IsNumber unsigned16 form) (eqb-true f implicit_const c.0) is_form) in
               elim (bind_err (number_at signed64 end behind) (λ v. Ok (Some v.0, v.1)) e c.1) [
                 | inl r ↦ subst (λ (x : List ℕ). IsFaulty end x e) (rw parts (simp append_assoc))
-                    (number_fault signed64 end (front ++ name ++ form) behind e b r)
+                    (number_error signed64 end (front ++ name ++ form) behind e b r)
                 | inr r ↦ absurd (let w = r.2 in cc)
               ]
           | inr c ↦ absurd (let w = c.1 in cc)
@@ -228,7 +228,7 @@ specification_fault end front bytes d e is h =
     at_form n behind name q =
         elim (bind_err (number_at unsigned16 end behind) (λ form. judged end n form.0 form.1) e q) [
           | inl r ↦ subst (λ (x : List ℕ). IsFaulty end x e) (rw name.parts (simp append_assoc))
-              (number_fault unsigned16 end (front ++ name.front) behind e
+              (number_error unsigned16 end (front ++ name.front) behind e
               (before_form front name.front d n is name.string) r)
           | inr r ↦
               let form = number_at-ok unsigned16 end behind r.0.0 r.0.1 r.1 in
@@ -237,7 +237,7 @@ specification_fault end front bytes d e is h =
               (eqb n 0) refl (eqb r.0.0 0) refl r.2
         ]
 
--- ---- a specification has at least two bytes
+-- ---- the length of a specification
 
 -- a specification has at least two bytes
 pub specification_long : (s : Specification) (bytes : List ℕ) → IsSpecification bytes s → 2 ≤ length bytes
@@ -255,7 +255,7 @@ null_long bytes is =
     let e : length bytes ≡ length (is.name ++ is.form) = ap length is.parts in
     omega (arith, length-append is.name is.form)
 
--- the bytes behind a specification that is read, or the null one, are fewer than those it is read from
+-- fewer bytes remain behind a specification that is read, or the null one
 pub specification_shorter : (end : ℕ) (bytes : List ℕ) (o : Option Specification) (rest : List ℕ)
     → specification_at end bytes ≡ Ok (o, rest) → length rest < length bytes
 specification_shorter end bytes o rest e = go o (specification_found end bytes (o, rest) e)

@@ -1,4 +1,4 @@
--- What one more entry that is read makes of a table, whose parser reads one after the other.
+-- How a table changes with the next entry that its parser reads.
 use Rattle.std.proofs.Common.{◌≡◌, ◌≢◌, ℕ, zero, suc, ◌+◌, ◌<◌, true, false, cond, eqb, List, [], length, Option, Some, None, Result, Ok, Err, refl, ap, ◌∙◌, arith}
 use Rattle.std.specs.FinMap.{insert, contains_key}
 use Rattle.std.proofs.lemmas.Bool.{ne_eqb}
@@ -12,7 +12,7 @@ use Rattle.dwarf_read_core.proofs.tables.ReadingIsSound.{declaration_shorter}
 abbrev pub TableRead : Type 0
 TableRead = Result Table Error
 
--- a table is read the same under any two bounds that are above the number of its bytes
+-- reading a table has the same outcome under any two bounds above the number of bytes
 table_enough : (n m end : ℕ) (t : ByCode) (bytes : List ℕ) → length bytes < n → length bytes < m
     → table_at n end t bytes ≡ table_at m end t bytes
 unfolding table_at
@@ -32,28 +32,28 @@ table_enough (suc n) (suc m) end t bytes short other =
         ap (cond (contains_key t d.code) (Err (DuplicateAbbreviationCode d.code)))
         (others (insert t d.code d) rest (declaration_shorter end bytes d rest q))
 
--- an error in reading the next declaration is the error in reading the table
+-- reading a table fails with the error of the next declaration
 pub table_fails : (end : ℕ) (t : ByCode) (bytes : List ℕ) (e : Error) → declaration_at end bytes ≡ Err e
     → table_in end t bytes ≡ Err e
 unfolding table_in table_at
 table_fails end t bytes e q =
     table_enough (length bytes + 1) (suc (length bytes)) end t bytes (omega arith) (omega arith) ∙ rw q refl
 
--- a table ends if no declaration is read, closed by the end if no bytes remain, or else by a code of 0
+-- reading a table ends if no declaration is next: the end closes it if no bytes are left, or else a null code
 pub table_ends : (end : ℕ) (t : ByCode) (bytes rest : List ℕ) → declaration_at end bytes ≡ Ok (None, rest)
     → table_in end t bytes ≡ Ok (closed t (close_of bytes))
 unfolding table_in table_at
 table_ends end t bytes rest q =
     table_enough (length bytes + 1) (suc (length bytes)) end t bytes (omega arith) (omega arith) ∙ rw q refl
 
--- a code of value 0 closes the table
+-- a code of value 0 in front of any bytes closes the table
 pub table_nulled : (end : ℕ) (t : ByCode) (bytes rest : List ℕ) → bytes ≢ []
     → declaration_at end bytes ≡ Ok (None, rest) → table_in end t bytes ≡ Ok (closed t by_null)
 table_nulled end t bytes rest some q =
     let n : eqb (length bytes) 0 ≡ false = ne_eqb (length bytes) 0 (λ h. some (nil_from_length bytes h)) in
     table_ends end t bytes rest q ∙ rw n refl
 
--- a declaration whose code the table already has is refused as a duplicate
+-- reading a table fails with `DuplicateAbbreviationCode` if the table has the code of the next declaration
 pub table_repeats : (end : ℕ) (t : ByCode) (bytes : List ℕ) (d : Declaration) (rest : List ℕ)
     → declaration_at end bytes ≡ Ok (Some d, rest) → contains_key t d.code ≡ true
     → table_in end t bytes ≡ Err (DuplicateAbbreviationCode d.code)
@@ -61,7 +61,7 @@ unfolding table_in table_at
 table_repeats end t bytes d rest q twice =
     table_enough (length bytes + 1) (suc (length bytes)) end t bytes (omega arith) (omega arith) ∙ rw (q, twice) refl
 
--- a declaration whose code is new is inserted into the table, which is then read on behind it
+-- reading a table goes on behind the next declaration with that one inserted, if its code is new
 pub table_goes_on : (end : ℕ) (t : ByCode) (bytes : List ℕ) (d : Declaration) (rest : List ℕ)
     → declaration_at end bytes ≡ Ok (Some d, rest) → contains_key t d.code ≡ false
     → table_in end t bytes ≡ table_in end (insert t d.code d) rest
@@ -72,5 +72,5 @@ table_goes_on end t bytes d rest q fresh =
     ∙ rw (q, fresh)
     (table_enough (length bytes) (length rest + 1) end (insert t d.code d) rest (omega arith) (omega arith))
 
--- what one more entry that is read makes of the table
+-- how a table changes with the next entry
 pub ruleset table_steps = (table_fails, table_ends, table_repeats, table_goes_on, declaration_shorter)

@@ -1,9 +1,9 @@
--- Items whose bytes are one after the other.
+-- Items whose bytes follow each other.
 use Rattle.std.proofs.Common.{ℕ, List, [], ◌∷◌, ◌++◌, refl, sym, ap, ◌∙◌, append_assoc}
 use Rattle.std.proofs.lemmas.List.{append-nil}
 use Rattle.dwarf_read_core.specs.Grammar.{Sequence}
 
--- a sequence of items, with one more item's bytes behind it, is the sequence with that item at its end
+-- the bytes of items, with those of one more behind them, are the bytes of all of them
 pub Sequence-push : {A : Type 0} (Is : List ℕ → A → Type 0) (bytes : List ℕ) (xs : List A) (last : List ℕ) (x : A)
     → Sequence Is bytes xs → Is last x → Sequence Is (bytes ++ last) (xs ++ x ∷ [])
 Sequence-push Is bytes [] last x e is = (last, [], rw e (sym (append-nil last)), is, refl)

@@ -1,4 +1,4 @@
--- The strict answer follows from the answer.
+-- The strict result follows from the result.
 use Rattle.std.proofs.Common.{◌≡◌, ℕ, cond, List, Result, Ok, Err, refl, sym, ap, subst, ◌∙◌}
 use Rattle.dwarf_base_core.specs.declared.error.Error.{Error}
 use Rattle.dwarf_base_core.specs.declared.error.Error.TheVariants.{UnterminatedAbbreviations}
@@ -11,32 +11,32 @@ use Rattle.dwarf_read_core.specs.Answer.{Answer, Answers, unterminated, strictly
 use Rattle.dwarf_read_core.proofs.tables.AppendedBytes.{answer_more}
 use Rattle.dwarf_read_core.proofs.tables.ExactlyOneAnswer.{answer_exactly_one}
 
--- every section has exactly one strict answer at every offset
+-- a section has exactly one strict result at each offset
 pub strict_answer_exactly_one : (section : Input) (offset : ℕ) → HasOne (StrictAnswer section offset)
 strict_answer_exactly_one section offset =
     let one = answer_exactly_one section offset in
     (strictly section one.0, (one.0, one.1, refl), λ other is. is.2 ∙ ap (strictly section) (one.2 is.0 is.1))
 
--- a strict answer, by what closes the table
+-- the strict result for a table, by what closes it
 abbrev strict_by : Input → Table → Close → Result Table Error
 strict_by section t close = cond (is_by_null close) (Ok t) (Err (unterminated (end_of section)))
 
--- a table that a code of value 0 closes is the strict answer
+-- a table that a code of value 0 closes is the strict result
 pub closed_strictly : (section : Input) (offset : ℕ) (t : Table) → Answer section offset (Ok t) → t.close ≡ by_null
     → StrictAnswer section offset (Ok t)
 closed_strictly section offset t is e = (Ok t, is, sym (ap (strict_by section t) e))
 
--- a table that the section's end closes is an error in a strict reading
+-- the strict result for a table that the section's end closes is the error for it
 pub unclosed_strictly : (section : Input) (offset : ℕ) (t : Table) → Answer section offset (Ok t)
     → t.close ≡ by_end → StrictAnswer section offset (Err (unterminated (end_of section)))
 unclosed_strictly section offset t is e = (Ok t, is, sym (ap (strict_by section t) e))
 
--- an error remains the error
+-- an error is also the strict result
 pub err_strictly : (section : Input) (offset : ℕ) (e : Error) → Answers (Err e) section offset
     → AnswersStrictly (Err e) section offset
 err_strictly section offset e h = λ memory. (Err e, h memory, refl)
 
--- appended bytes leave a strict answer that is final
+-- a strict result that is final is still the strict result when bytes are appended
 pub strict_answer_more : (section : Input) (more : List ℕ) (offset : ℕ) (strict : Result Table Error)
     → StrictAnswer section offset strict → IsStrictlyFinal strict
     → StrictAnswer (followed_by section more) offset strict
@@ -54,7 +54,7 @@ strict_answer_more section more offset strict is final =
     go (Ok t) is final = by_close t is t.close refl final
     go (Err e) is final = (Err e, answer_more more is final.0, refl)
 
--- the same of what the code answers
+-- a strict result that a call returned, and that is final, is still the section's when bytes are appended
 pub strictly_stays : (strict : Result Table Error) (section : Input) (offset : ℕ)
     → AnswersStrictly strict section offset → IsStrictlyFinal strict → (more : List ℕ)
     → AnswersStrictly strict (followed_by section more) offset
@@ -62,7 +62,7 @@ strictly_stays (Ok t) section offset h final more = strict_answer_more section m
 strictly_stays (Err e) section offset h final more =
     λ memory. strict_answer_more section more offset (Err e) (h memory) final
 
--- the error of an unclosed table is not final, whatever its position
+-- the error for an unclosed table isn't final at any position, so nothing is said of it when bytes are appended
 pub unclosed_stays : (id : ReaderOffsetId) (section : Input) (offset : ℕ)
     → IsStrictlyFinal (Err (UnterminatedAbbreviations id)) → (more : List ℕ)
     → AnswersStrictly (Err (UnterminatedAbbreviations id)) (followed_by section more) offset

@@ -1,4 +1,4 @@
--- A table has no more declarations and attributes than its bytes have room for.
+-- A table has no more declarations and attributes than fit its bytes.
 use Rattle.std.proofs.Common.{◌≡◌, ℕ, ◌+◌, ◌*◌, ◌≤◌, false, cond, List, [], ◌∷◌, ◌++◌, length, map, Some, Result, Ok, Err, sym, ap, ◌∙◌, arith}
 use Rattle.std.specs.Prelude.{IfOk, is_some}
 use Rattle.std.specs.List.{sum_by}
@@ -26,7 +26,7 @@ attributes d = length d.attributes
 
 -- ---- bytes
 
--- a list of specifications has at least two bytes for each of them
+-- specifications have at least two bytes each
 specifications_long : (bytes : List ℕ) (ss : List Specification) → Sequence IsSpecification bytes ss
     → 2 * length ss ≤ length bytes
 specifications_long bytes [] e = omega arith
@@ -34,7 +34,7 @@ specifications_long bytes (s ∷ ss) q =
     let e : length bytes ≡ length (q.0 ++ q.1) = ap length q.2 in
     omega (arith, length-append q.0 q.1, specification_long s q.0 q.3, specifications_long q.1 ss q.4)
 
--- a declaration has at least five bytes, and two more for each of its attributes
+-- a declaration has at least five bytes, and two more for each attribute
 declaration_long : (bytes : List ℕ) (d : Declaration) → IsDeclaration bytes d
     → 5 + 2 * length d.attributes ≤ length bytes
 declaration_long bytes d is =
@@ -55,7 +55,7 @@ declaration_long bytes d is =
       length-append h.first h.second,
     )
 
--- a list of declarations has at least five bytes for each, and two more for each attribute of theirs
+-- declarations have at least five bytes each, and two more for each attribute
 declarations_long : (bytes : List ℕ) (ds : List Declaration) → Sequence IsDeclaration bytes ds
     → 5 * length ds + 2 * sum_by (λ d. length d.attributes) ds ≤ length bytes
 declarations_long bytes [] e = omega arith
@@ -75,7 +75,7 @@ declarations_long bytes (d ∷ ds) q =
 abbrev total : List (ℕ × Declaration) → ℕ
 total es = sum_by (λ d. length d.attributes) (map (λ e. e.1) es)
 
--- a declaration that is put under a key that wasn't there adds its own attributes to the total
+-- inserting a declaration at a new key adds its attributes to the total
 total_put : (k : ℕ) (d : Declaration) (es : List (ℕ × Declaration)) → is_some (find nat_cmp k es) ≡ false
     → total (put nat_cmp k d es) ≡ length d.attributes + total es
 total_put k d [] none = sum_by-cons (λ (x : Declaration). length x.attributes) d []
@@ -94,13 +94,13 @@ total_put k d (e ∷ es) none = go (nat_cmp k e.0) (total_put k d es) none
         let c = later none in
         omega arith
 
--- a map of declarations with distinct codes has as many entries as there are declarations
+-- the map of declarations with distinct codes has as many entries as there are declarations
 len_is : (ds : List Declaration) → AreDistinct ds → len (by_code_of ds) ≡ length ds
 len_is [] h = len-empty nat_cmp Declaration
 len_is (d ∷ ds) h =
     len-insert nat_cmp_total (by_code_of ds) d.code d ∙ rw (fresh_code ds d.code h.0, len_is ds h.1) (omega arith)
 
--- a map of declarations with distinct codes has as many attributes as the declarations have together
+-- the map of declarations with distinct codes has as many attributes as the declarations together
 count_is : (ds : List Declaration) → AreDistinct ds
     → attribute_count (by_code_of ds) ≡ sum_by (λ d. length d.attributes) ds
 count_is [] h =
@@ -115,7 +115,7 @@ count_is (d ∷ ds) h =
     ∙ ap (λ (n : ℕ). length d.attributes + n) (count_is ds h.1)
     ∙ sym (sum_by-cons (λ (x : Declaration). length x.attributes) d ds)
 
--- bytes that begin with a table are at least five for each declaration and two for each attribute
+-- the bytes of a table are at least five for each declaration and two for each attribute
 table_bound : {bytes : List ℕ} {t : Table} → IsTable bytes t
     → 5 * len t.by_code + 2 * attribute_count t.by_code ≤ length bytes
 table_bound (closed_by_null bytes zero_code rest ds are is) =
@@ -126,18 +126,18 @@ table_bound (closed_by_null bytes zero_code rest ds are is) =
 table_bound (closed_by_end bytes ds are) =
     omega (arith, len_is ds are.distinct, count_is ds are.distinct, declarations_long bytes ds are.each)
 
--- a section whose answer is a table has five bytes for each declaration and two for each attribute there
+-- a section with a table at an offset has five bytes there for each declaration and two for each attribute
 answer_bound : {section : Input} {offset : ℕ} {t : Table} → Answer section offset (Ok t)
     → 5 * len t.by_code + 2 * attribute_count t.by_code + offset ≤ length section.bytes
 answer_bound {section} {offset} (table t le is) = omega (arith, table_bound is, length-drop offset section.bytes)
 
--- a table that is returned has no more declarations and attributes than the section has room for there
+-- a table that a call returned has no more declarations and attributes than fit the section there
 bounded : (r : Result Table Error) (section : Input) (offset : ℕ) → Answers r section offset
     → IfOk r (λ t. 5 * len t.by_code + 2 * attribute_count t.by_code + offset ≤ length section.bytes)
 bounded (Ok t) section offset h = answer_bound h
 bounded (Err e) section offset h = tt
 
--- the same of what the code reads behind the offset
+-- a table that the parser returned has no more declarations and attributes than fit the section there
 pub bounded_read : (r : Result Table Error) (section : Input) (offset : ℕ) (rest : Input)
     → Takes offset section rest → Gives (λ t. t) r (table_in (end_of rest) empty rest.bytes)
     → IfOk r (λ t. 5 * len t.by_code + 2 * attribute_count t.by_code + offset ≤ length section.bytes)

@@ -1,4 +1,4 @@
--- What the parser reads of a whole table is what the grammar says, and the other way round.
+-- A whole table that is read, or its first error, is what the grammar says, and conversely.
 use Rattle.std.proofs.Common.{◌≡◌, ℕ, zero, suc, ◌<◌, Bool, true, false, cond, eqb, List, [], ◌∷◌, ◌++◌, length, Option, Some, None, Result, Ok, Err, refl, sym, ap, subst, ◌∙◌, append_assoc, arith}
 use Rattle.std.specs.FinMap.{insert, contains_key}
 use Rattle.std.proofs.lemmas.Bool.{ne_eqb}
@@ -10,19 +10,19 @@ use Rattle.dwarf_read_core.specs.Grammar.{Declaration, Sequence, IsDeclaration, 
 use Rattle.dwarf_read_core.specs.Answer.{IsFault, in_declaration, repeated}
 use Rattle.dwarf_read_core.specs.Reading.{◌>>=◌, declaration_at, close_of, and_declared, table_at, table_in}
 use Rattle.dwarf_read_core.proofs.tables.Sequences.{Sequence-push}
-use Rattle.dwarf_read_core.proofs.tables.ReadingIsSound.{DeclarationFound, EndFound, at_end, at_zero, declaration_found, declaration_fault, declaration_shorter}
-use Rattle.dwarf_read_core.proofs.tables.ReadingIsComplete.{declaration_again, zero_again, end_again, fault_again}
+use Rattle.dwarf_read_core.proofs.tables.ReadingIsSound.{DeclarationFound, EndFound, at_end, at_zero, declaration_found, declaration_error, declaration_shorter}
+use Rattle.dwarf_read_core.proofs.tables.ReadingIsComplete.{declaration_again, zero_again, end_again, error_again}
 use Rattle.dwarf_read_core.proofs.tables.ReadingTables.{TableRead, table_fails, table_ends, table_repeats, table_goes_on}
 use Rattle.dwarf_read_core.proofs.tables.CodesOnce.{fresh_code, repeated_code, declared_from_key, fresh_from_key, table_push, distinct_push, distinct_front}
 
 -- ---- what is read is in the grammar
 
--- the grammar says of bytes what is read of them: they begin with the table, or have the first error
+-- the outcome of reading is what the grammar says: bytes begin with the table, or have the first error
 abbrev pub Reads : ℕ → List ℕ → TableRead → Type 0
 Reads end bytes (Ok t) = IsTable bytes t
 Reads end bytes (Err e) = IsFault end bytes e
 
--- the bytes of declarations and of one more, whose code is new, are the bytes of all of them
+-- the bytes of declarations and of one more with a new code are the bytes of all of them
 declarations_push : (bytes : List ℕ) (ds : List Declaration) (last : List ℕ) (d : Declaration)
     → AreDeclarations bytes ds → IsDeclaration last d → (Declares ds d.code → ⊥)
     → AreDeclarations (bytes ++ last) (ds ++ d ∷ [])
@@ -32,7 +32,7 @@ declarations_push bytes ds last d are is new =
       distinct = distinct_push ds d are.distinct new;
     }
 
--- declarations, and then bytes at which a table ends, are a table that is closed as those bytes say
+-- declarations and an end of the table behind them are a table with that close
 ended : {bytes rest : List ℕ} (front : List ℕ) (ds : List Declaration) → AreDeclarations front ds
     → EndFound bytes rest → IsTable (front ++ bytes) (closed (by_code_of ds) (close_of bytes))
 ended front ds are at_end =
@@ -47,7 +47,7 @@ ended front ds are (at_zero bytes rest z) =
     rw some (subst (λ (b : List ℕ). IsTable b (closed (by_code_of ds) by_null)) same
     (closed_by_null front z.front rest ds are z.is_zero))
 
--- what is read behind the declarations so far is the table that all the bytes begin with, or their first error
+-- what is read behind some declarations is the table that all bytes begin with, or their first error
 pub reads_by : (n end : ℕ) (front bytes : List ℕ) (ds : List Declaration) → length bytes < n → AreDeclarations front ds
     → Reads end (front ++ bytes) (table_at n end (by_code_of ds) bytes)
 unfolding table_at
@@ -82,13 +82,13 @@ reads_by (suc n) end front bytes ds short are =
         → (r : Result (Option Declaration × List ℕ) Error) → declaration_at end bytes ≡ r
         → Reads end (front ++ bytes) (r >>= λ first. and_declared (close_of bytes) (by_code_of ds) first.0
         (λ more. table_at n end more first.1))
-    go others (Err e) q = let f = declaration_fault end bytes e q in in_declaration front bytes ds e are f.0 f.1
+    go others (Err e) q = let f = declaration_error end bytes e q in in_declaration front bytes ds e are f.0 f.1
     go others (Ok (None, rest)) q = ended front ds are (declaration_found end bytes (None, rest) q)
     go others (Ok (Some d, rest)) q = declared others d rest q (contains_key (by_code_of ds) d.code) refl
 
 -- ---- what is in the grammar is read
 
--- declarations whose codes are new and distinct are read into the table, which is then read on behind them
+-- declarations with new and distinct codes are read into the table, and reading goes on behind them
 feed : (end : ℕ) (seen : List Declaration) (bytes rest : List ℕ) (ds : List Declaration)
     → Sequence IsDeclaration bytes ds → AreDistinct (seen ++ ds)
     → table_in end (by_code_of seen) (bytes ++ rest) ≡ table_in end (by_code_of (seen ++ ds)) rest
@@ -118,13 +118,13 @@ table_again end (closed_by_end bytes ds are) =
     ap (table_in end (by_code_of [])) (sym (append-nil bytes)) ∙ feed end [] bytes [] ds are.each are.distinct
     ∙ table_ends end (by_code_of ds) [] [] (end_again end)
 
--- bytes that have a first error, in place of a table, are read as that error
-pub faults_again : {bytes : List ℕ} {e : Error} {end : ℕ} → IsFault end bytes e
+-- bytes with a first error in place of a table are read as that error
+pub first_error_again : {bytes : List ℕ} {e : Error} {end : ℕ} → IsFault end bytes e
     → table_in end (by_code_of []) bytes ≡ Err e
-faults_again {end = end} (in_declaration bytes rest ds e are some f) =
+first_error_again {end = end} (in_declaration bytes rest ds e are some f) =
     feed end [] bytes rest ds are.each are.distinct
-    ∙ table_fails end (by_code_of ds) rest e (fault_again end f some)
-faults_again {end = end} (repeated bytes declaration rest ds d are is twice) =
+    ∙ table_fails end (by_code_of ds) rest e (error_again end f some)
+first_error_again {end = end} (repeated bytes declaration rest ds d are is twice) =
     ap (table_in end (by_code_of [])) (append_assoc bytes declaration rest)
     ∙ feed end [] bytes (declaration ++ rest) ds are.each are.distinct
     ∙ table_repeats end (by_code_of ds) (declaration ++ rest) d rest (declaration_again end declaration rest d is)

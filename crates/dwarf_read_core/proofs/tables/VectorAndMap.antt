@@ -1,4 +1,4 @@
--- A vector of the first abbreviations and a tree map of the others, seen as one finite map.
+-- A vector of the first abbreviations and a tree map of the others are one finite map.
 use Rattle.std.proofs.Common.{◌≡◌, ℕ, zero, suc, ◌+◌, ◌<◌, ◌≤◌, eqb, get_or, ◌++◌, arith, Bool, true, false, cond, List, [], ◌∷◌, length, map, Option, Some, None, refl, sym, ap, ◌∙◌, inl, inr, ◌⊎◌, length-append}
 use Rattle.std.specs.Prelude.{is_some}
 use Rattle.std.specs.Ordering.{nat_cmp}
@@ -17,17 +17,17 @@ use Rattle.std.proofs.lemmas.List.Elements.{same_from_all_zip}
 use Rattle.dwarf_read_core.specs.Grammar.{Declaration}
 use Rattle.dwarf_read_core.specs.Views.{numbered, entries_of, AreKeyed}
 
--- what is found among entries at a code, by the order of codes, is what a lookup of that code has
+-- a search for a code and a lookup of the code find the same entry
 find_is_lookup : (es : List (ℕ × Declaration)) (q : ℕ) → find nat_cmp q es ≡ lookup (is_at (nat_cmp q)) es
 find_is_lookup [] q = refl
 find_is_lookup (e ∷ es) q = ap (cond (is_at (nat_cmp q) e.0) (Some e.1)) (find_is_lookup es q)
 
--- what the map that the entries make has at a code
+-- the map that entries make has at a code what a lookup of the code finds
 pub get_is_lookup : (es : List (ℕ × Declaration)) (q : ℕ)
     → get (from_entries {R = nat_cmp} es) q ≡ lookup (is_at (nat_cmp q)) es
 get_is_lookup es q = get-from_entries nat_cmp_total es q ∙ find_is_lookup es q
 
--- entries that differ at one code make maps that differ there
+-- if entries are changed at one code, the map that they make is changed by an insertion
 pub inserted : (es fs : List (ℕ × Declaration)) (k : ℕ) (d : Declaration)
     → ((q : ℕ) → lookup (is_at (nat_cmp q)) fs
     ≡ cond (is_at (nat_cmp k) q) (Some d) (lookup (is_at (nat_cmp q)) es)) → from_entries {R =
@@ -38,13 +38,13 @@ inserted es fs k d h = same_map nat_cmp_total nat_cmp-IsAntisymmetric _ _ (λ q.
     ∙ sym (get-insert nat_cmp_total (from_entries es) k d q
     ∙ ap (cond (is_at (nat_cmp q) k) (Some d)) (get_is_lookup es q)))
 
--- an entry whose code is below those of all the others is put in front of them
+-- an entry whose code is below all others is put in front of them
 put_first : (k : ℕ) (d : Declaration) (es : List (ℕ × Declaration))
     → AllByRecursion (λ y. nat_cmp k y ≡ Less) (map (λ e. e.0) es) → put nat_cmp k d es ≡ (k, d) ∷ es
 put_first k d [] h = refl
 put_first k d (e ∷ es) h = ap (λ r. by_order r ((k, d) ∷ e ∷ es) ((e.0, d) ∷ es) (e ∷ put nat_cmp k d es)) h.0
 
--- entries in order are those of the map that they make
+-- the entries of the map that sorted entries make are those entries
 pub entries_kept : (es : List (ℕ × Declaration)) → IsStrictlySortedBy nat_cmp (map (λ e. e.0) es)
     → entries (from_entries {R = nat_cmp} es) ≡ es
 unfolding IsStrictlySortedBy
@@ -55,12 +55,12 @@ entries_kept (e ∷ es) h =
     entries-insert nat_cmp_total (from_entries es) e.0 e.1 ∙ ap (put nat_cmp e.0 e.1) (entries_kept es h.1)
     ∙ put_first e.0 e.1 es h.0
 
--- the map that entries in order make has as many entries as there are of them
+-- the map that sorted entries make has as many entries
 pub len_kept : (es : List (ℕ × Declaration)) → IsStrictlySortedBy nat_cmp (map (λ e. e.0) es)
     → len (from_entries {R = nat_cmp} es) ≡ length es
 len_kept es h = len-entries (from_entries {R = nat_cmp} es) ∙ ap length (entries_kept es h)
 
--- entries that were copied are the same
+-- entries that are copied are equal
 pub table_copied : (es fs : List (ℕ × Declaration)) → AllZip (λ p q. (q.0 ≡ p.0) × (q.1 ≡ p.1)) es fs → fs ≡ es
 table_copied es fs h =
     same_from_all_zip (λ (p q : ℕ × Declaration). (q.0 ≡ p.0) × (q.1 ≡ p.1)) es fs h
@@ -72,16 +72,16 @@ table_copied es fs h =
 abbrev at : ℕ → List (ℕ × Declaration) → Option Declaration
 at q es = lookup (is_at (nat_cmp q)) es
 
--- a code is at another, by the order of codes, exactly if the two are equal
+-- the order of codes finds two of them equal exactly if they are equal numbers
 same_code : (a b : ℕ) → is_at (nat_cmp a) b ≡ eqb a b
 same_code a b = grind (arith, nat_tests)
 
--- a list of entries has the first one's declaration at its code, and at other codes what the others have
+-- a lookup finds the first entry at its code, and searches the others at other codes
 at_first : (q k : ℕ) (d : Declaration) (es : List (ℕ × Declaration)) (t : Bool) → eqb q k ≡ t
     → at q ((k, d) ∷ es) ≡ cond t (Some d) (at q es)
 at_first q k d es t e = ap (λ b. cond b (Some d) (at q es)) (same_code q k ∙ e)
 
--- codes that are not in the vector
+-- a code below those of the vector is looked up in the map
 at_below : (k q : ℕ) (ds : List Declaration) (more : List (ℕ × Declaration)) → q < k
     → at q (numbered k ds ++ more) ≡ at q more
 at_below k q [] more lt = refl
@@ -89,7 +89,7 @@ at_below k q (d ∷ ds) more lt =
     at_first q k d (numbered (suc k) ds ++ more) false (ne_eqb q k (λ e. omega arith))
     ∙ at_below (suc k) q ds more (omega arith)
 
--- a code above those of the vector has what the entries behind the vector have there
+-- a code above those of the vector is looked up in the map
 at_above : (k q : ℕ) (ds : List Declaration) (more : List (ℕ × Declaration)) → k + length ds ≤ q
     → at q (numbered k ds ++ more) ≡ at q more
 at_above k q [] more le = refl
@@ -97,7 +97,7 @@ at_above k q (d ∷ ds) more le =
     at_first q k d (numbered (suc k) ds ++ more) false (ne_eqb q k (λ e. omega arith))
     ∙ at_above (suc k) q ds more (omega arith)
 
--- a code that is
+-- a code of the vector is looked up as the declaration at its index
 at_within : (k i : ℕ) (ds : List Declaration) (more : List (ℕ × Declaration)) (d : Declaration) → i < length ds
     → at (k + i) (numbered k ds ++ more) ≡ Some (get_or ds i d)
 at_within k i [] more d lt = absurd (omega arith)
@@ -108,11 +108,11 @@ at_within k (suc i) (x ∷ ds) more d lt =
     at_first (k + suc i) k x (numbered (suc k) ds ++ more) false (ne_eqb (k + suc i) k (λ e. omega arith))
     ∙ ap (λ q. at q (numbered (suc k) ds ++ more)) next ∙ at_within (suc k) i ds more d (omega arith)
 
--- a code is at another exactly if the other is equal to it
+-- the order finds a code equal to the sought one exactly if they are equal numbers
 same_back : (c q : ℕ) → is_at (nat_cmp c) q ≡ eqb q c
 same_back c q = grind (arith, nat_tests)
 
--- one more in the vector
+-- one more declaration in the vector changes the lookup of the next code alone
 at_push : (k q : ℕ) (ds : List Declaration) (d : Declaration) (more : List (ℕ × Declaration))
     → at q (numbered k (ds ++ d ∷ []) ++ more)
     ≡ cond (is_at (nat_cmp (k + length ds)) q) (Some d) (at q (numbered k ds ++ more))
@@ -139,7 +139,7 @@ at_push k q (x ∷ ds) d more = go (eqb q k) refl (at_push (suc k) q ds d more)
         ∙ ap (cond (is_at (nat_cmp (k + length (x ∷ ds))) q) (Some d))
         (sym (at_first q k x (numbered (suc k) ds ++ more) false e))
 
--- one more in the map
+-- one more declaration in the map changes the lookup of its code alone
 at_insert : (k q c : ℕ) (ds : List Declaration) (d : Declaration) (es fs : List (ℕ × Declaration))
     → k + length ds ≤ c → at q fs ≡ cond (is_at (nat_cmp c) q) (Some d) (at q es)
     → at q (numbered k ds ++ fs) ≡ cond (is_at (nat_cmp c) q) (Some d) (at q (numbered k ds ++ es))
@@ -158,7 +158,7 @@ at_insert k q c (x ∷ ds) d es fs le h = go (eqb q k) refl (at_insert (suc k) q
         at_first q k x (numbered (suc k) ds ++ fs) false e ∙ later
         ∙ ap (cond (is_at (nat_cmp c) q) (Some d)) (sym (at_first q k x (numbered (suc k) ds ++ es) false e))
 
--- a code that the map doesn't have
+-- an option that isn't some is `None`
 none_of_no : (o : Option Declaration) → is_some o ≡ false → o ≡ None
 none_of_no None e = refl
 none_of_no (Some d) e = absurd (cc)
@@ -169,7 +169,7 @@ pub none_at : (code : ℕ) (es : List (ℕ × Declaration)) → (length es ≡ 0
 none_at code es (inl empty) = ap (at code) (nil_from_length es empty)
 none_at code es (inr missed) = none_of_no (at code es) missed
 
--- a push and an insert into the two are an insert into the map that they make
+-- a push to the vector is an insertion into the map that vector and map make
 pub table_pushed : (ds : List Declaration) (es : List (ℕ × Declaration)) (code : ℕ) (d : Declaration)
     → code ≡ 1 + length ds → from_entries {R = nat_cmp} (numbered 1 (ds ++ d ∷ []) ++ es)
     ≡ insert (from_entries (entries_of ds es)) code d
@@ -177,20 +177,20 @@ table_pushed ds es code d e =
     inserted (entries_of ds es) (numbered 1 (ds ++ d ∷ []) ++ es) code d
     (λ q. at_push 1 q ds d es ∙ ap (λ n. cond (is_at (nat_cmp n) q) (Some d) (at q (entries_of ds es))) (sym e))
 
--- the map that the two make lacks the code right above those of the vector if the map behind it does
+-- the map that vector and map make lacks the vector's next code if the map does
 pub lacks_next : (ds : List Declaration) (es : List (ℕ × Declaration)) (code : ℕ) → code ≡ 1 + length ds
     → at code es ≡ None → contains_key (from_entries {R = nat_cmp} (entries_of ds es)) code ≡ false
 lacks_next ds es code e none =
     ap is_some (get_is_lookup (entries_of ds es) code ∙ at_above 1 code ds es (omega arith) ∙ none)
 
--- an insert into the map, above the codes of the vector, is an insert into the map that the two make
+-- an insertion into the map above the vector's codes is an insertion into the map that vector and map make
 pub table_put : (ds : List Declaration) (es fs : List (ℕ × Declaration)) (code : ℕ) (d : Declaration)
     → length ds < code → ((q : ℕ) → at q fs ≡ cond (is_at (nat_cmp code) q) (Some d) (at q es))
     → from_entries {R = nat_cmp} (entries_of ds fs) ≡ insert (from_entries (entries_of ds es)) code d
 table_put ds es fs code d lt h =
     inserted (entries_of ds es) (entries_of ds fs) code d (λ q. at_insert 1 q code ds d es fs (omega arith) (h q))
 
--- what is found
+-- the map that vector and map make has at a code of the vector the declaration at that index
 pub found_in_vec : (ds : List Declaration) (es : List (ℕ × Declaration)) (code index : ℕ) (d : Declaration)
     → code ≡ index + 1 → index < length ds
     → get (from_entries {R = nat_cmp} (entries_of ds es)) code ≡ Some (get_or ds index d)
@@ -198,24 +198,24 @@ found_in_vec ds es code index d e lt =
     let place : code ≡ 1 + index = omega arith in
     get_is_lookup (entries_of ds es) code ∙ ap (λ q. at q (entries_of ds es)) place ∙ at_within 1 index ds es d lt
 
--- what is found at a code above those of the vector is what the map has there
+-- the map that vector and map make has at a code above the vector's what the map has
 pub found_in_map : (ds : List Declaration) (es : List (ℕ × Declaration)) (code : ℕ) → length ds < code
     → get (from_entries {R = nat_cmp} (entries_of ds es)) code ≡ at code es
 found_in_map ds es code lt = get_is_lookup (entries_of ds es) code ∙ at_above 1 code ds es (omega arith)
 
--- a code of value 0 is found in neither of the two
+-- the map that vector and map make lacks code 0
 pub zero_not_found : (ds : List Declaration) (es : List (ℕ × Declaration)) (code : ℕ) → code ≡ 0 → AreKeyed ds es
     → get (from_entries {R = nat_cmp} (entries_of ds es)) code ≡ None
 zero_not_found ds es code zero_code kept =
     get_is_lookup (entries_of ds es) code ∙ at_below 1 code ds es (omega arith) ∙ kept.apart code (omega arith)
 
--- ---- how many there are
+-- ---- the length of a table
 
--- a number that is below another compares as less
+-- a number compares as less than a greater one
 less : (a b : ℕ) → a < b → nat_cmp a b ≡ Less
 less a b lt = grind (arith, nat_tests)
 
--- the keys of the map are above those of the vector
+-- if the map lacks each code up to n, all its keys are above n
 keys_above : (n : ℕ) (es : List (ℕ × Declaration)) → ((q : ℕ) → q ≤ n → at q es ≡ None)
     → AllByRecursion (λ y. n < y) (map (λ e. e.0) es)
 keys_above n [] h = tt
@@ -231,19 +231,19 @@ keys_above n (e ∷ es) h = (
       | inr le ↦ absurd (let w = sym (at_first e.0 e.0 e.1 es true (eq-eqb e.0 e.0 refl)) ∙ h e.0 le in cc)
     ]
 
--- keys that are all above a bound compare as greater than each number up to that bound
+-- keys above a bound compare as greater than each number up to that bound
 weaker : (k n : ℕ) (ks : List ℕ) → k ≤ n → AllByRecursion (λ y. n < y) ks → AllByRecursion (λ y. nat_cmp k y ≡ Less) ks
 weaker k n [] le h = tt
 weaker k n (y ∷ ks) le h = (less k y (let w = h.0 in omega arith), weaker k n ks le h.1)
 
--- a code below those of a vector and below the keys of a map is below all keys of the two
+-- a code below those of the vector and of the map is below all of them
 numbered_above : (k j : ℕ) (ds : List Declaration) (es : List (ℕ × Declaration)) → k < j
     → AllByRecursion (λ y. nat_cmp k y ≡ Less) (map (λ e. e.0) es)
     → AllByRecursion (λ y. nat_cmp k y ≡ Less) (map (λ e. e.0) (numbered j ds ++ es))
 numbered_above k j [] es lt h = h
 numbered_above k j (d ∷ ds) es lt h = (less k j lt, numbered_above k (suc j) ds es (omega arith) h)
 
--- a vector by its codes, and a map in order with keys above them, are in order one behind the other
+-- the entries of the vector and then of the map are sorted, if the keys of the map are sorted and above
 numbered_sorted : (k : ℕ) (ds : List Declaration) (es : List (ℕ × Declaration)) (n : ℕ) → k + length ds ≤ n + 1
     → AllByRecursion (λ y. n < y) (map (λ e. e.0) es) → IsStrictlySortedBy nat_cmp (map (λ e. e.0) es)
     → IsStrictlySortedBy nat_cmp (map (λ e. e.0) (numbered k ds ++ es))
@@ -255,32 +255,32 @@ numbered_sorted k (d ∷ ds) es n le above h = (
   numbered_sorted (suc k) ds es n (omega arith) above h,
 )
 
--- the entries of the vector and then of the map are in order as a whole if those of the map are
+-- the entries of a table's vector and then of its map are sorted if those of the map are
 sorted_of_both : (ds : List Declaration) (es : List (ℕ × Declaration)) → AreKeyed ds es
     → IsStrictlySortedBy nat_cmp (map (λ e. e.0) es)
     → IsStrictlySortedBy nat_cmp (map (λ e. e.0) (entries_of ds es))
 sorted_of_both ds es kept sorted =
     numbered_sorted 1 ds es (length ds) (omega arith) (keys_above (length ds) es kept.apart) sorted
 
--- a vector by its codes and a map behind it have as many entries as both have together
+-- vector and map have as many entries as both together
 length_numbered : (k : ℕ) (ds : List Declaration) (es : List (ℕ × Declaration))
     → length (numbered k ds ++ es) ≡ length ds + length es
 length_numbered k [] es = omega arith
 length_numbered k (d ∷ ds) es = omega (arith, length_numbered (suc k) ds es)
 
--- the map that the two make has as many entries as the vector and the map have together
+-- the map that vector and map make has as many entries as both together
 pub table_len : (ds : List Declaration) (es : List (ℕ × Declaration)) → AreKeyed ds es
     → IsStrictlySortedBy nat_cmp (map (λ e. e.0) es)
     → len (from_entries {R = nat_cmp} (entries_of ds es)) ≡ length ds + length es
 table_len ds es kept sorted = len_kept (entries_of ds es) (sorted_of_both ds es kept sorted) ∙ length_numbered 1 ds es
 
--- the declarations of a vector by its codes, and of a map behind it, are the vector's and then the map's
+-- the values of the entries are the declarations of the vector and then those of the map
 values_numbered : (k : ℕ) (ds : List Declaration) (es : List (ℕ × Declaration))
     → map (λ e. e.1) (numbered k ds ++ es) ≡ ds ++ map (λ e. e.1) es
 values_numbered k [] es = refl
 values_numbered k (d ∷ ds) es = ap (λ rest. d ∷ rest) (values_numbered (suc k) ds es)
 
--- the vector and then the map, in the order of their codes
+-- the values of the map that vector and map make are those of the vector and then those of the map
 pub table_values : (ds : List Declaration) (es : List (ℕ × Declaration)) → AreKeyed ds es
     → IsStrictlySortedBy nat_cmp (map (λ e. e.0) es)
     → values (from_entries {R = nat_cmp} (entries_of ds es)) ≡ ds ++ map (λ e. e.1) es
@@ -288,9 +288,9 @@ table_values ds es kept sorted =
     ap (map (λ (e : ℕ × Declaration). e.1)) (entries_kept (entries_of ds es) (sorted_of_both ds es kept sorted))
     ∙ values_numbered 1 ds es
 
--- ---- what stays true of the two
+-- ---- what stays true of vector and map
 
--- declarations that differ at one code, which the new one has
+-- if entries are changed at one code, by a declaration with that code, all declarations still have their codes
 keyed_by_update : (es fs : List (ℕ × Declaration)) (code : ℕ) (d : Declaration)
     → ((q : ℕ) → at q fs ≡ cond (is_at (nat_cmp code) q) (Some d) (at q es)) → d.code ≡ code → 0 < code
     → ((q : ℕ) (x : Declaration) → at q es ≡ Some x → (x.code ≡ q) × (0 < q)) → (q : ℕ) (x : Declaration)
@@ -305,7 +305,7 @@ keyed_by_update es fs code d h same above keyed q x found = go (is_at (nat_cmp c
         (sym (ap (λ (y : Declaration). y.code) one) ∙ same ∙ sym is, omega arith)
     go false e = keyed q x (sym (h q ∙ ap (λ b. cond b (Some d) (at q es)) e) ∙ found)
 
--- what is found has its code
+-- a declaration that is found in the map has the code by which it is found
 pub keyed_in_map : (ds : List Declaration) (es : List (ℕ × Declaration)) (code : ℕ) (d : Declaration)
     → AreKeyed ds es → at code es ≡ Some d → (d.code ≡ code) × (0 < code)
 keyed_in_map ds es code d kept h = elim (cases_lt (length ds) code) [
@@ -313,14 +313,14 @@ keyed_in_map ds es code d kept h = elim (cases_lt (length ds) code) [
   | inr le ↦ absurd (let none = kept.apart code le in cc)
 ]
 
--- a declaration in the vector has the code that is one more than its index
+-- a declaration in the vector has the code that is one above its index
 pub keyed_in_vec : (ds : List Declaration) (es : List (ℕ × Declaration)) (code index : ℕ) (d : Declaration)
     → AreKeyed ds es → code ≡ index + 1 → index < length ds → (get_or ds index d).code ≡ code
 keyed_in_vec ds es code index d kept e lt =
     let place : code ≡ 1 + index = omega arith in
     (kept.keyed code (get_or ds index d) (ap (λ q. at q (entries_of ds es)) place ∙ at_within 1 index ds es d lt)).0
 
--- a push of a declaration whose code is the vector's next, and not in the map, leaves the two well kept
+-- a push of a declaration with the vector's next code, which the map lacks, leaves all declarations at their codes
 pub keyed_pushed : (ds : List Declaration) (es : List (ℕ × Declaration)) (code : ℕ) (d : Declaration)
     → code ≡ 1 + length ds → d.code ≡ code → at code es ≡ None → AreKeyed ds es → AreKeyed (ds ++ d ∷ []) es
 keyed_pushed ds es code d e same none kept = record {
@@ -336,7 +336,7 @@ keyed_pushed ds es code d e same none kept = record {
       | inr low ↦ kept.apart q low
     ]
 
--- an insert into the map of a declaration at its code, above those of the vector, leaves the two well kept
+-- an insertion into the map at a code above the vector's leaves all declarations at their codes
 pub keyed_put : (ds : List Declaration) (es fs : List (ℕ × Declaration)) (code : ℕ) (d : Declaration)
     → length ds < code → ((q : ℕ) → at q fs ≡ cond (is_at (nat_cmp code) q) (Some d) (at q es)) → d.code ≡ code
     → AreKeyed ds es → AreKeyed ds fs
@@ -347,15 +347,15 @@ keyed_put ds es fs code d lt h same kept = record {
       (λ q. at_insert 1 q code ds d es fs (omega arith) (h q)) same (omega arith) kept.keyed;
 }
 
--- the map that the two make has each code that is one more than an index of the vector
+-- the map that vector and map make has the code one above each index of the vector
 pub has_in_vec : (ds : List Declaration) (es : List (ℕ × Declaration)) (code index : ℕ) → code ≡ index + 1
     → index < length ds → contains_key (from_entries {R = nat_cmp} (entries_of ds es)) code ≡ true
 has_in_vec ds es code index e lt =
     ap is_some (found_in_vec ds es code index
     (record { code = 0; tag = 0; children = false; attributes = [] }) e lt)
 
--- what an insertion makes of the vector and the map
+-- what an insertion makes of vector and map
 pub ruleset insertion = (has_in_vec, found_in_map, table_pushed, table_put, keyed_put)
 
--- what the vector and the map have at a code
+-- what vector and map have at a code
 pub ruleset lookup_steps = (found_in_vec, found_in_map, zero_not_found, keyed_in_vec, keyed_in_map)

@@ -122,7 +122,7 @@ impl<R: Reader> DebugAbbrev<R> {
             R.clone_is_free ≡ true → TakesNoMemory section (R.Offset.value offset.0)
             → IsErrOf result Error.OutOfMemory → ⊥ }
 
-        // Appended bytes change nothing, unless the result tells of the section's end.
+        // Appended bytes don't change a result that doesn't depend on where the section ends.
         ensures stable { let section = R.view (debug_abbrev_reader self.now) in
             IsFinal result → (more : List ℕ)
             → Answers result (followed_by section more) (R.Offset.value offset.0) }
@@ -163,8 +163,8 @@ impl<R: Reader> DebugAbbrev<R> {
             R.clone_is_free ≡ true → TakesNoMemory section (R.Offset.value offset.0)
             → IsErrOf result Error.OutOfMemory → ⊥ }
 
-        // Appended bytes change nothing, not even a table, unless the result tells of the
-        // section's end.
+        // Appended bytes don't change a result that doesn't depend on where the section ends. No
+        // table does.
         ensures stable { let section = R.view (debug_abbrev_reader self.now) in
             IsStrictlyFinal result → (more : List ℕ)
             → AnswersStrictly result (followed_by section more) (R.Offset.value offset.0) }
@@ -272,7 +272,7 @@ impl Abbreviations {
         }
     }
 
-    /// Returns the same table once more.
+    /// Returns a copy of the table.
     ///
     /// # Errors
     ///
@@ -316,7 +316,7 @@ impl Abbreviations {
             return Err(Error::DuplicateAbbreviationCode(code));
         }
         if index == len {
-            // If the code is in the map already, it stays there.
+            // If the code is already in the map, it stays there.
             if !self.map.is_empty() && self.map.contains_key(&Key(code)) {
                 return Err(Error::DuplicateAbbreviationCode(code));
             }
@@ -355,7 +355,7 @@ impl Abbreviations {
     }
 
     /// Returns whether a code of value 0 closes the table. If not, the section ended where another
-    /// declaration could begin. No code closes the table that [`empty`](Self::empty) makes.
+    /// declaration could begin. This is `false` for [`empty`](Self::empty).
     pub fn closed_by_null(&self) -> bool
         ensures { result ≡ is_by_null self.now.close }
     {
@@ -369,7 +369,7 @@ impl Abbreviations {
         self.len() == 0
     }
 
-    /// Returns the abbreviations, by rising code.
+    /// Returns the abbreviations in the order of their codes.
     #[tactic(auto, using(crate::proofs::tables::VectorAndMap::table_values))]
     pub fn iter(&self) -> AbbreviationsIter<'_>
         ensures { result ≡ finite.values self.now.by_code }
@@ -390,7 +390,7 @@ impl Abbreviations {
             (table_in (end_of (R.view input.old)) finite.empty (R.view input.old).bytes) }
     {
         let mut abbreviations = Abbreviations::empty(mem);
-        // One list for the whole table, in which each declaration's attributes are collected.
+        // One list serves the whole table; each declaration's attributes are collected in it.
         let mut scratch = Vec::new(mem);
         // The label names the loop in its proof.
         'declarations: loop {
@@ -406,7 +406,7 @@ impl Abbreviations {
     }
 }
 
-// What is read at a place where a declaration may begin.
+// What is at a place where a declaration may begin.
 enum TableEntry {
     Declared(Abbreviation),
     // A code of value 0, which closes the table.
@@ -415,7 +415,7 @@ enum TableEntry {
     End,
 }
 
-/// The abbreviations of a table, by rising code.
+/// The abbreviations of a table, in the order of their codes.
 #[derive(Debug, Drop)]
 pub struct AbbreviationsIter<'table> {
     vec: slice::Iter<'table, Abbreviation>,
@@ -536,11 +536,11 @@ impl Abbreviation {
         }
     }
 
-    /// Returns the same abbreviation once more.
+    /// Returns a copy of the abbreviation.
     ///
     /// # Errors
     ///
-    /// `OutOfMemory` if memory for the attributes runs out. Up to five of them need none.
+    /// `OutOfMemory` if memory for the attributes runs out. Up to five attributes need none.
     pub fn try_clone(&self) -> Result<Abbreviation>
         ensures ok { IfOk result (λ copy. copy ≡ self.now) }
         ensures free { length self.now.attributes ≤ 5 → IsOk result }
@@ -623,7 +623,7 @@ impl Abbreviation {
         Ok(Attributes::from_slice(mem, scratch.as_slice())?)
     }
 
-    // Reads the rest of a declaration, behind its code.
+    // Reads what follows the code of a declaration.
     #[tactic(auto, unfolding(crate::specs::Reading::declared_at))]
     fn parse_declared<R: Reader>(
         mem: Global,
@@ -698,7 +698,7 @@ impl Model for AttributeSpecification {
     ghost inverse_ok = { fields_again };
 }
 
-// What a place of a list holds as long as no attribute is there.
+// What a list holds in a place that has no attribute yet.
 impl MadeWith<Global> for AttributeSpecification {
     fn made_with(_mem: Global) -> Self {
         AttributeSpecification {
@@ -710,8 +710,8 @@ impl MadeWith<Global> for AttributeSpecification {
 }
 
 impl AttributeSpecification {
-    /// Returns the attribute with this name and form. It has a value of its own exactly if the form
-    /// is `DW_FORM_implicit_const`.
+    /// Returns the attribute with this name and form. It has the value exactly if the form is
+    /// `DW_FORM_implicit_const`.
     pub fn new(
         name: DwAt,
         form: DwForm,
@@ -784,8 +784,8 @@ impl AttributeSpecification {
     }
 }
 
-// Reads the value of an attribute in the form `DW_FORM_implicit_const`. It is out of line, since the
-// form is rare and the code of a whole table is faster without it.
+// Reads the value of an attribute in the form `DW_FORM_implicit_const`. It is out of line, since
+// the form is rare and reading a whole table is faster without it.
 #[inline(never)]
 fn read_implicit_const<R: Reader>(input: &mut R) -> Result<i64>
     ensures ok { IfOk result (λ v. ReadsNumber signed64 (R.view input.old) v (R.view input.new)) }

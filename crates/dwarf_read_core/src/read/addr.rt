@@ -24,7 +24,7 @@ use dwarf_reader_core::Reader;
 use std::alloc::AllocError;
 use std::marker::Model;
 
-// The version of every set: earlier standards have none.
+// The version of every set. Earlier standards have no sets.
 const VERSION: u16 = 5;
 
 /// The `.debug_addr` section (DWARF 5, 7.27): sets of addresses, each with a header.
@@ -212,7 +212,7 @@ impl<R: Reader> AddrHeaderIter<R> {
         let before = self.input.len();
         match AddrHeader::parse(&mut self.input, self.offset) {
             Err(error) => {
-                // Nothing says where another set would begin.
+                // Nothing says where the next set would begin.
                 self.input.empty();
                 Err(error)
             }

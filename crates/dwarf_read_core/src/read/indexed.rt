@@ -1,4 +1,4 @@
-//! Places in a section that are counted from a base, in numbers of one width.
+//! Lookups of numbers of one width, by an index counted from a base.
 
 ghost use Rattle.std.specs.Prelude.{◌+◌, ◌*◌, OnOk, IfErr};
 ghost use Rattle.dwarf_base_core.specs.Checked.{OkBelow};
@@ -54,8 +54,8 @@ pub(crate) fn skip_to_index<R: Reader>(
 
 /// Skips the bytes before the word of a format with this index.
 ///
-/// This is [`skip_to_index`] for words of that size. It checks the product of index and size only
-/// where the word isn't there.
+/// This is [`skip_to_index`] for words of that size. It checks `index * size` for overflow only if
+/// the word is out of bounds.
 ///
 /// # Errors
 ///
@@ -82,7 +82,7 @@ pub(crate) fn skip_to_word<R: Reader>(
     let width = format.word_size();
     let words = input.len().into_u64() / u64::from(width);
     if index.into_u64() < words {
-        // The length before a word that is there doesn't wrap.
+        // The length before a word that is in bounds doesn't overflow.
         return input.skip(R::Offset::from_u64(index.into_u64() * u64::from(width))?);
     }
     input.skip(length_before(index, width)?)

@@ -11,9 +11,8 @@ use std::marker::Model;
 
 /// A number as the key of an ordered map, in the order of numbers.
 ///
-/// A search in a map goes on from a key to the next as long as the sought one is greater. So that is
-/// what a comparison looks at first, and all that it does inline. One of plain numbers begins with
-/// their equality.
+/// `BTreeMap` scans a node while the searched key is greater. So `cmp` tests that first, and
+/// inlines nothing else. The comparison of plain numbers tests their equality first.
 #[derive(Clone, Copy)]
 pub(crate) struct Key(pub u64);
 
@@ -30,7 +29,7 @@ impl Model for Key {
     ghost inverse = { λ n. record { 0 = n } };
 }
 
-// It prints as the number, as in a map of plain numbers.
+// Prints the number, like the key of a map of plain numbers.
 impl fmt::Debug for Key {
     fn fmt<W: fmt::Write>(&self, f: &mut fmt::Formatter<W>) -> fmt::Result {
         fmt::Debug::fmt(&self.0, f)
@@ -79,8 +78,8 @@ impl Ord for Key {
     }
 }
 
-// The order of a key that isn't greater. A search ends there, once in each node, so this is a call. Inlined,
-// it would be computed for each key.
+// Less or equal. This runs once per node, so it is kept out of line. Inlined, it would be computed
+// for each key.
 #[inline(never)]
 fn not_greater(key: u64, other: u64) -> Ordering
     requires { key ≤ other }

@@ -114,6 +114,6 @@ pub trait Section<R>: From<R> + Sized {
             .map(|offset| (Self::id(), offset))
     }
 
-    // A section that is made from a reader holds it.
+    // A section that is made from a reader holds that reader.
     ghost holds_reader: { (reader : R) (section : Self) → Self.from_gives reader section → section_reader section ≡ reader };
 }

@@ -6,7 +6,7 @@ ghost use Rattle.dwarf_reader_core.specs.Leb128.{unsigned64, unsigned16, signed6
 use crate::reader::Reader;
 use dwarf_base_core::error::Result;
 
-/// Consumes one number of any length, without its value.
+/// Consumes one number of any length, without returning its value.
 ///
 /// # Errors
 ///

@@ -39,7 +39,7 @@ impl Model for Leb128 {
 }
 
 impl Leb128 {
-    /// The bytes of the number.
+    /// Returns the bytes of the number.
     pub fn bytes(&self) -> &[u8]
         ensures value { result.now ≡ self.now }
         ensures encoding { IsEncoding result.now }
@@ -48,7 +48,7 @@ impl Leb128 {
         &self.bytes[..self.len]
     }
 
-    /// How many bytes the number has, from 1 to 10.
+    /// Returns how many bytes the number has, from 1 to 10.
     #[allow(clippy::len_without_is_empty)]
     pub fn len(&self) -> usize
         ensures value { result ≡ length self.now }
@@ -58,8 +58,8 @@ impl Leb128 {
         self.len
     }
 
-    /// The shortest bytes of an unsigned number. Whatever follows them, they are read as the number
-    /// again, and nothing behind them is.
+    /// Returns the shortest bytes of an unsigned number. Reading them back yields the number and
+    /// consumes exactly these bytes, whatever follows.
     pub fn unsigned(value: u64) -> Leb128
         ensures shortest { IsShortest unsigned64 value result }
         ensures within { length result ≤ 10 }
@@ -84,8 +84,8 @@ impl Leb128 {
         }
     }
 
-    /// The shortest bytes of a signed number. Whatever follows them, they are read as the number
-    /// again, and nothing behind them is.
+    /// Returns the shortest bytes of a signed number. Reading them back yields the number and
+    /// consumes exactly these bytes, whatever follows.
     pub fn signed(value: i64) -> Leb128
         ensures shortest { IsShortest signed64 value result }
         ensures within { length result ≤ 10 }
@@ -124,14 +124,14 @@ fn fits_byte(value: i64) -> bool
     -64 <= value && value < 64
 }
 
-/// The number of bytes of the shortest encoding of an unsigned number.
+/// Returns the number of bytes of the shortest encoding of an unsigned number.
 pub fn uleb128_size(value: u64) -> usize
     ensures { IsShortestLength unsigned64 value result }
 {
     Leb128::unsigned(value).len()
 }
 
-/// The number of bytes of the shortest encoding of a signed number.
+/// Returns the number of bytes of the shortest encoding of a signed number.
 pub fn sleb128_size(value: i64) -> usize
     ensures { IsShortestLength signed64 value result }
 {

@@ -1,6 +1,6 @@
 use Rattle.std.specs.Io.KnownBytes.{Consumes}
 use Rattle.dwarf_listing_core.proofs.input.read_input.Given as goal
 
--- the bytes so far are those that the input no longer has
+-- the bytes so far and those that the input still has are those that it had
 abbrev pub invariant-loop : goal.invariant-loop
 invariant-loop g l = Consumes (g.I.Read.remaining l.initial.input) (g.I.Read.remaining l.input) l.bytes.items

@@ -1,7 +1,7 @@
 use Rattle.dwarf_listing_core.proofs.Texts.{AreLaws, one_listing, one_text}
 use Rattle.dwarf_listing_core.proofs.laws.exactly_one_text.Goals as goal
 
--- what the calls of the laws say
+-- the contracts of the laws that were called
 laws : (c : goal.After-exactly_one_shortest) → AreLaws
 laws c = record {
   tables = c.exactly_one_listing.ensures.table;

@@ -1,5 +1,5 @@
 use Rattle.std.proofs.Common.{◌∙◌, rules}
-use Rattle.dwarf_listing_core.proofs.StringLines.{string-ends_inside, string-becomes_line, string-wants_no_memory}
+use Rattle.dwarf_listing_core.proofs.StringLines.{string-ends_inside, string-becomes_line, string_error-not_memory}
 use Rattle.dwarf_listing_core.proofs.lines.string_in_place.Goals as goal
 
 pub index_mut-requires : goal.index_mut-requires
@@ -29,4 +29,4 @@ drain-requires-clause-in_bounds c =
     search (rules, inside)
 
 pub returns-in_err-get_str-clause-memory : goal.returns-in_err-get_str-clause-memory
-returns-in_err-get_str-clause-memory c = search (rules, string-wants_no_memory)
+returns-in_err-get_str-clause-memory c = search (rules, string_error-not_memory)

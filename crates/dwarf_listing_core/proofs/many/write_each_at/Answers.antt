@@ -7,7 +7,7 @@ use Rattle.dwarf_listing_core.specs.declared.arguments.Kind.{Kind}
 use Rattle.dwarf_listing_core.specs.Many.{EndsAt, ListsAll, ListsOne, nothing, one_more}
 use Rattle.dwarf_listing_core.proofs.many.write_each_at.Goals as goal
 
--- the first error is that of the next offset
+-- if the next offset has an error, that is the first error
 first_error : {kind : Kind} {section : List ℕ} {offset : ℕ} {error : Error} {text : List ℕ} (offsets : List ℕ) (i : ℕ)
     → i < length offsets → ListsAll kind section (take i offsets) text → offset ≡ get_or offsets i 0
     → ListsOne kind section (get_or offsets i 0) (Err error) → EndsAt kind section offsets offset error text

@@ -3,7 +3,7 @@ use Rattle.std.specs.Io.KnownBytes.{Appends}
 use Rattle.dwarf_listing_core.specs.Many.{ListsAll}
 use Rattle.dwarf_listing_core.proofs.many.write_each_at.Given as goal
 
--- what is written so far is what is listed at the offsets so far
+-- what was written so far is what the offsets so far list
 abbrev pub invariant-loop-offset : goal.invariant-loop-offset
 invariant-loop-offset g l =
     (text : List ℕ) × ListsAll l.kind l.section (take l.offset-index l.offsets) text

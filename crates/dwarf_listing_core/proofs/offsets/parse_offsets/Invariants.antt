@@ -2,7 +2,7 @@ use Rattle.std.proofs.Common.{◌≡◌, ◌++◌, ℕ, List, length}
 use Rattle.dwarf_listing_core.specs.Offsets.{AreOffsets, lines_of}
 use Rattle.dwarf_listing_core.proofs.offsets.parse_offsets.Given as goal
 
--- the offsets so far are the lines before the rest
+-- the offsets so far are those of the lines before the rest
 abbrev pub invariant-loop-rest : goal.invariant-loop-rest
 invariant-loop-rest l =
     (before : List (List ℕ)) × (lines_of l.fn.input ≡ before ++ lines_of l.rest) × AreOffsets before l.offsets.items

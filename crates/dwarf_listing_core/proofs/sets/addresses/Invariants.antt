@@ -3,7 +3,7 @@ use Rattle.dwarf_listing_core.specs.Sets.{address_listing, sets_section}
 use Rattle.dwarf_listing_core.proofs.SetLines.{AreSetsListed}
 use Rattle.dwarf_listing_core.proofs.sets.addresses.Given as goal
 
--- the text so far, and what is listed of the sets that remain, is what is listed of the section
+-- the text so far, with what the sets that remain list, is what the section lists
 abbrev pub invariant-loop-text : goal.invariant-loop-text
 invariant-loop-text l =
     AreSetsListed address_listing (sets_section l.fn.endian l.section) l.headers l.text.items

@@ -3,7 +3,7 @@ use Rattle.std.specs.Prelude.{OnOk, if◌then◌else◌, is_ok}
 use Rattle.dwarf_listing_core.specs.Sets.{address_header_line}
 use Rattle.dwarf_listing_core.proofs.sets.push_address_header.Goals as goal
 
--- a line is appended unless memory ran out
+-- a line is appended, unless memory ran out
 line_appended : {T E : Type 0} (r : Result T E) (new old bytes line : List ℕ)
     → new ≡ (if is_ok r then old ++ bytes else old) → bytes ≡ line → OnOk r (new ≡ old ++ line)
 line_appended (Ok x) new old bytes line is same = is ∙ ap (λ b. old ++ b) same

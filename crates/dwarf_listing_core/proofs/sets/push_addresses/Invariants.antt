@@ -4,7 +4,7 @@ use Rattle.dwarf_listing_core.specs.Sets.{address_line}
 use Rattle.dwarf_listing_core.proofs.SetLines.{AreListed}
 use Rattle.dwarf_listing_core.proofs.sets.push_addresses.Given as goal
 
--- the addresses so far have their lines, and those that are left stand behind them
+-- the addresses so far have their lines, and those that remain follow them
 abbrev pub invariant-loop-entries : goal.invariant-loop-entries
 invariant-loop-entries g l =
     AreListed fixed address_line l.initial.entries l.entries l.initial.text.items l.text.items

@@ -3,7 +3,7 @@ use Rattle.std.specs.Fmt.{digits_onto}
 use Rattle.dwarf_read_core.specs.ErrorText.{hexadecimal}
 use Rattle.dwarf_listing_core.proofs.sets.put_digits.Given as goal
 
--- the digits of the rest, before those that are put already, are the digits of the number
+-- the digits of the rest, in front of those that were put, are the digits of the number
 abbrev pub invariant-loop-start : goal.invariant-loop-start
 invariant-loop-start l =
     (l.start ≤ 64) × (length l.line ≡ 65)

@@ -3,7 +3,7 @@
 use super::{CUT, UNIT, UNIT_TEXT, check};
 use std::test::Fail;
 
-// Words, an input, and the lengths of its beginnings that have a text, each with its text.
+// Arguments, an input, and the lengths of its beginnings that have a text, each with its text.
 static CUTS: &[(&[&str], &[u8], &[(usize, &[u8])])] = &[
     (
         &["abbrev", "0"],

@@ -1,4 +1,4 @@
-//! Inputs and outputs that give or take one byte a call, are interrupted, and fail.
+//! Inputs and outputs that read or write one byte a call, are interrupted, and fail.
 
 use super::{UNIT, UNIT_TEXT, check, check_outcome, words};
 use crate::run::run;
@@ -6,7 +6,7 @@ use std::io;
 use std::io::{ErrorKind, Read, Write};
 use std::test::Fail;
 
-// The error of a call that fails may be of any kind, also of one that tells of memory.
+// A call may fail with any kind of error, also with one for memory.
 static KINDS: &[ErrorKind] = &[
     ErrorKind::Other,
     ErrorKind::OutOfMemory,
@@ -15,7 +15,7 @@ static KINDS: &[ErrorKind] = &[
     ErrorKind::WouldBlock,
 ];
 
-// A reader that gives one byte a call, and whose every other call is interrupted.
+// A reader that returns one byte a call, and whose every other call is interrupted.
 #[derive(Drop)]
 pub(super) struct InterruptedReader<'a> {
     bytes: &'a [u8],
@@ -42,7 +42,7 @@ impl Read for InterruptedReader<'_> {
     }
 }
 
-// A reader that gives one byte a call, and fails behind so many calls.
+// A reader that returns one byte a call, and fails after so many calls.
 #[derive(Drop)]
 pub(crate) struct FailingReader<'a> {
     bytes: &'a [u8],
@@ -71,7 +71,7 @@ impl Read for FailingReader<'_> {
     }
 }
 
-// The call behind the last byte, which says that there is no other, is one of them.
+// The call behind the last byte, which finds the end, is one of them.
 #[test]
 fn inputs_fail_at_each_call(rt: HostRuntime) -> Result<(), Fail> {
     for kind in KINDS {
@@ -88,7 +88,7 @@ fn inputs_fail_at_each_call(rt: HostRuntime) -> Result<(), Fail> {
     Ok(())
 }
 
-// A writer that takes one byte a call, and fails behind so many calls. A flush is a call too.
+// A writer that writes one byte a call, and fails after so many calls. A flush is a call, too.
 #[derive(Drop)]
 pub(crate) struct FailingWriter {
     calls: usize,

@@ -1,7 +1,7 @@
-//! Runs whose requests for memory are refused.
+//! Runs with failed allocations.
 //!
-//! `tools/fail-alloc` refuses the first request of each of these tests, then the second, and so on.
-//! Without it all requests are granted.
+//! `tools/fail-alloc` makes the first allocation of each of these tests fail, then the second, and
+//! so on. Without it all allocations succeed.
 
 ghost use Rattle.std.specs.Prelude.{◌≤◌};
 
@@ -34,7 +34,7 @@ impl Write for ArrayWriter {
     }
 }
 
-// A run writes the whole text, or tells that memory ran out and writes nothing.
+// A run writes the whole text, or it returns that memory ran out and writes nothing.
 fn check_refused<R: Abort + Print>(
     rt: &R,
     mem: Global,
@@ -56,7 +56,7 @@ fn check_refused<R: Abort + Print>(
     };
     let written = &output.bytes[..output.length];
     check_outcome(rt, mem, outcome, written, wanted)?;
-    // The last request. Where it is refused, each one before it was refused in an earlier run.
+    // The last allocation. If it fails, each one before it failed in an earlier run.
     if Vec::from_slice(mem, &[0u8]).is_err() {
         println!(rt; "every request was refused")?;
     }

@@ -2,7 +2,7 @@ use Rattle.std.proofs.Common.{arith, refl}
 use Rattle.std.proofs.lemmas.Result.{err_from_is_err_and}
 use Rattle.dwarf_read_core.specs.Sets.{addresses_of}
 use Rattle.dwarf_read_core.proofs.sets.Sets.{address_header-four}
-use Rattle.dwarf_read_c.proofs.SetLemmas.{set_found, set_outside, set_refused, set_told}
+use Rattle.dwarf_read_c.proofs.SetLemmas.{set_found, set_outside, set_lacked, set_told}
 use Rattle.dwarf_read_c.proofs.sets.address_set_at.Goals as goal
 
 pub returns-in_err-bytes_from-clause-err : goal.returns-in_err-bytes_from-clause-err
@@ -15,7 +15,7 @@ returns-in_err-header-clause-err c =
     let p = err_from_is_err_and c.from_residual-in_err-header.result c.from_residual-in_err-header.ensures.1 in
     let rest = c.in_ok-bytes_from.ensures.ok in
     let start = rw (c.from-addresses.ensures, rest.left) at c.in_ok-headers.ensures.ok in
-    rw (p.1, p.2) (set_refused start c.in_err-header.ensures.first)
+    rw (p.1, p.2) (set_lacked start c.in_err-header.ensures.first)
 
 pub set_from-requires-clause-within : goal.set_from-requires-clause-within
 set_from-requires-clause-within c =

@@ -4,7 +4,7 @@ use Rattle.std.specs.List.{sum_by}
 use Rattle.dwarf_read_c.specs.Tables.{laid_from}
 use Rattle.dwarf_read_c.proofs.tables.fill_abbreviations.Given as goal
 
--- the abbreviations so far stand in front
+-- the abbreviations so far are at the front of the places
 abbrev pub invariant-loop-abbreviation : goal.invariant-loop-abbreviation
 invariant-loop-abbreviation l = record {
   split : map (λ a. a.now) l.yielded ++ l.abbreviation-iterator ≡ values l.table.by_code;

@@ -4,7 +4,7 @@ use Rattle.std.specs.List.{sum_by}
 use Rattle.dwarf_read_c.specs.Tables.{attributes_in}
 use Rattle.dwarf_read_c.proofs.tables.fill_attributes.Given as goal
 
--- the attributes of the abbreviations so far stand in front
+-- the attributes of the abbreviations so far are at the front of the places
 abbrev pub invariant-loop-abbreviation : goal.invariant-loop-abbreviation
 invariant-loop-abbreviation l = record {
   split : map (λ a. a.now) l.yielded ++ l.abbreviation-iterator ≡ values l.table.by_code;

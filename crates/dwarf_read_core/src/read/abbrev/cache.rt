@@ -41,14 +41,14 @@ impl AbbreviationsCacheStrategy {
     }
 }
 
-// Tables, or the errors in their place, by offset. The units that use a table share it.
+// Tables, or the errors in their place, by offset. All units that use a table share it.
 type TableMap = BTreeMap<Key, Result<Rc<Abbreviations>>>;
 
 /// Tables of abbreviations by their offsets, kept so that a table which several units use is read
 /// once.
 ///
-/// A cache keeps what it was populated with from one section: tables, and the errors that were
-/// read in their place. A table at another offset is read afresh, and isn't kept.
+/// A cache keeps what it was populated with from one section: tables, and the errors in place of
+/// tables. A table at another offset is read each time, and isn't kept.
 ///
 /// ```
 /// let mut cache = AbbreviationsCache::new(mem);
@@ -94,11 +94,12 @@ impl AbbreviationsCache {
     }
 
     /// Reads the tables at the offsets that `strategy` selects from `units`, and keeps them in place
-    /// of all that was kept before. It selects those that occur at least twice, or all of them.
+    /// of all that was kept before. It selects the offsets that occur at least twice, or all of
+    /// them.
     ///
-    /// The first error that `units` yields ends the offsets, and is not returned. If there is an
-    /// error in place of a table, the error is kept. The caller has to make sure that `next` may be
-    /// called on `units`, and that its items end.
+    /// The call stops at the first error from `units`, and returns it only if it is `OutOfMemory`.
+    /// If there is an error in place of a table, the error is kept. The caller has to make sure
+    /// that `next` may be called on `units`, and that its items end.
     ///
     /// The contract knows the offsets by the ghost member `next_gives` of the iterator's type. If
     /// the type leaves this member at the default of the standard library, which allows any items,
@@ -155,7 +156,7 @@ impl AbbreviationsCache {
         Ok(())
     }
 
-    /// Forgets each entry that may be wrong once bytes are appended to the section.
+    /// Drops each entry that may be wrong once bytes are appended to the section.
     ///
     /// A table that a code of value 0 closes is kept, and so is each error except `UnexpectedEof`:
     /// appended bytes don't change these. A table that the section's end closed is dropped, and so
@@ -200,7 +201,7 @@ impl AbbreviationsCache {
     }
 }
 
-// Whether appended bytes leave a result as it is.
+// Whether appended bytes leave a result unchanged.
 fn is_final(answer: &Result<Rc<Abbreviations>>) -> bool
     ensures { result ≡ is_final (answer_of answer.now) }
 {
@@ -230,7 +231,7 @@ fn before_error<T: Drop, I: Iterator<Item = Result<T>>>(mem: Global, items: I) -
     Ok(taken)
 }
 
-// What is read at an offset, with a table that can be shared.
+// Reads the table at an offset, to be shared.
 fn shared_answer<R: Reader>(
     mem: Global,
     debug_abbrev: &DebugAbbrev<R>,
@@ -247,7 +248,7 @@ fn shared_answer<R: Reader>(
     }
 }
 
-// What is read at the offsets that occur often enough. Each is read as soon as it does.
+// Reads the table at each offset that occurs often enough, as soon as it does.
 fn entries_kept<R: Reader>(
     mem: Global,
     strategy: AbbreviationsCacheStrategy,
@@ -277,7 +278,7 @@ fn entries_kept<R: Reader>(
     Ok(entries)
 }
 
-// Counts a key once more, and returns how often it has been counted.
+// Counts a key once more, and returns how often it was counted.
 fn count_once_more(counts: &mut BTreeMap<Key, usize>, key: Key) -> Result<usize>
     requires { unwrap_or (get nat_cmp counts.old key) 0 + 1 < 2 ^ 64 }
     ensures count { IfOk result (λ count. count ≡ unwrap_or (get nat_cmp counts.old key) 0 + 1) }

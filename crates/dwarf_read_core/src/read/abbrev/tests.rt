@@ -1,5 +1,5 @@
-//! Where abbreviations and their attributes are, and which bytes remain after the parsers, which no public
-//! call tells.
+//! Where abbreviations and their attributes are, and which bytes remain after the parsers. No
+//! public call shows this.
 
 ghost use Rattle.std.specs.Prelude.{◌≡◌};
 
@@ -30,7 +30,7 @@ fn table_of(mem: Global, codes: &[u64]) -> Result<Abbreviations> {
     Ok(table)
 }
 
-// Codes in the order in which they are added, and how many of them are in the vector.
+// Codes in the order in which they are added, and how many of them the vector has.
 static ORDERS: &[(&[u64], usize)] = &[
     (&[1, 2], 2),
     (&[2, 3], 0),
@@ -101,7 +101,7 @@ fn slice(bytes: &[u8]) -> EndianSlice<'_, LittleEndian> {
     EndianSlice::new(bytes, LittleEndian)
 }
 
-// The attributes `DW_AT_name` in the form `DW_FORM_string`, so many times.
+// `count` attributes `DW_AT_name` in the form `DW_FORM_string`.
 fn attributes(mem: Global, count: usize) -> std::result::Result<Attributes, AllocError> {
     let mut attributes = Attributes::new(mem);
     for _ in 0..count {

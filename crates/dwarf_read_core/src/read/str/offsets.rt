@@ -14,7 +14,7 @@ use dwarf_reader_core::Reader;
 use std::alloc::AllocError;
 use std::marker::Model;
 
-// The version of every set: earlier standards have none.
+// The version of every set. Earlier standards have no sets.
 const VERSION: u16 = 5;
 
 /// The sets of string offsets that remain of a section, each by its header.
@@ -44,7 +44,7 @@ impl<R: Reader> Model for StrOffsetsHeaderIter<R> {
 }
 
 impl<R: Reader> StrOffsetsHeaderIter<R> {
-    /// The sets of a whole section.
+    /// Returns the sets of a whole section.
     pub(super) fn new(input: R) -> Self
         ensures { result ≡ record { offset = 0; rest = R.view input } }
     {
@@ -98,7 +98,7 @@ impl<R: Reader> StrOffsetsHeaderIter<R> {
         let before = self.input.len();
         match StrOffsetsHeader::parse(&mut self.input, self.offset) {
             Err(error) => {
-                // Nothing says where another set would begin.
+                // Nothing says where the next set would begin.
                 self.input.empty();
                 Err(error)
             }

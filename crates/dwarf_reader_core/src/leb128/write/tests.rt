@@ -1,9 +1,9 @@
-//! The seven bits of a byte, which no public call tells alone.
+//! The seven bits of a byte, which no public call returns alone.
 
 use super::low_bits_of_u64;
 use crate::leb128::low_bits_of_byte;
 
-// What stands above the seven bits changes nothing.
+// Bits above the seven lowest change nothing.
 #[test]
 fn seven_bits_are_taken(rt: HostRuntime) {
     for digit in 0..127u8 {

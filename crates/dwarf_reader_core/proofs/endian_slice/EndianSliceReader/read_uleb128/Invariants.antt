@@ -3,7 +3,7 @@ use Rattle.dwarf_reader_core.specs.Input.{Input}
 use Rattle.dwarf_reader_core.proofs.Reading.{Begun}
 use Rattle.dwarf_reader_core.proofs.endian_slice.EndianSliceReader.read_uleb128.Given as goal
 
--- as many bytes as the index says were taken, the number goes on, and the byte order is the same
+-- the loop has consumed as many bytes as the index, all continued, and the byte order is unchanged
 abbrev pub invariant-loop-index : goal.invariant-loop-index
 invariant-loop-index g l =
     let old : Input = record {

@@ -3,7 +3,7 @@ use Rattle.dwarf_reader_core.specs.Input.{Input, TakesByte}
 use Rattle.dwarf_reader_core.specs.Leb128.{NoneIsLast}
 use Rattle.dwarf_reader_core.proofs.endian_slice.EndianSliceReader.skip_leb128.Given as goal
 
--- behind the first byte, none before the index is the last
+-- none of the bytes behind the first and before the index is the last of the encoding
 abbrev pub invariant-loop-index : goal.invariant-loop-index
 invariant-loop-index g l =
     let old : Input = record {

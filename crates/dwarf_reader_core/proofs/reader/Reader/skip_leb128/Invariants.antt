@@ -2,7 +2,7 @@ use Rattle.std.proofs.Common.{◌≡◌, ℕ, length}
 use Rattle.dwarf_reader_core.proofs.Reading.{Begun}
 use Rattle.dwarf_reader_core.proofs.reader.Reader.skip_leb128.Given as goal
 
--- some bytes were taken, the number goes on, and the byte order is the same
+-- the loop has consumed some bytes, all continued, and the byte order is unchanged
 abbrev pub invariant-loop-byte : goal.invariant-loop-byte
 invariant-loop-byte g l =
     let view = g.Self.Reader.view in

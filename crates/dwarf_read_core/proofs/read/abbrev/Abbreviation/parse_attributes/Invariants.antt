@@ -4,7 +4,7 @@ use Rattle.dwarf_read_core.specs.Reading.{attributes_in}
 use Rattle.dwarf_read_core.proofs.tables.ReadingAttributes.{with_front}
 use Rattle.dwarf_read_core.proofs.read.abbrev.Abbreviation.parse_attributes.Given as goal
 
--- the specifications so far and those that remain are all of them
+-- the specifications so far and those that are read behind them are all of the declaration
 abbrev pub invariant-attributes : goal.invariant-attributes
 invariant-attributes g l =
     let view = g.R.Reader.view in

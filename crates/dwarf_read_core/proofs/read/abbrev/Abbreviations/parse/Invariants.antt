@@ -5,7 +5,7 @@ use Rattle.dwarf_read_core.specs.Grammar.{by_end}
 use Rattle.dwarf_read_core.specs.Reading.{declaration_at, table_in}
 use Rattle.dwarf_read_core.proofs.read.abbrev.Abbreviations.parse.Given as goal
 
--- what is still read, beside the declarations so far, is the whole table
+-- the declarations so far and what is read behind them are the whole table
 abbrev pub invariant-declarations : goal.invariant-declarations
 invariant-declarations g l =
     let view = g.R.Reader.view in

@@ -2,19 +2,19 @@ use Rattle.std.proofs.Common.{refl, rules, ◌≡◌, ◌==◌, true, false, ◌
 use Rattle.dwarf_read_core.specs.Grammar.{implicit_const}
 use Rattle.dwarf_read_core.specs.Reading.{specification_at, value_at}
 use Rattle.dwarf_read_core.proofs.ResultLemmas.{gives_err}
-use Rattle.dwarf_read_core.proofs.tables.ReadingNumbers.{number_refused, number_read, end_stays}
+use Rattle.dwarf_read_core.proofs.tables.ReadingNumbers.{number_not_read, number_read, end_stays}
 use Rattle.dwarf_read_core.proofs.read.abbrev.AttributeSpecification.parse.Goals as goal
 
 pub returns-in_err-read_uleb128_u16-clause-read : goal.returns-in_err-read_uleb128_u16-clause-read
 unfolding specification_at
 returns-in_err-read_uleb128_u16-clause-read g c =
-    gives_err _ _ c.from_residual.ensures.1 (λ memory. rw (number_refused c.in_err-read_uleb128_u16.ensures.err) refl)
+    gives_err _ _ c.from_residual.ensures.1 (λ memory. rw (number_not_read c.in_err-read_uleb128_u16.ensures.err) refl)
 
 pub returns-in_err-read_uleb128_u16-2-clause-read : goal.returns-in_err-read_uleb128_u16-2-clause-read
 unfolding specification_at
 returns-in_err-read_uleb128_u16-2-clause-read g c =
     let name = c.in_ok-read_uleb128_u16.ensures.ok in
-    let h = number_refused c.in_err-read_uleb128_u16-2.ensures.err in
+    let h = number_not_read c.in_err-read_uleb128_u16-2.ensures.err in
     gives_err _ _ c.from_residual-in_err-read_uleb128_u16-2.ensures.1
     (λ memory. rw (number_read _ name, rw (end_stays name) at h) refl)
 
@@ -23,7 +23,7 @@ unfolding specification_at value_at
 returns-in_err-value-in_default-DW_FORM_implicit_const-clause-read g c =
     let name = c.in_ok-read_uleb128_u16.ensures.ok in
     let form = c.in_ok-read_uleb128_u16-2.ensures.ok in
-    let h = number_refused c.in_err-value-in_default-DW_FORM_implicit_const.ensures.err in
+    let h = number_not_read c.in_err-value-in_default-DW_FORM_implicit_const.ensures.err in
     let named : (c.in_ok-read_uleb128_u16.field-0 == 0) ≡ false = search rules in
     let formed : (c.in_ok-read_uleb128_u16-2.field-0 == 0) ≡ false = search rules in
     let implicit : (c.in_ok-read_uleb128_u16-2.field-0 == implicit_const) ≡ true = search rules in

@@ -1,5 +1,5 @@
 use Rattle.std.proofs.Common.{rules}
-use Rattle.dwarf_read_core.proofs.cache.FirstItem.{first_item-of_want}
+use Rattle.dwarf_read_core.proofs.cache.FirstItem.{first_item-of_memory_error}
 use Rattle.dwarf_read_core.proofs.read.abbrev.cache.before_error.Goals as goal
 
 pub returns-in-Err-OutOfMemory-clause-some : goal.returns-in-Err-OutOfMemory-clause-some
@@ -7,5 +7,5 @@ returns-in-Err-OutOfMemory-clause-some g c =
     let loop = c.loop-item in
     let whole = c.into_iter-item-iterator in
     rw (← whole.ensures.into_iter_gives)
-    (first_item-of_want g.I.Iterator.next_gives whole.result loop.item-iterator _ loop.yielded loop.taken.items
+    (first_item-of_memory_error g.I.Iterator.next_gives whole.result loop.item-iterator _ loop.yielded loop.taken.items
     c.in-Some.item (search rules) loop.invariant.2 loop.yielded_by c.in-Some.ensures.steps)

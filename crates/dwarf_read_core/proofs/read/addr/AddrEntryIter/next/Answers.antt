@@ -1,6 +1,6 @@
 use Rattle.std.proofs.Common.{ap, inl, rules}
 use Rattle.dwarf_reader_core.specs.Input.{Input}
-use Rattle.dwarf_read_core.proofs.sets.Entries.{address_fault, address_first}
+use Rattle.dwarf_read_core.proofs.sets.Entries.{address_error_first, address_first}
 use Rattle.dwarf_read_core.proofs.read.addr.AddrEntryIter.next.Goals as goal
 
 pub returns-in-Ok-clause-first : goal.returns-in-Ok-clause-first
@@ -9,5 +9,5 @@ returns-in-Ok-clause-first g c =
 
 pub returns-in-Err-clause-first : goal.returns-in-Err-clause-first
 returns-in-Err-clause-first g c =
-    rw (← c.self.view_is) (inl (address_fault _ _ _ c.self.inside.encoding.sized
+    rw (← c.self.view_is) (inl (address_error_first _ _ _ c.self.inside.encoding.sized
     (search rules) c.in-Err.ensures.err (ap (λ (i : Input). i.bytes) c.empty.ensures.left)))

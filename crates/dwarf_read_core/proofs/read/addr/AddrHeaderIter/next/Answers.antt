@@ -1,7 +1,7 @@
 use Rattle.std.proofs.Common.{rules, ap}
 use Rattle.dwarf_reader_core.specs.Input.{Input}
 use Rattle.dwarf_read_core.specs.Sets.{address_header}
-use Rattle.dwarf_read_core.proofs.sets.Sets.{address_header-four, set_first, set_refused, set_refused_stays, set_stays}
+use Rattle.dwarf_read_core.proofs.sets.Sets.{address_header-four, set_first, set_error_first, set_error_stays, set_stays}
 use Rattle.dwarf_read_core.proofs.read.addr.AddrHeaderIter.next.Goals as goal
 
 pub returns-in-Ok-clause-first : goal.returns-in-Ok-clause-first
@@ -27,13 +27,13 @@ returns-in-Ok-clause-stable g c =
 pub returns-in-Err-clause-first : goal.returns-in-Err-clause-first
 returns-in-Err-clause-first g c =
     rw (← c.self.view_is)
-    (set_refused address_header _
+    (set_error_first address_header _
     (record { offset = g.R.Offset.ReaderOffset.value c.self.inside.offset.0; rest = g.R.Reader.view c.self.inside.input })
     _ _ (search rules) c.in-Err.ensures.err (ap (λ (i : Input). i.bytes) c.empty.ensures.left))
 
 pub returns-in-Err-clause-stable : goal.returns-in-Err-clause-stable
 returns-in-Err-clause-stable g c = λ settled more.
     rw (← c.self.view_is)
-    (set_refused_stays address_header _
+    (set_error_stays address_header _
     (record { offset = g.R.Offset.ReaderOffset.value c.self.inside.offset.0; rest = g.R.Reader.view c.self.inside.input })
     _ (search rules) c.in-Err.ensures.err settled more)

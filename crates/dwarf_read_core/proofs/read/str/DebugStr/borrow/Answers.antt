@@ -1,4 +1,4 @@
--- The one call is at the section's data, and the new section holds what it returned.
+-- `borrow` is called once, with the section's data, and the new section holds what it returned.
 use Rattle.std.proofs.Common.{sym}
 use Rattle.std.proofs.lemmas.Fn.{called_at}
 use Rattle.dwarf_read_core.proofs.read.str.DebugStr.borrow.Goals as goal

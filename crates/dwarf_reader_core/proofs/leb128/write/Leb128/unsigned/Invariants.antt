@@ -4,7 +4,7 @@ use Rattle.dwarf_reader_core.proofs.Shortest.{IsLeast}
 use Rattle.dwarf_reader_core.proofs.Buffers.{HasRoom}
 use Rattle.dwarf_reader_core.proofs.leb128.write.Leb128.unsigned.Given as goal
 
--- whatever is shortest for the rest completes the number
+-- the bytes so far, with the shortest encoding of the rest behind them, are the shortest of the number
 abbrev pub invariant-digits : goal.invariant-digits
 invariant-digits l = record {
   completes : (tail : List ℕ) → IsLeast unsigned_value l.rest tail

@@ -3,7 +3,7 @@ use Rattle.dwarf_read_core.specs.Cache.{least_count}
 use Rattle.dwarf_read_core.specs.Sections.{debug_abbrev_reader}
 use Rattle.dwarf_read_core.proofs.cache.FaithfulToSection.{faithful_of_kept}
 use Rattle.dwarf_read_core.proofs.cache.FirstItem.{first_item-of_items}
-use Rattle.dwarf_read_core.proofs.cache.NoMemoryError.{no_want_answers}
+use Rattle.dwarf_read_core.proofs.cache.NoMemoryError.{no_memory_error_answers}
 use Rattle.dwarf_read_core.proofs.cache.EntriesAsMap.{get-shown, shown}
 use Rattle.dwarf_read_core.proofs.read.abbrev.cache.AbbreviationsCache.populate.Goals as goal
 
@@ -27,7 +27,8 @@ returns-clause-faithful g c =
 
 pub invariant_of-self : goal.invariant_of-self
 invariant_of-self g c =
-    no_want_answers (least_count c.args.strategy) (g.R.Reader.view (debug_abbrev_reader c.args.debug_abbrev.now))
+    no_memory_error_answers (least_count c.args.strategy)
+    (g.R.Reader.view (debug_abbrev_reader c.args.debug_abbrev.now))
     (map (λ offset. g.R.Offset.ReaderOffset.value offset.0) c.deref.result.now)
     (shown c.in_ok-entries.entries.entries)
     (λ key. rw (get-shown c.in_ok-entries.entries.entries key) (c.in_ok-entries.ensures.ok key))

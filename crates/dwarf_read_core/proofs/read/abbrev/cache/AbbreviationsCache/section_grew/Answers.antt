@@ -3,7 +3,7 @@ use Rattle.std.specs.FinMap.{get}
 use Rattle.std.proofs.lemmas.Map.Made.{filter_same_pairs}
 use Rattle.dwarf_read_core.specs.Cache.{Cache, answer_of, is_final, still_kept}
 use Rattle.dwarf_read_core.proofs.cache.FaithfulToSection.{faithful_of_final}
-use Rattle.dwarf_read_core.proofs.cache.NoMemoryError.{no_want_final}
+use Rattle.dwarf_read_core.proofs.cache.NoMemoryError.{no_memory_error_final}
 use Rattle.dwarf_read_core.proofs.cache.EntriesAsMap.{shown, get-shown-final}
 use Rattle.dwarf_read_core.proofs.read.abbrev.cache.AbbreviationsCache.section_grew.Goals as goal
 
@@ -22,7 +22,7 @@ invariant_of-self c =
     let new = c.retain.new.self.entries in
     let retained = filter_same_pairs _ (λ entry. is_final (answer_of entry.1)) _
     (λ k v b w f' t. search rules) old new c.retain.ensures.filtered in
-    no_want_final (shown old) (shown new)
+    no_memory_error_final (shown old) (shown new)
     (get-shown-final old new retained c.retain.ensures.was_ordered) c.self.invariant
 
 pub returns-clause-faithful : goal.returns-clause-faithful

@@ -1,6 +1,6 @@
 use Rattle.std.proofs.Common.{ap, inl, rules}
 use Rattle.dwarf_reader_core.specs.Input.{Input}
-use Rattle.dwarf_read_core.proofs.sets.Entries.{string_offset_fault, string_offset_first}
+use Rattle.dwarf_read_core.proofs.sets.Entries.{string_offset_error_first, string_offset_first}
 use Rattle.dwarf_read_core.proofs.read.str.offsets.StrOffsetsEntryIter.next.Goals as goal
 
 pub returns-in-Ok-clause-first : goal.returns-in-Ok-clause-first
@@ -9,5 +9,5 @@ returns-in-Ok-clause-first g c =
 
 pub returns-in-Err-clause-first : goal.returns-in-Err-clause-first
 returns-in-Err-clause-first g c =
-    rw (← c.self.view_is) (inl (string_offset_fault _ _ _ _ (search rules) c.in-Err.ensures.err
+    rw (← c.self.view_is) (inl (string_offset_error_first _ _ _ _ (search rules) c.in-Err.ensures.err
     (ap (λ (i : Input). i.bytes) c.empty.ensures.left)))
