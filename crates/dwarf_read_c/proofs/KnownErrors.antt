@@ -5,16 +5,17 @@ use Rattle.std.specs.Prelude.{IfErr, nat_lt}
 use Rattle.dwarf_read_core.specs.declared.Error.{Error}
 use Rattle.dwarf_read_core.specs.declared.Error.TheVariants.{OutOfMemory, UnknownReservedLength}
 use Rattle.dwarf_read_core.specs.declared.Format.{Format}
-use Rattle.dwarf_read_core.specs.declared.Format.TheVariants.{Dwarf32, Dwarf64}
+use Rattle.dwarf_read_core.specs.declared.Format.TheVariants.{Dwarf32}
 use Rattle.dwarf_read_core.specs.Answer.{Answer, Answers, IsFault, IsFaulty, number_cut, number_bad, children_cut, tag_zero, children_bad, name_zero, form_zero, in_declaration, repeated, outside as table_outside, table, fault}
 use Rattle.dwarf_read_core.specs.Grammar.{Table}
 use Rattle.dwarf_read_core.specs.Entries.{string_offset}
 use Rattle.dwarf_read_core.specs.Faults.{eof}
+use Rattle.dwarf_read_core.specs.InitialLength.{initial_length, long_length}
 use Rattle.dwarf_read_core.specs.Input.{Input}
-use Rattle.dwarf_read_core.specs.Layout.{Layout, fixed, pure, refuse, when◌then◌else◌, ◌>>=◌}
+use Rattle.dwarf_read_core.specs.Layout.{Layout, pure, refuse, when◌then◌else◌}
 use Rattle.dwarf_read_core.proofs.LayoutErrors.{Names, At_error_has, error_has, number_names, byte_names, when_names, check_names}
 use Rattle.dwarf_read_core.specs.Leb128.{Kind, unsigned64, unsigned16, signed64, refusal}
-use Rattle.dwarf_read_core.specs.Sets.{address_header, initial_length, set, string_offsets_header}
+use Rattle.dwarf_read_core.specs.Sets.{address_header, set, string_offsets_header}
 use Rattle.dwarf_read_core.specs.Strings.{StringAt, string_at}
 use Rattle.dwarf_read_core.specs.Words.{Slot, WordAt, AddressAt, to_slot, word, address}
 use Rattle.dwarf_read_c.specs.Fault.{IsKnown, kind_of}
@@ -83,12 +84,9 @@ pub known_address :
 known_address greatest s section answer is =
     At_error_has IsKnown known_end (address greatest s) (address_known greatest s) section is
 
--- an initial length behind its first four bytes: that of either format, or a reserved one
+-- a length of the 32-bit format, and a reserved one
 abbrev short_length : ℕ → Layout (Format × ℕ)
 short_length short = pure (Dwarf32, short)
-
-abbrev long_length : Layout (Format × ℕ)
-long_length = fixed 8 >>= λ long. pure (Dwarf64, long)
 
 abbrev reserved : ℕ → Layout (Format × ℕ)
 reserved short = refuse (UnknownReservedLength short)
@@ -97,19 +95,21 @@ reserved short = refuse (UnknownReservedLength short)
 reserved_known : (short : ℕ) → NamesKnown (reserved short)
 reserved_known short = omega arith
 
--- the length behind the mark of the 64-bit format contains no error
-long_length_known : NamesKnown long_length
-long_length_known = (number_names IsKnown 8, λ long. tt)
+-- a length of the 64-bit format that is no offset has an error with a number of its own
+long_length_known : (greatest : ℕ) → NamesKnown (long_length greatest)
+unfolding long_length
+long_length_known greatest =
+    (number_names IsKnown 8, λ long. (check_names IsKnown _ _ (omega arith), λ fits. tt))
 
 -- each error of an initial length has a number of its own
-initial_length_known : NamesKnown initial_length
+initial_length_known : (greatest : ℕ) → NamesKnown (initial_length greatest)
 unfolding initial_length
-initial_length_known = (
+initial_length_known greatest = (
   number_names IsKnown 4,
   λ short. when_names IsKnown (nat_lt short 0xffff_fff0) (short_length short)
-      (when nat_lt short 0xffff_ffff then reserved short else long_length) tt
-      (when_names IsKnown (nat_lt short 0xffff_ffff) (reserved short) long_length
-      (reserved_known short) long_length_known),
+      (when nat_lt short 0xffff_ffff then reserved short else long_length greatest) tt
+      (when_names IsKnown (nat_lt short 0xffff_ffff) (reserved short) (long_length greatest)
+      (reserved_known short) (long_length_known greatest)),
 )
 
 -- each error of the header of a set of addresses has a number of its own
@@ -145,7 +145,7 @@ string_offsets_header_known = (
 set_known : {H : Type 0} (header : Layout H) (offset : ℕ) → NamesKnown header → NamesKnown (set_at header offset)
 unfolding set
 set_known header offset law =
-    (initial_length_known, λ initial. (check_names IsKnown _ _ (omega arith), λ _. (tt, λ unit. (law, λ said. tt))))
+    (initial_length_known _, λ initial. (tt, λ unit. (law, λ said. tt)))
 
 -- the error in place of a set has a number of its own, if each error of the header has
 lacked_set_known : {H : Type 0} {header : Layout H} {section : Input} {offset : ℕ} {e : Error} → NamesKnown header

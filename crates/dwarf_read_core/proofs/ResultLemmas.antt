@@ -28,12 +28,6 @@ pub gives_err : {X Y : Type 0} (view : X → Y) {read : Result Y Error} {e : Err
 gives_err view (Ok x) h step = absurd h
 gives_err view {read = read} (Err x) h step = λ memory. rw h (step (λ q. memory (h ∙ q)))
 
--- an error that `?` propagates has each property that it had before
-pub propagated-err : {X : Type 0} (P : Error → Type 0) {e : Error} (result : Result X Error)
-    → IsErrAnd result (λ x. x ≡ e) → P e → IfErr result P
-propagated-err P (Ok x) h is = tt
-propagated-err P (Err x) h is = subst P (sym h) is
-
 -- a result isn't both a value and an error
 pub ok_is_no_error : {A : Type 0} (r : Result A Error) (e : Error) → IsOk r → IsErrOf r e → ⊥
 ok_is_no_error (Ok x) e ok err = cc

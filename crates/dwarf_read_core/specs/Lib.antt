@@ -22,6 +22,7 @@ pub use Rattle.dwarf_const_core.specs.DwForm
 pub use Rattle.dwarf_const_core.specs.DwTag
 pub use Rattle.dwarf_reader_core.specs.Appended
 pub use Rattle.dwarf_reader_core.specs.Faults
+pub use Rattle.dwarf_reader_core.specs.InitialLength
 pub use Rattle.dwarf_reader_core.specs.Input
 pub use Rattle.dwarf_reader_core.specs.Layout
 pub use Rattle.dwarf_reader_core.specs.Leb128

@@ -10,7 +10,7 @@ use Rattle.dwarf_base_core.specs.declared.error.Error.{Error}
 use Rattle.dwarf_reader_core.specs.Appended.{followed_by, IsNoEof}
 use Rattle.dwarf_reader_core.specs.Faults.{EndsBefore, Lacks, end_fault}
 use Rattle.dwarf_reader_core.specs.Input.{Input, after, first, Takes, TakesByte, TakesNumber, TakesString, IsFirst}
-use Rattle.dwarf_reader_core.specs.Layout.{Layout, read, and_then, with_byte, split_at, before_end, fixed, byte, part, ended, pure, refuse, when◌then◌else◌, check, ◌>>=◌, inside, At, alone}
+use Rattle.dwarf_reader_core.specs.Layout.{Layout, read, remains, remains_behind, or_unread, FailsAt, and_then, with_byte, split_at, before_end, fixed, byte, part, ended, pure, refuse, when◌then◌else◌, check, ◌>>=◌, inside, At, alone}
 use Rattle.dwarf_reader_core.specs.Once.{HasOne}
 use Rattle.dwarf_reader_core.proofs.Reading.{after-after}
 
@@ -180,6 +180,47 @@ module _ {B : Type 0} where
     pub no_inside : {e : Error} → read g unit ≡ Err e → read (inside unit g >>= f) old ≡ Err e
     unfolding read
     no_inside is = rw is refl
+
+-- ---- errors, and what remains then
+
+module _ {A B : Type 0} {p : Layout A} {f : A → Layout B} {old : Input} where
+  -- an error behind a value that is read is the error of both
+  pub fails_behind : {mid new : Input} {x : A} {e : Error} → read p old ≡ Ok (x, mid) → FailsAt (f x) mid e new
+      → FailsAt (p >>= f) old e new
+  unfolding remains
+  fails_behind is h = record {
+    fault = then_reads p f old is ∙ h.fault;
+    left = h.left ∙ sym (ap (λ (s : Outcome A). remains_behind s (remains p old) (λ x. remains (f x.0) x.1)) is);
+  }
+
+  -- an error of the first is the error of both
+  pub fails_first : {new : Input} {e : Error} → FailsAt p old e new → FailsAt (p >>= f) old e new
+  unfolding remains
+  fails_first h = record {
+    fault = then_fails p f old h.fault;
+    left = h.left
+        ∙ sym (ap (λ (s : Outcome A). remains_behind s (remains p old) (λ x. remains (f x.0) x.1)) h.fault);
+  }
+
+-- a number whose bytes are missing is an error, and nothing is consumed
+pub number_fails_at : {n : ℕ} {old new : Input} {e : Error} → EndsBefore n old e new → FailsAt (fixed n) old e new
+unfolding fixed remains
+number_fails_at {n} {old} short =
+    fails_first (record {
+      fault = part_fails short;
+      left = short.left ∙ sym (ap (λ (s : Outcome Input). or_unread s old) (part_fails short));
+    })
+
+-- an error without bytes consumes none
+pub refuse_fails_at : {A : Type 0} (e : Error) (old : Input) → FailsAt (refuse {A = A} e) old e old
+unfolding remains
+refuse_fails_at e old = record { fault = refuse_fails e old; left = refl }
+
+-- a test that doesn't hold is its error, and consumes no bytes
+pub check_fails_at : {b : Bool} {error e : Error} (old : Input) → b ≡ false → e ≡ error
+    → FailsAt (check b error) old e old
+unfolding check
+check_fails_at {error = error} old fails same = rw (fails, same) (refuse_fails_at error old)
 
 -- ---- what was read
 

@@ -11,5 +11,6 @@ pub mod SignedBits
 pub mod Buffers
 pub mod Bytes
 pub mod Once
+pub mod Results
 pub mod Layouts
 pub mod LayoutErrors

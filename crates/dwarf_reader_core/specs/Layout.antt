@@ -50,7 +50,31 @@ read (refuse e) old = Err e
 read (inside unit f) old = and_then (read f unit) (λ x. Ok (x, old))
 read (p >>= f) old = and_then (read p old) (λ x. read (f x.0) x.1)
 
--- a number of as many bytes as the width
+-- what remains behind the value or the error of a first layout, and then of what follows it
+abbrev pub remains_behind : {A : Type 0} → Result (A × Input) Error → Input → (A × Input → Input) → Input
+remains_behind (Ok x) failed next = next x
+remains_behind (Err e) failed next = failed
+
+-- what remains behind a value, or before a field that fails
+abbrev pub or_unread : {A : Type 0} → Result (A × Input) Error → Input → Input
+or_unread (Ok x) old = x.1
+or_unread (Err e) old = old
+
+-- what remains of an input: the bytes behind the last field, or those from the first field on that fails
+unfoldable pub remains : {A : Type 0} → Layout A → Input → Input
+remains (part n) old = or_unread (read (part n) old) old
+remains (ended end) old = or_unread (read (ended end) old) old
+remains (pure a) old = old
+remains (refuse e) old = old
+remains (inside unit f) old = old
+remains (p >>= f) old = remains_behind (read p old) (remains p old) (λ x. remains (f x.0) x.1)
+
+-- an error, and what remains then
+pub record FailsAt {A : Type 0} (f : Layout A) (old : Input) (e : Error) (new : Input) : Type 0 where
+  pub fault : read f old ≡ Err e
+  pub left : new ≡ remains f old
+
+-- the number that so many bytes are
 unfoldable pub fixed : ℕ → Layout ℕ
 fixed width = part width >>= λ i. pure (number_of i.is_big i.bytes)
 

@@ -5,7 +5,8 @@ ghost use Rattle.dwarf_base_core.specs.declared.common.Format.{Format};
 ghost use Rattle.dwarf_base_core.specs.declared.error.Error.{Error};
 ghost use Rattle.dwarf_reader_core.specs.Input.{Input, TakesString};
 ghost use Rattle.dwarf_reader_core.specs.Faults.{Lacks};
-ghost use Rattle.dwarf_reader_core.specs.InitialLength.{TakesLength, RefusesLength};
+ghost use Rattle.dwarf_reader_core.specs.InitialLength.{initial_length};
+ghost use Rattle.dwarf_reader_core.specs.Layout.{At};
 ghost use Rattle.dwarf_reader_core.specs.Leb128.{unsigned64, unsigned16, signed64, HasNumber, HasOutcome, IsEncoding, Kind, Number, is_in_range, limit};
 ghost use Rattle.dwarf_reader_core.specs.Once.{HasOne};
 ghost use Rattle.dwarf_reader_core.specs.Shortest.{Encodes, IsShortest};
@@ -48,18 +49,7 @@ pub fn one_string()
         ⊎ ((e : Error) × Lacks 0 old e) }
 {}
 
-/// Bytes either begin with exactly one initial length, or have exactly one error in its place.
+/// Bytes begin with exactly one initial length, or one error.
 pub fn one_length()
-    ensures taken { (greatest m n : ℕ) (old x y : Input) (f g : Format)
-        → TakesLength greatest old m f x → TakesLength greatest old n g y
-        → (m ≡ n) × (f ≡ g) × (x ≡ y) }
-    ensures refused { (greatest : ℕ) (old x y : Input) (d e : Error)
-        → RefusesLength greatest old d x → RefusesLength greatest old e y → (d ≡ e) × (x ≡ y) }
-    ensures either { (greatest n : ℕ) (old x y : Input) (f : Format) (e : Error)
-        → TakesLength greatest old n f x → RefusesLength greatest old e y → ⊥ }
-    ensures some { (greatest : ℕ) (old : Input) → All (λ b. b < 256) old.bytes
-        → ((n : ℕ) × (f : Format) × (x : Input) × TakesLength greatest old n f x)
-        ⊎ ((e : Error) × (x : Input) × RefusesLength greatest old e x) }
-{
-    numbers_of_bytes();
-}
+    ensures { (greatest : ℕ) (old : Input) → HasOne (At (initial_length greatest) old) }
+{}

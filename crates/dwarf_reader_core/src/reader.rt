@@ -9,7 +9,8 @@ ghost use Rattle.dwarf_base_core.specs.Format.{word_size};
 ghost use Rattle.dwarf_reader_core.specs.Input.{Input, after, first, IsPartOf, IsBounded, IsFirst, Covers, Takes, TakesByte, TakesNumber, TakesSigned, TakesString};
 ghost use Rattle.dwarf_reader_core.specs.Faults.{EndsBefore, IsNoAddressSize, IsNoOffset, Lacks, RefusesAddress, RefusesOffset, WantsMemory, is_number_size};
 ghost use Rattle.dwarf_reader_core.specs.Leb128.{unsigned64, unsigned16, signed64, IsOver, LacksEncoding, ReadsNumber, RefusesNumber, TakesEncoding};
-ghost use Rattle.dwarf_reader_core.specs.InitialLength.{TakesLength, RefusesLength};
+ghost use Rattle.dwarf_reader_core.specs.InitialLength.{initial_length};
+ghost use Rattle.dwarf_reader_core.specs.Layout.{read, FailsAt};
 
 use crate::leb128::{
     MAX_TENTH_BYTE, MAX_THIRD_BYTE, has_continuation_bit, has_sign_bit, with_digit, with_sign,
@@ -550,12 +551,11 @@ pub trait Reader: Debug + Drop + Sized {
     ///   are consumed.
     #[inline]
     fn read_initial_length(&mut self) -> Result<(Self::Offset, Format)>
-        ensures ok { IfOk result
-            (λ found. TakesLength Self.Offset.GREATEST (view self.old)
-            (Self.Offset.value found.0) found.1 (view self.new)) }
+        ensures ok { let length = initial_length Self.Offset.GREATEST in IfOk result (λ found.
+            read length (view self.old) ≡ Ok ((found.1, Self.Offset.value found.0), view self.new)) }
         ensures in_range { IfOk result (λ found. Self.Offset.value found.0 ≤ Self.Offset.GREATEST) }
-        ensures err { IfErr result
-            (λ e. RefusesLength Self.Offset.GREATEST (view self.old) e (view self.new)) }
+        ensures err { let length = initial_length Self.Offset.GREATEST in
+            IfErr result (λ e. FailsAt length (view self.old) e (view self.new)) }
         ensures order { order self.new ≡ order self.old }
     {
         const FIRST_RESERVED: u32 = 0xffff_fff0;

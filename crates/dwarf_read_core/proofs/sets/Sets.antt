@@ -11,12 +11,12 @@ use Rattle.dwarf_base_core.specs.declared.error.Error.TheVariants.{UnknownReserv
 use Rattle.dwarf_base_core.specs.Format.{initial_length_size}
 use Rattle.dwarf_reader_core.specs.Faults.{EndsBefore, WantsMemory}
 use Rattle.dwarf_reader_core.specs.Input.{Input, after, first, Takes, TakesNumber}
-use Rattle.dwarf_reader_core.specs.InitialLength.{BeginsDwarf64, TakesLength, RefusesLength}
+use Rattle.dwarf_reader_core.specs.InitialLength.{initial_length, long_length}
 use Rattle.dwarf_reader_core.specs.Once.{HasOne}
 use Rattle.dwarf_reader_core.specs.Appended.{IsNoEof}
 use Rattle.dwarf_read_core.specs.Items.{ComesFirst, least_taken}
 use Rattle.dwarf_reader_core.specs.Layout.{Layout, read, none, fault, part, inside, pure, ◌>>=◌}
-use Rattle.dwarf_read_core.specs.Sets.{initial_length, Set, set, IsJoined, address_header, string_offsets_header, Headers, StandsForSets, followed_headers}
+use Rattle.dwarf_read_core.specs.Sets.{Set, set, IsJoined, address_header, string_offsets_header, Headers, StandsForSets, followed_headers}
 use Rattle.dwarf_reader_core.proofs.Layouts.{Outcome, then_reads, then_fails, error_is, pure_reads, refuse_fails, after_number, no_number, after_part, no_part, after_check, no_check, after_inside, no_inside, read_more, error_more}
 use Rattle.dwarf_reader_core.proofs.Layouts.{Spans, TakesLeast, spanned, number_spans, byte_spans, check_spans, pure_spans, refuse_spans, when_spans, then_spans, part_spans, inside_spans, then_read, check_read, part_read, inside_read, pure_read}
 use Rattle.dwarf_read_core.proofs.sets.ItemLists.{items-exactly_one, items-bounded, item-first, error-first, item-stays, error-stays, bytes-still_some}
@@ -24,22 +24,21 @@ use Rattle.dwarf_read_core.proofs.sets.ItemLists.{items-exactly_one, items-bound
 -- ---- how many bytes a set has
 
 -- an initial length consumes as many bytes as its format says
-pub initial_length-spans : Spans 0 (λ i. initial_length_size i.0) initial_length
-unfolding initial_length
-initial_length-spans =
+pub initial_length-spans : (greatest : ℕ) → Spans 0 (λ i. initial_length_size i.0) (initial_length greatest)
+unfolding initial_length long_length
+initial_length-spans greatest =
     then_spans (number_spans 4)
     (λ short. when_spans (nat_lt short 0xffff_fff0) (pure_spans refl)
     (when_spans (nat_lt short 0xffff_ffff) refuse_spans
-    (then_spans (number_spans 8) (λ long. pure_spans refl))))
+    (then_spans (number_spans 8) (λ long. then_spans (check_spans _ _) (λ fits. pure_spans refl)))))
 
 -- a set consumes the bytes of its initial length and as many as that length says
 pub set-spans : {H : Type 0} (header : Layout H) (greatest offset : ℕ)
     → Spans 0 (λ s. initial_length_size s.format + s.unit_length) (set header greatest offset)
 unfolding set
 set-spans header greatest offset =
-    then_spans initial_length-spans (λ initial. then_spans (check_spans _ _)
-    (λ fits. then_spans (part_spans initial.1)
-    (λ unit. then_spans (inside_spans unit header) (λ said. pure_spans (omega arith)))))
+    then_spans (initial_length-spans greatest) (λ initial. then_spans (part_spans initial.1)
+    (λ unit. then_spans (inside_spans unit header) (λ said. pure_spans (omega arith))))
 
 -- the header has four bytes
 abbrev pub HasFour : {H : Type 0} → Layout H → Type 0
@@ -60,24 +59,22 @@ pub set-parts : {H : Type 0} {header : Layout H} (greatest offset : ℕ) → Has
 unfolding set
 set-parts greatest offset header_four old is =
     let initial = then_read _ _ _ is in
-    let fits = then_read _ _ _ initial.3 in
-    let unit = then_read _ _ _ fits.3 in
+    let unit = then_read _ _ _ initial.3 in
     let said = then_read _ _ _ unit.3 in
-    let front = spanned initial_length-spans old initial.2 in
+    let front = spanned (initial_length-spans greatest) old initial.2 in
     let part = part_read _ _ unit.2 in
     let taken = spanned header_four unit.0 (inside_read _ _ _ said.2).0 in
     subst (HasParts old) (sym (pure_read _ _ said.3).0) (record {
       four = omega (
         arith,
         ap (λ (i : Input). length i.bytes) part.0,
-        length-take-le (initial.0).1 (fits.1).bytes part.1.enough,
+        length-take-le (initial.0).1 (initial.1).bytes part.1.enough,
         taken.enough,
       );
       place = omega (
         arith,
         same_place taken.left,
         same_place part.0,
-        same_place (check_read _ _ _ fits.2).1,
         same_place front.left,
       );
     })
@@ -99,21 +96,19 @@ pub set-joined : {H : Type 0} {header : Layout H} (greatest offset : ℕ) → Ha
 unfolding set
 set-joined greatest offset header_four old {new = new} is =
     let initial = then_read _ _ _ is in
-    let fits = then_read _ _ _ initial.3 in
-    let unit = then_read _ _ _ fits.3 in
+    let unit = then_read _ _ _ initial.3 in
     let said = then_read _ _ _ unit.3 in
-    let front = spanned initial_length-spans old initial.2 in
+    let front = spanned (initial_length-spans greatest) old initial.2 in
     let part = part_read _ _ unit.2 in
     let inner = inside_read _ _ _ said.2 in
     let taken = spanned header_four unit.0 inner.0 in
     let last = pure_read _ _ said.3 in
-    let size = length-take-le (initial.0).1 (fits.1).bytes part.1.enough in
-    let measured : (fits.1).bytes ≡ unit.0.bytes ++ unit.1.bytes = taken_front part.1
+    let size = length-take-le (initial.0).1 (initial.1).bytes part.1.enough in
+    let measured : (initial.1).bytes ≡ unit.0.bytes ++ unit.1.bytes = taken_front part.1
     ∙ ap (λ (i : Input). i.bytes ++ unit.1.bytes) (sym part.0) in
     let behind : new.bytes ≡ unit.1.bytes = ap (λ (i : Input). i.bytes) (last.1 ∙ inner.1) in
     let joined : (initial.1).bytes ≡ (take 4 unit.0.bytes ++ said.0.1.bytes) ++ new.bytes =
-    ap (λ (i : Input). i.bytes) (sym (check_read _ _ _ fits.2).1) ∙ measured
-    ∙ ap (λ (b : List ℕ). b ++ unit.1.bytes) (taken_front taken)
+    measured ∙ ap (λ (b : List ℕ). b ++ unit.1.bytes) (taken_front taken)
     ∙ ap (λ (b : List ℕ). (take 4 unit.0.bytes ++ said.0.1.bytes) ++ b) (sym behind) in
     subst (λ s. IsJoined old s new) (sym last.0) (record {
       initial = take (initial_length_size (initial.0).0) old.bytes;
@@ -146,47 +141,12 @@ string_offsets_header-four =
 
 -- ---- a set, by what a reader reads
 
--- a length in the 64-bit format is read by the layout of initial lengths
-long_length-reads : {old new : Input} {n : ℕ} → BeginsDwarf64 old → TakesNumber 8 (after 4 old) n new
-    → read initial_length old ≡ Ok ((Dwarf64, n), new)
-unfolding initial_length
-long_length-reads begins takes = after_number _ begins (after_number _ takes (pure_reads _ _))
-
--- an initial length that a reader reads is read by its layout
-initial_length-reads : (greatest : ℕ) (old : Input) (n : ℕ) (format : Format) (new : Input)
-    → TakesLength greatest old n format new → read initial_length old ≡ Ok ((format, n), new)
-unfolding initial_length
-initial_length-reads greatest old n Dwarf32 new takes =
-    after_number _ takes.0 (rw (lt-ltb n 0xffff_fff0 takes.1) (pure_reads _ _))
-initial_length-reads greatest old n Dwarf64 new takes = long_length-reads takes.0 takes.1
-
--- a reserved number is the error of an initial length
-reserved-fails : {old new : Input} {n : ℕ} → TakesNumber 4 old n new → nat_lt n 0xffff_fff0 ≡ false
-    → nat_lt n 0xffff_ffff ≡ true → read initial_length old ≡ Err (UnknownReservedLength n)
-unfolding initial_length
-reserved-fails taken low high = after_number _ taken (rw (low, high) (refuse_fails _ _))
-
--- an initial length fails if it is cut
-short_length-fails : {old new : Input} {e : Error}
-    → EndsBefore 4 old e new ⊎ (BeginsDwarf64 old × EndsBefore 8 (after 4 old) e new) → read initial_length old ≡ Err e
-unfolding initial_length
-short_length-fails (inl short) = no_number _ short
-short_length-fails (inr (begins, short)) = after_number _ begins (no_number _ short)
-
 module _ {H : Type 0} (header : Layout H) (greatest offset : ℕ) (old : Input) where
   -- a set fails with the error of its initial length
-  pub set_length_fails : {e : Error} (new : Input) → RefusesLength greatest old e new
+  pub set_length_fails : {e : Error} → read (initial_length greatest) old ≡ Err e
       → read (set header greatest offset) old ≡ Err e
   unfolding set
-  set_length_fails new (inl short) = then_fails _ _ _ (short_length-fails (inl short))
-  set_length_fails new (inr (inl reserved)) =
-      error_is reserved.fault (then_fails _ _ _ (reserved-fails reserved.taken
-      (le-ltb reserved.number 0xffff_fff0 reserved.low) (lt-ltb reserved.number 0xffff_ffff reserved.high)))
-  set_length_fails new (inr (inr (inl short))) = then_fails _ _ _ (short_length-fails (inr (short.begins, short.rest)))
-  set_length_fails new (inr (inr (inr unfit))) =
-      error_is unfit.rest.fault
-      (then_reads _ _ _ (long_length-reads unfit.begins unfit.rest.taken)
-      ∙ no_check _ _ _ (lt-leb unfit.rest.number greatest unfit.rest.over))
+  set_length_fails fails = then_fails _ _ _ fails
 
   -- what follows the initial length of a set
   abbrev behind_length : Format → ℕ → Layout (Set H)
@@ -194,15 +154,13 @@ module _ {H : Type 0} (header : Layout H) (greatest offset : ℕ) (old : Input) 
       part n >>= λ unit. inside unit header >>= λ said. pure
       (record { offset = offset; format = format; unit_length = n; header = said.0; entries = said.1 })
 
-  module _ (n : ℕ) (format : Format) (behind : Input) (takes : TakesLength greatest old n format behind)
-      (fits : n ≤ greatest) where
+  module _ (n : ℕ) (format : Format) (behind : Input)
+      (is : read (initial_length greatest) old ≡ Ok ((format, n), behind)) where
     -- a set is read by reading what follows its initial length
     after_length : {r : Outcome (Set H)} → read (behind_length format n) behind ≡ r
         → read (set header greatest offset) old ≡ r
     unfolding set
-    after_length rest =
-        then_reads _ _ _ (initial_length-reads greatest old n format behind takes)
-        ∙ after_check _ _ _ (le-leb n greatest fits) rest
+    after_length rest = then_reads _ _ _ is ∙ rest
 
     -- a set fails if fewer bytes remain than its length says
     pub set_part_fails : {e : Error} (new : Input) → EndsBefore n behind e new

@@ -1,10 +1,6 @@
-use Rattle.dwarf_reader_core.proofs.Once.{one_length as len, one_length_error, length_or_none, some_length}
+use Rattle.dwarf_reader_core.proofs.Layouts.{At_one}
+use Rattle.dwarf_reader_core.specs.InitialLength.{initial_length}
 use Rattle.dwarf_reader_core.proofs.laws.one_length.Goals as goal
 
 pub returns : goal.returns
-returns c = record {
-  taken = len;
-  refused = one_length_error;
-  either = length_or_none;
-  some = some_length c.numbers_of_bytes.ensures.bounded;
-}
+returns c greatest old = At_one (initial_length greatest) old
