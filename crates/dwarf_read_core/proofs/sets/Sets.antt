@@ -155,12 +155,12 @@ module _ {H : Type 0} (header : Layout H) (greatest offset : ℕ) (old : Input) 
       (record { offset = offset; format = format; unit_length = n; header = said.0; entries = said.1 })
 
   module _ (n : ℕ) (format : Format) (behind : Input)
-      (is : read (initial_length greatest) old ≡ Ok ((format, n), behind)) where
+      (measured : read (initial_length greatest) old ≡ Ok ((format, n), behind)) where
     -- a set is read by reading what follows its initial length
     after_length : {r : Outcome (Set H)} → read (behind_length format n) behind ≡ r
         → read (set header greatest offset) old ≡ r
     unfolding set
-    after_length rest = then_reads _ _ _ is ∙ rest
+    after_length rest = then_reads _ _ _ measured ∙ rest
 
     -- a set fails if fewer bytes remain than its length says
     pub set_part_fails : {e : Error} (new : Input) → EndsBefore n behind e new
