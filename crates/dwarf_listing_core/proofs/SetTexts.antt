@@ -165,8 +165,7 @@ pub address_size : (greatest offset : ℕ) (old new : Input) (s : Set ℕ)
 unfolding set
 address_size greatest offset old new s h =
     let initial = then_read _ _ _ h in
-    let fits = then_read _ _ _ initial.3 in
-    let unit = then_read _ _ _ fits.3 in
+    let unit = then_read _ _ _ initial.3 in
     let said = then_read _ _ _ unit.3 in
     rw (pure_read _ _ said.3).0 (header_size unit.0 (inside_read _ _ _ said.2).0)
 

@@ -91,8 +91,8 @@ set-elsewhere : {H : Type 0} (header : Layout H) (offset : ℕ) (old : Input)
     → read (set_at header offset) old ≡ moved_to offset (read (set_at header 0) old)
 unfolding set
 set-elsewhere {H} header offset old =
-    then-made _ _ _ move (λ initial. then-made _ _ _ move (λ fits. then-made _ _ _ move
-    (λ unit. then-made _ _ _ move (λ said. pure-made move _)))) old
+    then-made _ _ _ move (λ initial. then-made _ _ _ move
+    (λ unit. then-made _ _ _ move (λ said. pure-made move _))) old
   where
     move : Set H → Set H
     move s = record s { offset = offset }
