@@ -551,11 +551,11 @@ pub trait Reader: Debug + Drop + Sized {
     ///   are consumed.
     #[inline]
     fn read_initial_length(&mut self) -> Result<(Self::Offset, Format)>
-        ensures ok { let length = initial_length Self.Offset.GREATEST in IfOk result (λ found.
-            read length (view self.old) ≡ Ok ((found.1, Self.Offset.value found.0), view self.new)) }
+        ensures ok { let f = initial_length Self.Offset.GREATEST in IfOk result (λ found.
+            read f (view self.old) ≡ Ok ((found.1, Self.Offset.value found.0), view self.new)) }
         ensures in_range { IfOk result (λ found. Self.Offset.value found.0 ≤ Self.Offset.GREATEST) }
-        ensures err { let length = initial_length Self.Offset.GREATEST in
-            IfErr result (λ e. FailsAt length (view self.old) e (view self.new)) }
+        ensures err { let f = initial_length Self.Offset.GREATEST in
+            IfErr result (λ e. FailsAt f (view self.old) e (view self.new)) }
         ensures order { order self.new ≡ order self.old }
     {
         const FIRST_RESERVED: u32 = 0xffff_fff0;
