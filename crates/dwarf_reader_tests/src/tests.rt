@@ -1,19 +1,16 @@
-//! The public calls of each crate, by worked answers.
+//! The public calls of each crate, by worked results.
 
-use dwarf_base_core::LittleEndian;
-use dwarf_reader_core::EndianSlice;
 use std::alloc::Global;
-use std::fmt;
-use std::fmt::Debug;
+use std::fmt::{Debug, Display};
 use std::hash::{DefaultHasher, Hash, Hasher};
 use std::process::Abort;
 
-// A constant, its value, the published value, and its name.
-type Row<T> = (T, u64, u64, &'static str);
+// A constant, the constant of the published value, and its name.
+type Row<T> = (T, T, &'static str);
 
 macro_rules! published {
-    ($($constant:ident = $value:literal),* $(,)?) => {
-        [$(($constant, $constant.0 as u64, $value, stringify!($constant))),*]
+    ($of:ident; $($constant:ident = $value:literal),* $(,)?) => {
+        [$(($constant, $of($value), stringify!($constant))),*]
     };
 }
 
@@ -34,13 +31,8 @@ fn same<T: PartialEq + Debug + Drop, W: Debug + Copy>(rt: &impl Abort, got: T, w
     assert_eq!(rt; got, wanted, "{what:?}");
 }
 
-// A reader of these bytes, at position 0.
-fn little(bytes: &[u8]) -> EndianSlice<'_, LittleEndian> {
-    EndianSlice::new(bytes, LittleEndian)
-}
-
-// Makes the last request for memory of a test whose requests `tools/fail-alloc` refuses in turn. Where
-// it is refused, each one before it was refused in an earlier run of the test.
+// Makes the last allocation of a test whose allocations `tools/fail-alloc` makes fail in turn. If it fails, each one
+// before it failed in an earlier run of the test.
 fn end_requests(rt: &impl Print, mem: Global) {
     if Vec::from_slice(mem, &[0u8]).is_err() {
         let _ = println!(rt; "every request was refused");
@@ -54,9 +46,13 @@ fn hash_of<T: Hash>(value: &T) -> u64 {
 }
 
 // Each constant has the published value, and prints as its name.
-fn check_rows<T: fmt::Display + Copy>(rt: &impl Abort, mem: Global, rows: &[Row<T>]) {
-    for (constant, value, published, name) in rows {
-        same(rt, *value, *published, name);
+fn check_rows<T: Display + Copy + PartialEq + Debug + Drop>(
+    rt: &impl Abort,
+    mem: Global,
+    rows: &[Row<T>],
+) {
+    for (constant, published, name) in rows {
+        same(rt, *constant, *published, name);
         match format!(in mem; "{constant}") {
             Ok(text) => same(rt, text.as_str(), *name, name),
             Err(_) => assert!(rt; false, "{name}"),

@@ -1,4 +1,4 @@
-//! The public calls of dwarf_read_core and dwarf_uses, each by worked answers.
+//! The public calls of dwarf_read_core and dwarf_uses, each by worked results.
 
 use dwarf_read_core::{EndianSlice, Endianity, Error, LittleEndian, ReaderOffsetId, Result};
 use std::alloc::Global;
@@ -32,7 +32,7 @@ mod strings;
 mod tables;
 mod worked;
 
-// Ends the test where an answer isn't the one that is wanted, and tells of what it is the answer.
+// Ends the test if a result isn't the one that is wanted, and tells what it is the result of.
 fn same<T: PartialEq + Debug + Drop, W: Debug + Copy>(rt: &impl Abort, got: T, wanted: T, what: W) {
     assert_eq!(rt; got, wanted, "{what:?}");
 }
@@ -57,8 +57,8 @@ fn little(bytes: &[u8]) -> EndianSlice<'_, LittleEndian> {
     EndianSlice::new(bytes, LittleEndian)
 }
 
-// Makes the last request for memory of a test whose requests `tools/fail-alloc` refuses in turn. Where
-// it is refused, each one before it was refused in an earlier run of the test.
+// Makes the last allocation of a test whose allocations `tools/fail-alloc` makes fail in turn. If it fails, each one
+// before it failed in an earlier run of the test.
 fn end_requests(rt: &impl Print, mem: Global) {
     if Vec::from_slice(mem, &[0u8]).is_err() {
         let _ = println!(rt; "every request was refused");

@@ -120,42 +120,39 @@ fn later_codes_name_their_values(rt: HostRuntime) {
     check_names(&rt, &names);
 }
 
+// A pointer encoding, and whether it is valid, absent and indirect.
+static ENCODINGS: &[(u8, (bool, bool, bool))] = &[
+    (0x11, (true, false, false)),
+    (0x00, (true, false, false)),
+    (0xff, (true, true, true)),
+    (0x9b, (true, false, true)),
+    (0x1d, (false, false, false)),
+    (0x5d, (false, false, false)),
+    (0x60, (false, false, false)),
+    (0x87, (false, false, true)),
+];
+
+fn told(encoding: DwEhPe) -> (bool, bool, bool) {
+    (
+        encoding.is_valid_encoding(),
+        encoding.is_absent(),
+        encoding.is_indirect(),
+    )
+}
+
 #[test]
 fn pointer_encodings_are_taken_apart(rt: HostRuntime) {
     let relative = DwEhPe(0x11);
-    for (part, wanted, what) in [
-        (relative.format(), DW_EH_PE_uleb128, "format of 0x11"),
-        (
-            relative.application(),
-            DW_EH_PE_pcrel,
-            "application of 0x11",
-        ),
-        (DW_EH_PE_uleb128 | DW_EH_PE_pcrel, relative, "0x11"),
-        (
-            DW_EH_PE_indirect | DW_EH_PE_pcrel | DW_EH_PE_sdata4,
-            DwEhPe(0x9b),
-            "0x9b",
-        ),
-    ] {
-        same(&rt, part, wanted, what);
-    }
-    for (value, is_valid, is_absent, is_indirect) in [
-        (0x11, true, false, false),
-        (0x00, true, false, false),
-        (0xff, true, true, true),
-        (0x9b, true, false, true),
-        (0x1d, false, false, false),
-        (0x5d, false, false, false),
-        (0x60, false, false, false),
-        (0x87, false, false, true),
-    ] {
-        let encoding = DwEhPe(value);
-        let told = (
-            encoding.is_valid_encoding(),
-            encoding.is_absent(),
-            encoding.is_indirect(),
-        );
-        assert_eq!(rt; told, (is_valid, is_absent, is_indirect), "{value:#x}");
+    let parts = [
+        relative.format(),
+        relative.application(),
+        DW_EH_PE_uleb128 | DW_EH_PE_pcrel,
+        DW_EH_PE_indirect | DW_EH_PE_pcrel | DW_EH_PE_sdata4,
+    ];
+    let wanted = [DW_EH_PE_uleb128, DW_EH_PE_pcrel, relative, DwEhPe(0x9b)];
+    same(&rt, parts, wanted, "format, application, 0x11 and 0x9b");
+    for (value, wanted) in ENCODINGS {
+        same(&rt, told(DwEhPe(*value)), *wanted, value);
     }
 }
 

@@ -232,7 +232,7 @@ fn next_header<R: Reader>(headers: &mut AddrHeaderIter<R>) -> Result<AddrHeader<
     headers.next()?.ok_or(Error::NoEntryAtGivenOffset(0))
 }
 
-// Appends the addresses of a set, up to the first fault.
+// Appends the addresses of a set, up to the first error.
 fn append<R: Reader>(header: &AddrHeader<R>, addresses: &mut Vec<u64>) -> Result<()> {
     for address in header.entries()? {
         push(address, addresses)?;
@@ -248,7 +248,7 @@ fn append_set<R: Reader>(header: Result<AddrHeader<R>>, addresses: &mut Vec<u64>
     append(&header?, addresses)
 }
 
-// Appends the addresses of a section's sets, up to the first fault.
+// Appends the addresses of a section's sets, up to the first error.
 pub(super) fn walk<R: Reader>(section: &DebugAddr<R>, addresses: &mut Vec<u64>) -> Result<()> {
     for header in section.headers()? {
         append_set(header, addresses)?;
@@ -311,7 +311,7 @@ fn answers_of_copy<R: Reader + Clone + PartialEq>(header: &AddrHeader<R>) -> Res
     Ok((copy == *header, addresses_of_copy(&copy.entries()?)?))
 }
 
-// What a copied iterator over sets returns, and the answers of a copy of the first set.
+// What a copied iterator over sets returns, and the results of a copy of the first set.
 fn answers_of_copies<R: Reader + Clone + PartialEq>(
     section: &DebugAddr<R>,
 ) -> Result<(Four, (bool, Four))> {

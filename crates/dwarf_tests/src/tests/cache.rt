@@ -275,14 +275,14 @@ fn populated(mem: Global) -> Result<AbbreviationsCache> {
     Ok(cache)
 }
 
-// The code is the one that is wanted, or memory for a fresh reading was refused.
+// The code is the one that is wanted, or memory for a fresh reading ran out.
 fn code_or_refused(rt: &impl Abort, code: Result<u64>, wanted: u64, what: &str) {
     if code != Err(Error::OutOfMemory) {
         same(rt, code, Ok(wanted), what);
     }
 }
 
-// With requests for memory that are refused, a refused call leaves the old cache.
+// A call whose allocation fails leaves the old cache.
 #[test]
 fn refused_memory_for_one_table(rt: HostRuntime) {
     if let Ok(mut cache) = populated(rt.alloc()) {

@@ -1,4 +1,4 @@
-//! The examples of the documentation, each as it stands there. `tools/doc-examples` compares them.
+//! The examples of the documentation, each as it is there. `tools/doc-examples` compares them.
 
 use super::same;
 use super::worked::{STRINGS, TWO_SETS, UNIT};

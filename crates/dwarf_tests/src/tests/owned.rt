@@ -1,4 +1,4 @@
-//! The owned reader: 32-bit offsets, and clones that are refused.
+//! The owned reader: 32-bit offsets, and clones that fail.
 
 use super::addresses::{lengths_of, walk};
 use super::worked::{FOUR_ADDRESSES, STRINGS, TWO_SETS, UNIT};
@@ -221,7 +221,7 @@ fn count_of_addresses<R: Reader>(mem: Global, section: &DebugAddr<R>) -> Result<
 // What a call of each kind returns.
 type Answers = [Result<Answer>; 8];
 
-// The answers of these readers' sections.
+// The results of these readers' sections.
 fn answers_of<R: Reader>(mem: Global, tables: R, strings: R, addresses: R) -> Answers {
     let (tables, strings) = (DebugAbbrev::from(tables), DebugStr::from(strings));
     answers_in(mem, &tables, &strings, &DebugAddr::from(addresses))
@@ -246,7 +246,7 @@ fn answers_in<R: Reader>(
     ]
 }
 
-// The answers where clones may go so deep. A call at a concrete reader takes long to prove, so there is one
+// The results where clones may go so deep. A call at a concrete reader takes long to prove, so there is one
 // for all kinds.
 fn answers_at(mem: Global, depth: u8) -> Result<Answers> {
     let tables = owned(mem, UNIT, depth)?;
@@ -255,7 +255,7 @@ fn answers_at(mem: Global, depth: u8) -> Result<Answers> {
     Ok(answers_of(mem, tables, strings, addresses))
 }
 
-// Appends the addresses of all sets of an owned section, up to the first fault.
+// Appends the addresses of all sets of an owned section, up to the first error.
 fn append(addresses: &DebugAddr<Owned>, found: &mut Vec<u64>) -> Result<()> {
     walk(addresses, found)
 }
@@ -298,7 +298,7 @@ fn fault_of_next<R: Reader>(headers: &mut AddrHeaderIter<R>) -> Result<Option<Er
     }
 }
 
-// An iterator that returned want of memory has no other item.
+// An iterator that returned OutOfMemory has no other item.
 #[test]
 fn refused_clones_end_a_walk(rt: HostRuntime) -> std::result::Result<(), Fail> {
     let mem = rt.alloc();
@@ -313,8 +313,7 @@ fn refused_clones_end_a_walk(rt: HostRuntime) -> std::result::Result<(), Fail> {
     Ok(())
 }
 
-// With requests for memory that are refused, the addresses up to some are there, and all where the
-// outcome isn't want of memory.
+// If an allocation fails, the addresses up to some are there, and all if the outcome isn't OutOfMemory.
 #[test]
 fn refused_memory_for_clones(rt: HostRuntime) {
     let mem = rt.alloc();
@@ -331,7 +330,7 @@ fn refused_memory_for_clones(rt: HostRuntime) {
     end_requests(&rt, mem);
 }
 
-// Where a request for memory is refused, no set follows it.
+// No set follows an allocation that failed.
 #[test]
 fn refused_memory_for_headers(rt: HostRuntime) {
     if let Ok(sets) = lengths(rt.alloc(), TWO_SETS, 3) {

@@ -19,7 +19,7 @@ static RANGES: &[(u32, u32, Result<(&[u8], u64)>)] = &[
     (1, u32::MAX, Err(Error::UnexpectedEof(ReaderOffsetId(1)))),
 ];
 
-// Ends the test where a range of a section has other bytes, another position or another fault.
+// Ends the test where a range of a section has other bytes, another position or another error.
 fn check_range<R: Reader, S: Section<R> + Drop>(
     rt: &impl Abort,
     section: &S,

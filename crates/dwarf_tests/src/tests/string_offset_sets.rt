@@ -156,7 +156,7 @@ fn answers_of_copy<R: Reader + Clone + PartialEq>(
     Ok((copy == *header, offsets_of_copy(&copy.entries()?)?))
 }
 
-// What a copied iterator over sets returns, and the answers of a copy of the first set.
+// What a copied iterator over sets returns, and the results of a copy of the first set.
 fn answers_of_copies<R: Reader + Clone + PartialEq>(
     section: &DebugStrOffsets<R>,
 ) -> Result<(Four, (bool, Four))> {
@@ -174,7 +174,7 @@ fn copies_are_read_alike(rt: HostRuntime) {
     same(&rt, copies, Ok((lengths, (true, offsets))), "copies");
 }
 
-// The answers of a section with the offset 2^32, whose reader counts in 32 bits and whose clones may go so deep.
+// The results of a section with the offset 2^32, whose reader counts in 32 bits and whose clones may go so deep.
 fn large_answers(mem: Global, depth: u8) -> Result<Answers> {
     let bytes = LARGE_OFFSET.to_vec(mem)?;
     let reader = OwnedReader::new(mem, bytes, LittleEndian, depth);

@@ -325,8 +325,7 @@ fn copies_are_equal(rt: HostRuntime) -> std::result::Result<(), Fail> {
     Ok(())
 }
 
-// With requests for memory that are refused, a call returns the whole table or want of memory, and
-// the table only where it asks for none.
+// If an allocation fails, a call returns the whole table or OutOfMemory, and the table alone if it allocates nothing.
 #[test]
 fn refused_memory_for_a_table(rt: HostRuntime) {
     let rows: [(&[u8], usize); 5] = [
@@ -351,7 +350,7 @@ fn refused_memory_for_a_table(rt: HostRuntime) {
     end_requests(&rt, rt.alloc());
 }
 
-// A copy of the table and of each of its abbreviations is whole, or memory for it was refused.
+// A copy of the table and of each of its abbreviations is whole, or memory for it ran out.
 fn copied_or_refused(rt: &impl Abort, table: &Abbreviations) {
     match table.try_clone() {
         Ok(copy) => assert!(rt; copy.iter().eq(table.iter())),
@@ -525,78 +524,158 @@ fn place_of(byte: u8) -> usize {
     10
 }
 
-// Prefixes, and for each number of bytes behind it the checksum of all readings. A program that
-// shares nothing with the library prints them, `tools/answers.py`.
-static CHECKSUMS: &[(&[u8], [u64; 5])] = &[
+// A byte behind a prefix, the result of both and those with one more byte of the alphabet behind them, two characters
+// each, and the checksums of the results with two and with three bytes behind them.
+type Row = (u8, &'static str, u32, u32);
+
+// A prefix, its result, and its rows. A program that shares nothing with the library prints them, `tools/answers.py`.
+static RESULTS: &[(&[u8], &str, &[Row])] = &[
     (
         b"",
-        [
-            0x088e_7a07_b539_b6d0,
-            0x3c23_8509_5569_1680,
-            0x59a3_fe3b_ae5a_6365,
-            0x5054_dfc0_3815_a5a7,
-            0x24ea_00d1_81fa_46d5,
+        "e0",
+        &[
+            (0x00, "n0n0n0n0n0n0n0n0n0", 0x2d50_07c5, 0xe567_edc5),
+            (0x01, "E.t.E.E.E.E.E.E.E.", 0x2793_3d7f, 0xcd03_53b7),
+            (0x02, "E.t.E.E.E.E.E.E.E.", 0x2793_3d7f, 0xcd03_53b7),
+            (0x11, "E.t.E.E.E.E.E.E.E.", 0x2793_3d7f, 0xcd03_53b7),
+            (0x21, "E.t.E.E.E.E.E.E.E.", 0x2793_3d7f, 0xcd03_53b7),
+            (0x7f, "E.t.E.E.E.E.E.E.E.", 0x2793_3d7f, 0xcd03_53b7),
+            (0x80, "E.n0E.E.E.E.E.E.E.", 0xd11d_d2c5, 0xda8a_a8a7),
+            (0xff, "E.E.E.E.E.E.E.E.E.", 0x68b4_23c5, 0x47cb_4421),
         ],
     ),
     (
         b"\x01\x11\0",
-        [
-            0x08fa_f807_b595_abca,
-            0xe5c7_cfdd_8133_0475,
-            0xae66_7df4_85a6_a73c,
-            0x7efe_d658_acbb_55b3,
-            0xcd18_a197_db6c_15cb,
+        "E.",
+        &[
+            (0x00, "E.e1N.N.N.N.N.E.E.", 0x179f_418d, 0xce61_53de),
+            (0x01, "E.F.E.E.E.E.E.E.E.", 0x1ec2_e976, 0x648f_56e6),
+            (0x02, "E.F.E.E.E.E.E.E.E.", 0x1ec2_e976, 0x648f_56e6),
+            (0x11, "E.F.E.E.E.E.E.E.E.", 0x1ec2_e976, 0x648f_56e6),
+            (0x21, "E.F.E.E.E.E.E.E.E.", 0x1ec2_e976, 0x648f_56e6),
+            (0x7f, "E.F.E.E.E.E.E.E.E.", 0x1ec2_e976, 0x648f_56e6),
+            (0x80, "E.E.E.E.E.E.E.E.E.", 0xc9fc_6e5c, 0xb83e_ead3),
+            (0xff, "E.E.E.E.E.E.E.E.E.", 0xa7c0_1725, 0x8c10_fb25),
         ],
     ),
     (
         b"\x01\x11\0\x03\x21",
-        [
-            0x08fa_f807_b595_abca,
-            0xe5c7_cfdd_8133_0475,
-            0x6a1d_4bc7_97ac_13a5,
-            0x6d0b_bb21_e9b8_ea3d,
-            0x9798_f9e4_d929_a909,
+        "E.",
+        &[
+            (0x00, "E.E.E.E.E.E.E.E.E.", 0xbb68_27fc, 0x3575_5af3),
+            (0x01, "E.E.E.E.E.E.E.E.E.", 0xbb68_27fc, 0x3575_5af3),
+            (0x02, "E.E.E.E.E.E.E.E.E.", 0xbb68_27fc, 0x3575_5af3),
+            (0x11, "E.E.E.E.E.E.E.E.E.", 0xbb68_27fc, 0x3575_5af3),
+            (0x21, "E.E.E.E.E.E.E.E.E.", 0xbb68_27fc, 0x3575_5af3),
+            (0x7f, "E.E.E.E.E.E.E.E.E.", 0xbb68_27fc, 0x3575_5af3),
+            (0x80, "E.E.E.E.E.E.E.E.E.", 0x3c4c_b645, 0x8c18_809d),
+            (0xff, "E.E.E.E.E.E.E.E.E.", 0x3c4c_b645, 0x8c18_809d),
         ],
     ),
     (
         b"\x01\x11\0\0\0",
-        [
-            0x088e_7b07_b539_b883,
-            0x0f60_e5aa_5bac_a3cf,
-            0xeae3_3091_1fcb_cfae,
-            0xbd25_b5de_abd7_d7c8,
-            0xef3c_9deb_d526_a746,
+        "e1",
+        &[
+            (0x00, "n1n1n1n1n1n1n1n1n1", 0xc9fe_c345, 0x4f81_c9c5),
+            (0x01, "E.t.E.E.E.E.E.E.E.", 0x2793_3d7f, 0xcd03_53b7),
+            (0x02, "E.t.E.E.E.E.E.E.E.", 0x2793_3d7f, 0xcd03_53b7),
+            (0x11, "E.t.E.E.E.E.E.E.E.", 0x2793_3d7f, 0xcd03_53b7),
+            (0x21, "E.t.E.E.E.E.E.E.E.", 0x2793_3d7f, 0xcd03_53b7),
+            (0x7f, "E.t.E.E.E.E.E.E.E.", 0x2793_3d7f, 0xcd03_53b7),
+            (0x80, "E.n1E.E.E.E.E.E.E.", 0xbb5a_c7ae, 0x05a6_3de8),
+            (0xff, "E.E.E.E.E.E.E.E.E.", 0x68b4_23c5, 0x47cb_4421),
         ],
     ),
     (
         b"\x01\x11\0\0\0\x01",
-        [
-            0x08fa_f807_b595_abca,
-            0x7297_b633_366f_dc44,
-            0xd0ed_7a89_1897_60bf,
-            0x2265_08d3_8d97_69f7,
-            0xbc92_ec34_489c_0706,
+        "E.",
+        &[
+            (0x00, "t.t.t.t.t.t.t.t.t.", 0xb5c8_d3c5, 0x06ce_4dc5),
+            (0x01, "E.E.E.c2c3c4c5c6c7", 0x962e_2265, 0x5e89_6405),
+            (0x02, "E.E.E.c2c3c4c5c6c7", 0x962e_2265, 0x5e89_6405),
+            (0x11, "E.E.E.c2c3c4c5c6c7", 0x962e_2265, 0x5e89_6405),
+            (0x21, "E.E.E.c2c3c4c5c6c7", 0x962e_2265, 0x5e89_6405),
+            (0x7f, "E.E.E.c2c3c4c5c6c7", 0x962e_2265, 0x5e89_6405),
+            (0x80, "E.t.E.E.E.E.E.E.E.", 0x3663_569f, 0x5c2a_cb0e),
+            (0xff, "E.E.E.E.E.E.E.E.E.", 0x3684_d57d, 0x27c8_25fd),
         ],
     ),
 ];
 
-#[test]
-fn short_tables_are_read_as_computed(rt: HostRuntime) -> std::result::Result<(), Fail> {
-    let mem = rt.alloc();
-    for (prefix, wanted) in CHECKSUMS {
-        for len in 0..5u32 {
-            let mut checksum = 0xcbf2_9ce4_8422_2325u64;
-            for index in 0..1u32 << (3 * len) {
-                let mut bytes = Vec::from_slice(mem, prefix)?;
-                for place in (0..len).rev() {
-                    bytes.push(ALPHABET[(index >> (3 * place) & 7) as usize])?;
-                }
-                for byte in token(mem, &bytes) {
-                    checksum = (checksum ^ u64::from(byte)).wrapping_mul(0x100_0000_01b3);
-                }
-            }
-            same(&rt, checksum, wanted[len as usize], (prefix, len));
-        }
+// Appends the results of all sections that are these bytes and one, two or three of the alphabet behind them, or none.
+fn append_results(mem: Global, start: &[u8], more: usize, text: &mut String) -> Result<()> {
+    let (count, unused) = match more {
+        0 => (1, 3),
+        1 => (8, 2),
+        2 => (64, 1),
+        _ => (512, 0),
+    };
+    for index in 0..count {
+        let (first, second, third) = (index / 64 % 8, index / 8 % 8, index % 8);
+        let behind = [ALPHABET[first], ALPHABET[second], ALPHABET[third]];
+        append_result(mem, start, &behind[unused..], text)?;
     }
     Ok(())
+}
+
+fn append_result(mem: Global, start: &[u8], behind: &[u8], text: &mut String) -> Result<()> {
+    let mut bytes = Vec::from_slice(mem, start)?;
+    bytes.extend_from_slice(behind)?;
+    let [first, second] = token(mem, &bytes);
+    text.push(char::from(first))?;
+    Ok(text.push(char::from(second))?)
+}
+
+fn checksum(text: &str) -> u32 {
+    let mut found = 0x811c_9dc5u32;
+    for byte in text.as_bytes() {
+        found = (found ^ u32::from(*byte)).wrapping_mul(0x0100_0193);
+    }
+    found
+}
+
+// Prints the results if their checksum is another.
+fn check_sum(rt: &impl Abort, mem: Global, start: &[u8], more: usize, wanted: u32) -> Result<()> {
+    let mut text = String::new(mem);
+    append_results(mem, start, more, &mut text)?;
+    let text = text.as_str();
+    same(rt, checksum(text), wanted, (start, more, text));
+    Ok(())
+}
+
+fn check_results(rt: &impl Abort, mem: Global, start: &[u8], wanted: &str) -> Result<()> {
+    let mut text = String::new(mem);
+    append_results(mem, start, 0, &mut text)?;
+    if wanted.len() > 2 {
+        append_results(mem, start, 1, &mut text)?;
+    }
+    same(rt, text.as_str(), wanted, start);
+    Ok(())
+}
+
+fn check_row(rt: &impl Abort, mem: Global, prefix: &[u8], row: &Row) -> Result<()> {
+    let (byte, wanted, two, three) = *row;
+    let mut start = Vec::from_slice(mem, prefix)?;
+    start.push(byte)?;
+    check_results(rt, mem, &start, wanted)?;
+    check_sum(rt, mem, &start, 2, two)?;
+    check_sum(rt, mem, &start, 3, three)
+}
+
+fn check_prefix(rt: &impl Abort, mem: Global, prefix: &[u8], rows: &[Row]) -> Result<()> {
+    for row in rows {
+        check_row(rt, mem, prefix, row)?;
+    }
+    Ok(())
+}
+
+#[test]
+fn short_tables_are_read_as_computed(rt: HostRuntime) {
+    for (prefix, alone, rows) in RESULTS {
+        let checked = [
+            check_results(&rt, rt.alloc(), prefix, alone),
+            check_prefix(&rt, rt.alloc(), prefix, rows),
+        ];
+        same(&rt, checked, [Ok(()), Ok(())], prefix);
+    }
 }

@@ -1,4 +1,4 @@
-//! The texts of errors, and the errors of refused memory.
+//! The texts of errors, and the error of a failed allocation.
 
 use crate::tests::same;
 use dwarf_base_core::{Error, ReaderOffsetId};
@@ -286,5 +286,5 @@ fn want_of_memory_is_an_error(rt: HostRuntime) {
         Error::from(AllocError),
         Error::from(AllocFailed { value: 5u8 }),
     ];
-    same(&rt, errors, [Error::OutOfMemory; 2], "refused memory");
+    same(&rt, errors, [Error::OutOfMemory; 2], "failed allocations");
 }

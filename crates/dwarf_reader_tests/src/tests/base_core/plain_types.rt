@@ -363,28 +363,31 @@ fn defaults_and_sizes(rt: HostRuntime) {
     same(&rt, registers, wanted, "Register");
 }
 
+// A version, a format and a kind of file, and the base of its string offsets.
+static BASES: &[(u16, Format, DwarfFileType, usize)] = &[
+    (5, Format::Dwarf32, DwarfFileType::Dwo, 8),
+    (5, Format::Dwarf64, DwarfFileType::Dwo, 16),
+    (6, Format::Dwarf32, DwarfFileType::Dwo, 8),
+    (4, Format::Dwarf32, DwarfFileType::Dwo, 0),
+    (4, Format::Dwarf64, DwarfFileType::Dwo, 0),
+    (5, Format::Dwarf32, DwarfFileType::Main, 0),
+    (5, Format::Dwarf64, DwarfFileType::Main, 0),
+    (4, Format::Dwarf64, DwarfFileType::Main, 0),
+];
+
+fn default_base(version: u16, format: Format, file_type: DwarfFileType) -> usize {
+    let encoding = Encoding {
+        address_size: 8,
+        format,
+        version,
+    };
+    DebugStrOffsetsBase::default_for_encoding_and_file(encoding, file_type).0
+}
+
 #[test]
 fn string_offsets_have_default_bases(rt: HostRuntime) {
-    for (version, format, file_type, wanted) in [
-        (5, Format::Dwarf32, DwarfFileType::Dwo, 8usize),
-        (5, Format::Dwarf64, DwarfFileType::Dwo, 16),
-        (6, Format::Dwarf32, DwarfFileType::Dwo, 8),
-        (4, Format::Dwarf32, DwarfFileType::Dwo, 0),
-        (4, Format::Dwarf64, DwarfFileType::Dwo, 0),
-        (5, Format::Dwarf32, DwarfFileType::Main, 0),
-        (5, Format::Dwarf64, DwarfFileType::Main, 0),
-        (4, Format::Dwarf64, DwarfFileType::Main, 0),
-    ] {
-        let encoding = Encoding {
-            address_size: 8,
-            format,
-            version,
-        };
-        let base = DebugStrOffsetsBase::default_for_encoding_and_file(encoding, file_type);
-        assert_eq!(rt;
-            base,
-            DebugStrOffsetsBase(wanted),
-            "{encoding:?} {file_type:?}"
-        );
+    for (version, format, file_type, wanted) in BASES {
+        let base = default_base(*version, *format, *file_type);
+        assert_eq!(rt; base, *wanted, "{version} {format:?} {file_type:?}");
     }
 }

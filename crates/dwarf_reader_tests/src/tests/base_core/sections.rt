@@ -140,7 +140,8 @@ fn names_are_as_published(rt: HostRuntime) {
         let is_string = *name == ".debug_str" || *name == ".debug_line_str";
         same(&rt, id.is_string(), is_string, name);
     }
-    for (row, next) in SECTIONS.iter().zip(SECTIONS.iter().skip(1)) {
-        assert!(rt; row.0 < next.0, "{}", row.1);
+    for next in 1..SECTIONS.len() {
+        let (id, next_id) = (SECTIONS[next - 1].0, SECTIONS[next].0);
+        assert!(rt; id < next_id, "{id:?} {next_id:?}");
     }
 }

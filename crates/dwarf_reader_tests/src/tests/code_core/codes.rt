@@ -28,7 +28,7 @@ use dwarf_code_core::unit_type::*;
 use dwarf_code_core::virtuality::*;
 use dwarf_code_core::visibility::*;
 
-pub(super) static UNIT_TYPES: &[Row<DwUt>] = &published![
+pub(super) static UNIT_TYPES: &[Row<DwUt>] = &published![DwUt;
     DW_UT_compile = 0x01,
     DW_UT_type = 0x02,
     DW_UT_partial = 0x03,
@@ -39,7 +39,7 @@ pub(super) static UNIT_TYPES: &[Row<DwUt>] = &published![
     DW_UT_hi_user = 0xff,
 ];
 
-pub(super) static CALL_FRAMES: &[Row<DwCfa>] = &published![
+pub(super) static CALL_FRAMES: &[Row<DwCfa>] = &published![DwCfa;
     DW_CFA_nop = 0x00,
     DW_CFA_set_loc = 0x01,
     DW_CFA_advance_loc1 = 0x02,
@@ -74,12 +74,12 @@ pub(super) static CALL_FRAMES: &[Row<DwCfa>] = &published![
     DW_CFA_restore = 0xc0,
 ];
 
-pub(super) static CHILDREN: &[Row<DwChildren>] = &published![
+pub(super) static CHILDREN: &[Row<DwChildren>] = &published![DwChildren;
     DW_CHILDREN_no = 0x00,
     DW_CHILDREN_yes = 0x01,
 ];
 
-pub(super) static BASE_TYPE_ENCODINGS: &[Row<DwAte>] = &published![
+pub(super) static BASE_TYPE_ENCODINGS: &[Row<DwAte>] = &published![DwAte;
     DW_ATE_address = 0x01,
     DW_ATE_boolean = 0x02,
     DW_ATE_complex_float = 0x03,
@@ -102,7 +102,7 @@ pub(super) static BASE_TYPE_ENCODINGS: &[Row<DwAte>] = &published![
     DW_ATE_hi_user = 0xff,
 ];
 
-pub(super) static LOCATION_LIST_ENTRIES: &[Row<DwLle>] = &published![
+pub(super) static LOCATION_LIST_ENTRIES: &[Row<DwLle>] = &published![DwLle;
     DW_LLE_end_of_list = 0x00,
     DW_LLE_base_addressx = 0x01,
     DW_LLE_startx_endx = 0x02,
@@ -115,7 +115,7 @@ pub(super) static LOCATION_LIST_ENTRIES: &[Row<DwLle>] = &published![
     DW_LLE_GNU_view_pair = 0x09,
 ];
 
-pub(super) static DECIMAL_SIGNS: &[Row<DwDs>] = &published![
+pub(super) static DECIMAL_SIGNS: &[Row<DwDs>] = &published![DwDs;
     DW_DS_unsigned = 0x01,
     DW_DS_leading_overpunch = 0x02,
     DW_DS_trailing_overpunch = 0x03,
@@ -123,7 +123,7 @@ pub(super) static DECIMAL_SIGNS: &[Row<DwDs>] = &published![
     DW_DS_trailing_separate = 0x05,
 ];
 
-pub(super) static ENDIANITIES: &[Row<DwEnd>] = &published![
+pub(super) static ENDIANITIES: &[Row<DwEnd>] = &published![DwEnd;
     DW_END_default = 0x00,
     DW_END_big = 0x01,
     DW_END_little = 0x02,
@@ -131,32 +131,32 @@ pub(super) static ENDIANITIES: &[Row<DwEnd>] = &published![
     DW_END_hi_user = 0xff,
 ];
 
-pub(super) static ACCESSIBILITIES: &[Row<DwAccess>] = &published![
+pub(super) static ACCESSIBILITIES: &[Row<DwAccess>] = &published![DwAccess;
     DW_ACCESS_public = 0x01,
     DW_ACCESS_protected = 0x02,
     DW_ACCESS_private = 0x03,
 ];
 
-pub(super) static VISIBILITIES: &[Row<DwVis>] = &published![
+pub(super) static VISIBILITIES: &[Row<DwVis>] = &published![DwVis;
     DW_VIS_local = 0x01,
     DW_VIS_exported = 0x02,
     DW_VIS_qualified = 0x03,
 ];
 
-pub(super) static VIRTUALITIES: &[Row<DwVirtuality>] = &published![
+pub(super) static VIRTUALITIES: &[Row<DwVirtuality>] = &published![DwVirtuality;
     DW_VIRTUALITY_none = 0x00,
     DW_VIRTUALITY_virtual = 0x01,
     DW_VIRTUALITY_pure_virtual = 0x02,
 ];
 
-pub(super) static IDENTIFIER_CASES: &[Row<DwId>] = &published![
+pub(super) static IDENTIFIER_CASES: &[Row<DwId>] = &published![DwId;
     DW_ID_case_sensitive = 0x00,
     DW_ID_up_case = 0x01,
     DW_ID_down_case = 0x02,
     DW_ID_case_insensitive = 0x03,
 ];
 
-pub(super) static CALLING_CONVENTIONS: &[Row<DwCc>] = &published![
+pub(super) static CALLING_CONVENTIONS: &[Row<DwCc>] = &published![DwCc;
     DW_CC_normal = 0x01,
     DW_CC_program = 0x02,
     DW_CC_nocall = 0x03,
@@ -166,30 +166,30 @@ pub(super) static CALLING_CONVENTIONS: &[Row<DwCc>] = &published![
     DW_CC_hi_user = 0xff,
 ];
 
-pub(super) static INLININGS: &[Row<DwInl>] = &published![
+pub(super) static INLININGS: &[Row<DwInl>] = &published![DwInl;
     DW_INL_not_inlined = 0x00,
     DW_INL_inlined = 0x01,
     DW_INL_declared_not_inlined = 0x02,
     DW_INL_declared_inlined = 0x03,
 ];
 
-pub(super) static ARRAY_ORDERINGS: &[Row<DwOrd>] = &published![
+pub(super) static ARRAY_ORDERINGS: &[Row<DwOrd>] = &published![DwOrd;
     DW_ORD_row_major = 0x00,
     DW_ORD_col_major = 0x01,
 ];
 
-pub(super) static DISCRIMINANTS: &[Row<DwDsc>] = &published![
+pub(super) static DISCRIMINANTS: &[Row<DwDsc>] = &published![DwDsc;
     DW_DSC_label = 0x00,
     DW_DSC_range = 0x01,
 ];
 
-pub(super) static DEFAULTED: &[Row<DwDefaulted>] = &published![
+pub(super) static DEFAULTED: &[Row<DwDefaulted>] = &published![DwDefaulted;
     DW_DEFAULTED_no = 0x00,
     DW_DEFAULTED_in_class = 0x01,
     DW_DEFAULTED_out_of_class = 0x02,
 ];
 
-pub(super) static LINE_STANDARD: &[Row<DwLns>] = &published![
+pub(super) static LINE_STANDARD: &[Row<DwLns>] = &published![DwLns;
     DW_LNS_copy = 0x01,
     DW_LNS_advance_pc = 0x02,
     DW_LNS_advance_line = 0x03,
@@ -204,7 +204,7 @@ pub(super) static LINE_STANDARD: &[Row<DwLns>] = &published![
     DW_LNS_set_isa = 0x0c,
 ];
 
-pub(super) static LINE_EXTENDED: &[Row<DwLne>] = &published![
+pub(super) static LINE_EXTENDED: &[Row<DwLne>] = &published![DwLne;
     DW_LNE_end_sequence = 0x01,
     DW_LNE_set_address = 0x02,
     DW_LNE_define_file = 0x03,
@@ -213,7 +213,7 @@ pub(super) static LINE_EXTENDED: &[Row<DwLne>] = &published![
     DW_LNE_hi_user = 0xff,
 ];
 
-pub(super) static MACINFO: &[Row<DwMacinfo>] = &published![
+pub(super) static MACINFO: &[Row<DwMacinfo>] = &published![DwMacinfo;
     DW_MACINFO_define = 0x01,
     DW_MACINFO_undef = 0x02,
     DW_MACINFO_start_file = 0x03,
@@ -221,7 +221,7 @@ pub(super) static MACINFO: &[Row<DwMacinfo>] = &published![
     DW_MACINFO_vendor_ext = 0xff,
 ];
 
-pub(super) static MACRO_ENTRIES: &[Row<DwMacro>] = &published![
+pub(super) static MACRO_ENTRIES: &[Row<DwMacro>] = &published![DwMacro;
     DW_MACRO_define = 0x01,
     DW_MACRO_undef = 0x02,
     DW_MACRO_start_file = 0x03,
@@ -238,7 +238,7 @@ pub(super) static MACRO_ENTRIES: &[Row<DwMacro>] = &published![
     DW_MACRO_hi_user = 0xff,
 ];
 
-pub(super) static RANGE_LIST_ENTRIES: &[Row<DwRle>] = &published![
+pub(super) static RANGE_LIST_ENTRIES: &[Row<DwRle>] = &published![DwRle;
     DW_RLE_end_of_list = 0x00,
     DW_RLE_base_addressx = 0x01,
     DW_RLE_startx_endx = 0x02,
@@ -249,7 +249,7 @@ pub(super) static RANGE_LIST_ENTRIES: &[Row<DwRle>] = &published![
     DW_RLE_start_length = 0x07,
 ];
 
-pub(super) static POINTER_ENCODINGS: &[Row<DwEhPe>] = &published![
+pub(super) static POINTER_ENCODINGS: &[Row<DwEhPe>] = &published![DwEhPe;
     DW_EH_PE_absptr = 0x00,
     DW_EH_PE_uleb128 = 0x01,
     DW_EH_PE_udata2 = 0x02,
@@ -268,7 +268,8 @@ pub(super) static POINTER_ENCODINGS: &[Row<DwEhPe>] = &published![
     DW_EH_PE_omit = 0xff,
 ];
 
-pub(super) static GDB_INDEX_SYMBOL_KINDS: &[Row<GdbIndexSymbolKind>] = &published![
+pub(super) static GDB_INDEX_SYMBOL_KINDS: &[Row<GdbIndexSymbolKind>] =
+    &published![GdbIndexSymbolKind;
     GDB_INDEX_SYMBOL_KIND_NONE = 0x00,
     GDB_INDEX_SYMBOL_KIND_TYPE = 0x01,
     GDB_INDEX_SYMBOL_KIND_VARIABLE = 0x02,
@@ -279,7 +280,7 @@ pub(super) static GDB_INDEX_SYMBOL_KINDS: &[Row<GdbIndexSymbolKind>] = &publishe
     GDB_INDEX_SYMBOL_KIND_UNUSED7 = 0x07,
 ];
 
-pub(super) static SECTIONS: &[Row<DwSect>] = &published![
+pub(super) static SECTIONS: &[Row<DwSect>] = &published![DwSect;
     DW_SECT_INFO = 0x01,
     DW_SECT_ABBREV = 0x03,
     DW_SECT_LINE = 0x04,
@@ -289,7 +290,7 @@ pub(super) static SECTIONS: &[Row<DwSect>] = &published![
     DW_SECT_RNGLISTS = 0x08,
 ];
 
-pub(super) static SECTIONS_V2: &[Row<DwSectV2>] = &published![
+pub(super) static SECTIONS_V2: &[Row<DwSectV2>] = &published![DwSectV2;
     DW_SECT_V2_INFO = 0x01,
     DW_SECT_V2_TYPES = 0x02,
     DW_SECT_V2_ABBREV = 0x03,
@@ -300,4 +301,4 @@ pub(super) static SECTIONS_V2: &[Row<DwSectV2>] = &published![
     DW_SECT_V2_MACRO = 0x08,
 ];
 
-pub(super) static ADDRESS_CLASSES: &[Row<DwAddr>] = &published![DW_ADDR_none = 0x00,];
+pub(super) static ADDRESS_CLASSES: &[Row<DwAddr>] = &published![DwAddr; DW_ADDR_none = 0x00,];

@@ -4,7 +4,7 @@ use crate::tests::Row;
 use dwarf_code_core::operation::numbered::*;
 use dwarf_code_core::operation::*;
 
-pub(super) static OPERATIONS: &[Row<DwOp>] = &published![
+pub(super) static OPERATIONS: &[Row<DwOp>] = &published![DwOp;
     DW_OP_addr = 0x03,
     DW_OP_deref = 0x06,
     DW_OP_const1u = 0x08,
@@ -81,7 +81,7 @@ pub(super) static OPERATIONS: &[Row<DwOp>] = &published![
     DW_OP_lit31 = 0x4f,
 ];
 
-pub(super) static REGISTERS: &[Row<DwOp>] = &published![
+pub(super) static REGISTERS: &[Row<DwOp>] = &published![DwOp;
     DW_OP_reg0 = 0x50,
     DW_OP_reg1 = 0x51,
     DW_OP_reg2 = 0x52,
@@ -148,7 +148,7 @@ pub(super) static REGISTERS: &[Row<DwOp>] = &published![
     DW_OP_breg31 = 0x8f,
 ];
 
-pub(super) static LATER_OPERATIONS: &[Row<DwOp>] = &published![
+pub(super) static LATER_OPERATIONS: &[Row<DwOp>] = &published![DwOp;
     DW_OP_regx = 0x90,
     DW_OP_fbreg = 0x91,
     DW_OP_bregx = 0x92,

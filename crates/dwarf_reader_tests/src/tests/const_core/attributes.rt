@@ -6,7 +6,7 @@ use dwarf_const_core::attribute::sun::*;
 use dwarf_const_core::attribute::vendor::*;
 use dwarf_const_core::attribute::*;
 
-pub(super) static FIRST_ATTRIBUTES: &[Row<DwAt>] = &published![
+pub(super) static FIRST_ATTRIBUTES: &[Row<DwAt>] = &published![DwAt;
     DW_AT_null = 0x00,
     DW_AT_sibling = 0x01,
     DW_AT_location = 0x02,
@@ -86,7 +86,7 @@ pub(super) static FIRST_ATTRIBUTES: &[Row<DwAt>] = &published![
     DW_AT_associated = 0x4f,
 ];
 
-pub(super) static LATER_ATTRIBUTES: &[Row<DwAt>] = &published![
+pub(super) static LATER_ATTRIBUTES: &[Row<DwAt>] = &published![DwAt;
     DW_AT_data_location = 0x50,
     DW_AT_byte_stride = 0x51,
     DW_AT_entry_pc = 0x52,
@@ -149,7 +149,7 @@ pub(super) static LATER_ATTRIBUTES: &[Row<DwAt>] = &published![
     DW_AT_loclists_base = 0x8c,
 ];
 
-pub(super) static MIPS_AND_GNU_ATTRIBUTES: &[Row<DwAt>] = &published![
+pub(super) static MIPS_AND_GNU_ATTRIBUTES: &[Row<DwAt>] = &published![DwAt;
     DW_AT_lo_user = 0x2000,
     DW_AT_MIPS_fde = 0x2001,
     DW_AT_MIPS_loop_begin = 0x2002,
@@ -206,7 +206,7 @@ pub(super) static MIPS_AND_GNU_ATTRIBUTES: &[Row<DwAt>] = &published![
     DW_AT_GNU_entry_view = 0x2138,
 ];
 
-pub(super) static VENDOR_ATTRIBUTES: &[Row<DwAt>] = &published![
+pub(super) static VENDOR_ATTRIBUTES: &[Row<DwAt>] = &published![DwAt;
     DW_AT_SUN_template = 0x2201,
     DW_AT_SUN_alignment = 0x2202,
     DW_AT_SUN_vtable = 0x2203,

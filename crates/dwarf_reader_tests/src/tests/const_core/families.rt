@@ -8,7 +8,7 @@ use dwarf_const_core::line_content::*;
 use dwarf_const_core::tag::vendor::*;
 use dwarf_const_core::tag::*;
 
-pub(super) static TAGS: &[Row<DwTag>] = &published![
+pub(super) static TAGS: &[Row<DwTag>] = &published![DwTag;
     DW_TAG_null = 0x00,
     DW_TAG_array_type = 0x01,
     DW_TAG_class_type = 0x02,
@@ -128,7 +128,7 @@ pub(super) static TAGS: &[Row<DwTag>] = &published![
     DW_TAG_hi_user = 0xffff,
 ];
 
-pub(super) static FORMS: &[Row<DwForm>] = &published![
+pub(super) static FORMS: &[Row<DwForm>] = &published![DwForm;
     DW_FORM_null = 0x00,
     DW_FORM_addr = 0x01,
     DW_FORM_ref = 0x02,
@@ -180,7 +180,7 @@ pub(super) static FORMS: &[Row<DwForm>] = &published![
     DW_FORM_GNU_strp_alt = 0x1f21,
 ];
 
-pub(super) static LANGUAGES: &[Row<DwLang>] = &published![
+pub(super) static LANGUAGES: &[Row<DwLang>] = &published![DwLang;
     DW_LANG_C89 = 0x01,
     DW_LANG_C = 0x02,
     DW_LANG_Ada83 = 0x03,
@@ -236,7 +236,7 @@ pub(super) static LANGUAGES: &[Row<DwLang>] = &published![
     DW_LANG_hi_user = 0xffff,
 ];
 
-pub(super) static INDEX_ATTRIBUTES: &[Row<DwIdx>] = &published![
+pub(super) static INDEX_ATTRIBUTES: &[Row<DwIdx>] = &published![DwIdx;
     DW_IDX_compile_unit = 0x01,
     DW_IDX_type_unit = 0x02,
     DW_IDX_die_offset = 0x03,
@@ -246,7 +246,7 @@ pub(super) static INDEX_ATTRIBUTES: &[Row<DwIdx>] = &published![
     DW_IDX_hi_user = 0x3fff,
 ];
 
-pub(super) static LINE_CONTENTS: &[Row<DwLnct>] = &published![
+pub(super) static LINE_CONTENTS: &[Row<DwLnct>] = &published![DwLnct;
     DW_LNCT_path = 0x01,
     DW_LNCT_directory_index = 0x02,
     DW_LNCT_timestamp = 0x03,

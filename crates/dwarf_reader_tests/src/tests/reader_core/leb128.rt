@@ -1,9 +1,8 @@
 //! LEB128 numbers, read and written.
 
-use crate::tests::{little, same};
-use dwarf_base_core::{Error, Result};
-use dwarf_reader_core::Reader;
-use dwarf_reader_core::leb128::read;
+use super::{Call, Numbers, check_numbers, number_at};
+use crate::tests::same;
+use dwarf_base_core::Error;
 use dwarf_reader_core::leb128::write::{Leb128, sleb128_size, uleb128_size};
 
 // The last of the thirty-one bytes alone ends a number.
@@ -14,8 +13,7 @@ const LONG: &[u8] = &[
 
 const NINE: &[u8] = &[0x80, 0x80, 0x80, 0x80, 0x80, 0x80, 0x80, 0x80, 0x80];
 
-// Bytes, what a reading of them returns, and how many of them it consumes.
-static UNSIGNED: &[(&[u8], Result<u64>, u64)] = &[
+static UNSIGNED: Numbers = &[
     (&[0x02], Ok(2), 1),
     (&[0x7f], Ok(127), 1),
     (&[0x80, 0x01], Ok(128), 2),
@@ -38,7 +36,7 @@ static UNSIGNED: &[(&[u8], Result<u64>, u64)] = &[
     (&[], Err(eof!(0)), 0),
 ];
 
-static SHORT: &[(&[u8], Result<u16>, u64)] = &[
+static SHORT: Numbers = &[
     (&[0x02], Ok(2), 1),
     (&[0x7f], Ok(0x7f), 1),
     (&[0x80, 0x01], Ok(0x80), 2),
@@ -54,7 +52,17 @@ static SHORT: &[(&[u8], Result<u16>, u64)] = &[
     (&[0x80], Err(eof!(1)), 1),
 ];
 
-static SIGNED: &[(&[u8], Result<i64>, u64)] = &[
+// The greatest number of 32 bits, and the next.
+static WORDS: Numbers = &[
+    (&[0xff, 0xff, 0xff, 0xff, 0x0f], Ok(0xffff_ffff), 5),
+    (
+        &[0x80, 0x80, 0x80, 0x80, 0x10],
+        Err(Error::BadUnsignedLeb128),
+        5,
+    ),
+];
+
+static SIGNED: Numbers = &[
     (&[0x02], Ok(2), 1),
     (&[0x7e], Ok(-2), 1),
     (&[0xff, 0x00], Ok(127), 2),
@@ -70,7 +78,7 @@ static SIGNED: &[(&[u8], Result<i64>, u64)] = &[
     ),
     (
         &[0x80, 0x80, 0x80, 0x80, 0x80, 0x80, 0x80, 0x80, 0x80, 0x7f],
-        Ok(i64::MIN),
+        Ok(-(1 << 63)),
         10,
     ),
     (LONG, Err(Error::BadSignedLeb128), 10),
@@ -78,14 +86,13 @@ static SIGNED: &[(&[u8], Result<i64>, u64)] = &[
     (&[0x80], Err(eof!(1)), 1),
 ];
 
-// Bytes, what a skip of them returns, and how many of them it consumes.
-static SKIPPED: &[(&[u8], Result<()>, u64)] = &[
-    (&[0x82, 0x01, 0x01], Ok(()), 2),
+static SKIPPED: Numbers = &[
+    (&[0x82, 0x01, 0x01], Ok(0), 2),
     (
         &[
             0x80, 0x80, 0x80, 0x80, 0x80, 0x80, 0x80, 0x80, 0x80, 0x80, 0x80, 0x00,
         ],
-        Ok(()),
+        Ok(0),
         12,
     ),
     (NINE, Err(eof!(9)), 9),
@@ -117,56 +124,13 @@ static WRITTEN_SIGNED: &[(i64, &[u8])] = &[
     ),
 ];
 
-// What a reading of each kind returns, and how many bytes it consumes.
-#[derive(Drop)]
-struct Readings {
-    unsigned: (Result<u64>, u64),
-    short: (Result<u16>, u64),
-    signed: (Result<i64>, u64),
-    skipped: (Result<()>, u64),
-    in_a_row: [Result<u64>; 3],
-}
-
-fn readings_of<R: Reader + Copy>(input: R) -> Readings {
-    let (mut unsigned, mut short, mut signed, mut skipped) = (input, input, input, input);
-    Readings {
-        unsigned: (read::unsigned(&mut unsigned), unsigned.offset_id().0),
-        short: (read::u16(&mut short), short.offset_id().0),
-        signed: (read::signed(&mut signed), signed.offset_id().0),
-        skipped: (read::skip(&mut skipped), skipped.offset_id().0),
-        in_a_row: three_numbers(input),
-    }
-}
-
-fn three_numbers<R: Reader>(mut input: R) -> [Result<u64>; 3] {
-    [
-        read::unsigned(&mut input),
-        read::unsigned(&mut input),
-        read::unsigned(&mut input),
-    ]
-}
-
-// A call at a concrete reader takes long to prove, so there is one for all kinds.
-fn read_all(bytes: &[u8]) -> Readings {
-    readings_of(little(bytes))
-}
-
 #[test]
 fn numbers_are_read(rt: HostRuntime) {
-    for (bytes, wanted, consumed) in UNSIGNED {
-        same(&rt, read_all(bytes).unsigned, (*wanted, *consumed), bytes);
-    }
-    for (bytes, wanted, consumed) in SHORT {
-        same(&rt, read_all(bytes).short, (*wanted, *consumed), bytes);
-    }
-    for (bytes, wanted, consumed) in SIGNED {
-        same(&rt, read_all(bytes).signed, (*wanted, *consumed), bytes);
-    }
-    for (bytes, wanted, consumed) in SKIPPED {
-        same(&rt, read_all(bytes).skipped, (*wanted, *consumed), bytes);
-    }
-    let in_a_row = read_all(&[0x82, 0x01, 0x01]).in_a_row;
-    same(&rt, in_a_row, [Ok(130), Ok(1), Err(eof!(3))], "in a row");
+    check_numbers(&rt, Call::Uleb, UNSIGNED);
+    check_numbers(&rt, Call::UlebOf16Bits, SHORT);
+    check_numbers(&rt, Call::UlebOf32Bits, WORDS);
+    check_numbers(&rt, Call::Sleb, SIGNED);
+    check_numbers(&rt, Call::SkipLeb, SKIPPED);
 }
 
 #[test]
@@ -196,13 +160,15 @@ fn padded(written: &Leb128) -> [u8; 1024] {
 fn written_numbers_are_read(rt: HostRuntime) {
     for value in 0..1025u64 {
         let written = Leb128::unsigned(value);
-        let wanted = (Ok(value), written.len() as u64);
-        same(&rt, read_all(&padded(&written)).unsigned, wanted, value);
+        let wanted = (Ok(i128::from(value)), written.len() as u64);
+        let found = number_at(&padded(&written), Call::Uleb);
+        same(&rt, found, wanted, value);
     }
     for value in (-513..513i64).chain([i64::MIN]) {
         let written = Leb128::signed(value);
-        let wanted = (Ok(value), written.len() as u64);
-        same(&rt, read_all(&padded(&written)).signed, wanted, value);
+        let wanted = (Ok(i128::from(value)), written.len() as u64);
+        let found = number_at(&padded(&written), Call::Sleb);
+        same(&rt, found, wanted, i128::from(value));
     }
 }
 
@@ -211,9 +177,10 @@ fn written_numbers_are_read(rt: HostRuntime) {
 fn bytes_carry_seven_bits(rt: HostRuntime) {
     for digit in 0..127u8 {
         let wide = u64::from(digit);
-        same(&rt, read_all(&[digit]).unsigned, (Ok(wide), 1), digit);
-        let padded = read_all(&[digit + 128, 0]).unsigned;
-        same(&rt, padded, (Ok(wide), 2), digit);
+        let wanted = Ok(i128::from(digit));
+        same(&rt, number_at(&[digit], Call::Uleb), (wanted, 1), wide);
+        let padded = number_at(&[digit + 128, 0], Call::Uleb);
+        same(&rt, padded, (wanted, 2), wide);
         for number in [65536 + wide, 65536 * wide + wide + 128] {
             let written = Leb128::unsigned(number);
             same(&rt, written.bytes().first(), Some(&(digit + 128)), number);
