@@ -339,10 +339,10 @@ fn shaped_declaration(
     to.extend([0, 0]);
 }
 
-/// Sets with fewer than `most` addresses each. Each third set has addresses of four bytes.
-#[cfg(gimli_0_34)]
-pub fn made_sets(random: &mut Random, count: usize, most: usize) -> Vec<u8> {
-    let mut to = vec![];
+/// Sets with fewer than `most` addresses each, and how many there are together. Each third set has addresses of four
+/// bytes.
+pub fn made_sets(random: &mut Random, count: usize, most: usize) -> (Vec<u8>, usize) {
+    let (mut to, mut all) = (vec![], 0);
     for i in 0..count {
         let (size, entries) = (if i % 3 == 0 { 4 } else { 8 }, random.below(most));
         to.extend((4 + entries as u32 * size as u32).to_le_bytes());
@@ -350,8 +350,9 @@ pub fn made_sets(random: &mut Random, count: usize, most: usize) -> Vec<u8> {
         for _ in 0..entries {
             to.extend(&random.next().to_le_bytes()[..size]);
         }
+        all += entries;
     }
-    to
+    (to, all)
 }
 
 /// Tags and attributes whose names each version of gimli has.

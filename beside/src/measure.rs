@@ -3,9 +3,7 @@
 //! The library's side is a call of `crates/dwarf_beside` that does the whole loop. What fills a cache from units
 //! is left out, since units belong to gimli's upper layers, and so are written numbers, which another feature has.
 
-#[cfg(gimli_0_34)]
-use crate::made::made_sets;
-use crate::made::{put_signed, put_unsigned, shaped_table, Random};
+use crate::made::{made_sets, put_signed, put_unsigned, shaped_table, Random};
 use gimli::{
     DebugAbbrev, DebugAbbrevOffset, DebugAddr, DebugAddrBase, DebugAddrIndex, DebugStr, DebugStrOffset,
     DebugStrOffsets, DebugStrOffsetsBase, DebugStrOffsetsIndex, EndianSlice, Format, LittleEndian, Reader,
@@ -28,6 +26,8 @@ extern "C" {
     fn beside_short_sum(bytes: *const u8, len: usize) -> u64;
     fn beside_skipped_count(bytes: *const u8, len: usize) -> u64;
     fn beside_tables(bytes: *const u8, len: usize, offsets: *const usize, count: usize) -> usize;
+    fn beside_headers(bytes: *const u8, len: usize) -> u64;
+    fn beside_addresses(bytes: *const u8, len: usize) -> u64;
     fn beside_get_sum(bytes: *const u8, len: usize, offset: usize, codes: u64, rounds: u64) -> u64;
     fn beside_strings(bytes: *const u8, len: usize, offsets: *const usize, count: usize) -> usize;
     fn beside_str_offset_lookups(
@@ -257,33 +257,64 @@ fn addresses_sum(section: Bytes) -> gimli::Result<u64> {
     Ok(sum)
 }
 
-#[cfg(gimli_0_34)]
-fn all_of_sets(random: &mut Random, all: &mut Vec<Workload>) {
-    extern "C" {
-        fn beside_headers(bytes: *const u8, len: usize) -> u64;
-        fn beside_addresses(bytes: *const u8, len: usize) -> u64;
+/// The length, the address size and the addresses of the next set, by gimli's calls for words: this version reads no
+/// sets.
+#[cfg(not(gimli_0_34))]
+fn next_set(left: &mut Input) -> gimli::Result<(usize, u8, Input)> {
+    let (length, _) = left.read_initial_length()?;
+    let mut set = left.split(length)?;
+    if set.read_u16()? != 5 {
+        return Err(gimli::Error::UnknownVersion(0));
     }
+    let size = set.read_u8()?;
+    match (size, set.read_u8()?) {
+        (1 | 2 | 4 | 8, 0) => Ok((length, size, set)),
+        _ => Err(gimli::Error::UnsupportedAddressSize(size)),
+    }
+}
+
+#[cfg(not(gimli_0_34))]
+#[inline(never)]
+fn headers_sum(section: Bytes) -> gimli::Result<u64> {
+    let (mut left, mut sum) = (EndianSlice::new(section, LittleEndian), 0u64);
+    while !Reader::is_empty(&left) {
+        let offset = section.len() - Reader::len(&left);
+        let (length, size, _) = next_set(&mut left)?;
+        sum = sum.wrapping_add(length as u64 + offset as u64 + u64::from(size));
+    }
+    Ok(sum)
+}
+
+#[cfg(not(gimli_0_34))]
+#[inline(never)]
+fn addresses_sum(section: Bytes) -> gimli::Result<u64> {
+    let (mut left, mut sum) = (EndianSlice::new(section, LittleEndian), 0u64);
+    while !Reader::is_empty(&left) {
+        let (_, size, mut set) = next_set(&mut left)?;
+        while !Reader::is_empty(&set) {
+            sum = sum.wrapping_add(set.read_address(size)?);
+        }
+    }
+    Ok(sum)
+}
+
+fn all_of_sets(random: &mut Random, all: &mut Vec<Workload>) {
     for (name, count, most) in [("small sets", 20_000, 4), ("large sets", 300, 800)] {
-        let s: Bytes = made_sets(random, count, most).leak();
-        let section = DebugAddr::from(EndianSlice::new(s, LittleEndian));
-        let entries = section.headers().map(|it| it.unwrap().entries().count() as u64).sum();
+        let (made, entries) = made_sets(random, count, most);
+        let s: Bytes = made.leak();
         let mut add = |what: &str, operations, gimli: fn(Bytes) -> gimli::Result<u64>, ours: NumberCall| {
             all.push(Workload {
-                name: format!("{what} of {name}"),
+                name: format!("{what}, {name}"),
                 operations,
                 gimli: Box::new(move || gimli(s).unwrap()),
                 ours: Box::new(move || unsafe { ours(s.as_ptr(), s.len()) }),
                 is_same: true,
             })
         };
-        add("a header", count as u64, headers_sum, beside_headers);
-        add("an address", entries, addresses_sum, beside_addresses);
+        add("the header of a set", count as u64, headers_sum, beside_headers);
+        add("an address of a set", entries as u64, addresses_sum, beside_addresses);
     }
 }
-
-/// (this gimli has no sets of addresses)
-#[cfg(not(gimli_0_34))]
-fn all_of_sets(_random: &mut Random, _all: &mut Vec<Workload>) {}
 
 fn made_strings(random: &mut Random) -> Vec<u8> {
     let mut text = vec![];

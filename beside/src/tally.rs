@@ -102,7 +102,8 @@ impl Tally {
         self.differences += u64::from(given.differ());
     }
 
-    /// Prints what was asked and reached. The last line counts the questions.
+    /// Prints what was asked and reached, question by question. The last line has all of it together, and counts the
+    /// questions first.
     pub fn print(&self) {
         for (name, (asked, differed)) in &self.questions {
             let reached = self.reached.iter().filter(|it| it.0 .0 == *name);
@@ -114,7 +115,6 @@ impl Tally {
             *all.entry(what).or_default() += count;
         }
         let all: Vec<String> = all.iter().map(|(what, count)| format!("{what} {count}")).collect();
-        println!("reached: {}", all.join(", "));
         let mut skipped = 0;
         if !HAS_SETS {
             println!("left out: this gimli has no sets of addresses, so the second reader alone had them");
@@ -126,15 +126,17 @@ impl Tally {
         println!(
             "the second reader alone had strict readings, caches, growth, written numbers and sets of string offsets"
         );
+        let failed = self.questions.values().filter(|it| it.1 != 0).count();
         println!(
-            "{} inputs, of which gimli {} read {}: {} differences",
+            "{} passed, {failed} failed, {skipped} skipped: {} inputs, of which gimli {} read {}, and {} differences; \
+             reached: {}",
+            self.questions.len() - failed,
             self.inputs,
             env!("GIMLI_VERSION"),
             self.beside_gimli,
-            self.differences
+            self.differences,
+            all.join(", ")
         );
-        let failed = self.questions.values().filter(|it| it.1 != 0).count();
-        println!("{} passed, {failed} failed, {skipped} skipped", self.questions.len() - failed);
     }
 
     /// Prints a question, what each reader gives, and the command that asks it again.

@@ -171,6 +171,8 @@ def sections_of(path, folder):
     tool = decompressed(path, whole)
     with open(whole, "rb") as file:
         names = sorted({it.decode() for it in re.findall(rb"\0\.(debug_\w+)(?=\0)", file.read())})
+    if not names:
+        raise Failed(f"{path} has no debug sections, so there is nothing to dump")
     for name in names:
         run([tool, "--dump-section", f".{name}={folder}/{name}", whole, copied])
     for it in (whole, copied):

@@ -10,6 +10,8 @@ import kit
 PACKAGE, OUT = f"{kit.ROOT}/beside", f"{kit.ROOT}/beside/out"
 LIBRARIES = ("dwarf_read_c", "dwarf_beside")
 DEBIAN = "/usr/share/cargo/registry"
+# How long cargo may try to reach crates.io.
+FETCH_SECONDS = 120
 SECTIONS = ("debug_abbrev", "debug_str", "debug_line_str", "debug_addr", "debug_str_offsets")
 # Those whose words are read in the byte order of the file.
 BY_ORDER = ("debug_addr", "debug_str_offsets")
@@ -46,6 +48,23 @@ def need(tool, package):
         raise Missing(f"there is no {tool}: `apt-get install {package}` installs it")
 
 
+def need_kit():
+    if not shutil.which("rt") or not shutil.which("rattle"):
+        raise Missing("there is no rt: CONTRIBUTING.md names the kit that has it")
+
+
+def check_files(paths):
+    """Says which of these files can't be read, before anything is built for them."""
+    for path in paths:
+        try:
+            with open(path, "rb") as file:
+                is_elf = file.read(4) == b"\x7fELF"
+        except OSError as error:
+            raise Failed(f"{path} can't be read: {error.strerror}") from None
+        if not is_elf:
+            raise Failed(f"{path} is no ELF file")
+
+
 def put(source, target):
     """Copies a file, unless it is there already: its date decides what cargo builds again."""
     with open(source, "rb") as file:
@@ -63,6 +82,8 @@ def put(source, target):
 def link_libraries():
     """Puts both static libraries, and the functions by which they request memory, into one folder."""
     for crate in LIBRARIES:
+        if not kit.is_fresh(f"{kit.ROOT}/crates/{crate}/out/lib{crate}.a", crate):
+            need_kit()
         words = [f"{kit.ROOT}/tools/static-library", crate]
         if subprocess.run(words, stdin=subprocess.DEVNULL, check=False).returncode:
             raise Failed(f"the static library of {crate} isn't built")
@@ -84,15 +105,24 @@ def copy_package(folder):
             put(f"{at}/{name}", f"{folder}/{os.path.relpath(at, PACKAGE)}/{name}")
 
 
+def refusal_of_fetch(folder):
+    """Why cargo can't fetch what the package needs, or None if it can."""
+    try:
+        said, status = run(["cargo", "fetch", "--quiet"], cwd=folder, timeout=FETCH_SECONDS)
+    except subprocess.TimeoutExpired:
+        return f"it didn't come within {FETCH_SECONDS} seconds"
+    last = said.splitlines()[-1].strip() if said else f"status {status}"
+    return last if status else None
+
+
 def sources_of_gimli(is_debian):
     """Where gimli is taken from: a folder of the package for it, and words for cargo."""
     if not is_debian:
         copy_package(f"{OUT}/crates-io")
-        said, status = run(["cargo", "fetch", "--quiet"], cwd=f"{OUT}/crates-io", timeout=600)
-        if status == 0:
+        why = refusal_of_fetch(f"{OUT}/crates-io")
+        if why is None:
             return f"{OUT}/crates-io", []
-        last = said.splitlines()[-1] if said else f"status {status}"
-        say(f"cargo can't fetch gimli from crates.io ({last.strip()}), so Debian's is used")
+        say(f"cargo can't fetch gimli from crates.io ({why}), so Debian's is used")
     if not os.path.isdir(DEBIAN) or not any(it.startswith("gimli-") for it in os.listdir(DEBIAN)):
         raise Missing("there is no gimli: `apt-get install librust-gimli-dev` installs it")
     copy_package(f"{OUT}/debian")
@@ -153,8 +183,6 @@ def is_big_endian(path):
 
 def sections(path, folder):
     """The words for the program about the sections of an ELF file, whose bytes are put into the folder."""
-    if not os.path.isfile(path):
-        raise Failed(f"{path} is no file")
     whole, copy, words = f"{folder}/whole", f"{folder}/copy", []
     tool, is_big = decompressed(path, whole), is_big_endian(path)
     for name in SECTIONS:

@@ -8,7 +8,7 @@ import time
 from concurrent.futures import ThreadPoolExecutor
 
 import kit
-from common import PACKAGE, Failed, Missing, build
+from common import PACKAGE, Failed, build, need_kit
 
 # The edits without a name on the command line: of numbers, tables, strict reading, the cache, lookups and sets.
 EDITS = [
@@ -120,8 +120,7 @@ def try_one(program, name, seconds):
 
 def wrong_bodies(given):
     """Tries the library as it is, and each wrong body. Returns the exit status."""
-    if not shutil.which("rt"):
-        raise Missing("there is no rt: CONTRIBUTING.md names the kit that has it")
+    need_kit()
     names = given["files"] or EDITS
     for it in names:
         if not os.path.isfile(f"{kit.ROOT}/wrong-bodies/{it}.edit"):
