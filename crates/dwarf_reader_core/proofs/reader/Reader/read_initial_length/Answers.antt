@@ -1,4 +1,4 @@
-use Rattle.std.proofs.Common.{rules, ◌≡◌, ◌<◌, ◌∙◌, true, false, arith, nat_lt}
+use Rattle.std.proofs.Common.{rules, ◌≡◌, true, false, arith, nat_lt}
 use Rattle.std.proofs.lemmas.Bool.{le-leb, le-ltb, lt-leb, lt-ltb}
 use Rattle.dwarf_reader_core.specs.InitialLength.{initial_length, long_length}
 use Rattle.dwarf_reader_core.proofs.Layouts.{after_number, after_check, check_fails_at, fails_behind, fails_first, number_fails_at, number_reads, pure_reads, refuse_fails_at}
