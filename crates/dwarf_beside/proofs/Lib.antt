@@ -1,2 +1,2 @@
-pub mod TagLemmas
 pub mod SumLemmas
+pub mod TagLemmas

@@ -1,9 +1,8 @@
 //! Loops over LEB128 numbers (DWARF 5, 7.6).
 
-ghost use Rattle.std.specs.Prelude.{◌≢◌};
-ghost use Rattle.dwarf_read_core.specs.Leb128.{unsigned64, unsigned16, ReadsNumber};
+ghost use Rattle.dwarf_read_core.specs.Leb128.{unsigned64, unsigned16, signed64, ReadsNumber, RefusesNumber, LacksEncoding};
 ghost use Rattle.dwarf_read_core.specs.Shortest.{IsShortestLength};
-ghost use Rattle.dwarf_beside.specs.Sums.{Adds, AddsAll, Counts, ReadsSigned};
+ghost use Rattle.dwarf_beside.specs.Sums.{Adds, AddsOrRefuses, Counts, ReadsSigned};
 
 use dwarf_read_core::leb128::{read, write};
 use dwarf_read_core::{EndianSlice, LittleEndian, Reader};
@@ -12,78 +11,66 @@ use dwarf_read_core::{EndianSlice, LittleEndian, Reader};
 /// 2^64, or 0 if one of them is none.
 #[unsafe(no_mangle)]
 pub extern "C" fn beside_unsigned_sum(bytes: &[u8]) -> u64
-    ensures { result ≢ 0 → AddsAll (ReadsNumber unsigned64) bytes.now result }
+    ensures { AddsOrRefuses (ReadsNumber unsigned64) (RefusesNumber unsigned64) bytes.now result }
 {
     let mut input = EndianSlice::new(bytes, LittleEndian);
     let mut sum: u64 = 0;
-    for _ in 0..u64::MAX {
-        if input.is_empty() {
-            break;
-        }
+    while !input.is_empty() {
         match read::unsigned(&mut input) {
             Ok(value) => sum = sum.wrapping_add(value),
             Err(_) => return 0,
         }
     }
-    if input.is_empty() { sum } else { 0 }
+    sum
 }
 
 /// The same of signed numbers.
 #[unsafe(no_mangle)]
 pub extern "C" fn beside_signed_sum(bytes: &[u8]) -> u64
-    ensures { result ≢ 0 → AddsAll ReadsSigned bytes.now result }
+    ensures { AddsOrRefuses ReadsSigned (RefusesNumber signed64) bytes.now result }
 {
     let mut input = EndianSlice::new(bytes, LittleEndian);
     let mut sum: u64 = 0;
-    for _ in 0..u64::MAX {
-        if input.is_empty() {
-            break;
-        }
+    while !input.is_empty() {
         match read::signed(&mut input) {
             Ok(value) => sum = sum.wrapping_add(value.cast_unsigned()),
             Err(_) => return 0,
         }
     }
-    if input.is_empty() { sum } else { 0 }
+    sum
 }
 
 /// The same of numbers of at most 16 bits.
 #[unsafe(no_mangle)]
 pub extern "C" fn beside_short_sum(bytes: &[u8]) -> u64
-    ensures { result ≢ 0 → AddsAll (ReadsNumber unsigned16) bytes.now result }
+    ensures { AddsOrRefuses (ReadsNumber unsigned16) (RefusesNumber unsigned16) bytes.now result }
 {
     let mut input = EndianSlice::new(bytes, LittleEndian);
     let mut sum: u64 = 0;
-    for _ in 0..u64::MAX {
-        if input.is_empty() {
-            break;
-        }
+    while !input.is_empty() {
         match read::u16(&mut input) {
             Ok(value) => sum = sum.wrapping_add(u64::from(value)),
             Err(_) => return 0,
         }
     }
-    if input.is_empty() { sum } else { 0 }
+    sum
 }
 
 /// Skips the numbers that `bytes` are one after the other, and returns how many there are, or 0 if
 /// the last one is cut.
 #[unsafe(no_mangle)]
 pub extern "C" fn beside_skipped_count(bytes: &[u8]) -> u64
-    ensures { result ≢ 0 → AddsAll Counts bytes.now result }
+    ensures { AddsOrRefuses Counts LacksEncoding bytes.now result }
 {
     let mut input = EndianSlice::new(bytes, LittleEndian);
     let mut count: u64 = 0;
-    for _ in 0..u64::MAX {
-        if input.is_empty() {
-            break;
-        }
+    while !input.is_empty() {
         match read::skip(&mut input) {
             Ok(()) => count = count.wrapping_add(1),
             Err(_) => return 0,
         }
     }
-    if input.is_empty() { count } else { 0 }
+    count
 }
 
 /// Writes each number, and returns how many bytes they have together, modulo 2^64.

@@ -1,9 +1,7 @@
 //! Loops over strings, and over lookups by an index (DWARF 5, 7.26 and 7.27).
 
-ghost use Rattle.std.specs.Prelude.{◌≢◌, ◌^◌, ◌-◌, Ok};
-ghost use Rattle.dwarf_read_core.specs.Words.{AddressAt, WordAt, slot};
 ghost use Rattle.dwarf_beside.specs.Sections.{section_of};
-ghost use Rattle.dwarf_beside.specs.Sums.{Adds, HasText};
+ghost use Rattle.dwarf_beside.specs.Sums.{AddsOrLacks, HasAddress, HasTextOf, HasWord};
 
 use dwarf_read_core::{
     DebugAddr, DebugAddrBase, DebugAddrIndex, DebugStr, DebugStrOffset, DebugStrOffsets,
@@ -14,8 +12,7 @@ use dwarf_read_core::{
 /// error.
 #[unsafe(no_mangle)]
 pub extern "C" fn beside_address_lookups(section: &[u8], base: usize, indices: &[usize]) -> u64
-    ensures { let s = section_of section.now in result ≢ 0
-        → Adds (λ i n. AddressAt (2 ^ 64 - 1) s (slot base i 8) (Ok n)) indices.now result }
+    ensures { AddsOrLacks (HasAddress (section_of section.now) base) indices.now result }
 {
     let section = DebugAddr::from(EndianSlice::new(section, LittleEndian));
     let mut sum: u64 = 0;
@@ -31,8 +28,7 @@ pub extern "C" fn beside_address_lookups(section: &[u8], base: usize, indices: &
 /// Returns how long the strings at these offsets are together, modulo 2^64, or 0 for an error.
 #[unsafe(no_mangle)]
 pub extern "C" fn beside_strings(section: &[u8], offsets: &[usize]) -> usize
-    ensures { let s = section_of section.now in
-        result ≢ 0 → Adds (HasText s) offsets.now result }
+    ensures { AddsOrLacks (HasTextOf (section_of section.now)) offsets.now result }
 {
     let section = DebugStr::new(section, LittleEndian);
     let mut sum: usize = 0;
@@ -49,8 +45,7 @@ pub extern "C" fn beside_strings(section: &[u8], offsets: &[usize]) -> usize
 /// error.
 #[unsafe(no_mangle)]
 pub extern "C" fn beside_str_offset_lookups(section: &[u8], base: usize, indices: &[usize]) -> usize
-    ensures { let s = section_of section.now in result ≢ 0
-        → Adds (λ i n. WordAt (2 ^ 64 - 1) s (slot base i 4) (Ok n)) indices.now result }
+    ensures { AddsOrLacks (HasWord (section_of section.now) base) indices.now result }
 {
     let section = DebugStrOffsets::from(EndianSlice::new(section, LittleEndian));
     let mut sum: usize = 0;

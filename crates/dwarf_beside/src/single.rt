@@ -247,7 +247,7 @@ fn find_each(table: &Abbreviations, codes: &[u64], tags: &mut [u16])
 }
 
 // The tag of the abbreviation with a code, or 0.
-fn tag_of(table: &Abbreviations, code: u64) -> u16
+pub(crate) fn tag_of(table: &Abbreviations, code: u64) -> u16
     ensures { result ≡ tag_in table.now code }
 {
     match table.get(code) {

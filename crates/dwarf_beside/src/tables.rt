@@ -1,12 +1,11 @@
 //! Loops over abbreviation tables (DWARF 5, 7.5.3) and their cache.
 
-ghost use Rattle.std.specs.Prelude.{◌≡◌, ◌≢◌, ◌⊎◌, Ok};
-ghost use Rattle.dwarf_read_core.specs.Answer.{Answer};
-ghost use Rattle.dwarf_read_core.specs.Grammar.{Table};
+ghost use Rattle.std.specs.Prelude.{◌≡◌, ◌*◌, ◌%◌, ◌^◌, ◌⊎◌, IfErr, IfOk};
+ghost use Rattle.dwarf_read_core.specs.Cache.{IsFaithful};
 ghost use Rattle.dwarf_beside.specs.Sections.{section_of};
-ghost use Rattle.dwarf_beside.specs.Sums.{Adds, CountsAs};
+ghost use Rattle.dwarf_beside.specs.Sums.{Adds, AddsTimes, CountsAs, OfTable, tags_to};
 
-use crate::single::table_at;
+use crate::single::{table_at, tag_of};
 use dwarf_read_core::{
     Abbreviations, AbbreviationsCache, AbbreviationsCacheStrategy, DebugAbbrev, DebugAbbrevOffset,
     EndianSlice, Error, LittleEndian, Result,
@@ -40,18 +39,29 @@ fn counted(mem: Global, section: &[u8], offset: usize) -> usize
 }
 
 // The sum of the tags that are found.
-fn get_all(table: &Abbreviations, codes: u64) -> u64 {
+fn get_all(table: &Abbreviations, codes: u64) -> u64
+    ensures { result ≡ tags_to table.now codes % 2 ^ 64 }
+{
     let mut sum: u64 = 0;
     for code in 0..codes {
-        if let Some(abbreviation) = table.get(code.wrapping_add(1)) {
-            sum = sum.wrapping_add(u64::from(abbreviation.tag().0));
-        }
+        sum = sum.wrapping_add(u64::from(tag_of(table, code + 1)));
+    }
+    sum
+}
+
+// The same, so many times.
+fn get_rounds(table: &Abbreviations, codes: u64, rounds: u64) -> u64
+    ensures { result ≡ (rounds * tags_to table.now codes) % 2 ^ 64 }
+{
+    let mut sum: u64 = 0;
+    for round in 0..rounds {
+        sum = sum.wrapping_add(get_all(table, codes));
     }
     sum
 }
 
 /// Looks up the codes from 1 to `codes`, so many times, in the table at `offset`. Returns the sum
-/// of the tags that are found, or 2^32 if no table is there.
+/// of the tags that are found modulo 2^64, or 2^32 if no table is there.
 #[unsafe(no_mangle)]
 pub extern "C" fn beside_get_sum(
     mem: Global,
@@ -60,56 +70,78 @@ pub extern "C" fn beside_get_sum(
     codes: u64,
     rounds: u64,
 ) -> u64
-    ensures { let s = section_of section.now in
-        result ≢ FAILED → (t : Table) × Answer s offset (Ok t) }
+    ensures { OfTable (section_of section.now) offset result
+        (λ t. result ≡ (rounds * tags_to t codes) % 2 ^ 64) }
 {
-    let Ok(table) = table_at(mem, section, offset) else {
-        return FAILED as u64;
-    };
-    let mut sum: u64 = 0;
-    for _ in 0..rounds {
-        sum = sum.wrapping_add(get_all(&table, codes));
+    match table_at(mem, section, offset) {
+        Ok(table) => get_rounds(&table, codes, rounds),
+        Err(_) => FAILED as u64,
     }
-    sum
 }
 
-// Fills a cache with the tables at these offsets.
-fn fill(
-    cache: &mut AbbreviationsCache,
-    section: &DebugAbbrev<EndianSlice<'_, LittleEndian>>,
-    offsets: &[usize],
-) -> Result<()> {
+// A cache that is filled with the tables at these offsets.
+fn filled(mem: Global, section: &[u8], offsets: &[usize]) -> Result<AbbreviationsCache>
+    ensures ok { IfOk result (λ cache. IsFaithful cache (section_of section.now)) }
+    ensures err { IfErr result (λ e. e ≡ Error.OutOfMemory) }
+{
+    let mut cache = AbbreviationsCache::new(mem);
+    let section = DebugAbbrev::new(section, LittleEndian);
     let units = offsets
         .iter()
         .map(|offset| Ok::<_, Error>(DebugAbbrevOffset(*offset)));
-    cache.populate(AbbreviationsCacheStrategy::All, section, units)
+    cache.populate(AbbreviationsCacheStrategy::All, &section, units)?;
+    Ok(cache)
 }
 
+// (The contract can't say what was in a cache that is dropped.)
 /// Fills a cache with the tables at these offsets. Returns 1, or 2^32 if memory runs out.
 #[unsafe(no_mangle)]
 pub extern "C" fn beside_populate(mem: Global, section: &[u8], offsets: &[usize]) -> usize
     ensures { (result ≡ 1) ⊎ (result ≡ FAILED) }
 {
+    match filled(mem, section, offsets) {
+        Ok(_) => 1,
+        Err(_) => FAILED,
+    }
+}
+
+// How many abbreviations the table has that a cache returns, or what an error counts as.
+fn count_cached(cache: &AbbreviationsCache, section: &[u8], offset: usize) -> usize
+    requires { IsFaithful cache.now (section_of section.now) }
+    ensures { CountsAs (section_of section.now) offset result }
+{
     let section = DebugAbbrev::new(section, LittleEndian);
-    let mut cache = AbbreviationsCache::new(mem);
-    match fill(&mut cache, &section, offsets) {
-        Ok(()) => 1,
+    match cache.get(&section, DebugAbbrevOffset(offset)) {
+        Ok(table) => table.len(),
         Err(_) => FAILED,
     }
 }
 
 // The sum of the lengths that a cache returns.
-fn get_cached(
-    cache: &AbbreviationsCache,
-    section: &DebugAbbrev<EndianSlice<'_, LittleEndian>>,
-    offsets: &[usize],
-) -> usize {
+fn get_cached(cache: &AbbreviationsCache, section: &[u8], offsets: &[usize]) -> usize
+    requires { IsFaithful cache.now (section_of section.now) }
+    ensures { Adds (CountsAs (section_of section.now)) offsets.now result }
+{
     let mut sum: usize = 0;
     for offset in offsets {
-        match cache.get(section, DebugAbbrevOffset(*offset)) {
-            Ok(table) => sum = sum.wrapping_add(table.len()),
-            Err(_) => sum = sum.wrapping_add(FAILED),
-        }
+        sum = sum.wrapping_add(count_cached(cache, section, *offset));
+    }
+    sum
+}
+
+// The same, so many times.
+fn get_cached_rounds(
+    cache: &AbbreviationsCache,
+    section: &[u8],
+    offsets: &[usize],
+    rounds: u64,
+) -> usize
+    requires { IsFaithful cache.now (section_of section.now) }
+    ensures { AddsTimes (Adds (CountsAs (section_of section.now)) offsets.now) rounds result }
+{
+    let mut sum: usize = 0;
+    for round in 0..rounds {
+        sum = sum.wrapping_add(get_cached(cache, section, offsets));
     }
     sum
 }
@@ -123,15 +155,12 @@ pub extern "C" fn beside_cached(
     section: &[u8],
     offsets: &[usize],
     rounds: u64,
-) -> usize {
-    let section = DebugAbbrev::new(section, LittleEndian);
-    let mut cache = AbbreviationsCache::new(mem);
-    if fill(&mut cache, &section, offsets).is_err() {
-        return FAILED;
+) -> usize
+    ensures { let total = Adds (CountsAs (section_of section.now)) offsets.now in
+        AddsTimes total rounds result ⊎ (result ≡ FAILED) }
+{
+    match filled(mem, section, offsets) {
+        Ok(cache) => get_cached_rounds(&cache, section, offsets, rounds),
+        Err(_) => FAILED,
     }
-    let mut sum: usize = 0;
-    for _ in 0..rounds {
-        sum = sum.wrapping_add(get_cached(&cache, &section, offsets));
-    }
-    sum
 }

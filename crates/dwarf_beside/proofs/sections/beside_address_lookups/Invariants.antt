@@ -1,9 +1,9 @@
-use Rattle.std.proofs.Common.{◌^◌, ◌-◌, Ok, take}
-use Rattle.dwarf_read_core.specs.Words.{AddressAt, slot}
+use Rattle.std.proofs.Common.{Ok, take}
 use Rattle.dwarf_beside.specs.Sections.{section_of}
-use Rattle.dwarf_beside.specs.Sums.{Adds}
+use Rattle.dwarf_beside.specs.Sums.{Adds, HasAddress}
 use Rattle.dwarf_beside.proofs.sections.beside_address_lookups.Given as goal
 
 -- the items so far have this sum
 abbrev pub invariant-loop-index : goal.invariant-loop-index
-invariant-loop-index l = Adds (λ i n. AddressAt (2 ^ 64 - 1) (section_of l.fn.section) (slot l.fn.base i 8) (Ok n)) (take l.index-index l.fn.indices) l.sum
+invariant-loop-index l =
+    Adds (λ item n. HasAddress (section_of l.fn.section) l.fn.base item (Ok n)) (take l.index-index l.fn.indices) l.sum

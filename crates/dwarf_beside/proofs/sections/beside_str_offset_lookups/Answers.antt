@@ -1,6 +1,6 @@
 use Rattle.std.proofs.Common.{rules}
-use Rattle.dwarf_beside.specs.Sums.{nothing}
-use Rattle.dwarf_beside.proofs.SumLemmas.{adds_all, adds_more}
+use Rattle.dwarf_beside.specs.Sums.{all, nothing}
+use Rattle.dwarf_beside.proofs.SumLemmas.{adds_all, adds_more, one_lacks, wants_none}
 use Rattle.dwarf_beside.proofs.sections.beside_str_offset_lookups.Goals as goal
 
 pub loop-index-init : goal.loop-index-init
@@ -12,5 +12,13 @@ loop-index-preserved c =
     adds_more c.args.indices.now c.loop-index.index-index _ c.loop-index.sum c.in-Ok.offset.0 c.loop-index-test.true
     (search rules) c.loop-index.invariant answer
 
+pub returns-in-Err : goal.returns-in-Err
+returns-in-Err c =
+    let answer = rw (c.from-section.ensures, c.new.ensures.view) at c.in-Err.ensures.answer in
+    one_lacks c.args.indices.now c.loop-index.index-index _ c.in-Err.field-0 c.loop-index-test.true (search rules)
+    (wants_none answer)
+
 pub returns : goal.returns
-returns c = λ _. adds_all c.args.indices.now c.loop-index.index-index c.loop-index.sum (search rules) c.loop-index.invariant
+returns c =
+    all c.loop-index.sum
+    (adds_all c.args.indices.now c.loop-index.index-index c.loop-index.sum (search rules) c.loop-index.invariant)

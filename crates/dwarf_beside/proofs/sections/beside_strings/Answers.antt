@@ -1,6 +1,6 @@
 use Rattle.std.proofs.Common.{rules}
-use Rattle.dwarf_beside.specs.Sums.{nothing}
-use Rattle.dwarf_beside.proofs.SumLemmas.{adds_more}
+use Rattle.dwarf_beside.specs.Sums.{all, nothing}
+use Rattle.dwarf_beside.proofs.SumLemmas.{adds_all, adds_more, one_lacks, wants_none}
 use Rattle.dwarf_beside.proofs.sections.beside_strings.Goals as goal
 
 pub loop-offset-init : goal.loop-offset-init
@@ -11,3 +11,14 @@ loop-offset-preserved c =
     let answer = rw c.new-section.ensures at c.in-Ok.ensures.answer in
     adds_more c.args.offsets.now c.loop-offset.offset-index _ c.loop-offset.sum c.len-sum.result
     c.loop-offset-test.true (search rules) c.loop-offset.invariant (_, answer, c.len-sum.ensures)
+
+pub returns-in-Err : goal.returns-in-Err
+returns-in-Err c =
+    let answer = rw c.new-section.ensures at c.in-Err.ensures.answer in
+    one_lacks c.args.offsets.now c.loop-offset.offset-index _ c.in-Err.field-0 c.loop-offset-test.true (search rules)
+    (wants_none answer)
+
+pub returns : goal.returns
+returns c =
+    all c.loop-offset.sum
+    (adds_all c.args.offsets.now c.loop-offset.offset-index c.loop-offset.sum (search rules) c.loop-offset.invariant)

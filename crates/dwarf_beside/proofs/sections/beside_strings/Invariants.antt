@@ -1,9 +1,9 @@
-use Rattle.std.proofs.Common.{take}
+use Rattle.std.proofs.Common.{Ok, take}
 use Rattle.dwarf_beside.specs.Sections.{section_of}
-use Rattle.dwarf_beside.specs.Sums.{HasText}
-use Rattle.dwarf_beside.specs.Sums.{Adds}
+use Rattle.dwarf_beside.specs.Sums.{Adds, HasTextOf}
 use Rattle.dwarf_beside.proofs.sections.beside_strings.Given as goal
 
 -- the items so far have this sum
 abbrev pub invariant-loop-offset : goal.invariant-loop-offset
-invariant-loop-offset l = Adds (HasText (section_of l.fn.section)) (take l.offset-index l.fn.offsets) l.sum
+invariant-loop-offset l =
+    Adds (λ item n. HasTextOf (section_of l.fn.section) item (Ok n)) (take l.offset-index l.fn.offsets) l.sum

@@ -1,0 +1,8 @@
+use Rattle.std.proofs.Common.{take}
+use Rattle.dwarf_beside.specs.Sections.{section_of}
+use Rattle.dwarf_beside.specs.Sums.{Adds, CountsAs}
+use Rattle.dwarf_beside.proofs.tables.get_cached.Given as goal
+
+-- the tables so far have this sum
+abbrev pub invariant-loop-offset : goal.invariant-loop-offset
+invariant-loop-offset l = Adds (CountsAs (section_of l.fn.section)) (take l.offset-index l.fn.offsets) l.sum
