@@ -1,6 +1,6 @@
 -- What follows from the result of steps that may fail.
-use Rattle.std.proofs.Common.{◌≡◌, ◌≢◌, ◌∙◌, Bool, true, false, cond, Result, Ok, Err, refl, sym, subst, ◌⊎◌, inl, inr}
-use Rattle.std.specs.Prelude.{IfErr, IsErrAnd, IsOk, IsErrOf}
+use Rattle.std.proofs.Common.{◌≡◌, ◌≢◌, ◌∙◌, Bool, true, false, cond, Result, Ok, Err, refl, ◌⊎◌, inl, inr}
+use Rattle.std.specs.Prelude.{IsErrAnd, IsOk, IsErrOf}
 use Rattle.dwarf_base_core.specs.declared.error.Error.TheVariants.{OutOfMemory}
 use Rattle.dwarf_base_core.specs.declared.error.Error.{Error}
 use Rattle.dwarf_read_core.specs.Reading.{◌>>=◌, Gives}

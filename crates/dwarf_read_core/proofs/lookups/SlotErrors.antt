@@ -1,5 +1,5 @@
 -- When a slot has no word or no address, and which error that is.
-use Rattle.std.proofs.Common.{◌≡◌, ℕ, ◌+◌, ◌<◌, ◌≤◌, Bool, true, false, List, length, take, drop, Result, Ok, Err, refl, sym, subst, ◌∙◌, arith, ◌⊎◌, inl, inr, leb}
+use Rattle.std.proofs.Common.{◌≡◌, ℕ, ◌<◌, ◌≤◌, Bool, true, false, length, take, Result, Ok, Err, refl, sym, subst, ◌∙◌, arith, ◌⊎◌, inl, inr, leb}
 use Rattle.std.proofs.lemmas.Bool.{leb-true, leb-false}
 use Rattle.std.proofs.lemmas.List.{length-drop}
 use Rattle.dwarf_base_core.specs.declared.error.Error.{Error}
@@ -7,7 +7,7 @@ use Rattle.dwarf_base_core.specs.declared.error.Error.TheVariants.{UnsupportedOf
 use Rattle.dwarf_base_core.specs.Number.{number_of}
 use Rattle.dwarf_reader_core.specs.Faults.{EndsBefore, end_fault, is_number_size}
 use Rattle.dwarf_reader_core.specs.Input.{Input, after, Takes, TakesNumber}
-use Rattle.dwarf_read_core.specs.Words.{Slot, distance, place, IsPlaced, Misplaced, Holds, HasNoPlace, no_base, no_distance, no_place, HasNoWord, word_unplaced, word_cut, word_too_great, HasNoAddress, address_unplaced, address_unsized, address_cut, WordAt, AddressAt}
+use Rattle.dwarf_read_core.specs.Words.{Slot, distance, place, IsPlaced, Misplaced, HasNoPlace, no_base, no_distance, no_place, HasNoWord, word_unplaced, word_cut, word_too_great, HasNoAddress, address_unplaced, address_unsized, address_cut, WordAt, AddressAt}
 use Rattle.dwarf_read_core.proofs.lookups.Words as w
 
 -- n bytes are consumed if the input has as many

@@ -1,24 +1,22 @@
 -- Sets as layouts: what a reader reads of one, and what `next` returns.
-use Rattle.std.proofs.Common.{◌≡◌, ◌≢◌, ℕ, ◌+◌, ◌-◌, ◌≤◌, List, [], ◌∷◌, ◌++◌, length, take, Result, Ok, Err, refl, sym, ap, subst, arith, Bool, true, false, ◌⊎◌, inl, inr, ◌∙◌, append_assoc}
+use Rattle.std.proofs.Common.{◌≡◌, ◌≢◌, ℕ, ◌+◌, ◌-◌, ◌≤◌, List, [], ◌∷◌, ◌++◌, length, take, Result, Ok, Err, refl, sym, ap, subst, arith, Bool, ◌⊎◌, inl, inr, ◌∙◌, append_assoc}
 use Rattle.std.specs.List.{sum_by}
 use Rattle.std.specs.Prelude.{nat_lt}
-use Rattle.std.proofs.lemmas.Bool.{lt-ltb, le-ltb, le-leb, lt-leb}
 use Rattle.std.proofs.lemmas.List.{length-append, length-take-le, take-append-drop}
 use Rattle.dwarf_base_core.specs.declared.common.Format.{Format}
 use Rattle.dwarf_base_core.specs.declared.common.Format.TheVariants.{Dwarf32, Dwarf64}
 use Rattle.dwarf_base_core.specs.declared.error.Error.{Error}
-use Rattle.dwarf_base_core.specs.declared.error.Error.TheVariants.{UnknownReservedLength}
 use Rattle.dwarf_base_core.specs.Format.{initial_length_size}
 use Rattle.dwarf_reader_core.specs.Faults.{EndsBefore, WantsMemory}
-use Rattle.dwarf_reader_core.specs.Input.{Input, after, first, Takes, TakesNumber}
+use Rattle.dwarf_reader_core.specs.Input.{Input, first, Takes}
 use Rattle.dwarf_reader_core.specs.InitialLength.{initial_length, long_length}
 use Rattle.dwarf_reader_core.specs.Once.{HasOne}
 use Rattle.dwarf_reader_core.specs.Appended.{IsNoEof}
 use Rattle.dwarf_read_core.specs.Items.{ComesFirst, least_taken}
 use Rattle.dwarf_reader_core.specs.Layout.{Layout, read, none, fault, part, inside, pure, ◌>>=◌}
 use Rattle.dwarf_read_core.specs.Sets.{Set, set, IsJoined, address_header, string_offsets_header, Headers, StandsForSets, followed_headers}
-use Rattle.dwarf_reader_core.proofs.Layouts.{Outcome, then_reads, then_fails, error_is, pure_reads, refuse_fails, after_number, no_number, after_part, no_part, after_check, no_check, after_inside, no_inside, read_more, error_more}
-use Rattle.dwarf_reader_core.proofs.Layouts.{Spans, TakesLeast, spanned, number_spans, byte_spans, check_spans, pure_spans, refuse_spans, when_spans, then_spans, part_spans, inside_spans, then_read, check_read, part_read, inside_read, pure_read}
+use Rattle.dwarf_reader_core.proofs.Layouts.{Outcome, then_reads, then_fails, pure_reads, after_part, no_part, after_inside, no_inside, read_more, error_more}
+use Rattle.dwarf_reader_core.proofs.Layouts.{Spans, TakesLeast, spanned, number_spans, byte_spans, check_spans, pure_spans, refuse_spans, when_spans, then_spans, part_spans, inside_spans, then_read, part_read, inside_read, pure_read}
 use Rattle.dwarf_read_core.proofs.sets.ItemLists.{items-exactly_one, items-bounded, item-first, error-first, item-stays, error-stays, bytes-still_some}
 
 -- ---- how many bytes a set has
