@@ -61,17 +61,18 @@ def drawing(rows):
 
 
 def growth(given):
-    """Prints the table, and draws it."""
+    """Prints the table, and draws it. A cell has gimli's number, the library's, and the ratio of times."""
     program, rows = build(given["debian"]), {}
     print(f"gimli {must([program, '--gimli'], 'the program is another one')}; {what_ran()}\n")
-    heads = ["codes", "declarations", "gimli, ns", "here, ns", "ratio", "gimli, bytes", "here, bytes"]
+    heads = ["declarations", *(f"{words}: {what}" for words in KINDS.values() for what in ("ns", "bytes"))]
     print(f"| {' | '.join(heads)} |\n{'|---' * len(heads)}|", flush=True)
-    for kind, words in KINDS.items():
-        for count in COUNTS:
+    for count in COUNTS:
+        cells = [f"{count:,}"]
+        for kind in KINDS:
             rows[kind, count] = found = measured(program, kind, count)
             gimli, here, gimli_bytes, here_bytes = found
-            cells = [words, f"{count:,}", f"{gimli:.0f}", f"{here:.0f}", f"{here / gimli:.2f}"]
-            print(f"| {' | '.join([*cells, f'{gimli_bytes:.0f}', f'{here_bytes:.0f}'])} |", flush=True)
+            cells += [f"{gimli:.0f}, {here:.0f} ({here / gimli:.2f})", f"{gimli_bytes:.0f}, {here_bytes:.0f}"]
+        print(f"| {' | '.join(cells)} |", flush=True)
     with open(PAGE, "w", encoding="utf-8") as file:
         file.write("\n".join(drawing(rows)) + "\n")
     print(f"\nThe drawing is {os.path.relpath(PAGE, kit.ROOT)}.")
