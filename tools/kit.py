@@ -79,12 +79,13 @@ def worked_cases():
 
 
 def wrong_bodies_of_the_gate():
-    """How many edits in wrong-bodies say that the gate tries them."""
-    found = 0
-    for path in glob.glob(f"{ROOT}/wrong-bodies/**/*", recursive=True):
+    """The edits in wrong-bodies that say that the gate tries them, as CRATE/NAME."""
+    found = []
+    for path in sorted(glob.glob(f"{ROOT}/wrong-bodies/**/*", recursive=True)):
         if os.path.isfile(path):
             with open(path, encoding="utf-8", errors="replace") as file:
-                found += file.readline().startswith("# refused in the gate by ")
+                if file.readline().startswith("# refused in the gate by "):
+                    found.append(os.path.relpath(path, f"{ROOT}/wrong-bodies").removesuffix(".edit"))
     return found
 
 
