@@ -96,10 +96,13 @@ def link_libraries():
         must(["ar", "rcs", heap, f"{folder}/heap.o"], "the library of dwarf_read_heap.c isn't made")
 
 
-def copy_package(folder):
-    """Copies the package to where its lock file and what cargo builds may be."""
+def copy_package(folder, is_locked):
+    """Copies the package to where its lock file and what cargo builds may be. A lock file that is there already stays,
+    since cargo has added gimli's checksum to it."""
     for name in ("Cargo.toml", "build.rs"):
         put(f"{PACKAGE}/{name}", f"{folder}/{name}")
+    if is_locked and not os.path.isfile(f"{folder}/Cargo.lock"):
+        put(f"{PACKAGE}/Cargo.lock", f"{folder}/Cargo.lock")
     for at, _, names in os.walk(f"{PACKAGE}/src"):
         for name in names:
             put(f"{at}/{name}", f"{folder}/{os.path.relpath(at, PACKAGE)}/{name}")
@@ -118,14 +121,14 @@ def refusal_of_fetch(folder):
 def sources_of_gimli(is_debian):
     """Where gimli is taken from: a folder of the package for it, and words for cargo."""
     if not is_debian:
-        copy_package(f"{OUT}/crates-io")
+        copy_package(f"{OUT}/crates-io", True)
         why = refusal_of_fetch(f"{OUT}/crates-io")
         if why is None:
             return f"{OUT}/crates-io", []
         say(f"cargo can't fetch gimli from crates.io ({why}), so Debian's is used")
     if not os.path.isdir(DEBIAN) or not any(it.startswith("gimli-") for it in os.listdir(DEBIAN)):
         raise Missing("there is no gimli: `apt-get install librust-gimli-dev` installs it")
-    copy_package(f"{OUT}/debian")
+    copy_package(f"{OUT}/debian", False)
     replaced = ['source.crates-io.replace-with="debian"', f'source.debian.directory="{DEBIAN}"']
     return f"{OUT}/debian", ["--offline", *(word for it in replaced for word in ("--config", it))]
 
