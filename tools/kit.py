@@ -33,6 +33,12 @@ def libraries_of_crates():
 CRATES = libraries_of_crates()
 
 
+def is_static(crate):
+    """Whether a crate is a static library."""
+    with open(f"{ROOT}/crates.txt", encoding="utf-8") as file:
+        return any(line.partition(":")[0].split() == [crate, "staticlib"] for line in file)
+
+
 def below(crate):
     """The crates of this repository below a crate, lowest first."""
     found = []
@@ -87,6 +93,12 @@ def wrong_bodies_of_the_gate():
                 if file.readline().startswith("# refused in the gate by "):
                     found.append(os.path.relpath(path, f"{ROOT}/wrong-bodies").removesuffix(".edit"))
     return found
+
+
+def is_taken_over(crate):
+    """Whether something takes over what the proof of a crate has checked: its tests, a wrong body, or its build."""
+    has_tests = tests_in(crate) and os.path.isdir(f"{ROOT}/crates/{crate}/proofs")
+    return bool(has_tests or is_static(crate) or any(it.startswith(f"{crate}/") for it in wrong_bodies_of_the_gate()))
 
 
 def kept(crate):
