@@ -1,2 +1,3 @@
+pub mod ItemLemmas
 pub mod SumLemmas
 pub mod TagLemmas

@@ -1,10 +1,10 @@
 -- Sums that grow by one item.
-use Rattle.std.proofs.Common.{◌≡◌, ℕ, suc, ◌+◌, ◌%◌, ◌^◌, ◌<◌, ◌≤◌, true, false, List, [], ◌∷◌, ◌++◌, length, drop, take, Result, Err, sym, subst, ap, ◌∙◌, get_or, inl, inr, ◌⊎◌}
+use Rattle.std.proofs.Common.{◌≡◌, ℕ, suc, ◌+◌, ◌%◌, ◌^◌, ◌<◌, ◌≤◌, true, false, List, [], ◌∷◌, ◌++◌, length, drop, take, Result, Ok, Err, sym, subst, ap, ◌∙◌, arith, get_or, inl, inr, ◌⊎◌}
 use Rattle.std.proofs.Math.Seq.{split_at}
 use Rattle.std.proofs.lemmas.List.{take_all, take_more}
 use Rattle.dwarf_read_core.specs.declared.Error.{Error}
 use Rattle.dwarf_read_core.specs.Faults.{WantsMemory}
-use Rattle.dwarf_beside.specs.Sums.{Adds, AddsOrLacks, lacks, one_more}
+use Rattle.dwarf_beside.specs.Sums.{Adds, AddsOrFails, lacks, one_more}
 
 -- the items so far have their sum, and so have they with the next one
 pub adds_more :
@@ -22,15 +22,21 @@ pub adds_all :
     Adds Is items sum
 adds_all {A} {Is} items i sum done adds = subst (λ (l : List A). Adds Is l sum) (take_all i items done) adds
 
--- an item that has an error
+-- an item that has an error, behind those that have their sum
 pub one_lacks :
-    {A : Type 0} {Has : A → Result ℕ Error → Type 0} (items : List A) (i : ℕ) (item : A) (e : Error)
-    → i < length items → get_or items i item ≡ item → Has item (Err e) → AddsOrLacks Has items 0
-one_lacks {A} items i item e within here has =
-    lacks (take i items) (drop (suc i) items) item e
-    (split_at items i item within ∙ ap (λ (x : A). take i items ++ x ∷ drop (suc i) items) here) has
+    {A : Type 0} {Has : A → Result ℕ Error → Type 0} (items : List A) (i : ℕ) (item : A) (sum : ℕ) (e : Error)
+    → i < length items → get_or items i item ≡ item → Adds (λ item n. Has item (Ok n)) (take i items) sum
+    → Has item (Err e) → AddsOrFails Has items (Err e)
+one_lacks {A} items i item sum e within here adds has =
+    lacks (take i items) (drop (suc i) items) item sum e
+    (split_at items i item within ∙ ap (λ (x : A). take i items ++ x ∷ drop (suc i) items) here) adds has
 
 -- a reader whose clones are free wants no memory
 pub wants_none : {P : Type 0} {e : Error} → P ⊎ WantsMemory true e → P
 wants_none (inl p) = p
 wants_none (inr want) = absurd (let false_true : true ≡ false = want.costs in cc)
+
+-- three numbers that are added one after the other, each modulo 2 ^ 64, are added together
+pub three_added :
+    (sum a b c : ℕ) → (((sum + a) % 2 ^ 64 + b) % 2 ^ 64 + c) % 2 ^ 64 ≡ (sum + (a + b + c)) % 2 ^ 64
+three_added sum a b c = omega arith

@@ -1,3 +1,4 @@
 pub mod Fault
 pub mod Sections
+pub mod Sets
 pub mod Sums

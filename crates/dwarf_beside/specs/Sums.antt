@@ -1,6 +1,7 @@
 -- The sums that the loops return, each modulo 2 ^ 64.
 use Rattle.std.specs.Prelude.{◌≡◌, ℕ, ℤ, suc, zero, ◌+◌, ◌-◌, ◌%◌, ◌^◌, List, [], ◌∷◌, ◌++◌, length, Result, Ok, Err, ◌⊎◌}
 use Rattle.std.specs.Int.{w64, cast_unsigned}
+use Rattle.std.specs.Result.{result_unwrap_or}
 use Rattle.dwarf_read_core.specs.declared.Error.{Error}
 use Rattle.dwarf_read_core.specs.Answer.{Answer, Answers}
 use Rattle.dwarf_read_core.specs.Grammar.{Table}
@@ -17,11 +18,15 @@ pub data Adds {A : Type 0} (Is : A → ℕ → Type 0) : List A → ℕ → Type
   one_more : (items : List A) (item : A) (sum n : ℕ) → Adds Is items sum → Is item n
       → Adds Is (items ++ item ∷ []) ((sum + n) % 2 ^ 64)
 
--- the sum of the numbers that the items have, or 0 if one of them has an error in place of a number
-pub data AddsOrLacks {A : Type 0} (Has : A → Result ℕ Error → Type 0) (items : List A) : ℕ → Type 0 where
-  all : (sum : ℕ) → Adds (λ item n. Has item (Ok n)) items sum → AddsOrLacks Has items sum
-  lacks : (before behind : List A) (item : A) (e : Error) → items ≡ before ++ item ∷ behind → Has item (Err e)
-      → AddsOrLacks Has items 0
+-- the sum of the numbers that the items have, or the first error that one of them has in place of a number
+pub data AddsOrFails {A : Type 0} (Has : A → Result ℕ Error → Type 0) (items : List A) : Result ℕ Error → Type 0 where
+  all : (sum : ℕ) → Adds (λ item n. Has item (Ok n)) items sum → AddsOrFails Has items (Ok sum)
+  lacks : (before behind : List A) (item : A) (sum : ℕ) (e : Error) → items ≡ before ++ item ∷ behind
+      → Adds (λ item n. Has item (Ok n)) before sum → Has item (Err e) → AddsOrFails Has items (Err e)
+
+-- the number that is so, or 0 if an error is
+abbrev pub OrZero : (Result ℕ Error → Type 0) → ℕ → Type 0
+OrZero Is n = (answer : Result ℕ Error) × Is answer × (n ≡ result_unwrap_or answer 0)
 
 -- so many numbers are so, and this is their sum
 pub data AddsTimes (Is : ℕ → Type 0) : ℕ → ℕ → Type 0 where

@@ -1,7 +1,7 @@
 //! Loops over strings, and over lookups by an index (DWARF 5, 7.26 and 7.27).
 
 ghost use Rattle.dwarf_beside.specs.Sections.{section_of};
-ghost use Rattle.dwarf_beside.specs.Sums.{AddsOrLacks, HasAddress, HasTextOf, HasWord};
+ghost use Rattle.dwarf_beside.specs.Sums.{AddsOrFails, HasAddress, HasTextOf, HasWord, OrZero};
 
 use dwarf_read_core::{
     DebugAddr, DebugAddrBase, DebugAddrIndex, DebugStr, DebugStrOffset, DebugStrOffsets,
@@ -12,7 +12,7 @@ use dwarf_read_core::{
 /// error.
 #[unsafe(no_mangle)]
 pub extern "C" fn beside_address_lookups(section: &[u8], base: usize, indices: &[usize]) -> u64
-    ensures { AddsOrLacks (HasAddress (section_of section.now) base) indices.now result }
+    ensures { OrZero (AddsOrFails (HasAddress (section_of section.now) base) indices.now) result }
 {
     let section = DebugAddr::from(EndianSlice::new(section, LittleEndian));
     let mut sum: u64 = 0;
@@ -28,7 +28,7 @@ pub extern "C" fn beside_address_lookups(section: &[u8], base: usize, indices: &
 /// Returns how long the strings at these offsets are together, modulo 2^64, or 0 for an error.
 #[unsafe(no_mangle)]
 pub extern "C" fn beside_strings(section: &[u8], offsets: &[usize]) -> usize
-    ensures { AddsOrLacks (HasTextOf (section_of section.now)) offsets.now result }
+    ensures { OrZero (AddsOrFails (HasTextOf (section_of section.now)) offsets.now) result }
 {
     let section = DebugStr::new(section, LittleEndian);
     let mut sum: usize = 0;
@@ -45,7 +45,7 @@ pub extern "C" fn beside_strings(section: &[u8], offsets: &[usize]) -> usize
 /// error.
 #[unsafe(no_mangle)]
 pub extern "C" fn beside_str_offset_lookups(section: &[u8], base: usize, indices: &[usize]) -> usize
-    ensures { AddsOrLacks (HasWord (section_of section.now) base) indices.now result }
+    ensures { OrZero (AddsOrFails (HasWord (section_of section.now) base) indices.now) result }
 {
     let section = DebugStrOffsets::from(EndianSlice::new(section, LittleEndian));
     let mut sum: usize = 0;

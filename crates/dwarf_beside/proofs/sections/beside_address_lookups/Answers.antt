@@ -1,4 +1,4 @@
-use Rattle.std.proofs.Common.{rules}
+use Rattle.std.proofs.Common.{Ok, Err, refl, rules}
 use Rattle.dwarf_beside.specs.Sums.{all, nothing}
 use Rattle.dwarf_beside.proofs.SumLemmas.{adds_all, adds_more, one_lacks, wants_none}
 use Rattle.dwarf_beside.proofs.sections.beside_address_lookups.Goals as goal
@@ -15,10 +15,12 @@ loop-index-preserved c =
 pub returns-in-Err : goal.returns-in-Err
 returns-in-Err c =
     let answer = rw (c.from-section.ensures, c.new.ensures.view) at c.in-Err.ensures.answer in
-    one_lacks c.args.indices.now c.loop-index.index-index _ c.in-Err.field-0 c.loop-index-test.true (search rules)
-    (wants_none answer)
+    let lacking = one_lacks c.args.indices.now c.loop-index.index-index _ c.loop-index.sum c.in-Err.field-0
+    c.loop-index-test.true (search rules) c.loop-index.invariant (wants_none answer) in
+    (Err c.in-Err.field-0, lacking, refl)
 
 pub returns : goal.returns
 returns c =
-    all c.loop-index.sum
-    (adds_all c.args.indices.now c.loop-index.index-index c.loop-index.sum (search rules) c.loop-index.invariant)
+    let adds = adds_all c.args.indices.now c.loop-index.index-index c.loop-index.sum
+    (search rules) c.loop-index.invariant in
+    (Ok c.loop-index.sum, all c.loop-index.sum adds, refl)

@@ -1,4 +1,4 @@
-use Rattle.std.proofs.Common.{rules}
+use Rattle.std.proofs.Common.{Ok, Err, refl, rules}
 use Rattle.dwarf_beside.specs.Sums.{all, nothing}
 use Rattle.dwarf_beside.proofs.SumLemmas.{adds_all, adds_more, one_lacks, wants_none}
 use Rattle.dwarf_beside.proofs.sections.beside_strings.Goals as goal
@@ -15,10 +15,12 @@ loop-offset-preserved c =
 pub returns-in-Err : goal.returns-in-Err
 returns-in-Err c =
     let answer = rw c.new-section.ensures at c.in-Err.ensures.answer in
-    one_lacks c.args.offsets.now c.loop-offset.offset-index _ c.in-Err.field-0 c.loop-offset-test.true (search rules)
-    (wants_none answer)
+    let lacking = one_lacks c.args.offsets.now c.loop-offset.offset-index _ c.loop-offset.sum c.in-Err.field-0
+    c.loop-offset-test.true (search rules) c.loop-offset.invariant (wants_none answer) in
+    (Err c.in-Err.field-0, lacking, refl)
 
 pub returns : goal.returns
 returns c =
-    all c.loop-offset.sum
-    (adds_all c.args.offsets.now c.loop-offset.offset-index c.loop-offset.sum (search rules) c.loop-offset.invariant)
+    let adds = adds_all c.args.offsets.now c.loop-offset.offset-index c.loop-offset.sum
+    (search rules) c.loop-offset.invariant in
+    (Ok c.loop-offset.sum, all c.loop-offset.sum adds, refl)
