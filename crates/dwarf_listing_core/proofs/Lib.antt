@@ -1,9 +1,10 @@
 pub mod Commands
+pub mod Digits
 pub mod Hexadecimal
+pub mod ItemLines
 pub mod Numbers
 pub mod OffsetLemmas
 pub mod OneText
-pub mod SetLines
 pub mod SetTexts
 pub mod StringLines
 pub mod Texts

@@ -1,144 +1,86 @@
 -- Sets have exactly one text or error.
-use Rattle.std.proofs.Common.{◌≡◌, ◌-◌, ◌^◌, ◌<◌, ℕ, zero, suc, List, [], ◌∷◌, ◌++◌, Result, Ok, Err, refl, sym, ap, ◌∙◌, arith, inl, inr, ◌⊎◌}
+use Rattle.std.proofs.Common.{◌≡◌, ◌-◌, ◌^◌, ◌<◌, ℕ, zero, suc, List, [], ◌∷◌, ◌++◌, Result, Ok, Err, refl, ap, ◌∙◌, arith}
 use Rattle.std.specs.Prelude.{IsTrue}
 use Rattle.dwarf_read_core.specs.declared.Error.{Error}
 use Rattle.dwarf_read_core.specs.declared.Format.{Format}
 use Rattle.dwarf_read_core.specs.declared.Format.TheVariants.{Dwarf32, Dwarf64}
-use Rattle.dwarf_read_core.specs.Entries.{Entries, StandsForEntries, StandsForStringOffsets}
+use Rattle.dwarf_read_core.specs.Entries.{Entries, StandsForAddresses, StandsForEntries, StandsForStringOffsets}
 use Rattle.dwarf_read_core.specs.Faults.{is_number_size}
 use Rattle.dwarf_read_core.specs.Format.{word_size}
 use Rattle.dwarf_read_core.specs.Input.{Input}
-use Rattle.dwarf_read_core.specs.Layout.{Layout, AreItems, none, more, fault, read, fixed}
+use Rattle.dwarf_read_core.specs.Layout.{Layout, AreItems, none, more, fault, read}
 use Rattle.dwarf_read_core.proofs.Layouts.{then_read, check_read, inside_read, pure_read}
 use Rattle.dwarf_read_core.specs.Once.{HasOne}
 use Rattle.dwarf_read_core.specs.Sets.{Headers, Set, set, address_header, addresses_of, string_offsets_of}
-use Rattle.dwarf_listing_core.specs.Sets as listed
-use Rattle.dwarf_listing_core.specs.Sets.{SetListing, address_listing, offset_listing, HasEntries, HasSets, ListsSection, ListsSets, nothing, bad_header, bad_entry, later, set_lines, without_error}
+use Rattle.dwarf_listing_core.specs.Items.{Joins, ListsItems, ListsItemsOf, in_front}
+use Rattle.dwarf_listing_core.specs.Sets.{SetListing, address_listing, offset_listing, HasSets, ListsLine, ListsSection, ListsSet}
 
-abbrev Items : Type 0
-Items = List (Result ℕ Error)
+-- a text has exactly one continuation if what is behind it is listed in exactly one way; an error has none
+one_joined : {Lists : Result (List ℕ) Error → Type 0} (own : Result (List ℕ) Error) → HasOne Lists
+    → HasOne (Joins own Lists)
+one_joined (Ok text) has =
+    (in_front text has.0, (has.0, has.1, refl), λ other h. h.2 ∙ ap (in_front text) (has.2 h.0 h.1))
+one_joined (Err e) has = (Err e, refl, λ other h. h)
 
--- two lists of numbers are equal if their items are
-same_numbers : (a b : List ℕ) → without_error a ≡ without_error b → a ≡ b
-same_numbers [] [] e = refl
-same_numbers [] (y ∷ b) e = absurd cc
-same_numbers (x ∷ a) [] e = absurd cc
-same_numbers (x ∷ a) (y ∷ b) e =
-    let heads : x ≡ y = cc in
-    let tails : without_error a ≡ without_error b = cc in
-    rw (heads, same_numbers a b tails) refl
+module _ {A : Type 0} (Lists : A → Result (List ℕ) Error → Type 0) where
+  -- each item that isn't an error has exactly one text or error
+  abbrev pub EachHasOne : List (Result A Error) → Type 0
+  EachHasOne [] = Unit {0}
+  EachHasOne (Err e ∷ items) = Unit {0}
+  EachHasOne (Ok x ∷ items) = HasOne (Lists x) × EachHasOne items
 
--- numbers with an error behind them aren't numbers alone
-no_error : (a b : List ℕ) (e : Error) → without_error a ++ Err e ∷ [] ≡ without_error b → ⊥
-no_error [] [] e q = cc
-no_error [] (y ∷ b) e q = cc
-no_error (x ∷ a) [] e q = cc
-no_error (x ∷ a) (y ∷ b) e q =
-    no_error a b e (let tails : without_error a ++ Err e ∷ [] ≡ without_error b = cc in tails)
+  -- items have exactly one text or error if each of them has
+  one_of_items : (items : List (Result A Error)) → EachHasOne items → HasOne (ListsItems Lists items)
+  one_of_items [] each = (Ok [], refl, λ other h. h)
+  one_of_items (Err e ∷ items) each = (Err e, refl, λ other h. h)
+  one_of_items (Ok x ∷ items) each =
+      let own = each.0 in
+      let joined = one_joined own.0 (one_of_items items each.1) in
+      (joined.0, (own.0, own.1, joined.1), λ other h. joined.2 other (rw (own.2 h.0 h.1) at h.2))
 
--- two lists of numbers, each with an error behind it, have the same error if their items are equal
-same_error : (a b : List ℕ) (d e : Error) → without_error a ++ Err d ∷ [] ≡ without_error b ++ Err e ∷ [] → d ≡ e
-same_error [] [] d e q = cc
-same_error [] (y ∷ b) d e q = absurd cc
-same_error (x ∷ a) [] d e q = absurd cc
-same_error (x ∷ a) (y ∷ b) d e q =
-    same_error a b d e (let tails : without_error a ++ Err d ∷ [] ≡ without_error b ++ Err e ∷ [] = cc in tails)
+  -- so has what stands for exactly one list of items
+  one_of_source : {I : Type 0} (StandsFor : I → List (Result A Error) → Type 0) (source : I)
+      → HasOne (StandsFor source) → ((items : List (Result A Error)) → StandsFor source items → EachHasOne items)
+      → HasOne (ListsItemsOf StandsFor Lists source)
+  one_of_source StandsFor source has each =
+      let one = one_of_items has.0 (each has.0 has.1) in
+      (one.0, (has.0, has.1, one.1), λ other h. one.2 other (rw (has.2 h.0 h.1) at h.2))
 
--- items are numbers, or numbers and then an error
-abbrev Split : Items → Type 0
-Split items =
-    ((numbers : List ℕ) × (items ≡ without_error numbers))
-    ⊎ ((numbers : List ℕ) × (e : Error) × (items ≡ without_error numbers ++ Err e ∷ []))
+  -- each item that is read has exactly one text or error if each value of its layout has
+  each_has_one : {item : ℕ → Layout A} {offset : ℕ} {old : Input} {items : List (Result A Error)}
+      → ((offset : ℕ) (old new : Input) (x : A) → read (item offset) old ≡ Ok (x, new) → HasOne (Lists x))
+      → AreItems item offset old items → EachHasOne items
+  each_has_one law (none empty) = tt
+  each_has_one law (fault some h) = tt
+  each_has_one {item} {offset} {old} law (more {new = new} {x = x} some h rest) =
+      (law offset old new x h, each_has_one law rest)
 
--- a number in front of numbers, or of numbers and an error, is of the same form
-longer : (n : ℕ) (items : Items) → Split items → Split (Ok n ∷ items)
-longer n items (inl h) = inl (n ∷ h.0, ap (λ (xs : Items). Ok n ∷ xs) h.1)
-longer n items (inr h) = inr (n ∷ h.0, h.1, ap (λ (xs : Items). Ok n ∷ xs) h.2)
-
--- the items of an input are numbers, or numbers and then an error
-split : {item : ℕ → Layout ℕ} {offset : ℕ} {old : Input} {items : Items} → AreItems item offset old items → Split items
-split (none empty) = inl ([], refl)
-split (more {x = x} {items = items} some h others) = longer x items (split others)
-split (fault {e = e} some h) = inr ([], e, refl)
-
-abbrev Text : Type 0
-Text = Result (List ℕ) Error
+-- each number has exactly one line
+each_has_line : (line_of : ℕ → List ℕ) (items : List (Result ℕ Error)) → EachHasOne (ListsLine line_of) items
+each_has_line line_of [] = tt
+each_has_line line_of (Err e ∷ items) = tt
+each_has_line line_of (Ok n ∷ items) = ((Ok (line_of n), refl, λ other h. h), each_has_line line_of items)
 
 -- each set that is read has exactly one list of entries
 pub record HasOneList {H : Type 0} (listing : SetListing H) : Type 0 where
   pub one : (greatest offset : ℕ) (old new : Input) (s : Set H)
-      → read (set listing.header greatest offset) old ≡ Ok (s, new) → HasOne (HasEntries listing s)
+      → read (set listing.header greatest offset) old ≡ Ok (s, new)
+      → HasOne (StandsForEntries listing.entry (listing.entries s))
 
-module _ {H : Type 0} {listing : SetListing H} (law : HasOneList listing) (greatest : ℕ) where
-  -- sets have at most one text or error
-  one_text : {offset : ℕ} {old : Input} {items : List (Result (Set H) Error)}
-      → AreItems (set listing.header greatest) offset old items → (one other : Text) → ListsSets listing items one
-      → ListsSets listing items other → other ≡ one
-  one_text (none empty) one other nothing nothing = refl
-  one_text (fault some h) one other (bad_header _ _) (bad_header _ _) = refl
-  one_text {offset} {old} (more {new = new} {x = s} {items = items} some h rest) one other a b =
-      both (one_text rest) one other a b
-    where
-      same : (a b : Items) → HasEntries listing s a → HasEntries listing s b → a ≡ b
-      same a b i j = let one = law.one greatest offset old new s h in one.2 a i ∙ sym (one.2 b j)
-
-      both : ((one other : Text) → ListsSets listing items one → ListsSets listing items other → other ≡ one)
-          → (one other : Text) → ListsSets listing (Ok s ∷ items) one → ListsSets listing (Ok s ∷ items) other
-          → other ≡ one
-      both again one other (bad_entry _ _ m d i) (bad_entry _ _ n e j) =
-          let q : e ≡ d = same_error n m e d
-          (same (without_error n ++ Err e ∷ []) (without_error m ++ Err d ∷ []) j i) in
-          ap (λ (x : Error). let t : Text = Err x in t) q
-      both again one other (bad_entry _ _ m d i) (listed.ListsSets.set _ _ n text j l) =
-          absurd (no_error m n d (same (without_error m ++ Err d ∷ []) (without_error n) i j))
-      both again one other (bad_entry _ _ m d i) (later _ _ n e j l) =
-          absurd (no_error m n d (same (without_error m ++ Err d ∷ []) (without_error n) i j))
-      both again one other (listed.ListsSets.set _ _ m text i l) (bad_entry _ _ n e j) =
-          absurd (no_error n m e (same (without_error n ++ Err e ∷ []) (without_error m) j i))
-      both again one other (later _ _ m d i l) (bad_entry _ _ n e j) =
-          absurd (no_error n m e (same (without_error n ++ Err e ∷ []) (without_error m) j i))
-      both again one other (listed.ListsSets.set _ _ m x i l) (listed.ListsSets.set _ _ n y j k) =
-          let numbers : n ≡ m = same_numbers n m (same (without_error n) (without_error m) j i) in
-          let behind : ◌≡◌ {A = Text} (Ok y) (Ok x) = again (Ok x) (Ok y) l k in
-          let texts : y ≡ x = cc in
-          rw (numbers, texts) refl
-      both again one other (listed.ListsSets.set _ _ m x i l) (later _ _ n e j k) =
-          absurd (let behind : ◌≡◌ {A = Text} (Err e) (Ok x) = again (Ok x) (Err e) l k in cc)
-      both again one other (later _ _ m d i l) (listed.ListsSets.set _ _ n y j k) =
-          absurd (let behind : ◌≡◌ {A = Text} (Ok y) (Err d) = again (Err d) (Ok y) l k in cc)
-      both again one other (later _ _ m d i l) (later _ _ n e j k) = again (Err d) (Err e) l k
-
-  -- the text or error of a set and of those behind it
-  behind : (s : Set H) (items : List (Result (Set H) Error)) (list : Items) → HasEntries listing s list
-      → Split list → ((one : Text) × ListsSets listing items one)
-      → (one : Text) × ListsSets listing (Ok s ∷ items) one
-  behind s items list is (inl h) (Ok text, l) =
-      (Ok (set_lines listing s h.0 ++ text), listed.ListsSets.set s items h.0 text (rw h.1 at is) l)
-  behind s items list is (inl h) (Err e, l) = (Err e, later s items h.0 e (rw h.1 at is) l)
-  behind s items list is (inr h) l = (Err h.1, bad_entry s items h.0 h.1 (rw h.2 at is))
-
-  -- sets have a text or an error
-  some_text : {offset : ℕ} {old : Input} {items : List (Result (Set H) Error)}
-      → AreItems (set listing.header greatest) offset old items → (one : Text) × ListsSets listing items one
-  some_text (none empty) = (Ok [], nothing)
-  some_text (fault {e = e} some h) = (Err e, bad_header e [])
-  some_text {offset} {old} (more {new = new} {x = s} {items = items} some h rest) =
-      let one = law.one greatest offset old new s h in
-      behind s items one.0 one.1 (split one.1) (some_text rest)
-
-module _ {H : Type 0} (listing : SetListing H) (law : HasOneList listing)
-    (sets : (headers : Headers) → HasOne (HasSets listing headers)) where
-  -- a section of sets has exactly one text or error
-  pub one_section : (headers : Headers) → HasOne (ListsSection listing headers)
-  one_section headers =
-      let found = sets headers in
-      let t = some_text law (2 ^ 64 - 1) found.1 in (
-        t.0,
-        (found.0, found.1, t.1),
-        λ other h.
-            let same : h.0 ≡ found.0 = found.2 h.0 h.1 in
-            one_text law (2 ^ 64 - 1) found.1 t.0 other t.1 (rw same at h.2),
-      )
+-- a section of sets has exactly one text or error
+pub one_section : {H : Type 0} (listing : SetListing H) → HasOneList listing
+    → ((headers : Headers) → HasOne (HasSets listing headers)) → (headers : Headers)
+    → HasOne (ListsSection listing headers)
+one_section {H} listing law sets headers =
+    one_of_source (ListsSet listing) (HasSets listing) headers (sets headers)
+    (λ items are. each_has_one (ListsSet listing) one_set are)
+  where
+    one_set : (offset : ℕ) (old new : Input) (s : Set H)
+        → read (set listing.header (2 ^ 64 - 1) offset) old ≡ Ok (s, new) → HasOne (ListsSet listing s)
+    one_set offset old new s h =
+        one_joined (Ok (listing.header_line s))
+        (one_of_source (ListsLine listing.entry_line) (StandsForEntries listing.entry) (listing.entries s)
+        (law.one (2 ^ 64 - 1) offset old new s h) (λ items are. each_has_line listing.entry_line items))
 
 -- ---- sets of addresses
 
@@ -170,7 +112,7 @@ address_size greatest offset old new s h =
     rw (pure_read _ _ said.3).0 (header_size unit.0 (inside_read _ _ _ said.2).0)
 
 -- each set of addresses has exactly one list of entries
-pub addresses_one_list : ((e : Entries) → 0 < e.width → HasOne (StandsForEntries fixed e)) → HasOneList address_listing
+pub addresses_one_list : ((e : Entries) → 0 < e.width → HasOne (StandsForAddresses e)) → HasOneList address_listing
 addresses_one_list entries =
     record {
       one = λ greatest offset old new s h. entries (addresses_of s)
@@ -186,6 +128,6 @@ word_positive Dwarf64 = omega arith
 
 -- each set of string offsets has exactly one list of entries
 pub offsets_one_list : ((e : Entries) → 0 < e.width → HasOne (StandsForStringOffsets (2 ^ 64 - 1) e))
-    → HasOneList offset_listing
+    → HasOneList (offset_listing (2 ^ 64 - 1))
 offsets_one_list entries =
     record { one = λ greatest offset old new s h. entries (string_offsets_of s) (word_positive s.format) }

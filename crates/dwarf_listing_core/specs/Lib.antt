@@ -1,6 +1,7 @@
 pub mod Arguments
 pub mod Command
 pub mod Fault
+pub mod Items
 pub mod Lines
 pub mod Listing
 pub mod Many

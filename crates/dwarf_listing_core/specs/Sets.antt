@@ -1,6 +1,5 @@
 -- The lines of sets of addresses and of string offsets.
-use Rattle.std.specs.Prelude.{ℕ, ◌*◌, ◌-◌, ◌^◌, List, [], ◌∷◌, ◌++◌, map, Result, Ok, Err, codes, decimal}
-use Rattle.std.specs.List.{flat_map}
+use Rattle.std.specs.Prelude.{◌≡◌, ℕ, ◌*◌, ◌-◌, ◌^◌, List, ◌++◌, Result, Ok, codes, decimal}
 use Rattle.dwarf_read_core.specs.declared.Error.{Error}
 use Rattle.dwarf_read_core.specs.declared.RunTimeEndian.{RunTimeEndian}
 use Rattle.dwarf_read_core.specs.Endian.{is_big_at_run_time}
@@ -9,6 +8,7 @@ use Rattle.dwarf_read_core.specs.ErrorText.{hexadecimal}
 use Rattle.dwarf_read_core.specs.Format.{word_size}
 use Rattle.dwarf_read_core.specs.Layout.{Layout, fixed}
 use Rattle.dwarf_read_core.specs.Sets.{Headers, Set, StandsForSets, address_header, addresses_of, string_offsets_header, string_offsets_of}
+use Rattle.dwarf_listing_core.specs.Items.{Joins, ListsItemsOf}
 use Rattle.dwarf_listing_core.specs.Lines.{line}
 
 -- the offset of a set, how many bytes follow its length, and the bits of its format
@@ -54,42 +54,26 @@ address_listing =
       entry_line = λ address. address_line address;
     }
 
--- sets of string offsets
-abbrev pub offset_listing : SetListing (Unit {0})
-offset_listing =
+-- sets of string offsets, up to the greatest that is read
+abbrev pub offset_listing : ℕ → SetListing (Unit {0})
+offset_listing greatest =
     record {
       header = string_offsets_header;
-      entry = string_offset (2 ^ 64 - 1);
+      entry = string_offset greatest;
       entries = string_offsets_of;
       header_line = λ s. offset_header_line s.offset s.unit_length (word_size s.format * 8);
       entry_line = λ offset. offset_line offset;
     }
 
--- the line of a set and those of its entries
-abbrev pub set_lines : {H : Type 0} → SetListing H → Set H → List ℕ → List ℕ
-set_lines listing s numbers = listing.header_line s ++ flat_map listing.entry_line numbers
+-- the line of a number
+abbrev pub ListsLine : (ℕ → List ℕ) → ℕ → Result (List ℕ) Error → Type 0
+ListsLine line_of number listed = listed ≡ Ok (line_of number)
 
--- numbers, as items without an error
-abbrev pub without_error : List ℕ → List (Result ℕ Error)
-without_error numbers = map (λ n. Ok n) numbers
-
--- the items that the entries of a set are
-abbrev pub HasEntries : {H : Type 0} → SetListing H → Set H → List (Result ℕ Error) → Type 0
-HasEntries listing s items = StandsForEntries listing.entry (listing.entries s) items
-
--- the lines of sets, or the first error: that of a header, or that of a set's entries before the next header
-pub data ListsSets {H : Type 0} (listing : SetListing H) : List (Result (Set H) Error) → Result (List ℕ) Error
-    → Type 0 where
-  nothing : ListsSets listing [] (Ok [])
-  bad_header : (e : Error) (items : List (Result (Set H) Error)) → ListsSets listing (Err e ∷ items) (Err e)
-  bad_entry : (s : Set H) (items : List (Result (Set H) Error)) (numbers : List ℕ) (e : Error)
-      → HasEntries listing s (without_error numbers ++ Err e ∷ []) → ListsSets listing (Ok s ∷ items) (Err e)
-  set : (s : Set H) (items : List (Result (Set H) Error)) (numbers text : List ℕ)
-      → HasEntries listing s (without_error numbers) → ListsSets listing items (Ok text)
-      → ListsSets listing (Ok s ∷ items) (Ok (set_lines listing s numbers ++ text))
-  later : (s : Set H) (items : List (Result (Set H) Error)) (numbers : List ℕ) (e : Error)
-      → HasEntries listing s (without_error numbers) → ListsSets listing items (Err e)
-      → ListsSets listing (Ok s ∷ items) (Err e)
+-- the line of a set and those of its entries, or the first error of its entries
+abbrev pub ListsSet : {H : Type 0} → SetListing H → Set H → Result (List ℕ) Error → Type 0
+ListsSet listing s listed =
+    Joins (Ok (listing.header_line s))
+    (ListsItemsOf (StandsForEntries listing.entry) (ListsLine listing.entry_line) (listing.entries s)) listed
 
 -- the sets of a whole section: the first one is at its start
 abbrev pub sets_section : RunTimeEndian → List ℕ → Headers
@@ -100,15 +84,16 @@ sets_section endian section =
 abbrev pub HasSets : {H : Type 0} → SetListing H → Headers → List (Result (Set H) Error) → Type 0
 HasSets listing headers items = StandsForSets listing.header (2 ^ 64 - 1) headers items
 
--- the lines of all sets of a section, or its first error
+-- the lines of all sets of a section, or its first error: that of a header, or that of a set's entries before the next
+-- header
 abbrev pub ListsSection : {H : Type 0} → SetListing H → Headers → Result (List ℕ) Error → Type 0
-ListsSection {H} listing headers answer =
-    (items : List (Result (Set H) Error)) × HasSets listing headers items × ListsSets listing items answer
+ListsSection listing headers listed = ListsItemsOf (HasSets listing) (ListsSet listing) headers listed
 
 -- the lines of a section of addresses in a byte order
 abbrev pub ListsAddresses : RunTimeEndian → List ℕ → Result (List ℕ) Error → Type 0
-ListsAddresses endian section answer = ListsSection address_listing (sets_section endian section) answer
+ListsAddresses endian section listed = ListsSection address_listing (sets_section endian section) listed
 
 -- the lines of a section of string offsets
 abbrev pub ListsStringOffsets : RunTimeEndian → List ℕ → Result (List ℕ) Error → Type 0
-ListsStringOffsets endian section answer = ListsSection offset_listing (sets_section endian section) answer
+ListsStringOffsets endian section listed =
+    ListsSection (offset_listing (2 ^ 64 - 1)) (sets_section endian section) listed

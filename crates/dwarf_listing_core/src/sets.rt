@@ -1,19 +1,19 @@
 //! The lines of sets of addresses and of string offsets.
 
-ghost use Rattle.std.specs.Prelude.{◌≡◌, ◌≢◌, ◌<◌, ◌≤◌, ◌++◌, ◌∷◌, ℕ, false, List, [], drop, Ok, Err, IfErr, OnOk, string_bytes};
-ghost use Rattle.std.specs.Fmt.{digit_glyph};
-ghost use Rattle.std.specs.List.{flat_map};
-ghost use Rattle.dwarf_read_core.specs.Entries.{StandsForAddresses, StandsForStringOffsets};
-ghost use Rattle.dwarf_read_core.specs.ErrorText.{hexadecimal};
-ghost use Rattle.dwarf_read_core.specs.Sets.{addresses_of, string_offsets_of, seen_by};
+ghost use Rattle.std.specs.Prelude.{◌≡◌, ◌<◌, ◌≤◌, ◌++◌, ℕ, List, Result, false, drop, OnOk};
+ghost use Rattle.std.specs.Fmt.{digit_glyph, digits};
+ghost use Rattle.std.specs.Iterator.{IsFinite};
+ghost use Rattle.dwarf_listing_core.specs.Lines.{line};
 ghost use Rattle.dwarf_listing_core.specs.Listing.{ReturnsText};
-ghost use Rattle.dwarf_listing_core.specs.Sets.{ListsAddresses, ListsStringOffsets, address_header_line, address_line, address_listing, offset_header_line, offset_line, offset_listing, set_lines, without_error};
+ghost use Rattle.dwarf_listing_core.specs.Items.{AppendsText, ListsRun};
+ghost use Rattle.dwarf_listing_core.specs.Sets.{ListsAddresses, ListsStringOffsets, address_header_line, offset_header_line};
 
 use dwarf_read_core::{
-    AddrEntryIter, AddrHeader, DebugAddr, DebugStrOffsets, EndianSlice, Error, Reader,
-    ReaderOffset, RunTimeEndian, StrOffsetsEntryIter, StrOffsetsHeader,
+    AddrHeader, DebugAddr, DebugStrOffset, DebugStrOffsets, EndianSlice, Error, Reader,
+    ReaderOffset, RunTimeEndian, StrOffsetsHeader,
 };
 use std::alloc::{AllocError, Global};
+use std::io::Write;
 
 /// Returns the sets of addresses of a whole `.debug_addr`: a line for each header, and below it a
 /// line for each address.
@@ -27,30 +27,78 @@ pub fn addresses(mem: Global, section: &[u8], endian: RunTimeEndian) -> Result<V
 {
     let debug_addr = DebugAddr::from(EndianSlice::new(section, endian));
     let mut text = Vec::new(mem);
-    let mut headers = debug_addr.headers()?;
-    while let Some(header) = headers.next()? {
-        push_address_set(&mut text, &header)?;
-    }
+    push_items(&mut text, debug_addr.headers()?)?;
     Ok(text)
 }
 
-fn push_address_set<R: Reader>(text: &mut Vec<u8>, header: &AddrHeader<R>) -> Result<(), Error>
-    ensures ok { OnOk result ((numbers : List ℕ)
-        × StandsForAddresses (addresses_of (seen_by R.view header.now))
-        (without_error numbers)
-        × (text.new.items
-        ≡ text.old.items ++ set_lines address_listing
-        (seen_by R.view header.now) numbers)) }
-    ensures err { IfErr result
-        (λ error. error ≢ Error.OutOfMemory → (numbers : List ℕ)
-        × StandsForAddresses (addresses_of (seen_by R.view header.now))
-        (without_error numbers ++ Err error ∷ [])) }
+/// Returns the sets of string offsets of a whole `.debug_str_offsets`: a line for each header, and
+/// below it a line for each offset.
+///
+/// # Errors
+///
+/// The first error, as [`addresses`] returns it.
+pub fn string_offsets(mem: Global, section: &[u8], endian: RunTimeEndian) -> Result<Vec<u8>, Error>
+    ensures { ReturnsText (ListsStringOffsets endian section.now) result }
 {
-    let (offset, length) = (header.offset().0.into_u64(), header.length().into_u64());
-    let encoding = header.encoding();
-    let (bits, size) = (encoding.format.word_size() * 8, encoding.address_size);
-    push_address_header(text, offset, length, bits, size)?;
-    push_addresses(text, header.entries()?)
+    let debug_str_offsets = DebugStrOffsets::from(EndianSlice::new(section, endian));
+    let mut text = Vec::new(mem);
+    push_items(&mut text, debug_str_offsets.headers()?)?;
+    Ok(text)
+}
+
+// An item of a section, such as a set or an entry of a set, which is listed by lines.
+trait Listed: Drop {
+    ghost use Rattle.dwarf_read_core.specs.declared.Error.{Error};
+
+    ghost lists: { Self → Result (List ℕ) Error → Type 0 };
+
+    fn push_lines(&self, text: &mut Vec<u8>) -> Result<(), Error>
+        ensures { AppendsText (lists self.now) text.old.items text.new.items result };
+}
+
+// Appends the lines of items, one after the other.
+fn push_items<T: Listed, I: Iterator<Item = Result<T, Error>>>(
+    text: &mut Vec<u8>,
+    items: I,
+) -> Result<(), Error>
+    requires can { I.can_next items }
+    requires ends { IsFinite (I.remaining items) }
+    ensures { AppendsText (ListsRun I.next_gives T.lists items)
+        text.old.items text.new.items result }
+{
+    for item in items {
+        item?.push_lines(text)?;
+    }
+    Ok(())
+}
+
+impl<R: Reader> Listed for AddrHeader<R> {
+    ghost use Rattle.dwarf_read_core.specs.Sets.{seen_by};
+    ghost use Rattle.dwarf_listing_core.specs.Sets.{ListsSet, address_listing};
+
+    ghost lists = { λ header. ListsSet address_listing (seen_by R.view header) };
+
+    fn push_lines(&self, text: &mut Vec<u8>) -> Result<(), Error> {
+        let (offset, length) = (self.offset().0.into_u64(), self.length().into_u64());
+        let encoding = self.encoding();
+        let (bits, size) = (encoding.format.word_size() * 8, encoding.address_size);
+        push_address_header(text, offset, length, bits, size)?;
+        push_items(text, self.entries()?)
+    }
+}
+
+impl<R: Reader> Listed for StrOffsetsHeader<R> {
+    ghost use Rattle.dwarf_read_core.specs.Sets.{seen_by};
+    ghost use Rattle.dwarf_listing_core.specs.Sets.{ListsSet, offset_listing};
+
+    ghost lists = { λ header. ListsSet (offset_listing R.Offset.GREATEST) (seen_by R.view header) };
+
+    fn push_lines(&self, text: &mut Vec<u8>) -> Result<(), Error> {
+        let (offset, length) = (self.offset().into_u64(), self.length().into_u64());
+        let bits = self.format().word_size() * 8;
+        push_offset_header(text, offset, length, bits)?;
+        push_items(text, self.entries()?)
+    }
 }
 
 fn push_address_header(
@@ -64,49 +112,78 @@ fn push_address_header(
         (text.new.items
         ≡ text.old.items ++ address_header_line offset length bits size) }
 {
-    let mut line = String::new(*text.allocator());
     writeln!(
-        line,
+        text,
         "set {offset}: length {length}, {bits}-bit, address size {size}"
-    )?;
-    text.extend_from_slice(line.as_bytes())
+    )
+    .map_err(|_| AllocError)
 }
 
-fn push_addresses<R: Reader>(text: &mut Vec<u8>, mut entries: AddrEntryIter<R>) -> Result<(), Error>
-    ensures ok { OnOk result ((numbers : List ℕ)
-        × StandsForAddresses entries (without_error numbers)
-        × (text.new.items ≡ text.old.items ++ flat_map address_line numbers)) }
-    ensures err { IfErr result (λ error. error ≢ Error.OutOfMemory → (numbers : List ℕ)
-        × StandsForAddresses entries (without_error numbers ++ Err error ∷ [])) }
+fn push_offset_header(
+    text: &mut Vec<u8>,
+    offset: u64,
+    length: u64,
+    bits: u8,
+) -> Result<(), AllocError>
+    ensures { OnOk result
+        (text.new.items ≡ text.old.items ++ offset_header_line offset length bits) }
 {
-    while let Some(address) = entries.next()? {
-        push_address(text, address)?;
-    }
-    Ok(())
+    writeln!(text, "set {offset}: length {length}, {bits}-bit").map_err(|_| AllocError)
 }
 
-fn push_address(text: &mut Vec<u8>, address: u64) -> Result<(), AllocError>
-    ensures { OnOk result (text.new.items ≡ text.old.items ++ address_line address) }
+// An address.
+impl Listed for u64 {
+    ghost use Rattle.dwarf_listing_core.specs.Sets.{ListsLine, address_line};
+
+    ghost lists = { ListsLine address_line };
+
+    fn push_lines(&self, text: &mut Vec<u8>) -> Result<(), Error> {
+        Ok(push_number::<16>(text, b"  0x", *self)?)
+    }
+}
+
+impl<O: ReaderOffset> Listed for DebugStrOffset<O> {
+    ghost use Rattle.dwarf_listing_core.specs.Sets.{ListsLine, offset_line};
+
+    ghost lists = { λ offset. ListsLine offset_line (O.value offset.0) };
+
+    fn push_lines(&self, text: &mut Vec<u8>) -> Result<(), Error> {
+        Ok(push_number::<10>(text, b"  ", self.0.into_u64())?)
+    }
+}
+
+// Appends a line with a number, whose digits are in this base.
+fn push_number<const BASE: u64>(
+    text: &mut Vec<u8>,
+    before: &[u8],
+    number: u64,
+) -> Result<(), AllocError>
+    requires least { 2 ≤ BASE }
+    requires most { BASE ≤ 16 }
+    ensures { OnOk result
+        (text.new.items ≡ text.old.items ++ line (before.now ++ digits BASE false number)) }
 {
     let mut line = [b'\n'; 65];
-    let start = put_digits(&mut line, address);
-    text.extend_from_slice(b"  0x")?;
+    let start = put_digits::<BASE>(&mut line, number);
+    text.extend_from_slice(before)?;
     text.extend_from_slice(&line[start..])
 }
 
-// Puts the hexadecimal digits of a number in front of the last byte, and returns where they begin.
-// A section has many addresses, and formatting each by `{:x}` takes twice as long. A number has at
-// most 16 digits; there are 64 places because the definition of a number's digits has as many.
-fn put_digits(line: &mut [u8; 65], number: u64) -> usize
+// Puts the digits of a number in front of the last byte, and returns where they begin.
+// A section has many entries, and formatting each by `{:x}` takes twice as long. A number has at
+// most 64 digits.
+fn put_digits<const BASE: u64>(line: &mut [u8; 65], number: u64) -> usize
+    requires least { 2 ≤ BASE }
+    requires most { BASE ≤ 16 }
     ensures bound { result ≤ 65 }
-    ensures digits { drop result line.new ≡ hexadecimal number ++ drop 64 line.old }
+    ensures digits { drop result line.new ≡ digits BASE false number ++ drop 64 line.old }
 {
     let mut start = 64;
     let mut rest = number;
     while start > 0 {
         start -= 1;
-        line[start] = hex_digit((rest % 16) as u8);
-        rest /= 16;
+        line[start] = digit((rest % BASE) as u8);
+        rest /= BASE;
         if rest == 0 {
             break;
         }
@@ -114,7 +191,7 @@ fn put_digits(line: &mut [u8; 65], number: u64) -> usize
     start
 }
 
-fn hex_digit(value: u8) -> u8
+fn digit(value: u8) -> u8
     requires { value < 16 }
     ensures { result ≡ digit_glyph false value }
 {
@@ -123,78 +200,4 @@ fn hex_digit(value: u8) -> u8
     } else {
         b'a' + (value - 10)
     }
-}
-
-/// Returns the sets of string offsets of a whole `.debug_str_offsets`: a line for each header, and
-/// below it a line for each offset.
-///
-/// # Errors
-///
-/// The first error, as [`addresses`] returns it.
-pub fn string_offsets(mem: Global, section: &[u8], endian: RunTimeEndian) -> Result<Vec<u8>, Error>
-    ensures { ReturnsText (ListsStringOffsets endian section.now) result }
-{
-    let debug_str_offsets = DebugStrOffsets::from(EndianSlice::new(section, endian));
-    let mut text = String::new(mem);
-    let mut headers = debug_str_offsets.headers()?;
-    while let Some(header) = headers.next()? {
-        push_offset_set(&mut text, &header)?;
-    }
-    Ok(text.into_bytes())
-}
-
-fn push_offset_set<R: Reader>(text: &mut String, header: &StrOffsetsHeader<R>) -> Result<(), Error>
-    ensures ok { OnOk result ((numbers : List ℕ)
-        × StandsForStringOffsets R.Offset.GREATEST
-        (string_offsets_of (seen_by R.view header.now))
-        (without_error numbers)
-        × (string_bytes text.new
-        ≡ string_bytes text.old ++ set_lines offset_listing
-        (seen_by R.view header.now) numbers)) }
-    ensures err { IfErr result
-        (λ error. error ≢ Error.OutOfMemory → (numbers : List ℕ)
-        × StandsForStringOffsets R.Offset.GREATEST
-        (string_offsets_of (seen_by R.view header.now))
-        (without_error numbers ++ Err error ∷ [])) }
-{
-    let (offset, length) = (header.offset().into_u64(), header.length().into_u64());
-    let bits = header.format().word_size() * 8;
-    push_offset_header(text, offset, length, bits)?;
-    push_offsets(text, header.entries()?)
-}
-
-fn push_offset_header(
-    text: &mut String,
-    offset: u64,
-    length: u64,
-    bits: u8,
-) -> Result<(), AllocError>
-    ensures { OnOk result
-        (string_bytes text.new ≡ string_bytes text.old ++ offset_header_line offset length bits) }
-{
-    writeln!(text, "set {offset}: length {length}, {bits}-bit")
-}
-
-fn push_offsets<R: Reader>(
-    text: &mut String,
-    mut entries: StrOffsetsEntryIter<R>,
-) -> Result<(), Error>
-    ensures ok { OnOk result ((numbers : List ℕ)
-        × StandsForStringOffsets R.Offset.GREATEST entries (without_error numbers)
-        × (string_bytes text.new ≡ string_bytes text.old ++ flat_map offset_line numbers)) }
-    ensures err { IfErr result
-        (λ error. error ≢ Error.OutOfMemory → (numbers : List ℕ)
-        × StandsForStringOffsets R.Offset.GREATEST entries
-        (without_error numbers ++ Err error ∷ [])) }
-{
-    while let Some(offset) = entries.next()? {
-        push_offset(text, offset.0.into_u64())?;
-    }
-    Ok(())
-}
-
-fn push_offset(text: &mut String, offset: u64) -> Result<(), AllocError>
-    ensures { OnOk result (string_bytes text.new ≡ string_bytes text.old ++ offset_line offset) }
-{
-    writeln!(text, "  {offset}")
 }

@@ -31,6 +31,6 @@ returns-clause-addresses c endian section =
 
 pub returns-clause-string_offsets : goal.returns-clause-string_offsets
 returns-clause-string_offsets c endian section =
-    one_section offset_listing
+    one_section (offset_listing (2 ^ 64 - 1))
     (offsets_one_list (c.exactly_one_list_of_string_offsets.ensures.one (2 ^ 64 - 1)))
     (c.exactly_one_list_of_offset_sets.ensures.one (2 ^ 64 - 1)) (sets_section endian section)

@@ -1,25 +1,27 @@
 use Rattle.std.proofs.Common.{◌-◌, ◌∙◌, arith, drop, length-set}
-use Rattle.dwarf_listing_core.proofs.Hexadecimal.{digits_onto-hexadecimal, last_digit_put, next_digit_put}
+use Rattle.dwarf_listing_core.proofs.Digits.{digits_onto-digits, last_digit_put, next_digit_put}
 use Rattle.dwarf_listing_core.proofs.sets.put_digits.Goals as goal
 
 pub loop-start-init : goal.loop-start-init
-loop-start-init c =
-    (omega arith, c.told-line, digits_onto-hexadecimal c.args.number (drop 64 c.args.line.now))
+loop-start-init g c =
+    (omega arith, c.told-line, digits_onto-digits g.row.BASE c.args.number (drop 64 c.args.line.now))
 
 pub loop-start-preserved : goal.loop-start-preserved
-loop-start-preserved c =
+loop-start-preserved g c =
     let l = c.loop-start in
-    let kept = length-set l.line (l.start - 1) c.hex_digit.result ∙ l.invariant.1 in (
+    let kept = length-set l.line (l.start - 1) c.digit.result ∙ l.invariant.1 in (
       omega arith,
       kept,
-      next_digit_put l.line l.start l.rest _ c.loop-start-test.true (omega arith) c.hex_digit.ensures c.if-rest-eq0.false
+      next_digit_put g.row.BASE l.line l.start l.rest _ c.loop-start-test.true (omega arith) c.digit.ensures
+          c.if-rest-eq0.false
           ∙ l.invariant.2,
     )
 
 pub returns-then-rest-eq0 : goal.returns-then-rest-eq0
-returns-then-rest-eq0 c =
+returns-then-rest-eq0 g c =
     let l = c.loop-start in
     record {
       bound = omega arith;
-      digits = last_digit_put l.line l.start l.rest _ c.loop-start-test.true (omega arith) c.hex_digit.ensures c.if-rest-eq0.true ∙ l.invariant.2;
+      digits = last_digit_put g.row.BASE l.line l.start l.rest _ c.loop-start-test.true (omega arith) c.digit.ensures
+          c.if-rest-eq0.true ∙ l.invariant.2;
     }

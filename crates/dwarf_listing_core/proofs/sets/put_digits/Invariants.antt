@@ -1,14 +1,13 @@
 use Rattle.std.proofs.Common.{◌≡◌, ◌≤◌, ◌++◌, drop, false, length}
-use Rattle.std.specs.Fmt.{digits_onto}
-use Rattle.dwarf_read_core.specs.ErrorText.{hexadecimal}
+use Rattle.std.specs.Fmt.{digits, digits_onto}
 use Rattle.dwarf_listing_core.proofs.sets.put_digits.Given as goal
 
 -- the digits of the rest, in front of those that were put, are the digits of the number
 abbrev pub invariant-loop-start : goal.invariant-loop-start
-invariant-loop-start l =
+invariant-loop-start g l =
     (l.start ≤ 64) × (length l.line ≡ 65)
-    × (digits_onto l.start 16 false l.rest (drop l.start l.line)
-    ≡ hexadecimal l.fn.number ++ drop 64 l.initial.line)
+    × (digits_onto l.start g.row.BASE false l.rest (drop l.start l.line)
+    ≡ digits g.row.BASE false l.fn.number ++ drop 64 l.initial.line)
 
 abbrev pub decreases-loop-start : goal.decreases-loop-start
-decreases-loop-start l = l.start
+decreases-loop-start g l = l.start

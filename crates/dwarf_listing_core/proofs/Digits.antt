@@ -1,0 +1,70 @@
+-- The digits of numbers in a base.
+use Rattle.std.proofs.Common.{◌≡◌, ◌≢◌, ℕ, zero, suc, ◌+◌, ◌-◌, ◌<◌, ◌≤◌, ◌/◌, ◌%◌, drop, set, Bool, true, false, List, [], ◌∷◌, ◌++◌, length, refl, sym, ap, ◌∙◌, arith, append_assoc}
+use Rattle.std.proofs.lemmas.Bool.Decides.{nat_tests}
+use Rattle.std.proofs.lemmas.Grind.{common_steps}
+use Rattle.std.proofs.lemmas.List.{drop-set}
+use Rattle.std.specs.Fmt.{digit_glyph, digits, digits_onto}
+use Rattle.std.specs.Prelude.{◌==◌, if◌then◌else◌}
+
+-- if two texts both end with a third one, so does the one that a test chooses
+either-append : (b : Bool) (one other longer others text : List ℕ) → longer ≡ one ++ text → others ≡ other ++ text
+    → (if b then longer else others) ≡ (if b then one else other) ++ text
+either-append true one other longer others text p q = p
+either-append false one other longer others text p q = q
+
+-- the digits of a number in front of a text are its digits, joined with the text
+digits_onto-append : (base k n : ℕ) (text : List ℕ)
+    → digits_onto k base false n text ≡ digits_onto k base false n [] ++ text
+digits_onto-append base zero n text = refl
+digits_onto-append base (suc k) n text =
+    let digit = digit_glyph false (n % base) in
+    either-append (n / base == 0) (digit ∷ []) (digits_onto k base false (n / base) (digit ∷ [])) (digit ∷ text)
+    (digits_onto k base false (n / base) (digit ∷ text)) text refl
+    (digits_onto-append base k (n / base) (digit ∷ text)
+    ∙ sym (append_assoc (digits_onto k base false (n / base) []) (digit ∷ []) text)
+    ∙ ap (λ t. t ++ text) (sym (digits_onto-append base k (n / base) (digit ∷ []))))
+
+-- the digits of a number with 64 places, in front of a text, are its digits, joined with the text
+pub digits_onto-digits : (base n : ℕ) (text : List ℕ) → digits_onto 64 base false n text ≡ digits base false n ++ text
+unfolding digits
+digits_onto-digits base n text = digits_onto-append base 64 n text
+
+-- a number below the base puts one digit in front of a text
+digits_onto-last : (base i n : ℕ) (text : List ℕ) → 0 < i → n / base ≡ 0
+    → digits_onto i base false n text ≡ digit_glyph false (n % base) ∷ text
+digits_onto-last base zero n text some last = absurd (omega arith)
+digits_onto-last base (suc k) n text some last = rw last refl
+
+-- a number of at least the base puts its last digit in front of a text, and then its other digits
+digits_onto-more : (base i n : ℕ) (text : List ℕ) → 0 < i → n / base ≢ 0
+    → digits_onto i base false n text ≡ digits_onto (i - 1) base false (n / base) (digit_glyph false (n % base) ∷ text)
+digits_onto-more base zero n text some more = absurd (omega arith)
+digits_onto-more base (suc k) n text some more =
+    let before : suc k - 1 ≡ k = omega arith in
+    let test : (n / base == 0) ≡ false = grind (arith, common_steps, nat_tests) in
+    rw (before, test) refl
+
+-- putting a byte before a place puts it in front of the bytes from that place on
+drop-put : (bytes : List ℕ) (i byte : ℕ) → 0 < i → i ≤ length bytes
+    → drop (i - 1) (set bytes (i - 1) byte) ≡ byte ∷ drop i bytes
+drop-put bytes i byte some within =
+    let next : i - 1 + 1 ≡ i = omega arith in
+    drop-set bytes (i - 1) byte (omega arith) ∙ ap (λ j. byte ∷ drop j bytes) next
+
+module _ (base : ℕ) (bytes : List ℕ) (i n byte : ℕ) (some : 0 < i) (within : i ≤ length bytes)
+    (digit : byte ≡ digit_glyph false (n % base)) where
+  -- the digit that is put is the whole number, if the number is below the base
+  pub last_digit_put : n / base ≡ 0
+      → drop (i - 1) (set bytes (i - 1) byte) ≡ digits_onto i base false n (drop i bytes)
+  last_digit_put last =
+      drop-put bytes i byte some within ∙ ap (λ d. d ∷ drop i bytes) digit
+      ∙ sym (digits_onto-last base i n (drop i bytes) some last)
+
+  -- the digit that is put, with those of the rest in front, are the digits of the number
+  pub next_digit_put : n / base ≢ 0
+      → digits_onto (i - 1) base false (n / base) (drop (i - 1) (set bytes (i - 1) byte))
+      ≡ digits_onto i base false n (drop i bytes)
+  next_digit_put more =
+      ap (digits_onto (i - 1) base false (n / base))
+      (drop-put bytes i byte some within ∙ ap (λ d. d ∷ drop i bytes) digit)
+      ∙ sym (digits_onto-more base i n (drop i bytes) some more)
