@@ -17,6 +17,7 @@ KITS = ("rattle-kit-13b logic dac8208d650f15bf", "rattle-kit-13f logic dac8208d6
 # Where the gate's proofs keep what they have checked of each crate, if the gate runs.
 KEPT = os.environ.get("GATE_KEPT")
 TEST = re.compile(r"^ *#\[test\]", re.M)
+FN = re.compile(r"^ *(?:pub(?:\([^)]*\))? )?(?:const )?(?:unsafe )?(?:extern \"C\" )?fn (\w+)", re.M)
 
 
 def libraries_of_crates():
@@ -60,13 +61,13 @@ def has_text(crate, text):
     return any(text in it for it in sources(crate))
 
 
-def lines_of_tests(crate):
-    """How many lines the files of a crate's tests have."""
+def functions_in(crate, of_tests):
+    """How many functions the files of a crate have, those of its tests or the others."""
     found = 0
     for path in glob.glob(f"{ROOT}/crates/{crate}/src/**/*.rt", recursive=True):
-        if re.search(r"/tests(\.rt|/)", path):
+        if bool(re.search(r"/tests(\.rt|/)", path)) == of_tests:
             with open(path, encoding="utf-8") as file:
-                found += file.read().count("\n")
+                found += len(FN.findall(file.read()))
     return found
 
 
