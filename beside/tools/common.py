@@ -98,11 +98,12 @@ def link_libraries():
 
 def copy_package(folder, is_locked):
     """Copies the package to where its lock file and what cargo builds may be. A lock file that is there already stays,
-    since cargo has added gimli's checksum to it."""
+    since cargo has added gimli's checksum to it, unless the package's own is newer."""
     for name in ("Cargo.toml", "build.rs"):
         put(f"{PACKAGE}/{name}", f"{folder}/{name}")
-    if is_locked and not os.path.isfile(f"{folder}/Cargo.lock"):
-        put(f"{PACKAGE}/Cargo.lock", f"{folder}/Cargo.lock")
+    own, there = f"{PACKAGE}/Cargo.lock", f"{folder}/Cargo.lock"
+    if is_locked and (not os.path.isfile(there) or os.path.getmtime(there) < os.path.getmtime(own)):
+        put(own, there)
     for at, _, names in os.walk(f"{PACKAGE}/src"):
         for name in names:
             put(f"{at}/{name}", f"{folder}/{os.path.relpath(at, PACKAGE)}/{name}")
