@@ -1,10 +1,10 @@
-"""Reads tables of 10^2 to 10^7 declarations on either side: a table of time and memory, and a drawing."""
+"""Reads tables of 10^2 to 10^7 declarations on either side: tables of time, memory and instructions, and a drawing."""
 import math
 import os
 
 import kit
-from common import build, must
-from measure import what_ran
+from common import build, must, need
+from measure import counted, what_ran
 
 COUNTS = [10**power for power in range(2, 8)]
 KINDS = {"rising": "that rise from 1", "falling": "that fall", "far": "far apart"}
@@ -13,11 +13,28 @@ COLORS = {"rising": "#1b7837", "falling": "#b2182b", "far": "#2166ac"}
 WIDTH, HEIGHT, LEFT, TOP = 380, 260, 60, 40
 
 
+def growing(program):
+    """The program that reads one table, beside the one that compares."""
+    return os.path.join(os.path.dirname(program), "growth")
+
+
 def measured(program, kind, count):
     """Nanoseconds and bytes of a declaration: gimli's and the library's."""
-    words = [os.path.join(os.path.dirname(program), "growth"), kind, str(count)]
-    _, gimli, here, gimli_bytes, here_bytes = must(words, "growth isn't measured").split("\t")
+    said = must([growing(program), kind, str(count)], "growth isn't measured")
+    _, gimli, here, gimli_bytes, here_bytes = said.split("\t")
     return [float(it) / count for it in (gimli, here, gimli_bytes, here_bytes)]
+
+
+def counts(program):
+    """Prints the table of instructions. A cell has gimli's number, the library's, and their ratio."""
+    heads = ["declarations", *(f"{words}: instructions" for words in KINDS.values())]
+    print(f"\n| {' | '.join(heads)} |\n{'|---' * len(heads)}|", flush=True)
+    for count in COUNTS:
+        cells = [f"{count:,}"]
+        for kind in KINDS:
+            [(_, gimli, here)] = counted(growing(program), [kind, str(count)])
+            cells.append(f"{gimli:,.0f}, {here:,.0f} ({here / gimli:.2f})")
+        print(f"| {' | '.join(cells)} |", flush=True)
 
 
 def panel(at, title, rows, columns):
@@ -61,7 +78,8 @@ def drawing(rows):
 
 
 def growth(given):
-    """Prints the table, and draws it. A cell has gimli's number, the library's, and the ratio of times."""
+    """Prints the tables, and draws the first. A cell of it has gimli's number, the library's, and the ratio of times."""
+    need("valgrind", "valgrind")
     program, rows = build(given["debian"]), {}
     print(f"gimli {must([program, '--gimli'], 'the program is another one')}; {what_ran()}\n")
     heads = ["declarations", *(f"{words}: {what}" for words in KINDS.values() for what in ("ns", "bytes"))]
@@ -75,5 +93,6 @@ def growth(given):
         print(f"| {' | '.join(cells)} |", flush=True)
     with open(PAGE, "w", encoding="utf-8") as file:
         file.write("\n".join(drawing(rows)) + "\n")
+    counts(program)
     print(f"\nThe drawing is {os.path.relpath(PAGE, kit.ROOT)}.")
     return 0

@@ -23,7 +23,8 @@ def timed(program, words):
 
 
 def counted(program, words):
-    """The rows of the table of `count`, from the parts that callgrind writes behind each counted call."""
+    """What a program counts by `--count`: names, and the instructions of one operation of gimli's and of the library.
+    They are in the parts that callgrind writes behind each counted call."""
     found = {"gimli_counted": [], "ours_counted": []}
     with tempfile.TemporaryDirectory(prefix="beside-") as work:
         flags = ["--tool=callgrind", f"--callgrind-out-file={work}/part"]
@@ -41,7 +42,13 @@ def counted(program, words):
         raise Failed("callgrind didn't count each call")
     for line, gimli, here in zip(lines, *found.values()):
         name, operations = line.split("\t")
-        yield f"| {name} | {gimli / int(operations):,.0f} | {here / int(operations):,.0f} | {here / gimli:.2f} |"
+        yield name, gimli / int(operations), here / int(operations)
+
+
+def counted_rows(program, words):
+    """The rows of the table of `count`."""
+    for name, gimli, here in counted(program, words):
+        yield f"| {name} | {gimli:,.0f} | {here:,.0f} | {here / gimli:.2f} |"
 
 
 def time(given):
@@ -64,7 +71,7 @@ def measure(given, is_timed):
         for i, path in enumerate(given["files"]):
             os.mkdir(f"{work}/{i}")
             words += sections(path, f"{work}/{i}")
-        rows = list(timed(program, words) if is_timed else counted(program, words))
+        rows = list(timed(program, words) if is_timed else counted_rows(program, words))
     print(f"gimli {must([program, '--gimli'], 'the program is another one')}; {what_ran()}\n")
     heads = ["nanoseconds of one operation", "gimli", "here", "ratio", "middle half"]
     heads = heads if is_timed else ["instructions of one operation", *heads[1:4]]

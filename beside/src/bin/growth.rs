@@ -1,5 +1,6 @@
 //! Reads one table of many declarations by gimli and by the library, and prints the nanoseconds of either, and how many
-//! bytes of memory either had at once. The words are `rising`, `falling` or `far`, and how many declarations.
+//! bytes of memory either had at once. The words are `rising`, `falling` or `far`, and how many declarations. With
+//! `--count` before them, each side reads the table once, to be counted.
 //!
 //! Both request memory by the functions here, so that it is counted alike: as many bytes as `malloc` makes usable.
 
@@ -128,8 +129,22 @@ fn most_bytes(call: &dyn Fn()) -> usize {
     MOST.load(Relaxed)
 }
 
+#[no_mangle]
+#[inline(never)]
+extern "C" fn gimli_counted(call: &&dyn Fn()) {
+    call();
+}
+
+#[no_mangle]
+#[inline(never)]
+extern "C" fn ours_counted(call: &&dyn Fn()) {
+    call();
+}
+
 fn main() {
-    let words: Vec<String> = std::env::args().skip(1).collect();
+    let mut words: Vec<String> = std::env::args().skip(1).collect();
+    let is_counted = words[0] == "--count";
+    words.drain(..usize::from(is_counted));
     let count: u64 = words[1].parse().expect("how many declarations");
     let (mut random, mut section) = (made::Random(88_172_645_463_325_252), vec![]);
     let codes = (1..=count).map(|it| match words[0].as_str() {
@@ -146,6 +161,11 @@ fn main() {
         let found = unsafe { beside_tables(section.as_ptr(), section.len(), [0].as_ptr(), 1) };
         assert_eq!(found as u64, count);
     };
+    if is_counted {
+        gimli_counted(&(&gimli as &dyn Fn()));
+        ours_counted(&(&ours as &dyn Fn()));
+        return println!("{}\t{count}", words[0]);
+    }
     let bytes = (most_bytes(&gimli), most_bytes(&ours));
     let (mut left, mut right) = (vec![], vec![]);
     for sample in 0..if count < 1_000_000 { 9 } else { 3 } {
