@@ -1,6 +1,5 @@
 -- Arguments and an input have exactly one text or error.
 use Rattle.std.proofs.Common.{◌≡◌, ℕ, List, Option, Some, None, Result, Ok, Err, refl, sym, ap, ◌∙◌}
-use Rattle.std.specs.Prelude.{IsSomeAnd}
 use Rattle.dwarf_read_core.specs.declared.Error.{Error}
 use Rattle.dwarf_read_core.specs.declared.RunTimeEndian.{RunTimeEndian}
 use Rattle.dwarf_read_core.specs.Leb128.{Kind, Number, unsigned64, signed64}
@@ -9,7 +8,7 @@ use Rattle.dwarf_read_core.specs.Shortest.{IsShortest}
 use Rattle.dwarf_listing_core.specs.Lines.{ListsString, hex_text, line}
 use Rattle.dwarf_listing_core.specs.Sets.{ListsAddresses, ListsStringOffsets}
 use Rattle.dwarf_listing_core.specs.Tables.{ListsStrictTable, ListsTable}
-use Rattle.dwarf_listing_core.specs.Text.{IsText, Lists, ListsNumber}
+use Rattle.dwarf_listing_core.specs.Text.{IsText, IsTextOf, Lists, ListsNumber}
 use Rattle.dwarf_listing_core.specs.Command.{command_of}
 use Rattle.dwarf_listing_core.specs.declared.fault.Fault.{Fault}
 use Rattle.dwarf_listing_core.specs.declared.fault.Fault.TheVariants.{Section, Usage, Read, Write}
@@ -59,6 +58,7 @@ module _ (laws : AreLaws) where
       let has = has_one_listing c input in
       has.2 other b ∙ sym (has.2 one a)
 
+  -- what the program returns
   abbrev RunResult : Type 0
   RunResult = Result (List ℕ) Fault
 
@@ -67,22 +67,16 @@ module _ (laws : AreLaws) where
   run_result_of (Ok text) = Ok text
   run_result_of (Err e) = Err (Section e)
 
-  -- the result of arguments that name this command, or none
-  abbrev IsRunResult : Option Command → List ℕ → RunResult → Type 0
-  IsRunResult c input (Ok text) = IsSomeAnd c (λ command. Lists command input (Ok text))
-  IsRunResult c input (Err (Section e)) = IsSomeAnd c (λ command. Lists command input (Err e))
-  IsRunResult c input (Err Usage) = c ≡ None
-  IsRunResult c input (Err Read) = ⊥
-  IsRunResult c input (Err Write) = ⊥
-
+  -- a listing of the command is its result
   run_result_of_listing : (c : Command) (input : List ℕ) (one : Listing) → Lists c input one
-      → IsRunResult (Some c) input (run_result_of one)
+      → IsTextOf (Some c) input (run_result_of one)
   unfolding run_result_of
   run_result_of_listing c input (Ok text) is = is
   run_result_of_listing c input (Err e) is = is
 
+  -- a command has no other result than that of its listing
   only_run_result : (c : Command) (input : List ℕ) (one : Listing) (other : RunResult) → Lists c input one
-      → IsRunResult (Some c) input other → other ≡ run_result_of one
+      → IsTextOf (Some c) input other → other ≡ run_result_of one
   unfolding run_result_of
   only_run_result c input one (Ok text) is h = ap run_result_of (one_listing c input one (Ok text) is h)
   only_run_result c input one (Err (Section e)) is h = ap run_result_of (one_listing c input one (Err e) is h)
@@ -90,14 +84,16 @@ module _ (laws : AreLaws) where
   only_run_result c input one (Err Read) is h = absurd h
   only_run_result c input one (Err Write) is h = absurd h
 
-  only_usage : (input : List ℕ) (other : RunResult) → IsRunResult None input other → other ≡ Err Usage
+  -- arguments that name no command have no other result than a usage error
+  only_usage : (input : List ℕ) (other : RunResult) → IsTextOf None input other → other ≡ Err Usage
   only_usage input (Ok text) h = absurd h
   only_usage input (Err (Section e)) h = absurd h
   only_usage input (Err Usage) h = refl
   only_usage input (Err Read) h = absurd h
   only_usage input (Err Write) h = absurd h
 
-  exactly_one_run_result : (c : Option Command) (input : List ℕ) → HasOne (IsRunResult c input)
+  -- a command, or none, has exactly one result
+  exactly_one_run_result : (c : Option Command) (input : List ℕ) → HasOne (IsTextOf c input)
   exactly_one_run_result None input = (Err Usage, refl, only_usage input)
   exactly_one_run_result (Some c) input =
       let some = has_one_listing c input in (
@@ -106,24 +102,6 @@ module _ (laws : AreLaws) where
         λ other h. only_run_result c input some.0 other some.1 h,
       )
 
-  to_text : (words : List (List ℕ)) (input : List ℕ) (result : RunResult)
-      → IsRunResult (command_of words) input result → IsText words input result
-  to_text words input (Ok text) h = h
-  to_text words input (Err (Section e)) h = h
-  to_text words input (Err Usage) h = h
-  to_text words input (Err Read) h = h
-  to_text words input (Err Write) h = h
-
-  from_text : (words : List (List ℕ)) (input : List ℕ) (result : RunResult) → IsText words input result
-      → IsRunResult (command_of words) input result
-  from_text words input (Ok text) h = h
-  from_text words input (Err (Section e)) h = h
-  from_text words input (Err Usage) h = h
-  from_text words input (Err Read) h = h
-  from_text words input (Err Write) h = h
-
   -- arguments and an input have exactly one text or error
   pub one_text : (words : List (List ℕ)) (input : List ℕ) → HasOne (IsText words input)
-  one_text words input =
-      let one = exactly_one_run_result (command_of words) input in
-      (one.0, to_text words input one.0 one.1, λ other h. one.2 other (from_text words input other h))
+  one_text words input = exactly_one_run_result (command_of words) input

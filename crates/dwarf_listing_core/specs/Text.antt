@@ -1,5 +1,5 @@
 -- What the program writes.
-use Rattle.std.specs.Prelude.{◌≡◌, ℕ, List, Result, Ok, Err, None, IsSomeAnd}
+use Rattle.std.specs.Prelude.{◌≡◌, ℕ, List, Option, Result, Ok, Err, None, IsSomeAnd}
 use Rattle.dwarf_read_core.specs.declared.Error.{Error}
 use Rattle.dwarf_read_core.specs.Leb128.{Kind, Number, unsigned64, signed64}
 use Rattle.dwarf_read_core.specs.Shortest.{IsShortest}
@@ -27,10 +27,14 @@ Lists (Sleb value) input = ListsNumber signed64 value
 Lists (AbbrevStrict offset) input = ListsStrictTable input offset
 Lists (StrOffsets endian) input = ListsStringOffsets endian input
 
+-- the text that a command prints of an input, or its error; without a command the error is that of the usage
+abbrev pub IsTextOf : Option Command → List ℕ → Result (List ℕ) Fault → Type 0
+IsTextOf named input (Ok text) = IsSomeAnd named (λ command. Lists command input (Ok text))
+IsTextOf named input (Err (Section error)) = IsSomeAnd named (λ command. Lists command input (Err error))
+IsTextOf named input (Err Usage) = named ≡ None
+IsTextOf named input (Err Read) = ⊥
+IsTextOf named input (Err Write) = ⊥
+
 -- the text that the arguments request of an input, or the error
 abbrev pub IsText : List (List ℕ) → List ℕ → Result (List ℕ) Fault → Type 0
-IsText words input (Ok text) = IsSomeAnd (command_of words) (λ command. Lists command input (Ok text))
-IsText words input (Err (Section error)) = IsSomeAnd (command_of words) (λ command. Lists command input (Err error))
-IsText words input (Err Usage) = command_of words ≡ None
-IsText words input (Err Read) = ⊥
-IsText words input (Err Write) = ⊥
+IsText words input result = IsTextOf (command_of words) input result

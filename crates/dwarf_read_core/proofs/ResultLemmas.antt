@@ -1,26 +1,33 @@
 -- What follows from the result of steps that may fail.
-use Rattle.std.proofs.Common.{◌≡◌, ◌≢◌, ◌∙◌, Bool, true, false, cond, Result, Ok, Err, refl, ◌⊎◌, inl, inr}
+use Rattle.std.proofs.Common.{◌≡◌, ◌≢◌, ◌∙◌, Result, Ok, Err, subst}
 use Rattle.std.specs.Prelude.{IsErrAnd, IsOk, IsErrOf}
 use Rattle.dwarf_base_core.specs.declared.error.Error.TheVariants.{OutOfMemory}
 use Rattle.dwarf_base_core.specs.declared.error.Error.{Error}
 use Rattle.dwarf_read_core.specs.Reading.{◌>>=◌, Gives}
 
--- if two steps in a row succeed, the first succeeds, and the second succeeds with its value
-pub bind_ok : {A B : Type 0} (r : Result A Error) (f : A → Result B Error) (y : B) → (r >>= f) ≡ Ok y
-    → (x : A) × (r ≡ Ok x) × (f x ≡ Ok y)
-bind_ok (Ok x) f y e = (x, refl, e)
-bind_ok (Err d) f y e = absurd cc
+-- a result is a value with one property, or an error with another
+pub data HasOutcome {A : Type 0} (Good : A → Type 0) (Bad : Error → Type 0) : Result A Error → Type 0 where
+  returned : (x : A) → Good x → HasOutcome Good Bad (Ok x)
+  failed : (e : Error) → Bad e → HasOutcome Good Bad (Err e)
 
--- if two steps in a row fail, the first fails with that error, or it succeeds and the second fails with it
-pub bind_err : {A B : Type 0} (r : Result A Error) (f : A → Result B Error) (d : Error) → (r >>= f) ≡ Err d
-    → (r ≡ Err d) ⊎ ((x : A) × (r ≡ Ok x) × (f x ≡ Err d))
-bind_err (Ok x) f d e = inr (x, refl, e)
-bind_err (Err c) f d e = inl cc
+-- two steps in a row have an outcome if the first has one, and the second has it after each value of the first
+pub outcome-bind : {A B : Type 0} {Good : A → Type 0} {Last : B → Type 0} {Bad : Error → Type 0} {r : Result A Error}
+    (f : A → Result B Error) → HasOutcome Good Bad r → ((x : A) → Good x → HasOutcome Last Bad (f x))
+    → HasOutcome Last Bad (r >>= f)
+outcome-bind f (returned x good) next = next x good
+outcome-bind f (failed e bad) next = failed e bad
 
--- a choice that has a result took one of its two branches
-pub chosen : {A : Type 0} (b : Bool) (x y z : A) → cond b x y ≡ z → ((b ≡ true) × (x ≡ z)) ⊎ ((b ≡ false) × (y ≡ z))
-chosen true x y z e = inl (refl, e)
-chosen false x y z e = inr (refl, e)
+-- an outcome has each property that its values and errors have
+pub outcome-map : {A : Type 0} {Good Fine : A → Type 0} {Bad Worse : Error → Type 0} {r : Result A Error}
+    → ((x : A) → Good x → Fine x) → ((e : Error) → Bad e → Worse e) → HasOutcome Good Bad r → HasOutcome Fine Worse r
+outcome-map fine worse (returned x good) = returned x (fine x good)
+outcome-map fine worse (failed e bad) = failed e (worse e bad)
+
+-- a value that is returned has the property of values
+pub outcome-ok : {A : Type 0} {Good : A → Type 0} {Bad : Error → Type 0} {r : Result A Error} → HasOutcome Good Bad r
+    → (x : A) → r ≡ Ok x → Good x
+outcome-ok {Good = Good} (returned y good) x e = subst Good (cc) good
+outcome-ok (failed d bad) x e = absurd (cc)
 
 -- an error that `?` propagates is the one that the function reads, unless memory ran out
 pub gives_err : {X Y : Type 0} (view : X → Y) {read : Result Y Error} {e : Error} (result : Result X Error)

@@ -3,4 +3,4 @@ pub mod Returned
 pub mod Strings
 pub mod Ranges
 pub mod Words
-pub mod SlotErrors
+pub mod SlotOutcomes

@@ -93,7 +93,7 @@ pub fn exactly_one_address()
 /// slot. These are as many bytes as the width of the slot, from `base + index * width` on. Without
 /// such a number, the error is that of the first thing that is missing or too great, with its
 /// position.
-#[tactic(auto, using(crate::proofs::lookups::Words::word_held, crate::proofs::lookups::Words::address_held, crate::proofs::lookups::SlotErrors::word_none, crate::proofs::lookups::SlotErrors::address_none))]
+#[tactic(auto, using(crate::proofs::lookups::SlotOutcomes::word_held, crate::proofs::lookups::SlotOutcomes::address_held, crate::proofs::lookups::SlotOutcomes::word_none, crate::proofs::lookups::SlotOutcomes::address_none))]
 pub fn slots_hold_numbers()
     ensures word { (greatest : ℕ) (section : Input) (s : Slot) (x : ℕ)
         → WordAt greatest section s (Ok x) → Holds section s x }

@@ -9,12 +9,11 @@ use Rattle.dwarf_reader_core.specs.Input.{Input, after, first, Takes, TakesNumbe
 use Rattle.dwarf_reader_core.specs.Once.{HasOne}
 use Rattle.dwarf_reader_core.proofs.Reading.{after-after}
 use Rattle.dwarf_reader_core.specs.Appended.{followed_by, IsNoEof}
-use Rattle.dwarf_reader_core.specs.Layout.{read, fixed}
+use Rattle.dwarf_reader_core.specs.Layout.{read}
 use Rattle.dwarf_read_core.specs.Lookups.{AnswersBy, StaysBy}
 use Rattle.dwarf_read_core.specs.Words.{Slot, distance, place, IsPlaced, Misplaced, Holds, to_slot, word, address, WordAt, AddressAt}
-use Rattle.dwarf_read_core.specs.Entries.{string_offset}
 use Rattle.dwarf_base_core.specs.Number.{number_of}
-use Rattle.dwarf_reader_core.proofs.Layouts.{At_one, At_more, At_value, At_error, then_reads, then_fails, error_is, part_reads, part_fails, number_reads, number_fails, after_part, no_part, after_check, no_check, rest-length, takes-both, At_read, then_read, check_read, part_read, pure_read}
+use Rattle.dwarf_reader_core.proofs.Layouts.{At_one, At_more, At_value, At_error, then_reads, then_fails, error_is, part_reads, part_fails, number_reads, number_fails, after_part, no_part, after_check, no_check, rest-length, takes-both}
 use Rattle.dwarf_read_core.proofs.lookups.Returned.{result-stays, propagated-result}
 use Rattle.dwarf_read_core.proofs.sets.Entries.{offset_reads, offset_fails}
 
@@ -146,30 +145,6 @@ address-read greatest section s rest new clone_is_free (Err e) is_placed takes r
 
 -- ---- the number at a place
 
--- if a number was read by its layout, its bytes were consumed
-fixed_read : (n : ℕ) (old : Input) {x : ℕ} {new : Input} → read (fixed n) old ≡ Ok (x, new) → TakesNumber n old x new
-unfolding fixed
-fixed_read n old is =
-    let bytes = then_read _ _ _ is in
-    let part = part_read _ _ bytes.2 in
-    let value = pure_read _ _ bytes.3 in
-    record {
-      enough = part.1.enough;
-      is = value.0 ∙ ap (λ (i : Input). number_of i.is_big i.bytes) part.0;
-      left = value.1 ∙ part.1.left;
-    }
-
--- if the bytes before a slot were read, those before its place were consumed
-slot_read : (greatest : ℕ) (section : Input) (s : Slot) {front rest : Input}
-    → read (to_slot greatest s) section ≡ Ok (front, rest) → Takes (place s) section rest
-unfolding to_slot
-slot_read greatest section s {rest = rest} is =
-    let based = then_read _ _ _ is in
-    let counted = then_read _ _ _ based.3 in
-    let further = part_read _ _ counted.3 in
-    takes-both (part_read _ _ based.2).1
-    (subst (λ (i : Input). Takes (distance s) i rest) (check_read _ _ _ counted.2).1 further.1)
-
 -- a number that is consumed at the place of a slot is the one that the slot holds
 pub slot_holds : (section : Input) (s : Slot) (x : ℕ) (rest new : Input) → Takes (place s) section rest
     → TakesNumber s.width rest x new → Holds section s x
@@ -177,31 +152,6 @@ slot_holds section s x rest new takes number = record {
   within = omega (arith, takes.enough, number.enough, rest-length (place s) section rest takes);
   is = number.is ∙ ap (λ (i : Input). number_of i.is_big (take s.width i.bytes)) takes.left;
 }
-
--- the word of a slot is the number that it holds
-pub word_held : (greatest : ℕ) (section : Input) (s : Slot) (x : ℕ) → WordAt greatest section s (Ok x)
-    → Holds section s x
-unfolding word string_offset
-word_held greatest section s x is =
-    let found = At_read (word greatest s) section is in
-    let reached = then_read _ _ _ found.1 in
-    let number = then_read _ _ _ reached.3 in
-    let fits = then_read _ _ _ number.3 in
-    let read_there = slot_holds section s number.0 reached.1 number.1 (slot_read greatest section s reached.2)
-    (fixed_read s.width reached.1 number.2) in
-    subst (Holds section s) (sym (pure_read _ _ fits.3).0) read_there
-
--- the address of a slot is the number that it holds
-pub address_held : (greatest : ℕ) (section : Input) (s : Slot) (x : ℕ) → AddressAt greatest section s (Ok x)
-    → Holds section s x
-unfolding address
-address_held greatest section s x is =
-    let found = At_read (address greatest s) section is in
-    let reached = then_read _ _ _ found.1 in
-    let sized = then_read _ _ _ reached.3 in
-    let there : Takes (place s) section sized.1 = subst (Takes (place s) section)
-    (sym (check_read _ _ _ sized.2).1) (slot_read greatest section s reached.2) in
-    slot_holds section s x sized.1 found.0 there (fixed_read s.width sized.1 sized.3)
 
 -- ---- exactly one result
 

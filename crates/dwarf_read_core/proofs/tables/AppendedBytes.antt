@@ -4,9 +4,8 @@ use Rattle.std.proofs.lemmas.List.{length-append, drop-append-le, take-append-dr
 use Rattle.dwarf_reader_core.specs.Input.{Input, end_of}
 use Rattle.dwarf_read_core.proofs.tables.ReadingNumbers.{found_has}
 use Rattle.dwarf_base_core.specs.declared.error.Error.{Error}
-use Rattle.dwarf_base_core.specs.declared.error.Error.TheVariants.{AbbreviationTagZero, InvalidAbbreviationChildren, AttributeNameZero, AttributeFormZero, DuplicateAbbreviationCode}
-use Rattle.dwarf_reader_core.specs.Leb128.{Kind, Number, refusal, IsEncoding, NoneIsLast, IsNumber, IsBad}
-use Rattle.dwarf_read_core.specs.Grammar.{Table, closed, by_code_of, by_null, IsTable, closed_by_null, closed_by_end}
+use Rattle.dwarf_reader_core.specs.Leb128.{Kind, Number, IsEncoding, NoneIsLast, IsNumber, IsBad}
+use Rattle.dwarf_read_core.specs.Grammar.{Table, by_null, IsTable, closed_by_null, closed_by_end}
 use Rattle.dwarf_reader_core.specs.Appended.{followed_by, IsNoEof}
 use Rattle.dwarf_read_core.specs.Answer.{IsFaulty, number_cut, number_bad, children_cut, tag_zero, children_bad, name_zero, form_zero, IsFault, in_declaration, repeated, Answer, outside, table, fault, IsFinal, Answers}
 
@@ -71,9 +70,7 @@ bad_more k bytes more bad = record {
 table_more : {bytes : List ℕ} {t : Table} (more : List ℕ) → IsTable bytes t → t.close ≡ by_null
     → IsTable (bytes ++ more) t
 table_more more (closed_by_null bytes zero_code rest ds are is) final =
-    subst (λ (b : List ℕ). IsTable b (closed (by_code_of ds) by_null))
-    (sym (append_assoc (bytes ++ zero_code) rest more))
-    (closed_by_null bytes zero_code (rest ++ more) ds are is)
+    rw (append_assoc (bytes ++ zero_code) rest more) (closed_by_null bytes zero_code (rest ++ more) ds are is)
 table_more more (closed_by_end bytes ds are) final = absurd cc
 
 -- an error in a declaration, unless it is an `UnexpectedEof`, stays the error with more bytes behind
@@ -81,22 +78,17 @@ declaration_error_more : {end : ℕ} {bytes : List ℕ} {e : Error} (longer : �
     → IsNoEof e → IsFaulty longer (bytes ++ more) e
 declaration_error_more {end = end} longer more (number_cut front bytes k b c) final = absurd (final end refl)
 declaration_error_more longer more (number_bad front bytes k b c) final =
-    subst (λ (x : List ℕ). IsFaulty longer x (refusal k)) (sym (append_assoc front bytes more))
-    (number_bad front (bytes ++ more) k b (bad_more k bytes more c))
+    rw (append_assoc front bytes more) (number_bad front (bytes ++ more) k b (bad_more k bytes more c))
 declaration_error_more {end = end} longer more (children_cut front code tag is) final = absurd (final end refl)
 declaration_error_more longer more (tag_zero front tag rest code is zero_tag) final =
-    subst (λ (x : List ℕ). IsFaulty longer x AbbreviationTagZero) (sym (append_assoc (front ++ tag) rest more))
-    (tag_zero front tag (rest ++ more) code is zero_tag)
+    rw (append_assoc (front ++ tag) rest more) (tag_zero front tag (rest ++ more) code is zero_tag)
 declaration_error_more longer more (children_bad front rest code tag byte is lt) final =
-    subst (λ (x : List ℕ). IsFaulty longer x (InvalidAbbreviationChildren (record { 0 = byte })))
-    (sym (append_assoc front (byte ∷ rest) more)) (children_bad front (rest ++ more) code tag byte is lt)
+    rw (append_assoc front (byte ∷ rest) more) (children_bad front (rest ++ more) code tag byte is lt)
 declaration_error_more longer more (name_zero front name form rest d f is is_name is_form formed) final =
-    subst (λ (x : List ℕ). IsFaulty longer x AttributeNameZero)
-    (sym (append_assoc (front ++ name ++ form) rest more))
+    rw (append_assoc (front ++ name ++ form) rest more)
     (name_zero front name form (rest ++ more) d f is is_name is_form formed)
 declaration_error_more longer more (form_zero front name form rest d n is is_name named is_form) final =
-    subst (λ (x : List ℕ). IsFaulty longer x AttributeFormZero)
-    (sym (append_assoc (front ++ name ++ form) rest more))
+    rw (append_assoc (front ++ name ++ form) rest more)
     (form_zero front name form (rest ++ more) d n is is_name named is_form)
 
 -- bytes that aren't empty stay so with more bytes behind them
@@ -108,13 +100,10 @@ still_some (x ∷ rest) more some e = cc
 first_error_more : {end : ℕ} {bytes : List ℕ} {e : Error} (longer : ℕ) (more : List ℕ) → IsFault end bytes e
     → IsNoEof e → IsFault longer (bytes ++ more) e
 first_error_more longer more (in_declaration bytes rest ds e are some f) final =
-    subst (λ (x : List ℕ). IsFault longer x e) (sym (append_assoc bytes rest more))
-    (in_declaration bytes (rest ++ more) ds e are (still_some rest more some)
+    rw (append_assoc bytes rest more) (in_declaration bytes (rest ++ more) ds e are (still_some rest more some)
     (declaration_error_more longer more f final))
 first_error_more longer more (repeated bytes declaration rest ds d are is twice) final =
-    subst (λ (x : List ℕ). IsFault longer x (DuplicateAbbreviationCode d.code))
-    (sym (append_assoc (bytes ++ declaration) rest more))
-    (repeated bytes declaration (rest ++ more) ds d are is twice)
+    rw (append_assoc (bytes ++ declaration) rest more) (repeated bytes declaration (rest ++ more) ds d are is twice)
 
 -- a final result is still the result when bytes are appended to the section
 pub answer_more : {section : Input} {offset : ℕ} {r : Result Table Error} (more : List ℕ) → Answer section offset r
@@ -122,12 +111,10 @@ pub answer_more : {section : Input} {offset : ℕ} {r : Result Table Error} (mor
 answer_more {section} more (outside lt) final = absurd (final section.position refl)
 answer_more {section} {offset} more (table t le is) final =
     table t (omega (arith, length-append section.bytes more))
-    (subst (λ (b : List ℕ). IsTable b t) (sym (drop-append-le offset section.bytes more le))
-    (table_more more is final))
+    (rw (drop-append-le offset section.bytes more le) (table_more more is final))
 answer_more {section} {offset} more (fault e le is) final =
     fault e (omega (arith, length-append section.bytes more))
-    (subst (λ (b : List ℕ). IsFault (end_of (followed_by section more)) b e)
-    (sym (drop-append-le offset section.bytes more le))
+    (rw (drop-append-le offset section.bytes more le)
     (first_error_more (end_of (followed_by section more)) more is final))
 
 -- a final result that a call returned is still the section's result when bytes are appended

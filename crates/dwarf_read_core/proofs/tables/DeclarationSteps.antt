@@ -6,7 +6,6 @@ use Rattle.dwarf_base_core.specs.declared.error.Error.{Error}
 use Rattle.dwarf_reader_core.specs.Leb128.{unsigned64}
 use Rattle.dwarf_read_core.specs.Grammar.{Declaration}
 use Rattle.dwarf_read_core.specs.Reading.{◌>>=◌, number_at, declared_at, declaration_at}
-use Rattle.dwarf_read_core.proofs.ResultLemmas.{bind_ok}
 
 abbrev ReadEntry : Type 0
 ReadEntry = Result (Option Declaration × List ℕ) Error
@@ -38,16 +37,15 @@ declaration-coded end bytes code after some q nonzero =
 -- if a code is read that isn't 0, a declaration is read, or an error
 pub declaration-some : {end : ℕ} {bytes : List ℕ} {code : ℕ} {after : List ℕ} → IsCoded end bytes code after
     → (rest : List ℕ) → declaration_at end bytes ≢ Ok (None, rest)
-declaration-some {end} {bytes} {code} {after} h rest e =
-    let b = bind_ok (declared_at end code after) (λ d. Ok (Some d.0, d.1)) (None, rest) (sym h.read ∙ e) in
-    ok_some b.0.0 b.0.1 rest b.2
+declaration-some {end} {bytes} {code} {after} h rest e = go (declared_at end code after) (sym h.read ∙ e)
   where
-    ok_some : (d : Declaration) (x y : List ℕ) → let one : ReadEntry = Ok (Some d, x) in
-        let two : ReadEntry = Ok (None, y) in one ≢ two
-    ok_some d x y q =
-        let p : ◌≡◌ {A = Option Declaration × List ℕ} (Some d, x) (None, y) = cc in
-        let none : ◌≡◌ {A = Option Declaration} (Some d) None = ap (λ (z : Option Declaration × List ℕ). z.0) p in
+    go : (r : Result (Declaration × List ℕ) Error)
+        → let none : ReadEntry = Ok (None, rest) in (r >>= λ d. Ok (Some d.0, d.1)) ≢ none
+    go (Ok d) q =
+        let p : ◌≡◌ {A = Option Declaration × List ℕ} (Some d.0, d.1) (None, rest) = cc in
+        let none : ◌≡◌ {A = Option Declaration} (Some d.0) None = ap (λ (z : Option Declaration × List ℕ). z.0) p in
         cc
+    go (Err d) q = cc
 
 -- reading a declaration fails with the error of what follows its code
 pub declared_fails : {end : ℕ} {bytes : List ℕ} {code : ℕ} {after : List ℕ} {e : Error}

@@ -7,12 +7,14 @@ use Rattle.dwarf_base_core.specs.declared.error.Error.{Error}
 use Rattle.dwarf_reader_core.specs.Input.{Input, end_of, Takes}
 use Rattle.dwarf_reader_core.specs.Faults.{end_fault, EndsBefore}
 use Rattle.dwarf_read_core.proofs.tables.ReadingNumbers.{end_after}
+use Rattle.dwarf_read_core.proofs.ResultLemmas.{HasOutcome, returned, failed}
+use Rattle.dwarf_read_core.specs.Grammar.{IsTable}
 use Rattle.dwarf_reader_core.specs.Once.{HasOne}
-use Rattle.dwarf_read_core.specs.Answer.{Answer, Answers, TakesNoMemory, outside, table, fault}
+use Rattle.dwarf_read_core.specs.Answer.{Answer, Answers, IsFault, TakesNoMemory, outside, table, fault}
 use Rattle.dwarf_read_core.specs.Reading.{Gives, declaration_at, table_in}
 use Rattle.dwarf_read_core.proofs.tables.ReadingIsComplete.{zero_again, end_again}
 use Rattle.dwarf_read_core.proofs.tables.ReadingTables.{TableRead}
-use Rattle.dwarf_read_core.proofs.tables.TablesAreRead.{Reads, reads_by, table_again, first_error_again}
+use Rattle.dwarf_read_core.proofs.tables.TablesAreRead.{table_behind, table_again, first_error_again}
 
 abbrev AnswerBy : Bool → Input → ℕ → TableRead
 AnswerBy t section offset =
@@ -27,18 +29,20 @@ pub is_answer : (section : Input) (offset : ℕ) → Answer section offset (answ
 unfolding answer_at table_in
 is_answer section offset = go (ltb (length section.bytes) offset) refl
   where
-    read : (r : TableRead) → offset ≤ length section.bytes → Reads (end_of section) (drop offset section.bytes) r
-        → Answer section offset r
-    read (Ok t) le is = table t le is
-    read (Err e) le is = fault e le is
+    bytes : List ℕ
+    bytes = drop offset section.bytes
+
+    read : {r : TableRead} → offset ≤ length section.bytes
+        → HasOutcome (IsTable bytes) (IsFault (end_of section) bytes) r → Answer section offset r
+    read le (returned t is) = table t le is
+    read le (failed e is) = fault e le is
 
     go : (t : Bool) → ltb (length section.bytes) offset ≡ t → Answer section offset (AnswerBy t section offset)
     go true lt = outside (ltb-true (length section.bytes) offset lt)
     go false le =
-        read (table_in (end_of section) empty (drop offset section.bytes))
-        (ltb-false (length section.bytes) offset le)
-        (reads_by (length (drop offset section.bytes) + 1) (end_of section) [] (drop offset section.bytes) []
-        (omega arith) (record { each = refl; distinct = tt }))
+        read (ltb-false (length section.bytes) offset le)
+        (table_behind (length bytes + 1) (end_of section) [] bytes bytes [] refl (omega arith)
+        (record { each = refl; distinct = tt }))
 
 -- every result that a section has at an offset is what the functions read there
 pub only_answer : {section : Input} {offset : ℕ} {r : TableRead} → Answer section offset r

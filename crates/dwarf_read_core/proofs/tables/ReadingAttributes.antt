@@ -1,13 +1,13 @@
 -- Reading the specifications up to the null one, as the loop does and as the grammar says.
-use Rattle.std.proofs.Common.{◌≡◌, ℕ, zero, suc, ◌+◌, ◌<◌, List, [], ◌∷◌, ◌++◌, length, Option, Some, None, Result, Ok, Err, refl, sym, ap, subst, ◌∙◌, append_assoc, arith, inl, inr}
+use Rattle.std.proofs.Common.{◌≡◌, ℕ, zero, suc, ◌+◌, ◌<◌, List, [], ◌∷◌, ◌++◌, length, Option, Some, None, Result, Ok, Err, refl, sym, ap, ◌∙◌, append_assoc, arith}
 use Rattle.std.proofs.lemmas.List.{append-nil}
 use Rattle.dwarf_base_core.specs.declared.error.Error.{Error}
 use Rattle.dwarf_read_core.specs.Grammar.{Specification, Declaration, Sequence, IsSpecification, IsNull, IsFront}
 use Rattle.dwarf_read_core.specs.Answer.{IsFaulty}
 use Rattle.dwarf_read_core.specs.Reading.{◌>>=◌, specification_at, and_others, attributes_at, attributes_in, declaration_of}
 use Rattle.dwarf_read_core.proofs.tables.Sequences.{Sequence-push}
-use Rattle.dwarf_read_core.proofs.ResultLemmas.{bind_ok, bind_err}
-use Rattle.dwarf_read_core.proofs.tables.ReadingSpecifications.{NullFound, SpecificationFound, specification_found, specification_error, specification_again, null_again, specification_shorter}
+use Rattle.dwarf_read_core.proofs.ResultLemmas.{HasOutcome, returned, outcome-bind}
+use Rattle.dwarf_read_core.proofs.tables.ReadingSpecifications.{SpecificationFound, SomeFound, specification_behind, specification_again, null_again, found_shorter, specification_shorter}
 
 abbrev pub AttributesRead : Type 0
 AttributesRead = Result (List Specification × List ℕ) Error
@@ -107,38 +107,6 @@ more_found bytes s ss behind rest f g = record {
   is_null = g.is_null;
 }
 
--- specifications that are read under any bound are those that the grammar has at the front
-found_by : (n end : ℕ) (bytes : List ℕ) (x : List Specification × List ℕ) → attributes_at n end bytes ≡ Ok x
-    → AttributesFound bytes x.0 x.1
-unfolding attributes_at
-found_by zero end bytes x e = absurd cc
-found_by (suc n) end bytes x e =
-    let a = bind_ok (specification_at end bytes)
-    (λ first. and_others first.0 first.1 (attributes_at n end first.1)) x e in
-    go (found_by n end) a.0.0 a.0.1 a.1 a.2
-  where
-    go : ((others : List ℕ) (y : List Specification × List ℕ) → attributes_at n end others ≡ Ok y
-        → AttributesFound others y.0 y.1) → (o : Option Specification) (behind : List ℕ)
-        → specification_at end bytes ≡ Ok (o, behind) → and_others o behind (attributes_at n end behind) ≡ Ok x
-        → AttributesFound bytes x.0 x.1
-    go others None behind q e =
-        let f : NullFound bytes behind = specification_found end bytes (None, behind) q in
-        let p : ◌≡◌ {A = List Specification × List ℕ} ([], behind) x = cc in
-        subst (λ (y : List Specification × List ℕ). AttributesFound bytes y.0 y.1) p
-        (record { specifications = []; null = f.front; parts = f.parts; are = refl; is_null = f.is_null })
-    go others (Some s) behind q e =
-        let f : SpecificationFound bytes s behind = specification_found end bytes (Some s, behind) q in
-        let b = bind_ok (attributes_at n end behind) (λ y. Ok (s ∷ y.0, y.1)) x e in
-        let p : ◌≡◌ {A = List Specification × List ℕ} (s ∷ b.0.0, b.0.1) x = let h = b.2 in cc in
-        subst (λ (y : List Specification × List ℕ). AttributesFound bytes y.0 y.1) p
-        (more_found bytes s b.0.0 behind b.0.1 f (others behind b.0 b.1))
-
--- specifications that are read are those that the grammar has at the front
-pub attributes_found : (end : ℕ) (bytes : List ℕ) (x : List Specification × List ℕ)
-    → attributes_in end bytes ≡ Ok x → AttributesFound bytes x.0 x.1
-unfolding attributes_in
-attributes_found end bytes x e = found_by (length bytes + 1) end bytes x e
-
 -- a declaration with more attributes behind its own
 abbrev pub with_attributes : Declaration → List Specification → Declaration
 with_attributes d more = declaration_of d.code d.tag d.children (d.attributes ++ more)
@@ -154,40 +122,37 @@ front_push front first d s is one = record {
   are_attributes = Sequence-push IsSpecification is.specifications d.attributes first s is.are_attributes one;
 }
 
--- an error in the specifications behind a front, under a bound above the bytes, is an error of both together
-error_by : (n end : ℕ) (front bytes : List ℕ) (d : Declaration) (e : Error) → length bytes < n → IsFront front d
-    → attributes_at n end bytes ≡ Err e → IsFaulty end (front ++ bytes) e
+-- under a bound above the bytes, specifications are read behind a front, or an error of both together
+behind_by : (n end : ℕ) (front bytes whole : List ℕ) (d : Declaration) → whole ≡ front ++ bytes → length bytes < n
+    → IsFront front d
+    → HasOutcome (λ x. AttributesFound bytes x.0 x.1) (IsFaulty end whole) (attributes_at n end bytes)
 unfolding attributes_at
-error_by zero end front bytes d e short is q = absurd (omega arith)
-error_by (suc n) end front bytes d e short is q =
-    elim (bind_err (specification_at end bytes)
-    (λ first. and_others first.0 first.1 (attributes_at n end first.1)) e q) [
-      | inl r ↦ specification_error end front bytes d e is r
-      | inr r ↦ go (λ others f c h. error_by n end f others c e (omega arith)) r.0.0 r.0.1 r.1 r.2
-    ]
+behind_by zero end front bytes whole d parts short is = absurd (omega arith)
+behind_by (suc n) end front bytes whole d parts short is =
+    outcome-bind _ (specification_behind end front bytes whole d parts is) (λ first f.
+    go (λ rest front. behind_by n end front rest whole) first.0 first.1 f)
   where
-    go : ((others f : List ℕ) (c : Declaration) → length others < length bytes → IsFront f c
-        → attributes_at n end others ≡ Err e → IsFaulty end (f ++ others) e)
-        → (o : Option Specification) (behind : List ℕ) → specification_at end bytes ≡ Ok (o, behind)
-        → and_others o behind (attributes_at n end behind) ≡ Err e → IsFaulty end (front ++ bytes) e
-    go others None behind r h = absurd cc
-    go others (Some s) behind r h =
-        let f : SpecificationFound bytes s behind = specification_found end bytes (Some s, behind) r in
-        elim (bind_err (attributes_at n end behind) (λ y. Ok (s ∷ y.0, y.1)) e h) [
-          | inl w ↦
-              subst (λ (x : List ℕ). IsFaulty end x e)
-              (append_assoc front f.front behind ∙ ap (λ (b : List ℕ). front ++ b) (sym f.parts))
-              (others behind (front ++ f.front) (with_attributes d (s ∷ []))
-              (specification_shorter end bytes (Some s) behind r)
-              (front_push front f.front d s is f.is_specification) w)
-          | inr w ↦ absurd (let v = w.2 in cc)
-        ]
+    go : ((rest front : List ℕ) (d : Declaration) → whole ≡ front ++ rest → length rest < n → IsFront front d
+        → HasOutcome (λ x. AttributesFound rest x.0 x.1) (IsFaulty end whole) (attributes_at n end rest))
+        → (o : Option Specification) (behind : List ℕ) → SomeFound bytes o behind
+        → HasOutcome (λ x. AttributesFound bytes x.0 x.1) (IsFaulty end whole)
+        (and_others o behind (attributes_at n end behind))
+    go others None behind f =
+        returned ([], behind)
+        (record { specifications = []; null = f.front; parts = f.parts; are = refl; is_null = f.is_null })
+    go others (Some s) behind f =
+        outcome-bind _ (others behind (front ++ f.front) (with_attributes d (s ∷ []))
+        (rw (parts, f.parts) (simp append_assoc))
+        (let h = found_shorter bytes (Some s) behind f in omega arith)
+        (front_push front f.front d s is f.is_specification))
+        (λ y g. returned (s ∷ y.0, y.1) (more_found bytes s y.0 behind y.1 f g))
 
--- an error in the specifications behind a front is an error of both together
-pub attributes_error : (end : ℕ) (front bytes : List ℕ) (d : Declaration) (e : Error) → IsFront front d
-    → attributes_in end bytes ≡ Err e → IsFaulty end (front ++ bytes) e
+-- specifications are read behind a front, or an error of both together
+pub attributes_behind : (end : ℕ) (front bytes whole : List ℕ) (d : Declaration) → whole ≡ front ++ bytes
+    → IsFront front d → HasOutcome (λ x. AttributesFound bytes x.0 x.1) (IsFaulty end whole) (attributes_in end bytes)
 unfolding attributes_in
-attributes_error end front bytes d e is q = error_by (length bytes + 1) end front bytes d e (omega arith) is q
+attributes_behind end front bytes whole d parts is =
+    behind_by (length bytes + 1) end front bytes whole d parts (omega arith) is
 
 -- ---- what is in the grammar is read
 

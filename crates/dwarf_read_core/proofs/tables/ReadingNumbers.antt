@@ -9,7 +9,7 @@ use Rattle.dwarf_reader_core.specs.Leb128.{Kind, Number, unsigned64, unsigned16,
 use Rattle.dwarf_reader_core.specs.Input.{Input, end_of, after}
 use Rattle.dwarf_reader_core.specs.Faults.{eof}
 use Rattle.dwarf_read_core.specs.Reading.{with_byte, encoding_at, number_from, number_at}
-use Rattle.dwarf_read_core.proofs.ResultLemmas.{chosen}
+use Rattle.dwarf_read_core.proofs.ResultLemmas.{HasOutcome, returned, failed}
 
 -- an encoding of a number has at least one byte
 pub encoding-nonempty : (bytes : List ℕ) → IsEncoding bytes → 0 < length bytes
@@ -48,41 +48,25 @@ longer n b bytes (c ∷ front) rest high s =
       short = let h = s.short in omega arith;
     }
 
--- what is split from the front is an encoding of at most n bytes, and the rest remains
-pub split_from_some : (n : ℕ) (bytes front rest : List ℕ) → encoding_at n bytes ≡ Some (front, rest)
-    → IsSplit n bytes front rest
-unfolding encoding_at
-split_from_some zero bytes front rest e = absurd cc
-split_from_some (suc n) [] front rest e = absurd cc
-split_from_some (suc n) (b ∷ bytes) front rest e = go (ltb b 128) refl (encoding_at n bytes) (split_from_some n bytes) e
-  where
-    go : (t : Bool) → ltb b 128 ≡ t → (o : Option (List ℕ × List ℕ))
-        → ((f r : List ℕ) → o ≡ Some (f, r) → IsSplit n bytes f r)
-        → cond t (Some (b ∷ [], bytes)) (with_byte b o) ≡ Some (front, rest)
-        → IsSplit (suc n) (b ∷ bytes) front rest
-    go true low o shorter e =
-        let p : ◌≡◌ {A = List ℕ × List ℕ} (b ∷ [], bytes) (front, rest) = cc in
-        subst (λ (x : List ℕ × List ℕ). IsSplit (suc n) (b ∷ bytes) x.0 x.1) p
-        (record { parts = refl; encoding = ltb-true b 128 low; short = omega arith })
-    go false high None shorter e = absurd cc
-    go false high (Some x) shorter e =
-        let p : ◌≡◌ {A = List ℕ × List ℕ} (b ∷ x.0, x.1) (front, rest) = cc in
-        subst (λ (y : List ℕ × List ℕ). IsSplit (suc n) (b ∷ bytes) y.0 y.1) p
-        (longer n b bytes x.0 x.1 (ltb-false b 128 high) (shorter x.0 x.1 refl))
+-- what is split from the front of bytes: an encoding of at most n bytes, or nothing, if none of them is a last byte
+data Split (n : ℕ) (bytes : List ℕ) : Option (List ℕ × List ℕ) → Type 0 where
+  split : (front rest : List ℕ) → IsSplit n bytes front rest → Split n bytes (Some (front, rest))
+  unsplit : (length bytes < n → NoneIsLast bytes) → Split n bytes None
 
--- if nothing is split from too few bytes, none of them is the last of an encoding
-pub unended_from_none : (n : ℕ) (bytes : List ℕ) → encoding_at n bytes ≡ None → length bytes < n → NoneIsLast bytes
+-- an encoding is split from the front, or too few bytes have no last byte
+encoding_split : (n : ℕ) (bytes : List ℕ) → Split n bytes (encoding_at n bytes)
 unfolding encoding_at
-unended_from_none zero bytes e short = absurd (omega arith)
-unended_from_none (suc n) [] e short = tt
-unended_from_none (suc n) (b ∷ bytes) e short =
-    go (ltb b 128) refl (encoding_at n bytes) (λ q. unended_from_none n bytes q (omega arith)) e
+encoding_split zero bytes = unsplit (λ short. absurd (omega arith))
+encoding_split (suc n) [] = unsplit (λ _. tt)
+encoding_split (suc n) (b ∷ bytes) = go (ltb b 128) refl (encoding_split n bytes)
   where
-    go : (t : Bool) → ltb b 128 ≡ t → (o : Option (List ℕ × List ℕ)) → (o ≡ None → NoneIsLast bytes)
-        → cond t (Some (b ∷ [], bytes)) (with_byte b o) ≡ None → (128 ≤ b) × NoneIsLast bytes
-    go true low o others e = absurd cc
-    go false high None others e = (ltb-false b 128 high, others refl)
-    go false high (Some x) others e = absurd cc
+    go : (t : Bool) → ltb b 128 ≡ t → {o : Option (List ℕ × List ℕ)} → Split n bytes o
+        → Split (suc n) (b ∷ bytes) (cond t (Some (b ∷ [], bytes)) (with_byte b o))
+    go true low s = split (b ∷ []) bytes
+        (record { parts = refl; encoding = ltb-true b 128 low; short = omega arith })
+    go false high (split front rest s) =
+        split (b ∷ front) rest (longer n b bytes front rest (ltb-false b 128 high) s)
+    go false high (unsplit none) = unsplit (λ short. (ltb-false b 128 high, none (omega arith)))
 
 -- if none of the bytes is the last of an encoding, nothing is split from their front
 pub encoding_at-unended : (n : ℕ) (bytes : List ℕ) → NoneIsLast bytes → encoding_at n bytes ≡ None
@@ -111,31 +95,6 @@ pub record Found (k : Kind) (bytes : List ℕ) (number : Number k) (rest : List 
   pub parts : bytes ≡ front ++ rest
   pub string : IsNumber k front number
 
--- a number that is read is encoded by bytes at the front, and the rest remains
-pub number_at-ok : (k : Kind) (end : ℕ) (bytes : List ℕ) (number : Number k) (rest : List ℕ)
-    → number_at k end bytes ≡ Ok (number, rest) → Found k bytes number rest
-unfolding number_at
-number_at-ok k end bytes number rest e = go (encoding_at (limit k) bytes) refl e
-  where
-    go : (o : Option (List ℕ × List ℕ)) → encoding_at (limit k) bytes ≡ o
-        → number_from k end bytes o ≡ Ok (number, rest) → Found k bytes number rest
-    go None q e =
-        elim (chosen (ltb (length bytes) (limit k)) (Err (eof end)) (Err (refusal k))
-        (Ok (number, rest)) e) [ inl c ↦ absurd cc | inr c ↦ absurd cc ]
-    go (Some x) q e =
-        elim (chosen (is_in_range k (value k x.0)) (Ok (value k x.0, x.1)) (Err (refusal k)) (Ok (number, rest)) e) [
-          | inl c ↦
-              let s = split_from_some (limit k) bytes x.0 x.1 q in
-              let p : ◌≡◌ {A = Number k × List ℕ} (value k x.0, x.1) (number, rest) = let h = c.1 in cc in
-              subst (λ (y : Number k × List ℕ). Found k bytes y.0 y.1) p
-              (record {
-                front = x.0;
-                parts = s.parts;
-                string = record { encoding = s.encoding; within = s.short; means = refl; in_range = c.0 };
-              })
-          | inr c ↦ absurd (let h = c.1 in cc)
-        ]
-
 -- a number that the first n bytes encode is read, and the bytes behind them remain
 pub number_at-has : (k : Kind) (end : ℕ) (bytes : List ℕ) (number : Number k) (n : ℕ) → HasNumber k bytes number n
     → number_at k end bytes ≡ Ok (number, drop n bytes)
@@ -156,30 +115,39 @@ is_bad k end bytes e = record {
   not_cut = λ c. eof≢refusal k end (let a = number_at-cut k end bytes c in cc);
 }
 
--- an error that is read is an `UnexpectedEof` for cut bytes, or the error of a bad number for bad bytes
-pub number_at-err : (k : Kind) (end : ℕ) (bytes : List ℕ) (d : Error) → number_at k end bytes ≡ Err d
-    → (IsCut k bytes × (d ≡ eof end)) ⊎ (IsBad k bytes × (d ≡ refusal k))
+-- what is read: a number that bytes at the front encode, an `UnexpectedEof` for cut bytes, or the error of bad ones
+pub number_outcome : (k : Kind) (end : ℕ) (bytes : List ℕ)
+    → HasOutcome (λ x. Found k bytes x.0 x.1)
+    (λ e. (IsCut k bytes × (e ≡ eof end)) ⊎ (IsBad k bytes × (e ≡ refusal k))) (number_at k end bytes)
 unfolding number_at
-number_at-err k end bytes d e = go (encoding_at (limit k) bytes) refl e
+number_outcome k end bytes = go (encoding_split (limit k) bytes) refl
   where
-    bad : refusal k ≡ d → IsBad k bytes × (d ≡ refusal k)
-    bad h = (is_bad k end bytes (e ∙ ap (λ (x : Error). Err x) (sym h)), sym h)
+    Read : Result (Number k × List ℕ) Error → Type 0
+    Read = HasOutcome (λ x. Found k bytes x.0 x.1)
+        (λ e. (IsCut k bytes × (e ≡ eof end)) ⊎ (IsBad k bytes × (e ≡ refusal k)))
 
-    go : (o : Option (List ℕ × List ℕ)) → encoding_at (limit k) bytes ≡ o → number_from k end bytes o ≡ Err d
-        → (IsCut k bytes × (d ≡ eof end)) ⊎ (IsBad k bytes × (d ≡ refusal k))
-    go None q e =
-        elim (chosen (ltb (length bytes) (limit k)) (Err (eof end)) (Err (refusal k)) (Err d) e) [
-          | inl c ↦
-              let short = ltb-true (length bytes) (limit k) c.0 in
-              let is : d ≡ eof end = let h = c.1 in cc in
-              inl (record { short = short; unended = unended_from_none (limit k) bytes q short }, is)
-          | inr c ↦ inr (bad (let h = c.1 in cc))
-        ]
-    go (Some x) q e =
-        elim (chosen (is_in_range k (value k x.0)) (Ok (value k x.0, x.1)) (Err (refusal k)) (Err d) e) [
-          | inl c ↦ absurd (let h = c.1 in cc)
-          | inr c ↦ inr (bad (let h = c.1 in cc))
-        ]
+    bad : number_at k end bytes ≡ Err (refusal k) → Read (Err (refusal k))
+    bad e = failed (refusal k) (inr (is_bad k end bytes e, refl))
+
+    go : {o : Option (List ℕ × List ℕ)} → Split (limit k) bytes o → number_at k end bytes ≡ number_from k end bytes o
+        → Read (number_from k end bytes o)
+    go (split front rest s) e = in_range (is_in_range k (value k front)) refl
+      where
+        in_range : (t : Bool) → is_in_range k (value k front) ≡ t
+            → Read (cond t (Ok (value k front, rest)) (Err (refusal k)))
+        in_range true fits = returned (value k front, rest) (record {
+          front = front;
+          parts = s.parts;
+          string = record { encoding = s.encoding; within = s.short; means = refl; in_range = fits };
+        })
+        in_range false over = bad (e ∙ rw over refl)
+    go (unsplit none) e = short (ltb (length bytes) (limit k)) refl
+      where
+        short : (t : Bool) → ltb (length bytes) (limit k) ≡ t → Read (cond t (Err (eof end)) (Err (refusal k)))
+        short true lt =
+            let few = ltb-true (length bytes) (limit k) lt in
+            failed (eof end) (inl (record { short = few; unended = none few }, refl))
+        short false le = bad (e ∙ rw le refl)
 
 -- a number that is read is encoded by as many bytes as were consumed
 pub found_has : {k : Kind} {bytes : List ℕ} {number : Number k} {rest : List ℕ} → (f : Found k bytes number rest)
@@ -193,16 +161,13 @@ found_has {k = k} {bytes = bytes} {number = number} {rest = rest} f = record {
 
 -- bad bytes are read as the error of a bad number
 pub number_at-bad : (k : Kind) (end : ℕ) (bytes : List ℕ) → IsBad k bytes → number_at k end bytes ≡ Err (refusal k)
-number_at-bad k end bytes b = go (number_at k end bytes) refl
+number_at-bad k end bytes b = go (number_outcome k end bytes)
   where
-    go : (r : Result (Number k × List ℕ) Error) → number_at k end bytes ≡ r → r ≡ Err (refusal k)
-    go (Ok x) q = let f = number_at-ok k end bytes x.0 x.1 q in absurd (b.no_number x.0 (length f.front) (found_has f))
-    go (Err d) q =
-        elim (number_at-err k end bytes d q) [
-          | inl c ↦ absurd (b.not_cut c.0)
-          | inr g ↦ ap
-              (λ (x : Error). Err x) g.1
-        ]
+    go : {r : Result (Number k × List ℕ) Error} → HasOutcome (λ x. Found k bytes x.0 x.1)
+        (λ e. (IsCut k bytes × (e ≡ eof end)) ⊎ (IsBad k bytes × (e ≡ refusal k))) r → r ≡ Err (refusal k)
+    go (returned x f) = absurd (b.no_number x.0 (length f.front) (found_has f))
+    go (failed e (inl c)) = absurd (b.not_cut c.0)
+    go (failed e (inr c)) = ap (λ (x : Error). Err x) c.1
 
 -- ---- what a reader reads, and what the function reads
 

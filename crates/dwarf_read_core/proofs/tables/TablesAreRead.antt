@@ -1,5 +1,5 @@
 -- A whole table that is read, or its first error, is what the grammar says, and conversely.
-use Rattle.std.proofs.Common.{◌≡◌, ℕ, zero, suc, ◌<◌, Bool, true, false, cond, eqb, List, [], ◌∷◌, ◌++◌, length, Option, Some, None, Result, Ok, Err, refl, sym, ap, subst, ◌∙◌, append_assoc, arith}
+use Rattle.std.proofs.Common.{◌≡◌, ℕ, zero, suc, ◌<◌, Bool, true, false, cond, eqb, List, [], ◌∷◌, ◌++◌, length, Option, Some, None, Ok, Err, refl, sym, ap, subst, ◌∙◌, append_assoc, arith}
 use Rattle.std.specs.FinMap.{insert, contains_key}
 use Rattle.std.proofs.lemmas.Bool.{ne_eqb}
 use Rattle.std.proofs.lemmas.List.{length-append, append-nil}
@@ -8,19 +8,15 @@ use Rattle.dwarf_base_core.specs.declared.error.Error.TheVariants.{DuplicateAbbr
 use Rattle.dwarf_read_core.proofs.tables.ReadingNumbers.{encoding-nonempty}
 use Rattle.dwarf_read_core.specs.Grammar.{Declaration, Sequence, IsDeclaration, Declares, AreDistinct, AreDeclarations, ByCode, Table, closed, by_code_of, by_null, by_end, IsTable, closed_by_null, closed_by_end}
 use Rattle.dwarf_read_core.specs.Answer.{IsFault, in_declaration, repeated}
-use Rattle.dwarf_read_core.specs.Reading.{◌>>=◌, declaration_at, close_of, and_declared, table_at, table_in}
+use Rattle.dwarf_read_core.specs.Reading.{close_of, and_declared, table_at, table_in}
 use Rattle.dwarf_read_core.proofs.tables.Sequences.{Sequence-push}
-use Rattle.dwarf_read_core.proofs.tables.ReadingIsSound.{DeclarationFound, EndFound, at_end, at_zero, declaration_found, declaration_error, declaration_shorter}
+use Rattle.dwarf_read_core.proofs.ResultLemmas.{HasOutcome, returned, failed, outcome-bind, outcome-map}
+use Rattle.dwarf_read_core.proofs.tables.ReadingIsSound.{EndFound, at_end, at_zero, EntryFound, declaration_outcome, declaration_found_shorter}
 use Rattle.dwarf_read_core.proofs.tables.ReadingIsComplete.{declaration_again, zero_again, end_again, error_again}
-use Rattle.dwarf_read_core.proofs.tables.ReadingTables.{TableRead, table_fails, table_ends, table_repeats, table_goes_on}
+use Rattle.dwarf_read_core.proofs.tables.ReadingTables.{table_fails, table_ends, table_repeats, table_goes_on}
 use Rattle.dwarf_read_core.proofs.tables.CodesOnce.{fresh_code, repeated_code, declared_from_key, fresh_from_key, table_push, distinct_push, distinct_front}
 
 -- ---- what is read is in the grammar
-
--- the outcome of reading is what the grammar says: bytes begin with the table, or have the first error
-abbrev pub Reads : ℕ → List ℕ → TableRead → Type 0
-Reads end bytes (Ok t) = IsTable bytes t
-Reads end bytes (Err e) = IsFault end bytes e
 
 -- the bytes of declarations and of one more with a new code are the bytes of all of them
 declarations_push : (bytes : List ℕ) (ds : List Declaration) (last : List ℕ) (d : Declaration)
@@ -48,43 +44,40 @@ ended front ds are (at_zero bytes rest z) =
     (closed_by_null front z.front rest ds are z.is_zero))
 
 -- what is read behind some declarations is the table that all bytes begin with, or their first error
-pub reads_by : (n end : ℕ) (front bytes : List ℕ) (ds : List Declaration) → length bytes < n → AreDeclarations front ds
-    → Reads end (front ++ bytes) (table_at n end (by_code_of ds) bytes)
+pub table_behind : (n end : ℕ) (front bytes whole : List ℕ) (ds : List Declaration) → whole ≡ front ++ bytes
+    → length bytes < n → AreDeclarations front ds
+    → HasOutcome (IsTable whole) (IsFault end whole) (table_at n end (by_code_of ds) bytes)
 unfolding table_at
-reads_by zero end front bytes ds short are = absurd (omega arith)
-reads_by (suc n) end front bytes ds short are =
-    go (λ f rest more h a. reads_by n end f rest more (omega arith) a) (declaration_at end bytes) refl
+table_behind zero end front bytes whole ds parts short are = absurd (omega arith)
+table_behind (suc n) end front bytes whole ds parts short are =
+    outcome-bind _ (outcome-map (λ x f. f) (λ e f. rw parts (in_declaration front bytes ds e are f.0 f.1))
+    (declaration_outcome end bytes))
+    (λ first f. go (λ front rest. table_behind n end front rest whole) first.0 first.1 f)
   where
-    declared : ((f rest : List ℕ) (more : List Declaration) → length rest < length bytes → AreDeclarations f more
-        → Reads end (f ++ rest) (table_at n end (by_code_of more) rest)) → (d : Declaration) (rest : List ℕ)
-        → declaration_at end bytes ≡ Ok (Some d, rest) → (t : Bool) → contains_key (by_code_of ds) d.code ≡ t
-        → Reads end (front ++ bytes) (cond t (Err (DuplicateAbbreviationCode d.code))
-        (table_at n end (insert (by_code_of ds) d.code d) rest))
-    declared others d rest q true e =
-        let f : DeclarationFound bytes d rest = declaration_found end bytes (Some d, rest) q in
-        let same : front ++ f.front ++ rest ≡ front ++ bytes = append_assoc front f.front rest
-        ∙ ap (λ (b : List ℕ). front ++ b) (sym f.parts) in
-        subst (λ (b : List ℕ). IsFault end b (DuplicateAbbreviationCode d.code)) same
-        (repeated front f.front rest ds d are f.is_declaration (declared_from_key ds d.code e))
-    declared others d rest q false e =
-        let f : DeclarationFound bytes d rest = declaration_found end bytes (Some d, rest) q in
-        let new = fresh_from_key ds d.code e in
-        let same : front ++ f.front ++ rest ≡ front ++ bytes = append_assoc front f.front rest
-        ∙ ap (λ (b : List ℕ). front ++ b) (sym f.parts) in
-        let r = others (front ++ f.front) rest (ds ++ d ∷ []) (declaration_shorter end bytes d rest q)
-        (declarations_push front ds f.front d are f.is_declaration new) in
-        subst (λ (b : List ℕ). Reads end b (table_at n end (insert (by_code_of ds) d.code d) rest)) same
-        (subst (λ (t : ByCode). Reads end (front ++ f.front ++ rest) (table_at n end t rest))
-        (table_push ds d new) r)
+    go : ((front rest : List ℕ) (ds : List Declaration) → whole ≡ front ++ rest → length rest < n
+        → AreDeclarations front ds
+        → HasOutcome (IsTable whole) (IsFault end whole) (table_at n end (by_code_of ds) rest))
+        → (o : Option Declaration) (rest : List ℕ) → EntryFound bytes o rest
+        → HasOutcome (IsTable whole) (IsFault end whole)
+        (and_declared (close_of bytes) (by_code_of ds) o (λ more. table_at n end more rest))
+    go others None rest f = returned _ (rw parts (ended front ds are f))
+    go others (Some d) rest f = fresh (contains_key (by_code_of ds) d.code) refl
+      where
+        behind : whole ≡ front ++ f.front ++ rest
+        behind = rw (parts, f.parts) (simp append_assoc)
 
-    go : ((f rest : List ℕ) (more : List Declaration) → length rest < length bytes → AreDeclarations f more
-        → Reads end (f ++ rest) (table_at n end (by_code_of more) rest))
-        → (r : Result (Option Declaration × List ℕ) Error) → declaration_at end bytes ≡ r
-        → Reads end (front ++ bytes) (r >>= λ first. and_declared (close_of bytes) (by_code_of ds) first.0
-        (λ more. table_at n end more first.1))
-    go others (Err e) q = let f = declaration_error end bytes e q in in_declaration front bytes ds e are f.0 f.1
-    go others (Ok (None, rest)) q = ended front ds are (declaration_found end bytes (None, rest) q)
-    go others (Ok (Some d, rest)) q = declared others d rest q (contains_key (by_code_of ds) d.code) refl
+        fresh : (t : Bool) → contains_key (by_code_of ds) d.code ≡ t
+            → HasOutcome (IsTable whole) (IsFault end whole)
+            (cond t (Err (DuplicateAbbreviationCode d.code)) (table_at n end (insert (by_code_of ds) d.code d) rest))
+        fresh true e = failed (DuplicateAbbreviationCode d.code)
+            (rw behind (repeated front f.front rest ds d are f.is_declaration (declared_from_key ds d.code e)))
+        fresh false e =
+            let new = fresh_from_key ds d.code e in
+            subst (λ (t : ByCode). HasOutcome (IsTable whole) (IsFault end whole) (table_at n end t rest))
+            (table_push ds d new)
+            (others (front ++ f.front) rest (ds ++ d ∷ []) behind
+            (let h = declaration_found_shorter bytes d rest f in omega arith)
+            (declarations_push front ds f.front d are f.is_declaration new))
 
 -- ---- what is in the grammar is read
 
