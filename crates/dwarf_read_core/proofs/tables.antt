@@ -13,5 +13,6 @@ pub mod AppendedBytes
 pub mod StrictAnswers
 pub mod TableBounds
 pub mod VectorAndMap
+pub mod OthersByCode
 pub mod EqualDeclarations
 pub mod Sequences

@@ -6,6 +6,7 @@ pub mod Forms
 pub mod Grammar
 pub mod Items
 pub mod Lookups
+pub mod Others
 pub mod Ranges
 pub mod Reading
 pub mod Sections

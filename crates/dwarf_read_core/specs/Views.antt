@@ -4,12 +4,15 @@ use Rattle.std.specs.BTreeMap.{is_at}
 use Rattle.std.specs.FinMap.{from_entries}
 use Rattle.std.specs.Map.{lookup}
 use Rattle.std.specs.Ordering.{nat_cmp}
+use Rattle.std.specs.VecDeque.Iter.{deque_iter_rest}
 use Rattle.std.proofs.Common.{sym, ap}
 use Rattle.std.proofs.lemmas.Bool.{eqb-false}
 use Rattle.dwarf_read_core.specs.Grammar.{Specification, Declaration, Table, closed, close_from, implicit_const}
 use Rattle.dwarf_read_core.specs.declared.read.abbrev.AttributeSpecification.TheInside.{Inside}
 use Rattle.dwarf_read_core.specs.declared.read.abbrev.Abbreviation.TheInside as abbreviation
 use Rattle.dwarf_read_core.specs.declared.read.abbrev.Abbreviations.TheInside as abbreviations
+use Rattle.dwarf_read_core.specs.declared.read.abbrev.others.OthersIter.{OthersIter}
+use Rattle.dwarf_read_core.specs.declared.read.abbrev.others.OthersIter.TheVariants.{InOrder, ByPlace}
 
 abbrev pub specification_view : Inside → Specification
 specification_view a =
@@ -57,9 +60,14 @@ numbered code (d ∷ ds) = (code, d) ∷ numbered (suc code) ds
 abbrev pub entries_of : List Declaration → List (ℕ × Declaration) → List (ℕ × Declaration)
 entries_of ds es = numbered 1 ds ++ es
 
+-- what an iterator over others has left
+abbrev pub others_rest : OthersIter → List Declaration
+others_rest (InOrder rest) = deque_iter_rest rest
+others_rest (ByPlace rest) = rest
+
 -- the table that a vector, a map and a close represent
 abbrev pub abbreviations_view : abbreviations.Inside → Table
-abbreviations_view a = closed (from_entries (entries_of a.vec.items a.map.entries)) (close_from a.closed_by_null)
+abbreviations_view a = closed (from_entries (entries_of a.vec.items a.others)) (close_from a.closed_by_null)
 
 -- the codes of the map are above those of the vector, and each declaration has the code by which it is found, which
 -- isn't 0

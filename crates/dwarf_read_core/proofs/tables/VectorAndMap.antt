@@ -1,20 +1,20 @@
--- A vector of the first abbreviations and a tree map of the others are one finite map.
-use Rattle.std.proofs.Common.{◌≡◌, ℕ, zero, suc, ◌+◌, ◌<◌, ◌≤◌, eqb, get_or, ◌++◌, arith, Bool, true, false, cond, List, [], ◌∷◌, length, map, Option, Some, None, refl, sym, ap, ◌∙◌, inl, inr, ◌⊎◌, length-append}
-use Rattle.std.specs.Prelude.{is_some}
+-- A vector of the first abbreviations and a map of the others are one finite map.
+use Rattle.std.proofs.Common.{◌≡◌, ℕ, zero, suc, ◌+◌, ◌<◌, ◌≤◌, eqb, get_or, ◌++◌, arith, Bool, true, false, cond, List, [], ◌∷◌, length, map, Option, Some, None, Result, Ok, Err, OnOk, OnErr, Bor, refl, sym, ap, ◌∙◌, inl, inr, ◌⊎◌, length-append}
+use Rattle.std.specs.Prelude.{is_some, option_copied}
 use Rattle.std.specs.Ordering.{nat_cmp}
 use Rattle.std.specs.Cmp.{nat_cmp_total, eq_by_cmp_equiv}
 use Rattle.std.specs.Map.{lookup}
 use Rattle.std.specs.BTreeMap.{is_at}
 use Rattle.std.specs.FinMap.{find, get, insert, contains_key, values, from_entries, get-from_entries, get-insert, same_map, nat_cmp-IsAntisymmetric, len, len-empty, len-entries, entries, entries-insert}
 use Rattle.std.specs.FinMap.Entries.{put, by_order}
-use Rattle.std.specs.List.{AllByRecursion, AllZip}
+use Rattle.std.specs.List.{AllByRecursion}
 use Rattle.std.specs.List.Sorted.{IsStrictlySortedBy}
 use Rattle.std.specs.declared.cmp.Ordering.TheVariants.{Less}
 use Rattle.std.proofs.lemmas.Bool.{eqb-true, eq-eqb, ne_eqb, cases_lt}
 use Rattle.std.proofs.lemmas.Bool.Decides.{nat_tests}
 use Rattle.std.proofs.lemmas.List.{nil_from_length}
-use Rattle.std.proofs.lemmas.List.Elements.{same_from_all_zip}
 use Rattle.dwarf_read_core.specs.Grammar.{Declaration}
+use Rattle.dwarf_read_core.specs.Others.{Adds}
 use Rattle.dwarf_read_core.specs.Views.{numbered, entries_of, AreKeyed}
 
 -- a search for a code and a lookup of the code find the same entry
@@ -60,20 +60,13 @@ pub len_kept : (es : List (ℕ × Declaration)) → IsStrictlySortedBy nat_cmp (
     → len (from_entries {R = nat_cmp} es) ≡ length es
 len_kept es h = len-entries (from_entries {R = nat_cmp} es) ∙ ap length (entries_kept es h)
 
--- entries that are copied are equal
-pub table_copied : (es fs : List (ℕ × Declaration)) → AllZip (λ p q. (q.0 ≡ p.0) × (q.1 ≡ p.1)) es fs → fs ≡ es
-table_copied es fs h =
-    same_from_all_zip (λ (p q : ℕ × Declaration). (q.0 ≡ p.0) × (q.1 ≡ p.1)) es fs h
-    (λ x y e. ap (λ (k : ℕ). let p : ℕ × Declaration = (k, y.1) in p) e.0
-    ∙ ap (λ (d : Declaration). let p : ℕ × Declaration = (x.0, d) in p) e.1)
-
 -- ---- a vector of the first codes, and a map of the others
 
 abbrev at : ℕ → List (ℕ × Declaration) → Option Declaration
 at q es = lookup (is_at (nat_cmp q)) es
 
 -- the order of codes finds two of them equal exactly if they are equal numbers
-same_code : (a b : ℕ) → is_at (nat_cmp a) b ≡ eqb a b
+pub same_code : (a b : ℕ) → is_at (nat_cmp a) b ≡ eqb a b
 same_code a b = grind (arith, nat_tests)
 
 -- a lookup finds the first entry at its code, and searches the others at other codes
@@ -109,7 +102,7 @@ at_within k (suc i) (x ∷ ds) more d lt =
     ∙ ap (λ q. at q (numbered (suc k) ds ++ more)) next ∙ at_within (suc k) i ds more d (omega arith)
 
 -- the order finds a code equal to the sought one exactly if they are equal numbers
-same_back : (c q : ℕ) → is_at (nat_cmp c) q ≡ eqb q c
+pub same_back : (c q : ℕ) → is_at (nat_cmp c) q ≡ eqb q c
 same_back c q = grind (arith, nat_tests)
 
 -- one more declaration in the vector changes the lookup of the next code alone
@@ -169,6 +162,12 @@ pub none_at : (code : ℕ) (es : List (ℕ × Declaration)) → (length es ≡ 0
 none_at code es (inl empty) = ap (at code) (nil_from_length es empty)
 none_at code es (inr missed) = none_of_no (at code es) missed
 
+-- a reference that is missing is to a declaration that is missing
+pub missed : (o : Option (Bor Declaration)) (code : ℕ) (es : List (ℕ × Declaration)) → option_copied o ≡ at code es
+    → is_some o ≡ false → is_some (at code es) ≡ false
+missed None code es same none = ap is_some (sym same)
+missed (Some x) code es same none = absurd (cc)
+
 -- a push to the vector is an insertion into the map that vector and map make
 pub table_pushed : (ds : List Declaration) (es : List (ℕ × Declaration)) (code : ℕ) (d : Declaration)
     → code ≡ 1 + length ds → from_entries {R = nat_cmp} (numbered 1 (ds ++ d ∷ []) ++ es)
@@ -212,7 +211,7 @@ zero_not_found ds es code zero_code kept =
 -- ---- the length of a table
 
 -- a number compares as less than a greater one
-less : (a b : ℕ) → a < b → nat_cmp a b ≡ Less
+pub less : (a b : ℕ) → a < b → nat_cmp a b ≡ Less
 less a b lt = grind (arith, nat_tests)
 
 -- if the map lacks each code up to n, all its keys are above n
@@ -346,6 +345,12 @@ keyed_put ds es fs code d lt h same kept = record {
   keyed = keyed_by_update (entries_of ds es) (entries_of ds fs) code d
       (λ q. at_insert 1 q code ds d es fs (omega arith) (h q)) same (omega arith) kept.keyed;
 }
+
+-- so does one that succeeds or changes nothing
+pub keyed_inserted : {A E : Type 0} (r : Result A E) (ds : List Declaration) (es fs : List (ℕ × Declaration))
+    (d : Declaration) → length ds < d.code → OnOk r (Adds d es fs) → OnErr r (fs ≡ es) → AreKeyed ds es → AreKeyed ds fs
+keyed_inserted (Ok a) ds es fs d lt added same kept = keyed_put ds es fs d.code d lt added.added refl kept
+keyed_inserted (Err e) ds es fs d lt added same kept = rw same kept
 
 -- the map that vector and map make has the code one above each index of the vector
 pub has_in_vec : (ds : List Declaration) (es : List (ℕ × Declaration)) (code index : ℕ) → code ≡ index + 1

@@ -20,7 +20,6 @@ ghost use Rattle.dwarf_read_core.specs.Answer.{Answers, AnswersStrictly, IsFinal
 ghost use Rattle.dwarf_read_core.specs.Reading.{Gives, tag_at, children_at, specification_at, attributes_in, declared_at, declaration_at, table_in};
 ghost use Rattle.dwarf_read_core.specs.TableEntries.{declared_in, ClosesAt};
 
-use super::key::Key;
 use super::section::Section;
 use dwarf_base_core::{
     DebugAbbrevOffset, Encoding, Endianity, Error, ReaderOffset, ReaderOffsetId, Result, SectionId,
@@ -39,17 +38,17 @@ use dwarf_const_core::tag::DwTag;
 use dwarf_reader_core::{EndianSlice, Reader};
 use smallvec::SmallVec;
 use std::alloc::{AllocError, Global};
-use std::collections::BTreeMap;
-use std::collections::btree_map::{Entry, Values};
 use std::default::MadeWith;
 use std::marker::Model;
 use std::slice;
 
 mod cache;
+mod others;
 #[cfg(test)]
 mod tests;
 
 pub use cache::{AbbreviationsCache, AbbreviationsCacheStrategy};
+use others::{Others, OthersIter};
 
 /// The `.debug_abbrev` section (DWARF 5, 7.5.3): tables of abbreviations, one behind the other.
 ///
@@ -240,8 +239,7 @@ impl<R> From<R> for DebugAbbrev<R> {
 pub struct Abbreviations {
     // Those with the codes from 1 on, in order, because compilers number them so.
     vec: Vec<Abbreviation>,
-    // The others.
-    map: BTreeMap<Key, Abbreviation>,
+    others: Others,
     closed_by_null: bool,
 }
 
@@ -256,7 +254,7 @@ impl Model for Abbreviations {
 
     ghost view = { abbreviations_view };
 
-    ghost invariant = { λ a. AreKeyed a.vec.items a.map.entries };
+    ghost invariant = { λ a. AreKeyed a.vec.items a.others };
 }
 
 impl Abbreviations {
@@ -267,7 +265,7 @@ impl Abbreviations {
     {
         Abbreviations {
             vec: Vec::new(mem),
-            map: BTreeMap::new(mem),
+            others: Others::new(mem),
             closed_by_null: false,
         }
     }
@@ -277,7 +275,6 @@ impl Abbreviations {
     /// # Errors
     ///
     /// `OutOfMemory` if memory for the table runs out. A table with no abbreviations needs none.
-    #[tactic(auto, using(crate::proofs::tables::VectorAndMap::table_copied))]
     pub fn try_clone(&self) -> Result<Abbreviations>
         ensures ok { IfOk result (λ copy. copy ≡ self.now) }
         ensures free { finite.len self.now.by_code ≡ 0 → IsOk result }
@@ -292,7 +289,7 @@ impl Abbreviations {
         }
         Ok(Abbreviations {
             vec: self.vec.clone()?,
-            map: self.map.clone()?,
+            others: self.others.clone()?,
             closed_by_null: self.closed_by_null,
         })
     }
@@ -316,18 +313,14 @@ impl Abbreviations {
             return Err(Error::DuplicateAbbreviationCode(code));
         }
         if index == len {
-            // If the code is already in the map, it stays there.
-            if !self.map.is_empty() && self.map.contains_key(&Key(code)) {
+            // If the code is already among the others, it stays there.
+            if !self.others.is_empty() && self.others.get(code).is_some() {
                 return Err(Error::DuplicateAbbreviationCode(code));
             }
             self.vec.push(abbreviation)?;
             return Ok(());
         }
-        let Entry::Vacant(place) = self.map.entry(Key(code))? else {
-            return Err(Error::DuplicateAbbreviationCode(code));
-        };
-        place.insert(abbreviation);
-        Ok(())
+        self.others.insert(abbreviation)
     }
 
     /// Returns the abbreviation with this code, if the table has one. No abbreviation has code 0.
@@ -342,7 +335,7 @@ impl Abbreviations {
         let index = code.wrapping_sub(1) as usize;
         match self.vec.get(index) {
             Some(abbreviation) => Some(abbreviation),
-            None => self.map.get(&Key(code)),
+            None => self.others.get(code),
         }
     }
 
@@ -351,7 +344,7 @@ impl Abbreviations {
     pub fn len(&self) -> usize
         ensures { result ≡ finite.len self.now.by_code }
     {
-        self.vec.len() + self.map.len()
+        self.vec.len() + self.others.len()
     }
 
     /// Returns whether a code of value 0 closes the table. If not, the section ended where another
@@ -376,7 +369,7 @@ impl Abbreviations {
     {
         AbbreviationsIter {
             vec: self.vec.iter(),
-            map: self.map.values(),
+            others: self.others.iter(),
         }
     }
 
@@ -419,17 +412,18 @@ enum TableEntry {
 #[derive(Debug, Drop)]
 pub struct AbbreviationsIter<'table> {
     vec: slice::Iter<'table, Abbreviation>,
-    map: Values<'table, Key, Abbreviation>,
+    others: OthersIter<'table>,
 }
 
 impl<'table> Model for AbbreviationsIter<'table> {
     ghost use Rattle.std.specs.Prelude.{List, ◌++◌};
     ghost use Rattle.std.specs.Slice.Iter.{iter_rest};
     ghost use Rattle.dwarf_read_core.specs.Grammar.{Declaration};
+    ghost use Rattle.dwarf_read_core.specs.Views.{others_rest};
 
     ghost Value = { List Declaration };
 
-    ghost view = { λ it. iter_rest it.vec ++ it.map };
+    ghost view = { λ it. iter_rest it.vec ++ others_rest it.others };
 }
 
 impl<'table> Iterator for AbbreviationsIter<'table> {
@@ -442,7 +436,7 @@ impl<'table> Iterator for AbbreviationsIter<'table> {
     fn next(&mut self) -> Option<&'table Abbreviation> {
         match self.vec.next() {
             Some(abbreviation) => Some(abbreviation),
-            None => self.map.next(),
+            None => self.others.next(),
         }
     }
 }
@@ -455,7 +449,7 @@ impl<'table> Clone for AbbreviationsIter<'table> {
     fn clone(&self) -> std::result::Result<Self, AllocError> {
         Ok(AbbreviationsIter {
             vec: self.vec.clone()?,
-            map: self.map.clone()?,
+            others: self.others.clone()?,
         })
     }
 }

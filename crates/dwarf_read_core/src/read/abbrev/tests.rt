@@ -66,7 +66,7 @@ static ORDERS: &[(&[u64], usize)] = &[
 fn codes_from_one_on_stand_in_the_vector(rt: HostRuntime) -> std::result::Result<(), Fail> {
     for (codes, in_vec) in ORDERS {
         let table = table_of(rt.alloc(), codes)?;
-        let lengths = (table.vec.len(), table.vec.len() + table.map.len());
+        let lengths = (table.vec.len(), table.vec.len() + table.others.len());
         assert_eq!(rt; lengths, (*in_vec, codes.len()), "{codes:?}");
         let mut last = 0;
         for abbreviation in table.iter() {
@@ -82,13 +82,15 @@ fn codes_from_one_on_stand_in_the_vector(rt: HostRuntime) -> std::result::Result
 
 #[test]
 fn repeats_are_refused(rt: HostRuntime) {
-    let rows: [(&[u64], u64); 6] = [
+    let rows: [(&[u64], u64); 8] = [
         (&[1, 2, 1], 1),
         (&[1, 2, 2], 2),
         (&[2, 2], 2),
         (&[2, 1, 2], 2),
         (&[2, 1, 1], 1),
         (&[1, 3, 2, 3], 3),
+        (&[3, 5, 4, 4], 4),
+        (&[3, 5, 4, 5], 5),
     ];
     for (codes, again) in rows {
         let fault = table_of(rt.alloc(), codes).err();

@@ -1,0 +1,54 @@
+-- What contracts see of the abbreviations of a table whose codes don't count up from 1.
+use Rattle.std.specs.Prelude.{◌≡◌, ℕ, suc, ◌<◌, false, cond, Option, Some, None, List, [], ◌∷◌, map, length, slice_index_or}
+use Rattle.std.specs.BTreeMap.{is_at}
+use Rattle.std.specs.List.{AllByRecursion}
+use Rattle.std.specs.List.Sorted.{IsStrictlySortedBy}
+use Rattle.std.specs.Map.{keys_of, lookup}
+use Rattle.std.specs.Ordering.{nat_cmp}
+use Rattle.dwarf_read_core.specs.Grammar.{Declaration}
+
+-- the codes of declarations
+abbrev pub codes_of : List Declaration → List ℕ
+codes_of ds = map (λ d. d.code) ds
+
+-- declarations with their codes
+abbrev pub with_codes : List Declaration → List (ℕ × Declaration)
+with_codes ds = map (λ d. (d.code, d)) ds
+
+-- the declaration at a place; past the end there is one that no table has
+abbrev pub at_place : List Declaration → ℕ → Declaration
+at_place ds place = slice_index_or ds place (record { code = 0; tag = 0; children = false; attributes = [] })
+
+-- codes with the declarations at their places
+abbrev pub with_places : List Declaration → List (ℕ × ℕ) → List (ℕ × Declaration)
+with_places ds ps = map (λ p. (p.0, at_place ds p.1)) ps
+
+-- declarations in order if there are no places, and else by their places
+abbrev pub others_entries : List Declaration → List (ℕ × ℕ) → List (ℕ × Declaration)
+others_entries ds [] = with_codes ds
+others_entries ds (p ∷ ps) = with_places ds (p ∷ ps)
+
+-- codes in order, with as many places as there are declarations, each of them one of theirs
+pub record ArePlaces (ds : List Declaration) (ps : List (ℕ × ℕ)) : Type 0 where
+  pub ordered : IsStrictlySortedBy nat_cmp (keys_of ps)
+  pub within : AllByRecursion (λ p. p.1 < length ds) ps
+  pub counted : length ps ≡ length ds
+
+-- without places, the declarations are in the order of their codes
+abbrev pub AreOthers : List Declaration → List (ℕ × ℕ) → Type 0
+AreOthers ds [] = IsStrictlySortedBy nat_cmp (codes_of ds)
+AreOthers ds (p ∷ ps) = ArePlaces ds (p ∷ ps)
+
+-- the codes of declarations with their places, which count up from `place`
+abbrev pub counted_from : ℕ → List Declaration → List (ℕ × ℕ)
+counted_from place [] = []
+counted_from place (d ∷ ds) = (d.code, place) ∷ counted_from (suc place) ds
+
+-- the declaration that entries have at a code
+abbrev pub at_code : ℕ → List (ℕ × Declaration) → Option Declaration
+at_code code es = lookup (is_at (nat_cmp code)) es
+
+-- the entries fs have what es have, and d at its code, where es have none
+pub record Adds (d : Declaration) (es fs : List (ℕ × Declaration)) : Type 0 where
+  pub absent : at_code d.code es ≡ None
+  pub added : (code : ℕ) → at_code code fs ≡ cond (is_at (nat_cmp d.code) code) (Some d) (at_code code es)
