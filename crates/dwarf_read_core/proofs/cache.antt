@@ -1,4 +1,6 @@
 -- Proofs about the cache of tables.
+pub mod EntriesInOrder
+pub mod SearchByHalving
 pub mod EntriesAsMap
 pub mod CountingOffsets
 pub mod ExactlyOneCache

@@ -2,7 +2,12 @@
 use Rattle.std.proofs.Common.{◌≡◌, ◌≢◌, ℕ, ◌+◌, ◌<◌, ◌≤◌, Bool, true, false, cond, eqb, List, [], ◌∷◌, ◌++◌, length, take, get_or, map, Option, Some, None, Result, MatchOption, refl, sym, ap, subst, ◌∙◌, arith}
 use Rattle.std.proofs.lemmas.Bool.{eqb-true, eqb-false, eq-eqb, ne_eqb}
 use Rattle.std.proofs.lemmas.List.{take_more, map_push}
+use Rattle.std.proofs.lemmas.Bool.Decides.{nat_tests}
+use Rattle.std.proofs.lemmas.List.Elements.{All-head, All-tail}
+use Rattle.std.proofs.lemmas.List.Sorted.{sum_by-IsPermutation}
 use Rattle.std.proofs.lemmas.List.Sums.{sum_by_push}
+use Rattle.std.specs.List.{All}
+use Rattle.std.specs.List.Sorted.{IsPermutation}
 use Rattle.dwarf_base_core.specs.declared.error.Error.{Error}
 use Rattle.dwarf_reader_core.specs.Input.{Input}
 use Rattle.dwarf_read_core.specs.Answer.{Answer}
@@ -13,6 +18,24 @@ use Rattle.dwarf_read_core.specs.Grammar.{Table}
 pub occurrences-push : (q key : ℕ) (seen : List ℕ)
     → occurrences q (seen ++ key ∷ []) ≡ occurrences q seen + cond (eqb key q) 1 0
 occurrences-push q key seen = sum_by_push (λ o. cond (eqb o q) 1 0) seen key
+
+-- after one more offset, it occurs once more
+pub occurrences-push_here : (key : ℕ) (seen : List ℕ) → occurrences key (seen ++ key ∷ []) ≡ occurrences key seen + 1
+occurrences-push_here key seen = occurrences-push key key seen ∙ rw (eq-eqb key key refl) refl
+
+-- the count of an offset is that of an equal one
+pub occurrences_same : (key last count : ℕ) (seen : List ℕ) → key ≡ last → count ≡ occurrences last seen
+    → count ≡ occurrences key seen
+occurrences_same key last count seen same counted = rw same counted
+
+-- an offset above all others isn't among them
+pub occurrences_above : (key last : ℕ) (seen : List ℕ) → All (λ offset. offset ≤ last) seen → last < key
+    → occurrences key seen ≡ 0
+occurrences_above key last [] upto above = refl
+occurrences_above key last (offset ∷ seen) upto above =
+    let here : offset ≤ last = All-head (λ o. o ≤ last) offset seen upto in
+    let rest = occurrences_above key last seen (All-tail (λ o. o ≤ last) offset seen upto) above in
+    grind (arith, nat_tests)
 
 -- one more item of a list of offsets adds its number to the numbers
 pub seen_more : {O : Type 0} (number : O → ℕ) (offsets : List O) (i : ℕ) (offset : O) (key : ℕ)
@@ -32,6 +55,18 @@ stays_kept : (least : ℕ) (section : Input) (key before now : ℕ) (kept : Opti
     → (before < least → now < least) → Keeps least section key before kept → Keeps least section key now kept
 stays_kept least section key before now None more short h = short h
 stays_kept least section key before now (Some answer) more short h = (omega (arith, h.0, more), h.1)
+
+-- an offset isn't kept before it occurs often enough
+not_kept_yet : (least : ℕ) (section : Input) (key count : ℕ) (kept : Option (Result Table Error)) → count + 1 ≡ least
+    → Keeps least section key count kept → kept ≡ None
+not_kept_yet least section key count None enough h = refl
+not_kept_yet least section key count (Some answer) enough h = absurd (omega (arith, h.0))
+
+-- an offset isn't kept before the occurrence that is just enough
+pub kept_none : (least : ℕ) (section : Input) (seen : List ℕ) (key : ℕ) (kept : ℕ → Option (Result Table Error))
+    → KeepsAnswers least section seen kept → occurrences key seen + 1 ≡ least → kept key ≡ None
+kept_none least section seen key kept h enough =
+    not_kept_yet least section key (occurrences key seen) (kept key) enough (h key)
 
 -- what is kept stays the same if the new offset doesn't occur just often enough
 pub kept_same : (least : ℕ) (section : Input) (seen : List ℕ) (key : ℕ) (kept : ℕ → Option (Result Table Error))
@@ -78,3 +113,10 @@ kept_more least section seen key answer kept new h enough is put q = go (eqb q k
         let found : new q ≡ kept q = put q ∙ rw e refl in
         rw (count, found) (stays_kept least section q (occurrences q seen) (occurrences q seen + 0) (kept q)
         (omega arith) (λ lt. omega arith) (h q))
+
+-- what is kept for offsets is kept for the same offsets in another order
+pub kept_in_any_order : (least : ℕ) (section : Input) (offsets others : List ℕ) (kept : ℕ → Option (Result Table Error))
+    → IsPermutation offsets others → KeepsAnswers least section others kept → KeepsAnswers least section offsets kept
+kept_in_any_order least section offsets others kept moved h q =
+    subst (λ (count : ℕ). Keeps least section q count (kept q))
+    (sum_by-IsPermutation (λ o. cond (eqb o q) 1 0) offsets others moved) (h q)

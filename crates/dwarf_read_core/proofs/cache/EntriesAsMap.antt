@@ -1,18 +1,22 @@
 -- The entries of a cache are one finite map.
-use Rattle.std.proofs.Common.{◌≡◌, ℕ, List, [], ◌∷◌, Bool, true, false, cond, Option, Some, None, Result, option_map, refl, sym, ap, ◌∙◌}
+use Rattle.std.proofs.Common.{◌≡◌, ℕ, ◌<◌, ◌≤◌, length, set, List, [], ◌∷◌, ◌++◌, eqb, Bool, true, false, cond, Option, Some, None, Result, option_map, refl, sym, ap, ◌∙◌, arith}
 use Rattle.std.specs.BTreeMap.{is_at}
 use Rattle.std.specs.Cmp.{nat_cmp_total, eq_by_cmp_equiv}
 use Rattle.std.specs.FinMap.{find, get, insert, from_entries, get-from_entries, get-insert, same_map, nat_cmp-IsAntisymmetric}
-use Rattle.std.specs.List.{filter}
-use Rattle.std.specs.List.Sorted.{IsStrictlySortedBy}
-use Rattle.std.specs.Map.{lookup, keys_of}
+use Rattle.std.specs.List as list
+use Rattle.std.specs.List.{filter, All, HoldsAt}
+use Rattle.std.specs.List.Sorted.{IsPartitionPoint}
+use Rattle.std.specs.Map.{lookup}
 use Rattle.std.specs.Ordering.{nat_cmp}
+use Rattle.std.specs.declared.cmp.Ordering.TheVariants.{Less, Equal, Greater}
 use Rattle.std.specs.declared.rc.Rc.{Rc}
+use Rattle.std.proofs.lemmas.Bool.Decides.{nat_tests}
 use Rattle.std.proofs.lemmas.Map.Entries.{option_filter, lookup-filter-values}
 use Rattle.std.proofs.lemmas.Map.Keys.{IsDistinct-from_sorted}
 use Rattle.dwarf_base_core.specs.declared.error.Error.{Error}
 use Rattle.dwarf_read_core.specs.Grammar.{Table}
-use Rattle.dwarf_read_core.specs.Cache.{Cache, answer_of, shown_entries, is_final, still_kept}
+use Rattle.dwarf_read_core.specs.Cache.{Cache, IsInOrder, answer_of, kept_at, shown_entries, is_final, still_kept}
+use Rattle.dwarf_read_core.proofs.cache.EntriesInOrder.{offsets_rise, lookup-set, set-in_order, lookup-insert_gap, insert-in_order, lookup-push, push-in_order}
 
 -- a choice between a value and an option may be made before or after a function is applied to both
 mapped_choice : {X Y : Type 0} (f : X → Y) (b : Bool) (x : X) (o : Option X)
@@ -36,16 +40,14 @@ module _ {Z : Type 0} where
   abbrev pub shown : SharedEntries Z → Cache
   shown entries = from_entries (shown_entries entries)
 
-  find-shown : (entries : SharedEntries Z) (key : ℕ)
-      → find nat_cmp key (shown_entries entries) ≡ option_map answer_of (lookup (is_at (nat_cmp key)) entries)
+  find-shown : (entries : SharedEntries Z) (key : ℕ) → find nat_cmp key (shown_entries entries) ≡ kept_at entries key
   find-shown [] key = refl
   find-shown (e ∷ es) key =
       ap (cond (is_at (nat_cmp key) e.0) (Some (answer_of e.1))) (find-shown es key)
       ∙ mapped_choice answer_of (is_at (nat_cmp key) e.0) e.1 _
 
   -- the map that entries show has at a key what a search of the entries finds
-  pub get-shown : (entries : SharedEntries Z) (key : ℕ)
-      → get (shown entries) key ≡ option_map answer_of (lookup (is_at (nat_cmp key)) entries)
+  pub get-shown : (entries : SharedEntries Z) (key : ℕ) → get (shown entries) key ≡ kept_at entries key
   get-shown entries key = get-from_entries nat_cmp_total (shown_entries entries) key ∙ find-shown entries key
 
   -- entries that differ at one key show maps that differ there
@@ -60,15 +62,53 @@ module _ {Z : Type 0} where
       ∙ sym (get-insert nat_cmp_total (shown es) key (answer_of v) q
       ∙ ap (cond (is_at (nat_cmp q) key) (Some (answer_of v))) (get-shown es q)))
 
+  -- entries in order that show the map of others with a result put at an offset
+  pub record Puts (es fs : SharedEntries Z) (key : ℕ) (v : Result (Rc Table Z) Error) : Type 0 where
+    pub order : IsInOrder fs
+    pub shows : shown fs ≡ insert (shown es) key (answer_of v)
+
+  module _ (es : SharedEntries Z) (ordered : IsInOrder es) (key i : ℕ) (v : Result (Rc Table Z) Error) where
+    -- the entry at the offset is replaced
+    pub puts_at_place : i < length es → HoldsAt (λ e. nat_cmp e.0 key ≡ Equal) es i → Puts es (set es i (key, v)) key v
+    puts_at_place within equal = record {
+      order = set-in_order es ordered key i v within equal;
+      shows = shown-insert es (set es i (key, v)) key v (lookup-set es ordered key i v within equal);
+    }
+
+    -- an entry is inserted where the offset belongs
+    pub puts_at_gap : i ≤ length es
+        → IsPartitionPoint (λ e. nat_cmp e.0 key ≡ Less) (λ e. nat_cmp e.0 key ≡ Greater) es i
+        → Puts es (list.insert es i (key, v)) key v
+    puts_at_gap within gap = record {
+      order = insert-in_order es ordered key i v within gap;
+      shows = shown-insert es (list.insert es i (key, v)) key v (lookup-insert_gap es ordered key i v gap);
+    }
+
   -- entries of which only the final ones are retained show the map that remains once the section has grown
   pub get-shown-final : (es fs : SharedEntries Z) → fs ≡ filter (λ entry. is_final (answer_of entry.1)) es
-      → IsStrictlySortedBy nat_cmp (keys_of es) → (key : ℕ) → get (shown fs) key ≡ still_kept (get (shown es) key)
-  get-shown-final es fs retained sorted key =
+      → IsInOrder es → (key : ℕ) → get (shown fs) key ≡ still_kept (get (shown es) key)
+  get-shown-final es fs retained ordered key =
       ap (λ (entries : SharedEntries Z). get (shown entries) key) retained
       ∙ get-shown (filter (λ entry. is_final (answer_of entry.1)) es) key
       ∙ ap (option_map answer_of) (lookup-filter-values (eq_by_cmp_equiv nat_cmp_total)
-      (λ v. is_final (answer_of v)) key es (IsDistinct-from_sorted nat_cmp _ sorted))
+      (λ v. is_final (answer_of v)) key es (IsDistinct-from_sorted nat_cmp _ (offsets_rise es ordered)))
       ∙ mapped_filter answer_of _
       ∙ ap still_kept (sym (get-shown es key))
 
-pub ruleset shown_gets = (get-shown)
+  -- a look-up finds nothing at an offset where nothing is kept
+  lookup-none : (o : Option (Result (Rc Table Z) Error)) → option_map answer_of o ≡ None → o ≡ None
+  lookup-none None e = refl
+  lookup-none (Some answer) e = absurd cc
+
+  module _ (es : SharedEntries Z) (key : ℕ) (v : Result (Rc Table Z) Error) (absent : kept_at es key ≡ None) where
+    -- an entry that is appended is kept beside the others, if nothing was kept at its offset
+    pub kept_at-push : (q : ℕ) → kept_at (es ++ (key, v) ∷ []) q ≡ cond (eqb q key) (Some (answer_of v)) (kept_at es q)
+    kept_at-push q =
+        let same : is_at (nat_cmp key) q ≡ eqb q key = grind (arith, nat_tests) in
+        ap (option_map answer_of) (lookup-push es key v (lookup-none _ absent) q)
+        ∙ sym (mapped_choice answer_of (is_at (nat_cmp key) q) v _)
+        ∙ ap (λ b. cond b (Some (answer_of v)) (kept_at es q)) same
+
+    -- and in order, if no offset is above its own
+    pub push-in_order_if_absent : IsInOrder es → All (λ e. e.0 ≤ key) es → IsInOrder (es ++ (key, v) ∷ [])
+    push-in_order_if_absent ordered upto = push-in_order es key v (lookup-none _ absent) ordered upto

@@ -1,22 +1,21 @@
 //! A cache of abbreviation tables, which units share.
 
-ghost use Rattle.std.specs.Prelude.{◌≡◌, ◌≢◌, Some, List, [], ℕ, IfOk, IfErr, OnOk, OnErr, MatchOption, Ok, Err, ◌+◌, ◌<◌, ◌^◌, ◌==◌, if◌then◌else◌, unwrap_or, map, option_map};
-ghost use Rattle.std.specs.BTreeMap.{get};
+ghost use Rattle.std.specs.Prelude.{◌≡◌, ◌≢◌, List, [], ℕ, IfOk, IfErr, OnOk, OnErr, MatchOption, Ok, Err, length, map, option_map};
 ghost use Rattle.std.specs.FinMap as finite;
 ghost use Rattle.std.specs.Iterator.{IsFinite};
+ghost use Rattle.std.specs.List.Sorted.{IsBinarySearchResult, IsSearchInRange};
 ghost use Rattle.std.specs.Ordering.{nat_cmp};
 ghost use Rattle.dwarf_reader_core.specs.Input.{Input};
 ghost use Rattle.dwarf_reader_core.specs.Appended.{followed_by};
 ghost use Rattle.dwarf_read_core.specs.Answer.{Answer, Answers};
-ghost use Rattle.dwarf_read_core.specs.Cache.{answer_of, KeepsAnswers, least_count, NamesOffsets, GivesBeforeError, GivesSome, IsFaithful, HandsOut, is_final, still_kept};
+ghost use Rattle.dwarf_read_core.specs.Cache.{answer_of, IsInOrder, KeepsAnswers, kept_at, least_count, NamesOffsets, GivesBeforeError, GivesSome, IsFaithful, HandsOut, is_final, still_kept};
 ghost use Rattle.dwarf_read_core.specs.Sections.{debug_abbrev_reader};
 
-use super::super::key::Key;
 use super::{Abbreviations, DebugAbbrev};
 use dwarf_base_core::{DebugAbbrevOffset, Error, ReaderOffset, Result};
 use dwarf_reader_core::Reader;
 use std::alloc::Global;
-use std::collections::BTreeMap;
+use std::cmp::Ordering;
 use std::marker::Model;
 use std::rc::Rc;
 
@@ -41,8 +40,8 @@ impl AbbreviationsCacheStrategy {
     }
 }
 
-// Tables, or the errors in their place, by offset. All units that use a table share it.
-type TableMap = BTreeMap<Key, Result<Rc<Abbreviations>>>;
+// An offset, and the table or the error in its place. All units that use a table share it.
+type Entry = (u64, Result<Rc<Abbreviations>>);
 
 /// Tables of abbreviations by their offsets, kept so that a table which several units use is read
 /// once.
@@ -61,25 +60,26 @@ type TableMap = BTreeMap<Key, Result<Rc<Abbreviations>>>;
 /// ```
 #[derive(Debug, Drop)]
 pub struct AbbreviationsCache {
-    abbreviations: TableMap,
+    // In the order of offsets, so that a search can halve what is left.
+    abbreviations: Vec<Entry>,
     mem: Global,
 }
 
 impl Model for AbbreviationsCache {
     ghost use Rattle.std.specs.FinMap as finite;
-    ghost use Rattle.std.specs.Ordering.{nat_cmp};
     ghost use Rattle.std.specs.Coded.{coded_ℕ, coded_result};
     ghost use Rattle.dwarf_read_core.specs.Grammar.{table_code};
-    ghost use Rattle.dwarf_read_core.specs.Cache.{Cache, KeepsNoWant, shown_entries};
+    ghost use Rattle.dwarf_read_core.specs.Cache.{Cache, IsInOrder, KeepsNoWant, shown_entries};
     ghost use Rattle.dwarf_base_core.specs.contracts.error.Error as error;
 
     ghost Value = { Cache };
 
     ghost coded = { finite.code coded_ℕ (coded_result table_code error.the_row.coded) };
 
-    ghost view = { λ a. finite.from_entries (shown_entries a.abbreviations.entries) };
+    ghost view = { λ a. finite.from_entries (shown_entries a.abbreviations.items) };
 
-    ghost invariant = { λ a. KeepsNoWant (finite.from_entries (shown_entries a.abbreviations.entries)) };
+    ghost invariant = { λ a. IsInOrder a.abbreviations.items
+        × KeepsNoWant (finite.from_entries (shown_entries a.abbreviations.items)) };
 }
 
 impl AbbreviationsCache {
@@ -88,7 +88,7 @@ impl AbbreviationsCache {
         ensures { result ≡ finite.empty }
     {
         AbbreviationsCache {
-            abbreviations: BTreeMap::new(mem),
+            abbreviations: Vec::new(mem),
             mem,
         }
     }
@@ -131,7 +131,7 @@ impl AbbreviationsCache {
         ensures some { OnErr result (GivesSome I.next_gives units) }
     {
         let offsets = before_error(self.mem, units)?;
-        let entries = entries_kept(self.mem, strategy, debug_abbrev, &offsets)?;
+        let entries = entries_kept(self.mem, strategy, debug_abbrev, offsets)?;
         self.abbreviations = entries;
         Ok(())
     }
@@ -151,9 +151,15 @@ impl AbbreviationsCache {
         ensures err { IfErr result (λ e. e ≡ Error.OutOfMemory) }
         ensures unchanged { OnErr result (self.new ≡ self.old) }
     {
-        self.abbreviations
-            .insert(Key(offset.0.into_u64()), Ok(abbreviations))?;
-        Ok(())
+        let number = offset.0.into_u64();
+        let entry = (number, Ok(abbreviations));
+        match place_of(&self.abbreviations, number) {
+            Ok(place) => {
+                self.abbreviations[place] = entry;
+                Ok(())
+            }
+            Err(place) => Ok(self.abbreviations.insert(place, entry)?),
+        }
     }
 
     /// Drops each entry that may be wrong once bytes are appended to the section.
@@ -169,7 +175,7 @@ impl AbbreviationsCache {
         ensures faithful { (section : Input) (more : List ℕ)
             → IsFaithful self.old section → IsFaithful self.new (followed_by section more) }
     {
-        self.abbreviations.retain(|_, answer| is_final(answer));
+        self.abbreviations.retain(|entry| is_final(&entry.1));
     }
 
     /// Returns the table that is kept at an offset, or one that is read from `debug_abbrev` if
@@ -179,7 +185,6 @@ impl AbbreviationsCache {
     ///
     /// Those of [`DebugAbbrev::abbreviations`], kept or read now, and `OutOfMemory` if memory to
     /// share a table runs out.
-    #[tactic(auto, using(crate::proofs::cache::EntriesAsMap::shown_gets))]
     pub fn get<R: Reader>(
         &self,
         debug_abbrev: &DebugAbbrev<R>,
@@ -193,11 +198,52 @@ impl AbbreviationsCache {
             IsFaithful self.now section
             → Answers (answer_of result) section (R.Offset.value offset.0) }
     {
-        match self.abbreviations.get(&Key(offset.0.into_u64())) {
+        match self.kept(offset.0.into_u64()) {
             Some(Ok(table)) => Ok(table.clone()?),
             Some(Err(error)) => Err(*error),
             None => Ok(Rc::new(self.mem, debug_abbrev.abbreviations(self.mem, offset)?)?),
         }
+    }
+
+    // What is kept at an offset.
+    fn kept(&self, offset: u64) -> Option<&Result<Rc<Abbreviations>>>
+        ensures { option_map (λ answer. answer_of answer.now) result ≡ finite.get self.now offset }
+    {
+        match place_of(&self.abbreviations, offset) {
+            Ok(place) => Some(&self.abbreviations[place].1),
+            Err(_) => None,
+        }
+    }
+}
+
+// Where an offset stands among entries in order, or where it belongs.
+//
+// The first comparison leaves as many entries as some power of two, and each step halves them. So
+// a step takes one comparison and one shift. The binary search of a slice takes half as many
+// instructions again.
+fn place_of(entries: &[Entry], offset: u64) -> std::result::Result<usize, usize>
+    ensures bound { IsSearchInRange result (length entries.now) }
+    ensures place { IsBinarySearchResult (λ entry. nat_cmp entry.0 offset) entries.now result }
+{
+    if entries.is_empty() {
+        return Err(0);
+    }
+    let front = 1 << entries.len().ilog2();
+    let mut place = 0;
+    if entries[entries.len() - front].0 <= offset {
+        place = entries.len() - front;
+    }
+    let mut step = front / 2;
+    while step > 0 {
+        if entries[place + step].0 <= offset {
+            place += step;
+        }
+        step /= 2;
+    }
+    match entries[place].0.cmp(&offset) {
+        Ordering::Less => Err(place + 1),
+        Ordering::Equal => Ok(place),
+        Ordering::Greater => Err(place),
     }
 }
 
@@ -248,58 +294,33 @@ fn shared_answer<R: Reader>(
     }
 }
 
-// Reads the table at each offset that occurs often enough, as soon as it does.
+// Reads the table at each offset that occurs often enough. Equal offsets are neighbours once they
+// are sorted, so they are counted without a map.
 fn entries_kept<R: Reader>(
     mem: Global,
     strategy: AbbreviationsCacheStrategy,
     debug_abbrev: &DebugAbbrev<R>,
-    offsets: &[DebugAbbrevOffset<R::Offset>],
-) -> Result<TableMap>
+    mut offsets: Vec<DebugAbbrevOffset<R::Offset>>,
+) -> Result<Vec<Entry>>
     ensures ok { let section = R.view (debug_abbrev_reader debug_abbrev.now) in
         IfOk result (λ entries. KeepsAnswers (least_count strategy) section
-        (map (λ o. R.Offset.value o.0) offsets.now)
-        (λ key. option_map answer_of (get nat_cmp entries key))) }
+        (map (λ o. R.Offset.value o.0) offsets.items) (kept_at entries.items)) }
+    ensures order { IfOk result (λ entries. IsInOrder entries.items) }
     ensures err { IfErr result (λ e. e ≡ Error.OutOfMemory) }
-    ensures some { OnErr result (offsets.now ≢ []) }
+    ensures some { OnErr result (offsets.items ≢ []) }
 {
-    let mut counts = BTreeMap::new(mem);
-    let mut entries = BTreeMap::new(mem);
-    for offset in offsets {
-        let key = Key(offset.0.into_u64());
-        let count = count_once_more(&mut counts, key)?;
+    offsets.sort_unstable_by_key(|offset| offset.0.into_u64());
+    let mut entries = Vec::new(mem);
+    let mut last = 0;
+    let mut count = 0;
+    for offset in &offsets {
+        let number = offset.0.into_u64();
+        count = if number == last { count + 1 } else { 1 };
+        last = number;
         if count == strategy.least_count() {
-            keep(
-                &mut entries,
-                key,
-                shared_answer(mem, debug_abbrev, *offset)?,
-            )?;
+            let answer = shared_answer(mem, debug_abbrev, *offset)?;
+            entries.push((number, answer))?;
         }
     }
     Ok(entries)
-}
-
-// Counts a key once more, and returns how often it was counted.
-fn count_once_more(counts: &mut BTreeMap<Key, usize>, key: Key) -> Result<usize>
-    requires { unwrap_or (get nat_cmp counts.old key) 0 + 1 < 2 ^ 64 }
-    ensures count { IfOk result (λ count. count ≡ unwrap_or (get nat_cmp counts.old key) 0 + 1) }
-    ensures counted { OnOk result
-        ((q : ℕ) → unwrap_or (get nat_cmp counts.new q) 0
-        ≡ unwrap_or (get nat_cmp counts.old q) 0 + (if key == q then 1 else 0)) }
-    ensures err { IfErr result (λ e. e ≡ Error.OutOfMemory) }
-{
-    let count = counts.entry(key)?.or_insert(0);
-    *count += 1;
-    Ok(*count)
-}
-
-// Keeps a result under a key.
-fn keep(entries: &mut TableMap, key: Key, answer: Result<Rc<Abbreviations>>) -> Result<()>
-    ensures kept { OnOk result
-        ((q : ℕ) → option_map answer_of (get nat_cmp entries.new q)
-        ≡ (if q == key then Some (answer_of answer)
-        else option_map answer_of (get nat_cmp entries.old q))) }
-    ensures err { IfErr result (λ e. e ≡ Error.OutOfMemory) }
-{
-    entries.insert(key, answer)?;
-    Ok(())
 }

@@ -1,30 +1,75 @@
-use Rattle.std.proofs.Common.{rules, ◌≡◌, ◌≢◌, ◌+◌, ◌++◌, ◌∷◌, [], map, take, ap, sym, ◌∙◌, cond, eqb}
-use Rattle.dwarf_read_core.specs.Cache.{occurrences, least_count}
-use Rattle.dwarf_read_core.proofs.cache.CountingOffsets.{occurrences-push, seen_more, kept_same, kept_more}
+use Rattle.std.proofs.Common.{rules, ℕ, ◌≡◌, ◌≢◌, ◌≤◌, ◌+◌, ◌++◌, ◌∷◌, [], get_or, map, take, ap, sym, subst, ◌∙◌, arith}
+use Rattle.std.specs.List.{All}
+use Rattle.std.specs.List.Sorted.{IsNonDecreasingBy}
+use Rattle.std.proofs.lemmas.List.{take_all, get_or_default}
+use Rattle.std.proofs.lemmas.List.Elements.{All-push}
+use Rattle.std.proofs.lemmas.List.Sorted.{IsPermutation-map, IsNonDecreasingBy-from_sort_by_key}
+use Rattle.dwarf_base_core.specs.declared.common.DebugAbbrevOffset.{DebugAbbrevOffset}
+use Rattle.dwarf_read_core.specs.Cache.{occurrences, least_count, KeepsAnswers, kept_at}
+use Rattle.dwarf_read_core.specs.Sections.{debug_abbrev_reader}
+use Rattle.dwarf_read_core.proofs.cache.CountingOffsets.{occurrences-push_here, occurrences_same, occurrences_above, seen_more, kept_none, kept_same, kept_more, kept_in_any_order}
+use Rattle.dwarf_read_core.proofs.cache.EntriesAsMap.{kept_at-push, push-in_order_if_absent}
 use Rattle.dwarf_read_core.proofs.read.abbrev.cache.entries_kept.Goals as goal
-use Rattle.dwarf_read_core.proofs.read.abbrev.cache.entries_kept.Goals.{then-count-least_count+in_ok-shared_answer+in_ok-keep, else-count-least_count}
+use Rattle.dwarf_read_core.proofs.read.abbrev.cache.entries_kept.Goals.{then-number-last, else-number-last, then-count-least_count+in_ok-answer+in_ok-push, else-count-least_count}
 
 pub loop-offset-preserved : goal.loop-offset-preserved
 loop-offset-preserved g c =
+    let number : DebugAbbrevOffset g.row.R-Offset.Denot → ℕ = λ offset. g.R.Offset.ReaderOffset.value offset.0 in
     let loop = c.loop-offset in
-    let key = c.into_u64.result in
+    let key = c.into_u64-number.result in
     let i = loop.offset-index in
-    let seen = map (λ offset. g.R.Offset.ReaderOffset.value offset.0) (take i c.args.offsets.now) in
-    let next : map (λ offset. g.R.Offset.ReaderOffset.value offset.0) (take (i + 1) c.args.offsets.now) ≡ seen
-    ++ key ∷ [] =
-    seen_more (λ offset. g.R.Offset.ReaderOffset.value offset.0) c.args.offsets.now i c.offset-item.result key
-    (search rules) (search rules) c.into_u64.ensures.number in
-    let count : c.in_ok-count.count ≡ occurrences key seen + 1 = c.in_ok-count.ensures.count
-    ∙ ap (λ n. n + 1) (loop.invariant.counted key) in
+    let items = c.deref-offset-items.result.now in
+    let item = c.offset-item.result in
+    let seen = map number (take i items) in
+    let read : get_or items i item ≡ item = search rules in
+    let next : map number (take (i + 1) items) ≡ seen ++ key ∷ [] =
+    seen_more number items i item key c.loop-offset-test.true read c.into_u64-number.ensures.number in
+    let rising : IsNonDecreasingBy number items = rw c.deref-offset-items.ensures.value
+    (IsNonDecreasingBy-from_sort_by_key number _ c.sort_unstable_by_key.ensures.sorted (λ a r f' k. search rules)) in
+    let above : loop.last ≤ key = rw c.into_u64-number.ensures.number
+    (subst (λ offset. loop.last ≤ number offset) read
+    (loop.invariant.left_from i item (omega arith) c.loop-offset-test.true)) in
+    let count : c.if-number-last.count ≡ occurrences key seen + 1 = elim c.if-number-last.branch [
+      | then-number-last w ↦ w.count-is ∙ ap (λ (n : ℕ). n + 1)
+          (occurrences_same key loop.last loop.count seen w.if-number-last.true loop.invariant.counted)
+      | else-number-last w ↦ w.count-is
+          ∙ sym (ap (λ (n : ℕ). n + 1) (occurrences_above key loop.last seen loop.invariant.seen_upto (omega arith)))
+    ] in
+    let old = loop.entries.items in
+    let upto : All (λ entry. entry.0 ≤ key) old =
+    λ k d within. omega (arith, loop.invariant.kept_upto k d within) in
     record {
-      counted = λ q. c.in_ok-count.ensures.counted q
-          ∙ ap (λ n. n + cond (eqb key q) 1 0) (loop.invariant.counted q)
-          ∙ sym (ap (occurrences q) next ∙ occurrences-push q key seen);
-      kept = rw next (elim c.if-count-least_count.branch [
-        | then-count-least_count+in_ok-shared_answer+in_ok-keep w ↦
+      counted = count ∙ sym (ap (occurrences key) next ∙ occurrences-push_here key seen);
+      fits = elim c.if-number-last.branch [
+        | then-number-last w ↦ omega (arith, w.count-is)
+        | else-number-last w ↦ omega (arith, w.count-is)
+      ];
+      seen_upto = rw next (All-push (λ offset. offset ≤ key) seen key
+          (λ k d within. omega (arith, loop.invariant.seen_upto k d within)) (omega arith));
+      left_from = λ k d from within. rw c.into_u64-number.ensures.number
+          (subst (λ offset. number offset ≤ number (get_or items k d))
+          (get_or_default items i d item c.loop-offset-test.true ∙ read) (rising i k d (omega arith) within));
+      order = elim c.if-count-least_count.branch [
+        | then-count-least_count+in_ok-answer+in_ok-push w ↦
             let enough = sym count ∙ w.if-count-least_count.true ∙ c.least_count.ensures in
-            rw w.entries-is (kept_more (least_count c.args.strategy) _ seen key _ _ _ loop.invariant.kept enough
-            (rw c.into_u64.ensures.number w.in_ok-shared_answer.ensures.ok) w.in_ok-keep.ensures.kept)
+            let absent = kept_none (least_count c.args.strategy) _ seen key (kept_at old) loop.invariant.kept enough in
+            rw (w.entries-is, w.in_ok-push.ensures.items)
+            (push-in_order_if_absent old key w.in_ok-answer.answer absent loop.invariant.order upto)
+        | else-count-least_count w ↦ rw w.entries-is loop.invariant.order
+      ];
+      kept_upto = elim c.if-count-least_count.branch [
+        | then-count-least_count+in_ok-answer+in_ok-push w ↦ rw (w.entries-is, w.in_ok-push.ensures.items)
+            (All-push (λ entry. entry.0 ≤ key) old (key, w.in_ok-answer.answer) upto (omega arith))
+        | else-count-least_count w ↦ rw w.entries-is upto
+      ];
+      kept = rw next (elim c.if-count-least_count.branch [
+        | then-count-least_count+in_ok-answer+in_ok-push w ↦
+            let enough = sym count ∙ w.if-count-least_count.true ∙ c.least_count.ensures in
+            let absent = kept_none (least_count c.args.strategy) _ seen key (kept_at old) loop.invariant.kept enough in
+            rw (w.entries-is, w.in_ok-push.ensures.items)
+            (kept_more (least_count c.args.strategy) _ seen key _ _ _ loop.invariant.kept enough
+            (rw c.into_u64-number.ensures.number w.in_ok-answer.ensures.ok)
+            (kept_at-push old key w.in_ok-answer.answer absent))
         | else-count-least_count w ↦
             let other : occurrences key seen + 1
             ≢ least_count c.args.strategy =
@@ -32,3 +77,14 @@ loop-offset-preserved g c =
             rw w.entries-is (kept_same (least_count c.args.strategy) _ seen key _ loop.invariant.kept other)
       ]);
     }
+
+pub returns-clause-ok : goal.returns-clause-ok
+returns-clause-ok g c =
+    let number : DebugAbbrevOffset g.row.R-Offset.Denot → ℕ = λ offset. g.R.Offset.ReaderOffset.value offset.0 in
+    let items = c.deref-offset-items.result.now in
+    let section = g.R.Reader.view (debug_abbrev_reader c.args.debug_abbrev.now) in
+    kept_in_any_order (least_count c.args.strategy) section (map number c.args.offsets.items) (map number items) _
+    (IsPermutation-map number _ _ (rw c.deref-offset-items.ensures.value c.sort_unstable_by_key.ensures.permutation))
+    (subst (λ (offsets : _). KeepsAnswers (least_count c.args.strategy) section (map number offsets)
+    (kept_at c.loop-offset.entries.items))
+    (take_all c.loop-offset.offset-index items c.loop-offset-test.false) c.loop-offset.invariant.kept)

@@ -1,15 +1,20 @@
-use Rattle.std.proofs.Common.{◌≡◌, ◌==◌, ℕ, unwrap_or, count_by, take, map, option_map}
-use Rattle.std.specs.BTreeMap.{get}
-use Rattle.std.specs.Ordering.{nat_cmp}
-use Rattle.dwarf_read_core.specs.Cache.{KeepsAnswers, answer_of, least_count}
+use Rattle.std.proofs.Common.{◌≡◌, ◌≤◌, length, take, map}
+use Rattle.std.specs.List.{All, AllWithin}
+use Rattle.dwarf_read_core.specs.Cache.{IsInOrder, KeepsAnswers, kept_at, least_count, occurrences}
 use Rattle.dwarf_read_core.specs.Sections.{debug_abbrev_reader}
 use Rattle.dwarf_read_core.proofs.read.abbrev.cache.entries_kept.Given as goal
 
 abbrev pub invariant-loop-offset : goal.invariant-loop-offset
 invariant-loop-offset g l =
-    let seen = map (λ offset. g.R.Offset.ReaderOffset.value offset.0) (take l.offset-index l.offsets) in
+    let seen = map (λ offset. g.R.Offset.ReaderOffset.value offset.0) (take l.offset-index l.offset-items) in
     record {
-      counted : (key : ℕ) → unwrap_or (get nat_cmp l.counts key) 0 ≡ count_by (λ offset. offset == key) seen;
+      counted : l.count ≡ occurrences l.last seen;
+      fits : l.count ≤ l.offset-index;
+      seen_upto : All (λ offset. offset ≤ l.last) seen;
+      left_from : AllWithin (λ offset. l.last ≤ g.R.Offset.ReaderOffset.value offset.0) l.offset-items l.offset-index
+          (length l.offset-items);
+      order : IsInOrder l.entries.items;
+      kept_upto : All (λ entry. entry.0 ≤ l.last) l.entries.items;
       kept : KeepsAnswers (least_count l.strategy) (g.R.Reader.view (debug_abbrev_reader l.debug_abbrev)) seen
-          (λ key. option_map answer_of (get nat_cmp l.entries key));
+          (kept_at l.entries.items);
     }

@@ -1,4 +1,4 @@
-use Rattle.std.proofs.Common.{map, ap, ◌∙◌}
+use Rattle.std.proofs.Common.{map, refl}
 use Rattle.dwarf_read_core.specs.Cache.{least_count}
 use Rattle.dwarf_read_core.specs.Sections.{debug_abbrev_reader}
 use Rattle.dwarf_read_core.proofs.cache.FaithfulToSection.{faithful_of_kept}
@@ -9,31 +9,33 @@ use Rattle.dwarf_read_core.proofs.read.abbrev.cache.AbbreviationsCache.populate.
 
 pub returns-clause-ok : goal.returns-clause-ok
 returns-clause-ok g c = (
-  map (λ offset. g.R.Offset.ReaderOffset.value offset.0) c.deref.result.now,
+  map (λ offset. g.R.Offset.ReaderOffset.value offset.0) c.in_ok-offsets.offsets.items,
   record {
     items = c.in_ok-offsets.offsets.items;
     given = c.in_ok-offsets.ensures.ok;
-    numbers = ap (map (λ offset. g.R.Offset.ReaderOffset.value offset.0)) c.deref.ensures.value;
+    numbers = refl;
   },
-  λ key. rw (get-shown c.in_ok-entries.entries.entries key) (c.in_ok-entries.ensures.ok key),
+  λ key. rw (get-shown c.in_ok-entries.entries.items key) (c.in_ok-entries.ensures.ok key),
 )
 
 pub returns-clause-faithful : goal.returns-clause-faithful
 returns-clause-faithful g c =
     faithful_of_kept (least_count c.args.strategy) _
-    (map (λ offset. g.R.Offset.ReaderOffset.value offset.0) c.deref.result.now)
-    (shown c.in_ok-entries.entries.entries)
-    (λ key. rw (get-shown c.in_ok-entries.entries.entries key) (c.in_ok-entries.ensures.ok key))
+    (map (λ offset. g.R.Offset.ReaderOffset.value offset.0) c.in_ok-offsets.offsets.items)
+    (shown c.in_ok-entries.entries.items)
+    (λ key. rw (get-shown c.in_ok-entries.entries.items key) (c.in_ok-entries.ensures.ok key))
 
 pub invariant_of-self : goal.invariant_of-self
-invariant_of-self g c =
-    no_memory_error_answers (least_count c.args.strategy)
-    (g.R.Reader.view (debug_abbrev_reader c.args.debug_abbrev.now))
-    (map (λ offset. g.R.Offset.ReaderOffset.value offset.0) c.deref.result.now)
-    (shown c.in_ok-entries.entries.entries)
-    (λ key. rw (get-shown c.in_ok-entries.entries.entries key) (c.in_ok-entries.ensures.ok key))
+invariant_of-self g c = (
+  c.in_ok-entries.ensures.order,
+  no_memory_error_answers (least_count c.args.strategy)
+      (g.R.Reader.view (debug_abbrev_reader c.args.debug_abbrev.now))
+      (map (λ offset. g.R.Offset.ReaderOffset.value offset.0) c.in_ok-offsets.offsets.items)
+      (shown c.in_ok-entries.entries.items)
+      (λ key. rw (get-shown c.in_ok-entries.entries.items key) (c.in_ok-entries.ensures.ok key)),
+)
 
 pub returns-in_err-entries-clause-some : goal.returns-in_err-entries-clause-some
 returns-in_err-entries-clause-some g c =
     first_item-of_items g.I.Iterator.next_gives c.args.units c.in_ok-offsets.offsets.items _ _ _
-    (λ none. c.in_err-entries.ensures.some (c.deref.ensures.value ∙ none)) c.in_ok-offsets.ensures.ok.given
+    c.in_err-entries.ensures.some c.in_ok-offsets.ensures.ok.given

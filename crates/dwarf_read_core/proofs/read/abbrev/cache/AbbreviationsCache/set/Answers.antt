@@ -1,18 +1,49 @@
-use Rattle.std.proofs.Common.{Ok, subst, sym}
+use Rattle.std.proofs.Common.{set, Ok, subst, sym}
+use Rattle.std.specs.List.{insert}
 use Rattle.dwarf_read_core.specs.Cache.{KeepsNoWant}
 use Rattle.dwarf_read_core.proofs.cache.NoMemoryError.{no_memory_error_insert}
-use Rattle.dwarf_read_core.proofs.cache.EntriesAsMap.{shown, shown-insert}
+use Rattle.dwarf_read_core.proofs.cache.EntriesInOrder.{comparisons_rise}
+use Rattle.dwarf_read_core.proofs.cache.EntriesAsMap.{shown, Puts, puts_at_place, puts_at_gap}
 use Rattle.dwarf_read_core.proofs.read.abbrev.cache.AbbreviationsCache.set.Goals as goal
 
-pub invariant_of-self-2 : goal.invariant_of-self-2
-invariant_of-self-2 g c =
-    let old = c.self.inside.abbreviations.entries in
-    subst KeepsNoWant (sym (shown-insert old c.insert.new.self.entries c.into_u64.result
-    (Ok c.args.abbreviations) c.in_ok-insert.ensures.updates.0))
-    (no_memory_error_insert (shown old) c.into_u64.result c.args.abbreviations.value c.self.invariant)
+pub invariant_of-self : goal.invariant_of-self
+invariant_of-self g c =
+    let items = c.self.inside.abbreviations.items in
+    let key = c.into_u64-number.result in
+    let table = c.args.abbreviations in
+    let puts : Puts items (set items c.in-Ok.place (key, Ok table)) key (Ok table) =
+    puts_at_place items c.self.invariant.0 key c.in-Ok.place (Ok table)
+    (rw (← c.deref.ensures.value) c.in-Ok.ensures.bound) (rw (← c.deref.ensures.value) c.in-Ok.ensures.place) in (
+      puts.order,
+      subst KeepsNoWant (sym puts.shows) (no_memory_error_insert (shown items) key table.value c.self.invariant.1),
+    )
 
-pub returns-clause-ok : goal.returns-clause-ok
-returns-clause-ok g c =
-    rw (← c.self.view_is) (rw (← c.into_u64.ensures.number)
-    (shown-insert c.self.inside.abbreviations.entries c.insert.new.self.entries c.into_u64.result
-    (Ok c.args.abbreviations) c.in_ok-insert.ensures.updates.0))
+pub returns-in-Ok-clause-ok : goal.returns-in-Ok-clause-ok
+returns-in-Ok-clause-ok g c =
+    let items = c.self.inside.abbreviations.items in
+    let puts = puts_at_place items c.self.invariant.0 c.into_u64-number.result c.in-Ok.place (Ok c.args.abbreviations)
+    (rw (← c.deref.ensures.value) c.in-Ok.ensures.bound) (rw (← c.deref.ensures.value) c.in-Ok.ensures.place) in
+    rw (← c.self.view_is, ← c.into_u64-number.ensures.number) puts.shows
+
+pub invariant_of-self-in-Err : goal.invariant_of-self-in-Err
+invariant_of-self-in-Err g c =
+    let items = c.self.inside.abbreviations.items in
+    let key = c.into_u64-number.result in
+    let table = c.args.abbreviations in
+    let gap = rw c.deref.ensures.value at c.in-Err.ensures.place in
+    let puts : Puts items (insert items c.in-Err.place (key, Ok table)) key (Ok table) =
+    puts_at_gap items c.self.invariant.0 key c.in-Err.place (Ok table)
+    (rw (← c.deref.ensures.value) c.in-Err.ensures.bound) (gap (comparisons_rise items c.self.invariant.0 key)) in
+    rw c.in_ok-insert-in-Err.ensures.items (
+      puts.order,
+      subst KeepsNoWant (sym puts.shows) (no_memory_error_insert (shown items) key table.value c.self.invariant.1),
+    )
+
+pub returns-in_ok-insert-in-Err-clause-ok : goal.returns-in_ok-insert-in-Err-clause-ok
+returns-in_ok-insert-in-Err-clause-ok g c =
+    let items = c.self.inside.abbreviations.items in
+    let key = c.into_u64-number.result in
+    let gap = rw c.deref.ensures.value at c.in-Err.ensures.place in
+    let puts = puts_at_gap items c.self.invariant.0 key c.in-Err.place (Ok c.args.abbreviations)
+    (rw (← c.deref.ensures.value) c.in-Err.ensures.bound) (gap (comparisons_rise items c.self.invariant.0 key)) in
+    rw (c.in_ok-insert-in-Err.ensures.items, ← c.self.view_is, ← c.into_u64-number.ensures.number) puts.shows
