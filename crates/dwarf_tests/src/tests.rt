@@ -22,6 +22,7 @@ macro_rules! ended {
 mod addresses;
 mod cache;
 mod callers;
+mod copies;
 mod examples;
 mod names;
 mod owned;

@@ -1,6 +1,6 @@
 //! The constants of dwarf_code_core: values, names and texts, and what pointer encodings tell.
 
-use super::{check_names, check_rows, same};
+use super::{Family, check_lines, check_text, same};
 use dwarf_code_core::accessibility::*;
 use dwarf_code_core::address_class::*;
 use dwarf_code_core::array_ordering::*;
@@ -33,91 +33,83 @@ use std::test::Fail;
 mod codes;
 mod operations;
 
+// The name of a value of a family whose values have one byte, four or eight.
+pub(super) fn name_of(family: Family, value: u8) -> Option<&'static str> {
+    match family {
+        Family::Access => DwAccess(value).static_string(),
+        Family::Addr => DwAddr(u64::from(value)).static_string(),
+        Family::Ate => DwAte(value).static_string(),
+        Family::Cc => DwCc(value).static_string(),
+        Family::Cfa => DwCfa(value).static_string(),
+        Family::Children => DwChildren(value).static_string(),
+        Family::Defaulted => DwDefaulted(value).static_string(),
+        Family::Ds => DwDs(value).static_string(),
+        Family::Dsc => DwDsc(value).static_string(),
+        Family::EhPe => DwEhPe(value).static_string(),
+        Family::End => DwEnd(value).static_string(),
+        Family::GdbIndexSymbolKind => GdbIndexSymbolKind(value).static_string(),
+        Family::Id => DwId(value).static_string(),
+        Family::Inl => DwInl(value).static_string(),
+        Family::Lle => DwLle(value).static_string(),
+        Family::Lne => DwLne(value).static_string(),
+        Family::Lns => DwLns(value).static_string(),
+        Family::Macinfo => DwMacinfo(value).static_string(),
+        Family::Macro => DwMacro(value).static_string(),
+        Family::Op => DwOp(value).static_string(),
+        Family::Ord => DwOrd(value).static_string(),
+        Family::Rle => DwRle(value).static_string(),
+        Family::Sect => DwSect(u32::from(value)).static_string(),
+        Family::SectV2 => DwSectV2(u32::from(value)).static_string(),
+        Family::Ut => DwUt(value).static_string(),
+        Family::Virtuality => DwVirtuality(value).static_string(),
+        Family::Vis => DwVis(value).static_string(),
+        _ => None,
+    }
+}
+
 #[test]
 fn operations_are_as_published(rt: HostRuntime) {
-    let mem = rt.alloc();
-    check_rows(&rt, mem, operations::OPERATIONS);
-    check_rows(&rt, mem, operations::REGISTERS);
-    check_rows(&rt, mem, operations::LATER_OPERATIONS);
+    check_lines(&rt, Family::Op, operations::OPERATIONS);
 }
 
 #[test]
 fn codes_are_as_published(rt: HostRuntime) {
+    for (family, lines) in codes::CODES {
+        check_lines(&rt, *family, lines);
+    }
+}
+
+#[test]
+fn codes_print_their_names(rt: HostRuntime) {
     let mem = rt.alloc();
-    check_rows(&rt, mem, codes::UNIT_TYPES);
-    check_rows(&rt, mem, codes::CALL_FRAMES);
-    check_rows(&rt, mem, codes::CHILDREN);
-    check_rows(&rt, mem, codes::BASE_TYPE_ENCODINGS);
-    check_rows(&rt, mem, codes::LOCATION_LIST_ENTRIES);
-    check_rows(&rt, mem, codes::DECIMAL_SIGNS);
-    check_rows(&rt, mem, codes::ENDIANITIES);
-    check_rows(&rt, mem, codes::ACCESSIBILITIES);
-    check_rows(&rt, mem, codes::VISIBILITIES);
-    check_rows(&rt, mem, codes::VIRTUALITIES);
-    check_rows(&rt, mem, codes::IDENTIFIER_CASES);
-    check_rows(&rt, mem, codes::CALLING_CONVENTIONS);
-    check_rows(&rt, mem, codes::INLININGS);
-    check_rows(&rt, mem, codes::ARRAY_ORDERINGS);
-    check_rows(&rt, mem, codes::DISCRIMINANTS);
-    check_rows(&rt, mem, codes::DEFAULTED);
-    check_rows(&rt, mem, codes::LINE_STANDARD);
-    check_rows(&rt, mem, codes::LINE_EXTENDED);
-    check_rows(&rt, mem, codes::MACINFO);
-    check_rows(&rt, mem, codes::MACRO_ENTRIES);
-    check_rows(&rt, mem, codes::RANGE_LIST_ENTRIES);
-    check_rows(&rt, mem, codes::POINTER_ENCODINGS);
-    check_rows(&rt, mem, codes::GDB_INDEX_SYMBOL_KINDS);
-    check_rows(&rt, mem, codes::SECTIONS);
-    check_rows(&rt, mem, codes::SECTIONS_V2);
-    check_rows(&rt, mem, codes::ADDRESS_CLASSES);
-}
-
-#[test]
-fn codes_name_their_values(rt: HostRuntime) {
-    let names = [
-        (DW_OP_addr.static_string(), "DW_OP_addr"),
-        (DW_UT_compile.static_string(), "DW_UT_compile"),
-        (DW_CFA_nop.static_string(), "DW_CFA_nop"),
-        (DW_CHILDREN_no.static_string(), "DW_CHILDREN_no"),
-        (DW_ATE_address.static_string(), "DW_ATE_address"),
-        (DW_LLE_end_of_list.static_string(), "DW_LLE_end_of_list"),
-        (DW_DS_unsigned.static_string(), "DW_DS_unsigned"),
-        (DW_END_default.static_string(), "DW_END_default"),
-        (DW_ACCESS_public.static_string(), "DW_ACCESS_public"),
-        (DW_VIS_local.static_string(), "DW_VIS_local"),
-        (DW_VIRTUALITY_none.static_string(), "DW_VIRTUALITY_none"),
-        (DW_ID_case_sensitive.static_string(), "DW_ID_case_sensitive"),
-        (DW_CC_normal.static_string(), "DW_CC_normal"),
-    ];
-    check_names(&rt, &names);
-}
-
-#[test]
-fn later_codes_name_their_values(rt: HostRuntime) {
-    let names = [
-        (DW_INL_not_inlined.static_string(), "DW_INL_not_inlined"),
-        (DW_ORD_row_major.static_string(), "DW_ORD_row_major"),
-        (DW_DSC_label.static_string(), "DW_DSC_label"),
-        (DW_DEFAULTED_no.static_string(), "DW_DEFAULTED_no"),
-        (DW_LNS_copy.static_string(), "DW_LNS_copy"),
-        (DW_LNE_end_sequence.static_string(), "DW_LNE_end_sequence"),
-        (DW_MACINFO_define.static_string(), "DW_MACINFO_define"),
-        (DW_MACRO_define.static_string(), "DW_MACRO_define"),
-        (DW_RLE_end_of_list.static_string(), "DW_RLE_end_of_list"),
-        (DW_EH_PE_absptr.static_string(), "DW_EH_PE_absptr"),
-        (
-            GDB_INDEX_SYMBOL_KIND_NONE.static_string(),
-            "GDB_INDEX_SYMBOL_KIND_NONE",
-        ),
-        (DW_SECT_INFO.static_string(), "DW_SECT_INFO"),
-        (DW_SECT_V2_INFO.static_string(), "DW_SECT_V2_INFO"),
-        (DW_ADDR_none.static_string(), "DW_ADDR_none"),
-        (
-            DW_CFA_AARCH64_negate_ra_state.static_string(),
-            "DW_CFA_GNU_window_save",
-        ),
-    ];
-    check_names(&rt, &names);
+    check_text(&rt, mem, &DW_OP_addr, "DW_OP_addr");
+    check_text(&rt, mem, &DW_UT_compile, "DW_UT_compile");
+    check_text(&rt, mem, &DW_CFA_nop, "DW_CFA_nop");
+    check_text(&rt, mem, &DW_CHILDREN_no, "DW_CHILDREN_no");
+    check_text(&rt, mem, &DW_ATE_address, "DW_ATE_address");
+    check_text(&rt, mem, &DW_LLE_end_of_list, "DW_LLE_end_of_list");
+    check_text(&rt, mem, &DW_DS_unsigned, "DW_DS_unsigned");
+    check_text(&rt, mem, &DW_END_default, "DW_END_default");
+    check_text(&rt, mem, &DW_ACCESS_public, "DW_ACCESS_public");
+    check_text(&rt, mem, &DW_VIS_local, "DW_VIS_local");
+    check_text(&rt, mem, &DW_VIRTUALITY_none, "DW_VIRTUALITY_none");
+    check_text(&rt, mem, &DW_ID_case_sensitive, "DW_ID_case_sensitive");
+    check_text(&rt, mem, &DW_CC_normal, "DW_CC_normal");
+    check_text(&rt, mem, &DW_INL_not_inlined, "DW_INL_not_inlined");
+    check_text(&rt, mem, &DW_ORD_row_major, "DW_ORD_row_major");
+    check_text(&rt, mem, &DW_DSC_label, "DW_DSC_label");
+    check_text(&rt, mem, &DW_DEFAULTED_no, "DW_DEFAULTED_no");
+    check_text(&rt, mem, &DW_LNS_copy, "DW_LNS_copy");
+    check_text(&rt, mem, &DW_LNE_end_sequence, "DW_LNE_end_sequence");
+    check_text(&rt, mem, &DW_MACINFO_define, "DW_MACINFO_define");
+    check_text(&rt, mem, &DW_MACRO_define, "DW_MACRO_define");
+    check_text(&rt, mem, &DW_RLE_end_of_list, "DW_RLE_end_of_list");
+    check_text(&rt, mem, &DW_EH_PE_absptr, "DW_EH_PE_absptr");
+    let none = "GDB_INDEX_SYMBOL_KIND_NONE";
+    check_text(&rt, mem, &GDB_INDEX_SYMBOL_KIND_NONE, none);
+    check_text(&rt, mem, &DW_SECT_INFO, "DW_SECT_INFO");
+    check_text(&rt, mem, &DW_SECT_V2_INFO, "DW_SECT_V2_INFO");
+    check_text(&rt, mem, &DW_ADDR_none, "DW_ADDR_none");
 }
 
 // A pointer encoding, and whether it is valid, absent and indirect.

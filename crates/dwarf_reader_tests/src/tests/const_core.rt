@@ -1,6 +1,6 @@
 //! The constants of dwarf_const_core: values, names and texts, and what languages tell.
 
-use super::{check_names, check_rows, same};
+use super::{Family, check_lines, check_text, same};
 use dwarf_const_core::attribute::*;
 use dwarf_const_core::form::*;
 use dwarf_const_core::index_attribute::*;
@@ -12,37 +12,41 @@ use std::test::Fail;
 mod attributes;
 mod families;
 
+// The name of a value of a family whose values have two bytes.
+pub(super) fn name_of(family: Family, value: u16) -> Option<&'static str> {
+    match family {
+        Family::At => DwAt(value).static_string(),
+        Family::Form => DwForm(value).static_string(),
+        Family::Idx => DwIdx(value).static_string(),
+        Family::Lang => DwLang(value).static_string(),
+        Family::Lnct => DwLnct(value).static_string(),
+        Family::Tag => DwTag(value).static_string(),
+        _ => None,
+    }
+}
+
 #[test]
 fn attributes_are_as_published(rt: HostRuntime) {
-    let mem = rt.alloc();
-    check_rows(&rt, mem, attributes::FIRST_ATTRIBUTES);
-    check_rows(&rt, mem, attributes::LATER_ATTRIBUTES);
-    check_rows(&rt, mem, attributes::MIPS_AND_GNU_ATTRIBUTES);
-    check_rows(&rt, mem, attributes::VENDOR_ATTRIBUTES);
+    check_lines(&rt, Family::At, attributes::ATTRIBUTES);
 }
 
 #[test]
 fn tags_and_forms_are_as_published(rt: HostRuntime) {
-    let mem = rt.alloc();
-    check_rows(&rt, mem, families::TAGS);
-    check_rows(&rt, mem, families::FORMS);
-    check_rows(&rt, mem, families::LANGUAGES);
-    check_rows(&rt, mem, families::INDEX_ATTRIBUTES);
-    check_rows(&rt, mem, families::LINE_CONTENTS);
+    for (family, lines) in families::FAMILIES {
+        check_lines(&rt, *family, lines);
+    }
+    same(&rt, name_of(Family::Tag, 0x1234), None, "no tag");
 }
 
 #[test]
-fn numbers_of_two_bytes_name_their_values(rt: HostRuntime) {
-    let names = [
-        (DW_AT_null.static_string(), "DW_AT_null"),
-        (DW_TAG_null.static_string(), "DW_TAG_null"),
-        (DW_FORM_null.static_string(), "DW_FORM_null"),
-        (DW_LANG_C89.static_string(), "DW_LANG_C89"),
-        (DW_IDX_compile_unit.static_string(), "DW_IDX_compile_unit"),
-        (DW_LNCT_path.static_string(), "DW_LNCT_path"),
-    ];
-    check_names(&rt, &names);
-    same(&rt, DwTag(0x1234).static_string(), None, "no tag");
+fn numbers_of_two_bytes_print_their_names(rt: HostRuntime) {
+    let mem = rt.alloc();
+    check_text(&rt, mem, &DW_AT_null, "DW_AT_null");
+    check_text(&rt, mem, &DW_TAG_null, "DW_TAG_null");
+    check_text(&rt, mem, &DW_FORM_null, "DW_FORM_null");
+    check_text(&rt, mem, &DW_LANG_C89, "DW_LANG_C89");
+    check_text(&rt, mem, &DW_IDX_compile_unit, "DW_IDX_compile_unit");
+    check_text(&rt, mem, &DW_LNCT_path, "DW_LNCT_path");
 }
 
 #[test]

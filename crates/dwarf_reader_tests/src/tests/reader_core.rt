@@ -81,31 +81,39 @@ fn outcome<R: Reader>(input: &mut R, call: Call) -> Result<i128> {
     }
 }
 
+// What a call returns, as a number of 128 bits. With a `?` in each arm the functions below take twice as long to prove.
+fn widened<N: Into<i128>>(returned: Result<N>) -> Result<i128> {
+    match returned {
+        Ok(number) => Ok(number.into()),
+        Err(error) => Err(error),
+    }
+}
+
 fn unsigned<R: Reader>(input: &mut R, size: u8) -> Result<i128> {
     match size {
-        1 => Ok(i128::from(input.read_u8()?)),
-        2 => Ok(i128::from(input.read_u16()?)),
-        3 => Ok(i128::from(input.read_uint(3)?)),
-        4 => Ok(i128::from(input.read_u32()?)),
-        _ => Ok(i128::from(input.read_u64()?)),
+        1 => widened(input.read_u8()),
+        2 => widened(input.read_u16()),
+        3 => widened(input.read_uint(3)),
+        4 => widened(input.read_u32()),
+        _ => widened(input.read_u64()),
     }
 }
 
 fn signed<R: Reader>(input: &mut R, size: u8) -> Result<i128> {
     match size {
-        1 => Ok(i128::from(input.read_i8()?)),
-        2 => Ok(i128::from(input.read_i16()?)),
-        4 => Ok(i128::from(input.read_i32()?)),
-        _ => Ok(i128::from(input.read_i64()?)),
+        1 => widened(input.read_i8()),
+        2 => widened(input.read_i16()),
+        4 => widened(input.read_i32()),
+        _ => widened(input.read_i64()),
     }
 }
 
 fn leb128_number<R: Reader>(input: &mut R, call: Call) -> Result<i128> {
     match call {
-        Call::Uleb => Ok(i128::from(read::unsigned(input)?)),
-        Call::UlebOf16Bits => Ok(i128::from(read::u16(input)?)),
-        Call::UlebOf32Bits => Ok(i128::from(input.read_uleb128_u32()?)),
-        Call::Sleb => Ok(i128::from(read::signed(input)?)),
+        Call::Uleb => widened(read::unsigned(input)),
+        Call::UlebOf16Bits => widened(read::u16(input)),
+        Call::UlebOf32Bits => widened(input.read_uleb128_u32()),
+        Call::Sleb => widened(read::signed(input)),
         _ => nothing(read::skip(input)),
     }
 }
@@ -136,8 +144,8 @@ fn offset<R: Reader>(input: &mut R, call: Call) -> Result<i128> {
 
 fn address<R: Reader>(input: &mut R, call: Call) -> Result<i128> {
     match call {
-        Call::Address(size) => Ok(i128::from(input.read_address(size)?)),
-        _ => Ok(i128::from(input.read_address_size()?)),
+        Call::Address(size) => widened(input.read_address(size)),
+        _ => widened(input.read_address_size()),
     }
 }
 
@@ -233,16 +241,23 @@ fn little(bytes: &[u8]) -> EndianSlice<'_, RunTimeEndian> {
     EndianSlice::new(bytes, LITTLE)
 }
 
+// The calls of a reader of at most 2000 bytes, whose first position is this one. The prover has to see that no
+// position is past the greatest number of 64 bits. A call at a concrete reader takes long to prove, so there is one.
+fn check_reader(rt: &impl Abort, order: RunTimeEndian, first: u8, bytes: &[u8], steps: &[Step]) {
+    let bytes = &bytes[..bytes.len().min(2000)];
+    let mut input = EndianSlice::with_first_id(bytes, order, ReaderOffsetId(u64::from(first)));
+    check_steps(rt, &mut input, bytes, steps);
+}
+
 fn check_calls(rt: &impl Abort, rows: &[Row]) {
     for (order, bytes, steps) in rows {
-        let mut input = EndianSlice::new(bytes, *order);
-        check_steps(rt, &mut input, bytes, steps);
+        check_reader(rt, *order, 0, bytes, steps);
     }
 }
 
-// What a call returns at the front of these bytes, and how many of them it consumes.
-fn number_at(bytes: &[u8], asked: Call) -> (Result<i128>, u64) {
-    result_of(&mut little(bytes), asked)
+// One call at the front of these bytes: what it returns, and how many of them it consumes.
+fn check_call(rt: &impl Abort, bytes: &[u8], step: Step) {
+    check_reader(rt, LITTLE, 0, bytes, &[step]);
 }
 
 // Bytes, what a call returns of them, and how many of them it consumes.
@@ -250,7 +265,6 @@ type Numbers = &'static [(&'static [u8], Result<i128>, u64)];
 
 fn check_numbers(rt: &impl Abort, asked: Call, rows: Numbers) {
     for (bytes, wanted, consumed) in rows {
-        let found = number_at(bytes, asked);
-        same(rt, found, (*wanted, *consumed), bytes);
+        check_call(rt, bytes, (asked, *wanted, *consumed));
     }
 }

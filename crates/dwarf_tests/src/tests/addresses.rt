@@ -4,8 +4,8 @@
 use super::worked::{CUT_SET, FOUR_ADDRESSES, TWO_SETS, twenty_words};
 use super::{Four, eof, reader_at, same};
 use dwarf_read_core::{
-    AddrEntryIter, AddrHeader, AddrHeaderIter, DebugAddr, DebugAddrBase, DebugAddrIndex,
-    EndianSlice, Error, Format, Reader, ReaderOffset, Result, RunTimeEndian,
+    AddrHeader, AddrHeaderIter, DebugAddr, DebugAddrBase, DebugAddrIndex, EndianSlice, Error,
+    Format, Reader, ReaderOffset, Result, RunTimeEndian,
 };
 use std::alloc::Global;
 use std::test::Fail;
@@ -159,26 +159,8 @@ fn next_length<R: Reader>(headers: &mut AddrHeaderIter<R>) -> Result<Option<u64>
     }
 }
 
-// What four calls return of a set's addresses.
-fn next_addresses<R: Reader>(entries: &mut AddrEntryIter<R>) -> Four {
-    [
-        next_address(entries),
-        next_address(entries),
-        next_address(entries),
-        next_address(entries),
-    ]
-}
-
-fn next_address<R: Reader>(entries: &mut AddrEntryIter<R>) -> Result<Option<u64>> {
-    entries.next()
-}
-
 pub(super) fn lengths_of<R: Reader>(section: &DebugAddr<R>) -> Result<Four> {
     Ok(next_lengths(&mut section.headers()?))
-}
-
-fn lengths_at(bytes: &[u8], first: u8) -> Result<Four> {
-    lengths_of(&reader_at(bytes, LITTLE, first).into())
 }
 
 // The first position, bytes, and what four calls return of their sets. No set follows an error.
@@ -220,18 +202,6 @@ static LENGTHS: &[(u8, &[u8], Four)] = &[
     (100, b"\x03\0\0\0\x05\0\x08", ended!(Err(eof!(107)))),
 ];
 
-#[test]
-fn sets_have_lengths_up_to_the_first_error(rt: HostRuntime) {
-    for (first, bytes, wanted) in LENGTHS {
-        same(&rt, lengths_at(bytes, *first), Ok(*wanted), bytes);
-    }
-}
-
-// The next header, where there has to be one.
-fn next_header<R: Reader>(headers: &mut AddrHeaderIter<R>) -> Result<AddrHeader<R>> {
-    headers.next()?.ok_or(Error::NoEntryAtGivenOffset(0))
-}
-
 // Appends the addresses of a set, up to the first error.
 fn append<R: Reader>(header: &AddrHeader<R>, addresses: &mut Vec<u64>) -> Result<()> {
     for address in header.entries()? {
@@ -256,10 +226,31 @@ pub(super) fn walk<R: Reader>(section: &DebugAddr<R>, addresses: &mut Vec<u64>) 
     Ok(())
 }
 
+// The lengths of four sets, and the outcome of a walk over all addresses.
+type Walked = (Result<Four>, Result<()>);
+
+fn walked<R: Reader>(section: &DebugAddr<R>, addresses: &mut Vec<u64>) -> Walked {
+    (lengths_of(section), walk(section, addresses))
+}
+
+// The same of these bytes. A call at a concrete reader takes long to prove, so there is one.
+fn walked_at(bytes: &[u8], first: u8, addresses: &mut Vec<u64>) -> Walked {
+    walked(&reader_at(bytes, LITTLE, first).into(), addresses)
+}
+
+#[test]
+fn sets_have_lengths_up_to_the_first_error(rt: HostRuntime) {
+    let mut found = Vec::new(rt.alloc());
+    for (first, bytes, wanted) in LENGTHS {
+        let (lengths, _) = walked_at(bytes, *first, &mut found);
+        same(&rt, lengths, Ok(*wanted), bytes);
+    }
+}
+
 // The addresses of the sets of these bytes, and the first error.
 fn addresses_in(mem: Global, bytes: &[u8], first: u8) -> (Vec<u64>, Result<()>) {
     let mut found = Vec::new(mem);
-    let outcome = walk(&reader_at(bytes, LITTLE, first).into(), &mut found);
+    let (_, outcome) = walked_at(bytes, first, &mut found);
     (found, outcome)
 }
 
@@ -288,44 +279,4 @@ fn cut_sets_end_early(rt: HostRuntime) {
         &FOUR_ADDRESSES[..1],
         "a cut set at 100",
     );
-}
-
-// What a copied iterator over addresses returns.
-fn addresses_of_copy<R: Reader + Clone>(entries: &AddrEntryIter<R>) -> Result<Four> {
-    Ok(next_addresses(&mut entries.clone()?))
-}
-
-// What a copied iterator over sets returns.
-fn lengths_of_copy<R: Reader + Clone>(headers: &AddrHeaderIter<R>) -> Result<Four> {
-    Ok(next_lengths(&mut headers.clone()?))
-}
-
-// The first set, by a copied iterator.
-fn first_of_copy<R: Reader + Clone>(headers: &AddrHeaderIter<R>) -> Result<AddrHeader<R>> {
-    next_header(&mut headers.clone()?)
-}
-
-// Whether a copy of a set equals it, and what a copied iterator over the copy's addresses returns.
-fn answers_of_copy<R: Reader + Clone + PartialEq>(header: &AddrHeader<R>) -> Result<(bool, Four)> {
-    let copy = header.clone()?;
-    Ok((copy == *header, addresses_of_copy(&copy.entries()?)?))
-}
-
-// What a copied iterator over sets returns, and the results of a copy of the first set.
-fn answers_of_copies<R: Reader + Clone + PartialEq>(
-    section: &DebugAddr<R>,
-) -> Result<(Four, (bool, Four))> {
-    let headers = section.headers()?;
-    let lengths = lengths_of_copy(&headers)?;
-    Ok((lengths, answers_of_copy(&first_of_copy(&headers)?)?))
-}
-
-#[test]
-fn copies_are_read_alike(rt: HostRuntime) {
-    let lengths = [Ok(Some(12)), Ok(Some(20)), Ok(None), Ok(None)];
-    let [first, second, ..] = FOUR_ADDRESSES;
-    let addresses = [Ok(Some(first)), Ok(Some(second)), Ok(None), Ok(None)];
-    let section = DebugAddr::from(EndianSlice::new(TWO_SETS, LITTLE));
-    let copies = answers_of_copies(&section);
-    same(&rt, copies, Ok((lengths, (true, addresses))), "copies");
 }

@@ -9,6 +9,7 @@ use dwarf_read_core::{
     DebugAddr, DebugStr, DebugStrOffset, DebugStrOffsets, EndianSlice, Endianity, Error,
     LittleEndian, Reader, ReaderAddress, ReaderOffset, ReaderOffsetId, Result, Section,
 };
+use std::alloc::Global;
 use std::fmt::Display;
 use std::test::Fail;
 
@@ -57,10 +58,8 @@ fn examples_of_tables(rt: HostRuntime) -> std::result::Result<(), Fail> {
     Ok(())
 }
 
-#[test]
-fn examples_of_caches(rt: HostRuntime) -> std::result::Result<(), Fail> {
-    let mem = rt.alloc();
-    let debug_abbrev = DebugAbbrev::new(UNIT, LittleEndian);
+// How many declarations a table from a cache has. The calls of a generic function take half as long to prove.
+fn cached<R: Reader<Offset = usize>>(mem: Global, debug_abbrev: DebugAbbrev<R>) -> Result<usize> {
     let offsets = [DebugAbbrevOffset(0), DebugAbbrevOffset(0)]
         .into_iter()
         .map(Ok);
@@ -71,8 +70,13 @@ fn examples_of_caches(rt: HostRuntime) -> std::result::Result<(), Fail> {
         offsets,
     )?;
     let table = cache.get(&debug_abbrev, DebugAbbrevOffset(0))?;
-    same(&rt, table.len(), 1, "cached");
-    Ok(())
+    Ok(table.len())
+}
+
+#[test]
+fn examples_of_caches(rt: HostRuntime) {
+    let debug_abbrev = DebugAbbrev::new(UNIT, LittleEndian);
+    same(&rt, cached(rt.alloc(), debug_abbrev), Ok(1), "cached");
 }
 
 // The bytes of a section of a file, by its name.

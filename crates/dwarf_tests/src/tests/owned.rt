@@ -2,7 +2,7 @@
 
 use super::addresses::{lengths_of, walk};
 use super::worked::{FOUR_ADDRESSES, STRINGS, TWO_SETS, UNIT};
-use super::{end_requests, eof, same};
+use super::{Four, end_requests, eof, same};
 use dwarf_read_core::{
     Abbreviations, AbbreviationsCache, AbbreviationsCacheStrategy, AddrHeaderIter, DebugAbbrev,
     DebugAbbrevOffset, DebugAddr, DebugAddrBase, DebugAddrIndex, DebugStr, DebugStrOffset,
@@ -81,15 +81,6 @@ const LONG: &[u8] = &[0xff, 0xff, 0xff, 0xff, 0, 0, 0, 0, 1, 0, 0, 0];
 fn initial_length(mem: Global) -> Result<(Result<(u32, Format)>, u64)> {
     let mut input = owned(mem, LONG, 0)?;
     Ok((input.read_initial_length(), input.offset_id().0))
-}
-
-fn addresses(mem: Global, bytes: &[u8], depth: u8) -> Result<DebugAddr<Owned>> {
-    Ok(DebugAddr::from(owned(mem, bytes, depth)?))
-}
-
-// What four calls return of the sets, of readers whose clones may go so deep.
-fn lengths(mem: Global, bytes: &[u8], depth: u8) -> Result<[Result<Option<u64>>; 4]> {
-    lengths_of(&addresses(mem, bytes, depth)?)
 }
 
 // The offset that an index names.
@@ -255,11 +246,6 @@ fn answers_at(mem: Global, depth: u8) -> Result<Answers> {
     Ok(answers_of(mem, tables, strings, addresses))
 }
 
-// Appends the addresses of all sets of an owned section, up to the first error.
-fn append(addresses: &DebugAddr<Owned>, found: &mut Vec<u64>) -> Result<()> {
-    walk(addresses, found)
-}
-
 #[test]
 fn refused_clones_are_returned(rt: HostRuntime) -> std::result::Result<(), Fail> {
     let mem = rt.alloc();
@@ -298,16 +284,43 @@ fn fault_of_next<R: Reader>(headers: &mut AddrHeaderIter<R>) -> Result<Option<Er
     }
 }
 
+// What is returned of a section's sets: the lengths of four, the error in place of the first set's addresses, and the
+// outcome of a walk over all addresses.
+type Walked = (Result<Four>, Result<Option<Error>>, Result<()>);
+
+fn walked<R: Reader>(section: &DebugAddr<R>, found: &mut Vec<u64>) -> Walked {
+    (
+        lengths_of(section),
+        fault_of_entries(section),
+        walk(section, found),
+    )
+}
+
+// The same of a reader whose clones may go so deep. A call at a concrete reader takes long to prove, so there is one.
+fn walked_at(mem: Global, bytes: &[u8], depth: u8, found: &mut Vec<u64>) -> Result<Walked> {
+    Ok(walked(&DebugAddr::from(owned(mem, bytes, depth)?), found))
+}
+
+// The lengths alone.
+fn lengths(mem: Global, bytes: &[u8], depth: u8) -> Result<Four> {
+    walked_at(mem, bytes, depth, &mut Vec::new(mem))?.0
+}
+
 // An iterator that returned OutOfMemory has no other item.
 #[test]
 fn refused_clones_end_a_walk(rt: HostRuntime) -> std::result::Result<(), Fail> {
     let mem = rt.alloc();
-    let sets = [Err(Error::OutOfMemory), Ok(None), Ok(None), Ok(None)];
-    same(&rt, lengths(mem, TWO_SETS, 1), Ok(sets), "1");
-    let fault = fault_of_entries(&addresses(mem, TWO_SETS, 2)?);
-    same(&rt, fault, Ok(Some(Error::OutOfMemory)), "2");
-    let mut found = Vec::new(mem);
-    let outcome = append(&addresses(mem, TWO_SETS, 3)?, &mut found);
+    let (refused, mut found) = (Error::OutOfMemory, Vec::new(mem));
+    same(
+        &rt,
+        lengths(mem, TWO_SETS, 1),
+        Ok(ended!(Err(refused))),
+        "1",
+    );
+    let (_, fault, _) = walked_at(mem, TWO_SETS, 2, &mut found)?;
+    same(&rt, fault, Ok(Some(refused)), "2");
+    same(&rt, found.is_empty(), true, "2");
+    let (_, _, outcome) = walked_at(mem, TWO_SETS, 3, &mut found)?;
     same(&rt, outcome, Ok(()), "3");
     same(&rt, found.as_slice(), FOUR_ADDRESSES.as_slice(), "3");
     Ok(())
@@ -317,9 +330,8 @@ fn refused_clones_end_a_walk(rt: HostRuntime) -> std::result::Result<(), Fail> {
 #[test]
 fn refused_memory_for_clones(rt: HostRuntime) {
     let mem = rt.alloc();
-    if let Ok(section) = addresses(mem, TWO_SETS, 3) {
-        let mut found = Vec::new(mem);
-        let outcome = append(&section, &mut found);
+    let mut found = Vec::new(mem);
+    if let Ok((_, _, outcome)) = walked_at(mem, TWO_SETS, 3, &mut found) {
         let count = found.len().min(4);
         same(&rt, found.as_slice(), &FOUR_ADDRESSES[..count], "sets");
         match outcome {

@@ -3,7 +3,7 @@
 use super::{little, same};
 use dwarf_read_core::{
     DebugAbbrev, DebugAddr, DebugLineStr, DebugStr, DebugStrOffsets, EndianSlice, Error,
-    LittleEndian, Reader, ReaderOffsetId, Result, Section, SectionId,
+    LittleEndian, Reader, ReaderOffset, ReaderOffsetId, Result, Section, SectionId,
 };
 use std::process::Abort;
 
@@ -53,9 +53,33 @@ fn check_sections<R: Reader + Copy>(rt: &impl Abort, reader: R) {
     check_section::<R, DebugLineStr<R>>(rt, reader, SectionId::DebugLineStr);
 }
 
+// Ends the test where positions beside and in three bytes at position 100 are other places.
+fn check_places<R: Reader>(rt: &impl Abort, section: &DebugLineStr<R>) {
+    let lines = SectionId::DebugLineStr;
+    for (id, wanted) in [
+        (99, None),
+        (100, Some((lines, 0))),
+        (103, Some((lines, 3))),
+        (104, None),
+    ] {
+        let found = match section.lookup_offset_id(ReaderOffsetId(id)) {
+            Some((section, offset)) => Some((section, offset.into_u64())),
+            None => None,
+        };
+        same(rt, found, wanted, id);
+    }
+}
+
+// A call at a concrete reader takes long to prove, so there is one for both.
+fn check_ranges_and_places<R: Reader + Copy>(rt: &impl Abort, ten: R, three_at_100: R) {
+    check_sections(rt, ten);
+    check_places(rt, &DebugLineStr::from(three_at_100));
+}
+
 #[test]
-fn sections_have_identifiers_and_ranges(rt: HostRuntime) {
-    check_sections(&rt, little(b"0123456789"));
+fn sections_have_identifiers_ranges_and_places(rt: HostRuntime) {
+    let three = EndianSlice::with_first_id(b"abc", LittleEndian, ReaderOffsetId(100));
+    check_ranges_and_places(&rt, little(b"0123456789"), three);
 }
 
 // A loader that has strings alone.
@@ -79,26 +103,6 @@ fn sections_are_loaded(rt: HostRuntime) {
     }
     let section: std::result::Result<DebugAddr<Slice<'_>>, SectionId> = DebugAddr::load(load);
     same(&rt, section.err(), Some(SectionId::DebugAddr), "addresses");
-}
-
-#[test]
-fn identifiers_are_places_of_a_section(rt: HostRuntime) {
-    let reader = EndianSlice::with_first_id(b"abc", LittleEndian, ReaderOffsetId(100));
-    let section = DebugLineStr::from(reader);
-    let lines = SectionId::DebugLineStr;
-    for (id, wanted) in [
-        (99, None),
-        (100, Some((lines, 0))),
-        (103, Some((lines, 3))),
-        (104, None),
-    ] {
-        same(
-            &rt,
-            section.lookup_offset_id(ReaderOffsetId(id)),
-            wanted,
-            id,
-        );
-    }
 }
 
 fn borrowed<'a>(bytes: &'a [u8; 4]) -> Slice<'a> {

@@ -12,14 +12,16 @@ use std::alloc::Global;
 
 // Two sets, the first in the 32-bit format with two offsets, the second in the 64-bit format with
 // one, and with padding that isn't zero.
-const TWO_SETS: &[u8] = b"\x0c\0\0\0\x05\0\0\0\xe8\x03\0\0\xe9\x03\0\0\
+pub(super) const TWO_SETS: &[u8] = b"\x0c\0\0\0\x05\0\0\0\xe8\x03\0\0\xe9\x03\0\0\
     \xff\xff\xff\xff\x0c\0\0\0\0\0\0\0\x05\0\x34\x12\xe8\x03\0\0\0\0\0\0";
 
 // A set with the offset 2^32.
 const LARGE_OFFSET: [u8; 24] = *b"\xff\xff\xff\xff\x0c\0\0\0\0\0\0\0\x05\0\0\0\0\0\0\0\x01\0\0\0";
 
 // The next header, where there has to be one.
-fn next_header<R: Reader>(headers: &mut StrOffsetsHeaderIter<R>) -> Result<StrOffsetsHeader<R>> {
+pub(super) fn next_header<R: Reader>(
+    headers: &mut StrOffsetsHeaderIter<R>,
+) -> Result<StrOffsetsHeader<R>> {
     headers.next()?.ok_or(Error::NoEntryAtGivenOffset(0))
 }
 
@@ -129,49 +131,6 @@ fn entries_are_found_by_their_index(rt: HostRuntime) {
         let offset = offset_at(TWO_SETS, RunTimeEndian::Little, *format, *base, *index);
         same(&rt, offset, Ok(*wanted), (base, index));
     }
-}
-
-// What a copied iterator over offsets returns.
-fn offsets_of_copy<R: Reader + Clone>(entries: &StrOffsetsEntryIter<R>) -> Result<Four> {
-    Ok(next_offsets(&mut entries.clone()?))
-}
-
-// What a copied iterator over sets returns.
-fn lengths_of_copy<R: Reader + Clone>(headers: &StrOffsetsHeaderIter<R>) -> Result<Four> {
-    Ok(next_lengths(&mut headers.clone()?))
-}
-
-// The first set, by a copied iterator.
-fn first_of_copy<R: Reader + Clone>(
-    headers: &StrOffsetsHeaderIter<R>,
-) -> Result<StrOffsetsHeader<R>> {
-    next_header(&mut headers.clone()?)
-}
-
-// Whether a copy of a set equals it, and what a copied iterator over the copy's offsets returns.
-fn answers_of_copy<R: Reader + Clone + PartialEq>(
-    header: &StrOffsetsHeader<R>,
-) -> Result<(bool, Four)> {
-    let copy = header.clone()?;
-    Ok((copy == *header, offsets_of_copy(&copy.entries()?)?))
-}
-
-// What a copied iterator over sets returns, and the results of a copy of the first set.
-fn answers_of_copies<R: Reader + Clone + PartialEq>(
-    section: &DebugStrOffsets<R>,
-) -> Result<(Four, (bool, Four))> {
-    let headers = section.headers()?;
-    let lengths = lengths_of_copy(&headers)?;
-    Ok((lengths, answers_of_copy(&first_of_copy(&headers)?)?))
-}
-
-#[test]
-fn copies_are_read_alike(rt: HostRuntime) {
-    let lengths = [Ok(Some(12)), Ok(Some(12)), Ok(None), Ok(None)];
-    let offsets = [Ok(Some(1000)), Ok(Some(1001)), Ok(None), Ok(None)];
-    let section = DebugStrOffsets::from(EndianSlice::new(TWO_SETS, LittleEndian));
-    let copies = answers_of_copies(&section);
-    same(&rt, copies, Ok((lengths, (true, offsets))), "copies");
 }
 
 // The results of a section with the offset 2^32, whose reader counts in 32 bits and whose clones may go so deep.

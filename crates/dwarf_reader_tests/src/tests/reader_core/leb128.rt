@@ -1,6 +1,6 @@
 //! LEB128 numbers, read and written.
 
-use super::{Call, Numbers, check_numbers, number_at};
+use super::{Call, Numbers, check_call, check_numbers};
 use crate::tests::same;
 use dwarf_base_core::Error;
 use dwarf_reader_core::leb128::write::{Leb128, sleb128_size, uleb128_size};
@@ -160,15 +160,13 @@ fn padded(written: &Leb128) -> [u8; 1024] {
 fn written_numbers_are_read(rt: HostRuntime) {
     for value in 0..1025u64 {
         let written = Leb128::unsigned(value);
-        let wanted = (Ok(i128::from(value)), written.len() as u64);
-        let found = number_at(&padded(&written), Call::Uleb);
-        same(&rt, found, wanted, value);
+        let step = (Call::Uleb, Ok(i128::from(value)), written.len() as u64);
+        check_call(&rt, &padded(&written), step);
     }
     for value in (-513..513i64).chain([i64::MIN]) {
         let written = Leb128::signed(value);
-        let wanted = (Ok(i128::from(value)), written.len() as u64);
-        let found = number_at(&padded(&written), Call::Sleb);
-        same(&rt, found, wanted, i128::from(value));
+        let step = (Call::Sleb, Ok(i128::from(value)), written.len() as u64);
+        check_call(&rt, &padded(&written), step);
     }
 }
 
@@ -178,9 +176,8 @@ fn bytes_carry_seven_bits(rt: HostRuntime) {
     for digit in 0..127u8 {
         let wide = u64::from(digit);
         let wanted = Ok(i128::from(digit));
-        same(&rt, number_at(&[digit], Call::Uleb), (wanted, 1), wide);
-        let padded = number_at(&[digit + 128, 0], Call::Uleb);
-        same(&rt, padded, (wanted, 2), wide);
+        check_call(&rt, &[digit], (Call::Uleb, wanted, 1));
+        check_call(&rt, &[digit + 128, 0], (Call::Uleb, wanted, 2));
         for number in [65536 + wide, 65536 * wide + wide + 128] {
             let written = Leb128::unsigned(number);
             same(&rt, written.bytes().first(), Some(&(digit + 128)), number);

@@ -1,11 +1,11 @@
 //! Readers: numbers of a fixed width, lengths, positions, parts and texts.
 
 use super::{
-    BIG, Call, LITTLE, Numbers, Row, Step, check_calls, check_numbers, check_steps, little,
-    number_at,
+    BIG, Call, LITTLE, Numbers, Row, Step, check_call, check_calls, check_numbers, check_reader,
+    little,
 };
 use crate::tests::{end_requests, hash_of, same};
-use dwarf_base_core::{Error, Format, ReaderOffsetId, Result, RunTimeEndian};
+use dwarf_base_core::{Error, Format, Result, RunTimeEndian};
 use dwarf_reader_core::{EndianSlice, Reader};
 use std::alloc::Global;
 use std::process::Abort;
@@ -225,9 +225,7 @@ static POSITIONS: &[Step] = &[
 
 #[test]
 fn positions_begin_at_the_first(rt: HostRuntime) {
-    let bytes = &[0x80];
-    let mut section = EndianSlice::with_first_id(bytes, LITTLE, ReaderOffsetId(100));
-    check_steps(&rt, &mut section, bytes, POSITIONS);
+    check_reader(&rt, LITTLE, 100, &[0x80], POSITIONS);
 }
 
 fn check_part(rt: &impl Abort, part: EndianSlice<'_, RunTimeEndian>, wanted: &[u8], position: u64) {
@@ -254,10 +252,9 @@ fn parts_are_cut(rt: HostRuntime) {
 #[test]
 fn long_slices_are_searched(rt: HostRuntime) {
     let mut bytes = [0xff; 70];
-    let none = number_at(&bytes, Call::Find(0)).0;
+    check_call(&rt, &bytes, (Call::Find(0), Err(eof!(0)), 0));
     bytes[69] = 0;
-    let found = (none, number_at(&bytes, Call::Find(0)).0);
-    same(&rt, found, (Err(eof!(0)), Ok(69)), "no zero, and a zero");
+    check_call(&rt, &bytes, (Call::Find(0), Ok(69), 0));
 }
 
 #[test]
