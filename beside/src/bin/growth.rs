@@ -131,14 +131,16 @@ fn most_bytes(call: &dyn Fn()) -> usize {
 
 #[no_mangle]
 #[inline(never)]
-extern "C" fn gimli_counted(call: &&dyn Fn()) {
-    call();
+fn gimli_counted(section: &[u8]) {
+    let table = DebugAbbrev::new(section, LittleEndian).abbreviations(DebugAbbrevOffset(0));
+    assert!(table.expect("a table").get(0).is_none());
 }
 
 #[no_mangle]
 #[inline(never)]
-extern "C" fn ours_counted(call: &&dyn Fn()) {
-    call();
+fn ours_counted(section: &[u8], count: u64) {
+    let found = unsafe { beside_tables(section.as_ptr(), section.len(), [0].as_ptr(), 1) };
+    assert_eq!(found as u64, count);
 }
 
 fn main() {
@@ -153,17 +155,11 @@ fn main() {
         _ => it,
     });
     made::shaped_table(&mut random, codes, &mut section);
-    let gimli = || {
-        let table = DebugAbbrev::new(&section, LittleEndian).abbreviations(DebugAbbrevOffset(0));
-        assert!(table.expect("a table").get(0).is_none());
-    };
-    let ours = || {
-        let found = unsafe { beside_tables(section.as_ptr(), section.len(), [0].as_ptr(), 1) };
-        assert_eq!(found as u64, count);
-    };
+    let gimli = || gimli_counted(&section);
+    let ours = || ours_counted(&section, count);
     if is_counted {
-        gimli_counted(&(&gimli as &dyn Fn()));
-        ours_counted(&(&ours as &dyn Fn()));
+        gimli();
+        ours();
         return println!("{}\t{count}", words[0]);
     }
     let bytes = (most_bytes(&gimli), most_bytes(&ours));
