@@ -52,6 +52,7 @@ trait Listed: Drop {
 
     ghost lists: { Self → Result (List ℕ) Error → Type 0 };
 
+    // Appends the lines of the item, or returns the error that takes their place.
     fn push_lines(&self, text: &mut Vec<u8>) -> Result<(), Error>
         ensures { AppendsText (lists self.now) text.old.items text.new.items result };
 }

@@ -56,7 +56,7 @@ abbrev pub numbered : ℕ → List Declaration → List (ℕ × Declaration)
 numbered code [] = []
 numbered code (d ∷ ds) = (code, d) ∷ numbered (suc code) ds
 
--- the declarations of a vector with the codes from 1 on, and then those of a map
+-- the declarations of a vector with the codes from 1 on, and then the others with their codes
 abbrev pub entries_of : List Declaration → List (ℕ × Declaration) → List (ℕ × Declaration)
 entries_of ds es = numbered 1 ds ++ es
 
@@ -65,11 +65,11 @@ abbrev pub others_rest : OthersIter → List Declaration
 others_rest (InOrder rest) = deque_iter_rest rest
 others_rest (ByPlace rest) = rest
 
--- the table that a vector, a map and a close represent
+-- the table that a vector, the others and a close represent
 abbrev pub abbreviations_view : abbreviations.Inside → Table
 abbreviations_view a = closed (from_entries (entries_of a.vec.items a.others)) (close_from a.closed_by_null)
 
--- the codes of the map are above those of the vector, and each declaration has the code by which it is found, which
+-- the other codes are above those of the vector, and each declaration has the code by which it is found, which
 -- isn't 0
 pub record AreKeyed (ds : List Declaration) (es : List (ℕ × Declaration)) : Type 0 where
   pub apart : (code : ℕ) → code ≤ length ds → lookup (is_at (nat_cmp code)) es ≡ None

@@ -1,4 +1,4 @@
--- A vector of the first abbreviations and a map of the others are one finite map.
+-- A vector of the first abbreviations, and the others, are one finite map.
 use Rattle.std.proofs.Common.{◌≡◌, ℕ, zero, suc, ◌+◌, ◌<◌, ◌≤◌, eqb, get_or, ◌++◌, arith, Bool, true, false, cond, List, [], ◌∷◌, length, map, Option, Some, None, Result, Ok, Err, OnOk, OnErr, Bor, refl, sym, ap, ◌∙◌, inl, inr, ◌⊎◌, length-append}
 use Rattle.std.specs.Prelude.{is_some, option_copied}
 use Rattle.std.specs.Ordering.{nat_cmp}
@@ -60,7 +60,7 @@ pub len_kept : (es : List (ℕ × Declaration)) → IsStrictlySortedBy nat_cmp (
     → len (from_entries {R = nat_cmp} es) ≡ length es
 len_kept es h = len-entries (from_entries {R = nat_cmp} es) ∙ ap length (entries_kept es h)
 
--- ---- a vector of the first codes, and a map of the others
+-- ---- a vector of the first codes, and the others
 
 abbrev at : ℕ → List (ℕ × Declaration) → Option Declaration
 at q es = lookup (is_at (nat_cmp q)) es
@@ -74,7 +74,7 @@ at_first : (q k : ℕ) (d : Declaration) (es : List (ℕ × Declaration)) (t : B
     → at q ((k, d) ∷ es) ≡ cond t (Some d) (at q es)
 at_first q k d es t e = ap (λ b. cond b (Some d) (at q es)) (same_code q k ∙ e)
 
--- a code below those of the vector is looked up in the map
+-- a code below those of the vector is looked up among the others
 at_below : (k q : ℕ) (ds : List Declaration) (more : List (ℕ × Declaration)) → q < k
     → at q (numbered k ds ++ more) ≡ at q more
 at_below k q [] more lt = refl
@@ -82,7 +82,7 @@ at_below k q (d ∷ ds) more lt =
     at_first q k d (numbered (suc k) ds ++ more) false (ne_eqb q k (λ e. omega arith))
     ∙ at_below (suc k) q ds more (omega arith)
 
--- a code above those of the vector is looked up in the map
+-- a code above those of the vector is looked up among the others
 at_above : (k q : ℕ) (ds : List Declaration) (more : List (ℕ × Declaration)) → k + length ds ≤ q
     → at q (numbered k ds ++ more) ≡ at q more
 at_above k q [] more le = refl
@@ -132,7 +132,7 @@ at_push k q (x ∷ ds) d more = go (eqb q k) refl (at_push (suc k) q ds d more)
         ∙ ap (cond (is_at (nat_cmp (k + length (x ∷ ds))) q) (Some d))
         (sym (at_first q k x (numbered (suc k) ds ++ more) false e))
 
--- one more declaration in the map changes the lookup of its code alone
+-- one more declaration among the others changes the lookup of its code alone
 at_insert : (k q c : ℕ) (ds : List Declaration) (d : Declaration) (es fs : List (ℕ × Declaration))
     → k + length ds ≤ c → at q fs ≡ cond (is_at (nat_cmp c) q) (Some d) (at q es)
     → at q (numbered k ds ++ fs) ≡ cond (is_at (nat_cmp c) q) (Some d) (at q (numbered k ds ++ es))
@@ -156,7 +156,7 @@ none_of_no : (o : Option Declaration) → is_some o ≡ false → o ≡ None
 none_of_no None e = refl
 none_of_no (Some d) e = absurd (cc)
 
--- a map that is empty, or that doesn't have a code, has no declaration at that code
+-- a list of entries that is empty, or that doesn't have a code, has no declaration at that code
 pub none_at : (code : ℕ) (es : List (ℕ × Declaration)) → (length es ≡ 0) ⊎ (is_some (at code es) ≡ false)
     → at code es ≡ None
 none_at code es (inl empty) = ap (at code) (nil_from_length es empty)
@@ -168,7 +168,7 @@ pub missed : (o : Option (Bor Declaration)) (code : ℕ) (es : List (ℕ × Decl
 missed None code es same none = ap is_some (sym same)
 missed (Some x) code es same none = absurd (cc)
 
--- a push to the vector is an insertion into the map that vector and map make
+-- a push to the vector is an insertion into the map that vector and others make
 pub table_pushed : (ds : List Declaration) (es : List (ℕ × Declaration)) (code : ℕ) (d : Declaration)
     → code ≡ 1 + length ds → from_entries {R = nat_cmp} (numbered 1 (ds ++ d ∷ []) ++ es)
     ≡ insert (from_entries (entries_of ds es)) code d
@@ -176,20 +176,20 @@ table_pushed ds es code d e =
     inserted (entries_of ds es) (numbered 1 (ds ++ d ∷ []) ++ es) code d
     (λ q. at_push 1 q ds d es ∙ ap (λ n. cond (is_at (nat_cmp n) q) (Some d) (at q (entries_of ds es))) (sym e))
 
--- the map that vector and map make lacks the vector's next code if the map does
+-- the map that vector and others make lacks the vector's next code if the others do
 pub lacks_next : (ds : List Declaration) (es : List (ℕ × Declaration)) (code : ℕ) → code ≡ 1 + length ds
     → at code es ≡ None → contains_key (from_entries {R = nat_cmp} (entries_of ds es)) code ≡ false
 lacks_next ds es code e none =
     ap is_some (get_is_lookup (entries_of ds es) code ∙ at_above 1 code ds es (omega arith) ∙ none)
 
--- an insertion into the map above the vector's codes is an insertion into the map that vector and map make
+-- an insertion among the others above the vector's codes is an insertion into the map that vector and others make
 pub table_put : (ds : List Declaration) (es fs : List (ℕ × Declaration)) (code : ℕ) (d : Declaration)
     → length ds < code → ((q : ℕ) → at q fs ≡ cond (is_at (nat_cmp code) q) (Some d) (at q es))
     → from_entries {R = nat_cmp} (entries_of ds fs) ≡ insert (from_entries (entries_of ds es)) code d
 table_put ds es fs code d lt h =
     inserted (entries_of ds es) (entries_of ds fs) code d (λ q. at_insert 1 q code ds d es fs (omega arith) (h q))
 
--- the map that vector and map make has at a code of the vector the declaration at that index
+-- the map that vector and others make has at a code of the vector the declaration at that index
 pub found_in_vec : (ds : List Declaration) (es : List (ℕ × Declaration)) (code index : ℕ) (d : Declaration)
     → code ≡ index + 1 → index < length ds
     → get (from_entries {R = nat_cmp} (entries_of ds es)) code ≡ Some (get_or ds index d)
@@ -197,12 +197,12 @@ found_in_vec ds es code index d e lt =
     let place : code ≡ 1 + index = omega arith in
     get_is_lookup (entries_of ds es) code ∙ ap (λ q. at q (entries_of ds es)) place ∙ at_within 1 index ds es d lt
 
--- the map that vector and map make has at a code above the vector's what the map has
+-- the map that vector and others make has at a code above the vector's what the others have
 pub found_in_map : (ds : List Declaration) (es : List (ℕ × Declaration)) (code : ℕ) → length ds < code
     → get (from_entries {R = nat_cmp} (entries_of ds es)) code ≡ at code es
 found_in_map ds es code lt = get_is_lookup (entries_of ds es) code ∙ at_above 1 code ds es (omega arith)
 
--- the map that vector and map make lacks code 0
+-- the map that vector and others make lacks code 0
 pub zero_not_found : (ds : List Declaration) (es : List (ℕ × Declaration)) (code : ℕ) → code ≡ 0 → AreKeyed ds es
     → get (from_entries {R = nat_cmp} (entries_of ds es)) code ≡ None
 zero_not_found ds es code zero_code kept =
@@ -214,7 +214,7 @@ zero_not_found ds es code zero_code kept =
 pub less : (a b : ℕ) → a < b → nat_cmp a b ≡ Less
 less a b lt = grind (arith, nat_tests)
 
--- if the map lacks each code up to n, all its keys are above n
+-- if the others lack each code up to n, all their keys are above n
 keys_above : (n : ℕ) (es : List (ℕ × Declaration)) → ((q : ℕ) → q ≤ n → at q es ≡ None)
     → AllByRecursion (λ y. n < y) (map (λ e. e.0) es)
 keys_above n [] h = tt
@@ -235,14 +235,14 @@ weaker : (k n : ℕ) (ks : List ℕ) → k ≤ n → AllByRecursion (λ y. n < y
 weaker k n [] le h = tt
 weaker k n (y ∷ ks) le h = (less k y (let w = h.0 in omega arith), weaker k n ks le h.1)
 
--- a code below those of the vector and of the map is below all of them
+-- a code below those of the vector and of the others is below all of them
 numbered_above : (k j : ℕ) (ds : List Declaration) (es : List (ℕ × Declaration)) → k < j
     → AllByRecursion (λ y. nat_cmp k y ≡ Less) (map (λ e. e.0) es)
     → AllByRecursion (λ y. nat_cmp k y ≡ Less) (map (λ e. e.0) (numbered j ds ++ es))
 numbered_above k j [] es lt h = h
 numbered_above k j (d ∷ ds) es lt h = (less k j lt, numbered_above k (suc j) ds es (omega arith) h)
 
--- the entries of the vector and then of the map are sorted, if the keys of the map are sorted and above
+-- the entries of the vector and then of the others are sorted, if the keys of the others are sorted and above
 numbered_sorted : (k : ℕ) (ds : List Declaration) (es : List (ℕ × Declaration)) (n : ℕ) → k + length ds ≤ n + 1
     → AllByRecursion (λ y. n < y) (map (λ e. e.0) es) → IsStrictlySortedBy nat_cmp (map (λ e. e.0) es)
     → IsStrictlySortedBy nat_cmp (map (λ e. e.0) (numbered k ds ++ es))
@@ -254,32 +254,32 @@ numbered_sorted k (d ∷ ds) es n le above h = (
   numbered_sorted (suc k) ds es n (omega arith) above h,
 )
 
--- the entries of a table's vector and then of its map are sorted if those of the map are
+-- the entries of a table's vector and then of its others are sorted if those of the others are
 sorted_of_both : (ds : List Declaration) (es : List (ℕ × Declaration)) → AreKeyed ds es
     → IsStrictlySortedBy nat_cmp (map (λ e. e.0) es)
     → IsStrictlySortedBy nat_cmp (map (λ e. e.0) (entries_of ds es))
 sorted_of_both ds es kept sorted =
     numbered_sorted 1 ds es (length ds) (omega arith) (keys_above (length ds) es kept.apart) sorted
 
--- vector and map have as many entries as both together
+-- vector and others have as many entries as both together
 length_numbered : (k : ℕ) (ds : List Declaration) (es : List (ℕ × Declaration))
     → length (numbered k ds ++ es) ≡ length ds + length es
 length_numbered k [] es = omega arith
 length_numbered k (d ∷ ds) es = omega (arith, length_numbered (suc k) ds es)
 
--- the map that vector and map make has as many entries as both together
+-- the map that vector and others make has as many entries as both together
 pub table_len : (ds : List Declaration) (es : List (ℕ × Declaration)) → AreKeyed ds es
     → IsStrictlySortedBy nat_cmp (map (λ e. e.0) es)
     → len (from_entries {R = nat_cmp} (entries_of ds es)) ≡ length ds + length es
 table_len ds es kept sorted = len_kept (entries_of ds es) (sorted_of_both ds es kept sorted) ∙ length_numbered 1 ds es
 
--- the values of the entries are the declarations of the vector and then those of the map
+-- the values of the entries are the declarations of the vector and then those of the others
 values_numbered : (k : ℕ) (ds : List Declaration) (es : List (ℕ × Declaration))
     → map (λ e. e.1) (numbered k ds ++ es) ≡ ds ++ map (λ e. e.1) es
 values_numbered k [] es = refl
 values_numbered k (d ∷ ds) es = ap (λ rest. d ∷ rest) (values_numbered (suc k) ds es)
 
--- the values of the map that vector and map make are those of the vector and then those of the map
+-- the values of the map that vector and others make are those of the vector and then those of the others
 pub table_values : (ds : List Declaration) (es : List (ℕ × Declaration)) → AreKeyed ds es
     → IsStrictlySortedBy nat_cmp (map (λ e. e.0) es)
     → values (from_entries {R = nat_cmp} (entries_of ds es)) ≡ ds ++ map (λ e. e.1) es
@@ -287,7 +287,7 @@ table_values ds es kept sorted =
     ap (map (λ (e : ℕ × Declaration). e.1)) (entries_kept (entries_of ds es) (sorted_of_both ds es kept sorted))
     ∙ values_numbered 1 ds es
 
--- ---- what stays true of vector and map
+-- ---- what stays true of vector and others
 
 -- if entries are changed at one code, by a declaration with that code, all declarations still have their codes
 keyed_by_update : (es fs : List (ℕ × Declaration)) (code : ℕ) (d : Declaration)
@@ -304,7 +304,7 @@ keyed_by_update es fs code d h same above keyed q x found = go (is_at (nat_cmp c
         (sym (ap (λ (y : Declaration). y.code) one) ∙ same ∙ sym is, omega arith)
     go false e = keyed q x (sym (h q ∙ ap (λ b. cond b (Some d) (at q es)) e) ∙ found)
 
--- a declaration that is found in the map has the code by which it is found
+-- a declaration that is found among the others has the code by which it is found
 pub keyed_in_map : (ds : List Declaration) (es : List (ℕ × Declaration)) (code : ℕ) (d : Declaration)
     → AreKeyed ds es → at code es ≡ Some d → (d.code ≡ code) × (0 < code)
 keyed_in_map ds es code d kept h = elim (cases_lt (length ds) code) [
@@ -319,7 +319,7 @@ keyed_in_vec ds es code index d kept e lt =
     let place : code ≡ 1 + index = omega arith in
     (kept.keyed code (get_or ds index d) (ap (λ q. at q (entries_of ds es)) place ∙ at_within 1 index ds es d lt)).0
 
--- a push of a declaration with the vector's next code, which the map lacks, leaves all declarations at their codes
+-- a push of a declaration with the vector's next code, which the others lack, leaves all declarations at their codes
 pub keyed_pushed : (ds : List Declaration) (es : List (ℕ × Declaration)) (code : ℕ) (d : Declaration)
     → code ≡ 1 + length ds → d.code ≡ code → at code es ≡ None → AreKeyed ds es → AreKeyed (ds ++ d ∷ []) es
 keyed_pushed ds es code d e same none kept = record {
@@ -335,7 +335,7 @@ keyed_pushed ds es code d e same none kept = record {
       | inr low ↦ kept.apart q low
     ]
 
--- an insertion into the map at a code above the vector's leaves all declarations at their codes
+-- an insertion among the others at a code above the vector's leaves all declarations at their codes
 pub keyed_put : (ds : List Declaration) (es fs : List (ℕ × Declaration)) (code : ℕ) (d : Declaration)
     → length ds < code → ((q : ℕ) → at q fs ≡ cond (is_at (nat_cmp code) q) (Some d) (at q es)) → d.code ≡ code
     → AreKeyed ds es → AreKeyed ds fs
@@ -352,15 +352,15 @@ pub keyed_inserted : {A E : Type 0} (r : Result A E) (ds : List Declaration) (es
 keyed_inserted (Ok a) ds es fs d lt added same kept = keyed_put ds es fs d.code d lt added.added refl kept
 keyed_inserted (Err e) ds es fs d lt added same kept = rw same kept
 
--- the map that vector and map make has the code one above each index of the vector
+-- the map that vector and others make has the code one above each index of the vector
 pub has_in_vec : (ds : List Declaration) (es : List (ℕ × Declaration)) (code index : ℕ) → code ≡ index + 1
     → index < length ds → contains_key (from_entries {R = nat_cmp} (entries_of ds es)) code ≡ true
 has_in_vec ds es code index e lt =
     ap is_some (found_in_vec ds es code index
     (record { code = 0; tag = 0; children = false; attributes = [] }) e lt)
 
--- what an insertion makes of vector and map
+-- what an insertion makes of vector and others
 pub ruleset insertion = (has_in_vec, found_in_map, table_pushed, table_put, keyed_put)
 
--- what vector and map have at a code
+-- what vector and others have at a code
 pub ruleset lookup_steps = (found_in_vec, found_in_map, zero_not_found, keyed_in_vec, keyed_in_map)
