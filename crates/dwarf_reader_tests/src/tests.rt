@@ -84,7 +84,7 @@ fn name_of(family: Family, digits: &str) -> Option<&'static str> {
 }
 
 // Each line has a name, and the value that is published for it. The macro `names!` makes the name of a value from
-// the constant itself. So the constant has the value, too. Text costs no proof of its rows, as an array would.
+// the constant itself. So the constant has the value, too.
 fn check_lines(rt: &impl Abort, family: Family, lines: &str) {
     for line in lines.lines() {
         let (name, digits) = line.split_once(" = 0x").unwrap_or((line, ""));

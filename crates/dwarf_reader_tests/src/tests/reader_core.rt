@@ -1,8 +1,7 @@
 //! LEB128 numbers, and readers.
 //!
-//! Most tests are rows of bytes, and of calls with what they return. A call at a concrete reader takes long to prove,
-//! and so does each comparison. So the calls are in functions that are generic in the reader, one loop compares all
-//! rows, and what a call returns is one type: a number.
+//! Most tests are rows of bytes, and of calls with what they return. The calls are in functions that are generic in the
+//! reader, one loop compares all rows, and what a call returns is one type: a number.
 
 use super::same;
 use dwarf_base_core::{Error, Format, ReaderOffset, ReaderOffsetId, Result, RunTimeEndian};
@@ -81,7 +80,7 @@ fn outcome<R: Reader>(input: &mut R, call: Call) -> Result<i128> {
     }
 }
 
-// What a call returns, as a number of 128 bits. With a `?` in each arm the functions below take twice as long to prove.
+// What a call returns, as a number of 128 bits.
 fn widened<N: Into<i128>>(returned: Result<N>) -> Result<i128> {
     match returned {
         Ok(number) => Ok(number.into()),
@@ -242,7 +241,7 @@ fn little(bytes: &[u8]) -> EndianSlice<'_, RunTimeEndian> {
 }
 
 // The calls of a reader of at most 2000 bytes, whose first position is this one. The prover has to see that no
-// position is past the greatest number of 64 bits. A call at a concrete reader takes long to prove, so there is one.
+// position is past the greatest number of 64 bits.
 fn check_reader(rt: &impl Abort, order: RunTimeEndian, first: u8, bytes: &[u8], steps: &[Step]) {
     let bytes = &bytes[..bytes.len().min(2000)];
     let mut input = EndianSlice::with_first_id(bytes, order, ReaderOffsetId(u64::from(first)));

@@ -233,7 +233,7 @@ fn walked<R: Reader>(section: &DebugAddr<R>, addresses: &mut Vec<u64>) -> Walked
     (lengths_of(section), walk(section, addresses))
 }
 
-// The same of these bytes. A call at a concrete reader takes long to prove, so there is one.
+// The same of these bytes.
 fn walked_at(bytes: &[u8], first: u8, addresses: &mut Vec<u64>) -> Walked {
     walked(&reader_at(bytes, LITTLE, first).into(), addresses)
 }

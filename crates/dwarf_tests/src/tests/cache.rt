@@ -22,8 +22,7 @@ fn none() -> DebugAbbrev<Slice<'static>> {
     DebugAbbrev::new(&[0], LittleEndian)
 }
 
-// The only code of the table that a cache returns, or 0 where it has none. A call at a concrete reader takes long
-// to prove, so there is one for all tables.
+// The only code of the table that a cache returns, or 0 where it has none.
 fn code_at(
     cache: &AbbreviationsCache,
     section: &DebugAbbrev<Slice<'_>>,

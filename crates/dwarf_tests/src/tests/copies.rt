@@ -73,7 +73,7 @@ fn offset_sets_answer<R: Reader + Clone + PartialEq>(
     offset_set_answer(&first_offsets(&section.headers()?)?)
 }
 
-// A call at a concrete reader takes long to prove, so there is one for both kinds of sets.
+// The results of both kinds of sets.
 fn answers<R: Reader + Clone + PartialEq>(
     addresses: &DebugAddr<R>,
     offsets: &DebugStrOffsets<R>,

@@ -58,7 +58,7 @@ fn examples_of_tables(rt: HostRuntime) -> std::result::Result<(), Fail> {
     Ok(())
 }
 
-// How many declarations a table from a cache has. The calls of a generic function take half as long to prove.
+// How many declarations a table from a cache has.
 fn cached<R: Reader<Offset = usize>>(mem: Global, debug_abbrev: DebugAbbrev<R>) -> Result<usize> {
     let offsets = [DebugAbbrevOffset(0), DebugAbbrevOffset(0)]
         .into_iter()

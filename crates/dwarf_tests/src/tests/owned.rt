@@ -117,8 +117,7 @@ fn offsets_have_32_bits(rt: HostRuntime) {
     }
 }
 
-// A number, and behind it the position or the length that belongs to it, or 0. All calls return one type, since
-// each type at which a function is called takes long to prove.
+// A number, and behind it the position or the length that belongs to it, or 0.
 type Answer = [u64; 2];
 
 // What a call returns where clones may go 0, 1, 2 and 3 deep: first OutOfMemory, and from some depth
@@ -237,8 +236,7 @@ fn answers_in<R: Reader>(
     ]
 }
 
-// The results where clones may go so deep. A call at a concrete reader takes long to prove, so there is one
-// for all kinds.
+// The results where clones may go so deep.
 fn answers_at(mem: Global, depth: u8) -> Result<Answers> {
     let tables = owned(mem, UNIT, depth)?;
     let strings = owned(mem, STRINGS, depth)?;
@@ -296,7 +294,7 @@ fn walked<R: Reader>(section: &DebugAddr<R>, found: &mut Vec<u64>) -> Walked {
     )
 }
 
-// The same of a reader whose clones may go so deep. A call at a concrete reader takes long to prove, so there is one.
+// The same of a reader whose clones may go so deep.
 fn walked_at(mem: Global, bytes: &[u8], depth: u8, found: &mut Vec<u64>) -> Result<Walked> {
     Ok(walked(&DebugAddr::from(owned(mem, bytes, depth)?), found))
 }

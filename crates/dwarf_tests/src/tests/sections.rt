@@ -70,7 +70,7 @@ fn check_places<R: Reader>(rt: &impl Abort, section: &DebugLineStr<R>) {
     }
 }
 
-// A call at a concrete reader takes long to prove, so there is one for both.
+// Ends the test where a section of ten bytes or one of three at position 100 is read otherwise.
 fn check_ranges_and_places<R: Reader + Copy>(rt: &impl Abort, ten: R, three_at_100: R) {
     check_sections(rt, ten);
     check_places(rt, &DebugLineStr::from(three_at_100));

@@ -41,7 +41,7 @@ fn table_of<R: Reader>(
     }
 }
 
-// A call at a concrete reader takes long to prove, so there is one for all tables.
+// The table at an offset, read as the mode says.
 fn table_in(mem: Global, section: &Section<'_>, offset: u8, mode: Mode) -> Result<Abbreviations> {
     table_of(mem, section, offset, mode)
 }
@@ -328,12 +328,13 @@ fn copies_are_equal(rt: HostRuntime) -> std::result::Result<(), Fail> {
 // If an allocation fails, a call returns the whole table or OutOfMemory, and the table alone if it allocates nothing.
 #[test]
 fn refused_memory_for_a_table(rt: HostRuntime) {
-    let rows: [(&[u8], usize); 5] = [
+    let rows: [(&[u8], usize); 6] = [
         (b"", 0),
         (b"\x80\0\xaa", 0),
         (UNIT, 1),
         (THREE, 3),
         (SIX, 1),
+        (b"\x02\x11\0\0\0\x04\x11\0\0\0\x03\x11\0\0\0\0", 3),
     ];
     for (bytes, len) in rows {
         match table_at(rt.alloc(), bytes, 0) {
