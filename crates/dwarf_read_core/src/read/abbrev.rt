@@ -18,7 +18,7 @@ ghost use Rattle.dwarf_read_core.specs.Grammar.{implicit_const, by_end, is_by_nu
 ghost use Rattle.dwarf_reader_core.specs.Appended.{followed_by};
 ghost use Rattle.dwarf_read_core.specs.Answer.{Answers, AnswersStrictly, IsFinal, IsStrictlyFinal, TakesNoMemory};
 ghost use Rattle.dwarf_read_core.specs.Reading.{Gives, tag_at, children_at, specification_at, attributes_in, declared_at, declaration_at, table_in};
-ghost use Rattle.dwarf_read_core.specs.TableEntries.{declared_in, ClosesAt};
+ghost use Rattle.dwarf_read_core.specs.TableEntries.{declared_in, with_attributes, ClosesAt};
 
 use super::section::Section;
 use dwarf_base_core::{
@@ -387,8 +387,11 @@ impl Abbreviations {
         let mut scratch = Vec::new(mem);
         // The label names the loop in its proof.
         'declarations: loop {
-            match Abbreviation::parse(mem, input, &mut scratch)? {
-                TableEntry::Declared(abbreviation) => abbreviations.insert(abbreviation)?,
+            match Abbreviation::parse(input, &mut scratch)? {
+                TableEntry::Declared(head) => {
+                    let attributes = Attributes::from_slice(mem, scratch.as_slice())?;
+                    abbreviations.insert(head.with(attributes))?;
+                }
                 TableEntry::NullCode => {
                     abbreviations.closed_by_null = true;
                     return Ok(abbreviations);
@@ -401,11 +404,29 @@ impl Abbreviations {
 
 // What is at a place where a declaration may begin.
 enum TableEntry {
-    Declared(Abbreviation),
+    // The attributes are apart. An abbreviation has 112 bytes, which would be copied from result to
+    // result: so it is made where it is inserted.
+    Declared(Head),
     // A code of value 0, which closes the table.
     NullCode,
     // No bytes remain, which closes the table too.
     End,
+}
+
+// What a declaration has in front of its attributes.
+#[derive(Drop)]
+struct Head {
+    code: u64,
+    tag: DwTag,
+    has_children: DwChildren,
+}
+
+impl Head {
+    fn with(self, attributes: Attributes) -> Abbreviation
+        ensures { result ≡ with_attributes attributes.items self }
+    {
+        Abbreviation::new(self.code, self.tag, self.has_children, attributes)
+    }
 }
 
 /// The abbreviations of a table, in the order of their codes.
@@ -601,54 +622,64 @@ impl Abbreviation {
 
     #[tactic(auto, using(crate::proofs::tables::ReadingAttributes::attribute_steps))]
     fn parse_attributes<R: Reader>(
-        mem: Global,
         input: &mut R,
         scratch: &mut Vec<AttributeSpecification>,
-    ) -> Result<Attributes>
-        ensures read { Gives (λ v. (v.items, (R.view input.new).bytes)) result
+    ) -> Result<()>
+        ensures read { Gives (λ _. (scratch.new.items, (R.view input.new).bytes)) result
             (attributes_in (end_of (R.view input.old)) (R.view input.old).bytes) }
         ensures same_end { OnOk result (end_of (R.view input.new) ≡ end_of (R.view input.old)) }
     {
         scratch.clear();
         // The label names the loop in its proof.
         'attributes: while let Some(attribute) = AttributeSpecification::parse(input)? {
-            scratch.push(attribute)?;
+            // Most declarations have fewer attributes than this, so that a small table allocates the
+            // list once.
+            if scratch.len() == scratch.capacity() {
+                scratch.reserve(16)?;
+            }
+            scratch.push_reserved(attribute);
         }
-        Ok(Attributes::from_slice(mem, scratch.as_slice())?)
+        Ok(())
     }
 
-    // Reads what follows the code of a declaration.
+    // Reads what follows the code of a declaration. The attributes are then in `scratch`.
     #[tactic(auto, unfolding(crate::specs::Reading::declared_at))]
     fn parse_declared<R: Reader>(
-        mem: Global,
         code: u64,
         input: &mut R,
         scratch: &mut Vec<AttributeSpecification>,
-    ) -> Result<Abbreviation>
-        ensures coded { IfOk result (λ d. d.code ≡ code) }
-        ensures read { Gives (λ d. (d, (R.view input.new).bytes)) result
+    ) -> Result<Head>
+        ensures coded { IfOk result (λ head. head.code ≡ code) }
+        ensures read { Gives
+            (λ head. (with_attributes scratch.new.items head, (R.view input.new).bytes)) result
             (declared_at (end_of (R.view input.old)) code (R.view input.old).bytes) }
         ensures same_end { OnOk result (end_of (R.view input.new) ≡ end_of (R.view input.old)) }
     {
         let tag = Self::parse_tag(input)?;
         let has_children = Self::parse_has_children(input)?;
-        let attributes = Self::parse_attributes(mem, input, scratch)?;
-        Ok(Abbreviation::new(code, tag, has_children, attributes))
+        Self::parse_attributes(input, scratch)?;
+        Ok(Head {
+            code,
+            tag,
+            has_children,
+        })
     }
 
-    // Reads a declaration, or what closes the table in its place.
+    // Reads a declaration, or what closes the table in its place. The attributes of a declaration are
+    // then in `scratch`.
     #[tactic(auto, using(crate::proofs::tables::ReadingNumbers::number_steps), unfolding(crate::specs::Reading::declaration_at))]
     fn parse<R: Reader>(
-        mem: Global,
         input: &mut R,
         scratch: &mut Vec<AttributeSpecification>,
     ) -> Result<TableEntry>
-        ensures coded { IfOk result (λ entry. IfSome (declared_in entry) (λ d. 0 < d.code)) }
+        ensures coded { IfOk result
+            (λ entry. IfSome (declared_in scratch.new.items entry) (λ d. 0 < d.code)) }
         ensures closes { IfOk result (ClosesAt (R.view input.old).bytes) }
         ensures ends { (rest : List ℕ)
             → declaration_at (end_of (R.view input.old)) (R.view input.old).bytes ≡ Ok (None, rest)
             → IsOk result }
-        ensures read { Gives (λ entry. (declared_in entry, (R.view input.new).bytes)) result
+        ensures read { Gives
+            (λ entry. (declared_in scratch.new.items entry, (R.view input.new).bytes)) result
             (declaration_at (end_of (R.view input.old)) (R.view input.old).bytes) }
         ensures same_end { OnOk result (end_of (R.view input.new) ≡ end_of (R.view input.old)) }
     {
@@ -659,7 +690,7 @@ impl Abbreviation {
         if code == 0 {
             return Ok(TableEntry::NullCode);
         }
-        Ok(TableEntry::Declared(Self::parse_declared(mem, code, input, scratch)?))
+        Ok(TableEntry::Declared(Self::parse_declared(code, input, scratch)?))
     }
 }
 

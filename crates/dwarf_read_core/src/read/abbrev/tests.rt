@@ -145,10 +145,13 @@ fn fields_are_parsed(rt: HostRuntime) {
     }
 }
 
-// The declaration that was read, if one was.
-fn declaration(entry: TableEntry) -> Option<Abbreviation> {
+// The declaration that was read, if one was, with these attributes.
+fn declaration(
+    entry: TableEntry,
+    attributes: std::result::Result<Attributes, AllocError>,
+) -> Option<Abbreviation> {
     match entry {
-        TableEntry::Declared(abbreviation) => Some(abbreviation),
+        TableEntry::Declared(head) => Some(head.with(attributes.ok()?)),
         TableEntry::NullCode | TableEntry::End => None,
     }
 }
@@ -174,8 +177,9 @@ fn entries_of_a_table_are_parsed(rt: HostRuntime) -> std::result::Result<(), Fai
             None => None,
         };
         let input = &mut slice(bytes);
-        let entry = Abbreviation::parse(mem, input, &mut scratch)?;
-        assert_eq!(rt; declaration(entry), wanted, "{bytes:?}");
+        let entry = Abbreviation::parse(input, &mut scratch)?;
+        let list = Attributes::from_slice(mem, scratch.as_slice());
+        assert_eq!(rt; declaration(entry, list), wanted, "{bytes:?}");
         assert_eq!(rt; input.slice().len(), bytes.len().min(4), "{bytes:?}");
     }
     let bytes =
@@ -191,8 +195,6 @@ fn entries_of_a_table_are_parsed(rt: HostRuntime) -> std::result::Result<(), Fai
 
 #[test]
 fn five_attributes_stay_in_place(rt: HostRuntime) -> std::result::Result<(), Fail> {
-    let mem = rt.alloc();
-    let mut scratch = Vec::new(mem);
     let rows: [(&[u8], usize); 2] = [
         (b"\x01\x11\0\x03\x08\x03\x08\x03\x08\x03\x08\x03\x08\0\0", 5),
         (
@@ -201,8 +203,8 @@ fn five_attributes_stay_in_place(rt: HostRuntime) -> std::result::Result<(), Fai
         ),
     ];
     for (bytes, count) in rows {
-        let entry = Abbreviation::parse(mem, &mut slice(bytes), &mut scratch)?;
-        let found = declaration(entry).ok_or("no declaration")?;
+        let table = Abbreviations::parse(rt.alloc(), &mut slice(bytes))?;
+        let found = table.get(1).ok_or("no declaration")?;
         let place = (found.attributes.len(), found.attributes.spilled());
         assert_eq!(rt; place, (count, count > 5));
     }

@@ -15,15 +15,15 @@ returns-in_err-has_children-clause-read g c =
     gives_err _ _ c.from_residual-in_err-has_children.ensures.1
     (λ memory. rw (c.in_ok-tag.ensures.read, rw behind at (c.in_err-has_children.ensures.read memory)) refl)
 
-pub returns-in_err-attributes-clause-read : goal.returns-in_err-attributes-clause-read
+pub returns-in_err-parse_attributes-clause-read : goal.returns-in_err-parse_attributes-clause-read
 unfolding declared_at
-returns-in_err-attributes-clause-read g c =
+returns-in_err-parse_attributes-clause-read g c =
     let behind = c.in_ok-tag.ensures.same_end in
     let others = c.in_ok-has_children.ensures.same_end ∙ behind in
-    gives_err _ _ c.from_residual-in_err-attributes.ensures.1
+    gives_err _ _ c.from_residual-in_err-parse_attributes.ensures.1
     (λ memory. rw (
       c.in_ok-tag.ensures.read,
       rw behind at c.in_ok-has_children.ensures.read,
       rw others at
-          (c.in_err-attributes.ensures.read memory),
+          (c.in_err-parse_attributes.ensures.read memory),
     ) refl)

@@ -4,25 +4,26 @@ use Rattle.dwarf_read_core.specs.Grammar.{ByCode, Table, closed, by_null}
 use Rattle.dwarf_read_core.proofs.tables.ReadingTables.{table_fails, table_nulled, table_repeats}
 use Rattle.dwarf_read_core.proofs.read.abbrev.Abbreviations.parse.Goals as goal
 
-pub returns-in_err-abbreviation-clause-read : goal.returns-in_err-abbreviation-clause-read
-returns-in_err-abbreviation-clause-read g c =
+pub returns-in_err-head-clause-read : goal.returns-in_err-head-clause-read
+returns-in_err-head-clause-read g c =
     let loop = c.declarations in
     gives_err _ _ c.from_residual.ensures.1
     (λ memory. sym loop.invariant.told
-    ∙ table_fails _ _ _ _ (rw loop.invariant.same_end at (c.in_err-abbreviation.ensures.read memory)))
+    ∙ table_fails _ _ _ _ (rw loop.invariant.same_end at (c.in_err-head.ensures.read memory)))
 
 pub returns-in_err-insert-in-Declared-clause-read : goal.returns-in_err-insert-in-Declared-clause-read
 returns-in_err-insert-in-Declared-clause-read g c =
     let loop = c.declarations in
     gives_err _ _ c.from_residual-in_err-insert-in-Declared.ensures.1 (λ memory.
     let r = c.in_err-insert-in-Declared.ensures.repeated memory in
-    rw r.1 (sym loop.invariant.told ∙ table_repeats _ _ _ c.in-Declared.abbreviation _
-    (rw (loop.invariant.same_end, c.in-Declared.is) at c.in_ok-abbreviation.ensures.read) r.0))
+    rw r.1 (sym loop.invariant.told ∙ table_repeats _ _ _ c.with.result _
+    (rw (← c.as_slice.ensures.value, ← c.in_ok-attributes-in-Declared.ensures.ok, ← c.with.ensures) at
+    (rw (loop.invariant.same_end, c.in-Declared.is) at c.in_ok-head.ensures.read)) r.0))
 
 pub returns-in-NullCode-clause-read : goal.returns-in-NullCode-clause-read
 returns-in-NullCode-clause-read g c =
     let loop = c.declarations in
-    let some : (g.R.Reader.view loop.input).bytes ≢ [] = rw c.in-NullCode.is at c.in_ok-abbreviation.ensures.closes in
-    let read = rw (loop.invariant.same_end, c.in-NullCode.is) at c.in_ok-abbreviation.ensures.read in
+    let some : (g.R.Reader.view loop.input).bytes ≢ [] = rw c.in-NullCode.is at c.in_ok-head.ensures.closes in
+    let read = rw (loop.invariant.same_end, c.in-NullCode.is) at c.in_ok-head.ensures.read in
     sym loop.invariant.told ∙ table_nulled _ _ _ _ some read
     ∙ ap (λ (t : ByCode). Ok (closed t by_null)) (sym (ap (λ (t : Table). t.by_code) c.abbreviations.view_is))
