@@ -151,6 +151,7 @@ pub fn exactly_one_list_of_offset_sets()
 {}
 
 /// A set that is read is at the front of the bytes, and the rest remains.
+#[tactic(auto, using(dwarf_reader_core::proofs::Layouts::read_front))]
 pub fn sets_are_fronts()
     ensures addresses { (greatest offset : ℕ) (old new : Input) (s : Set ℕ)
         → read (set address_header greatest offset) old ≡ Ok (s, new)
@@ -162,6 +163,7 @@ pub fn sets_are_fronts()
 
 /// The bytes of a set that is read are those of its initial length, its header and its entries,
 /// joined, and the rest remains. The length of the set is that of header and entries.
+#[tactic(auto, using(crate::proofs::sets::Sets::parts_of_sets))]
 pub fn sets_are_joined()
     ensures addresses { (greatest offset : ℕ) (old new : Input) (s : Set ℕ)
         → read (set address_header greatest offset) old ≡ Ok (s, new) → IsJoined old s new }
@@ -192,6 +194,7 @@ pub fn exactly_one_list_of_string_offsets()
 
 /// The first set of addresses stays the first when bytes are appended. So does a first error,
 /// unless it is an `UnexpectedEof`.
+#[tactic(auto, using(crate::proofs::sets::Sets::set_more, crate::proofs::sets::Sets::set_error_more))]
 pub fn appended_bytes_change_no_set()
     ensures set { (greatest : ℕ) (headers : Headers) (s : Set ℕ)
         (items others : List (Result (Set ℕ) Error)) (more : List ℕ)
@@ -205,6 +208,7 @@ pub fn appended_bytes_change_no_set()
 
 /// The first set of string offsets stays the first when bytes are appended. So does a first error,
 /// unless it is an `UnexpectedEof`.
+#[tactic(auto, using(crate::proofs::sets::Sets::set_more, crate::proofs::sets::Sets::set_error_more))]
 pub fn appended_bytes_change_no_offset_set()
     ensures set { (greatest : ℕ) (headers : Headers) (s : Set (Unit {0}))
         (items others : List (Result (Set (Unit {0})) Error)) (more : List ℕ)

@@ -36,17 +36,20 @@ set_shorter before behind (Err e) h = tt
 
 -- `next` makes progress over entries, so their iterators end
 pub entries_progress : {X : Type 0} (old new : Entries) (result : Result (Option X) Error)
+    (given : Option (Result X Error)) → given ≡ result_transpose result
     → IfOk result (λ item. IfSome item (λ _. (length new.rest.bytes + old.width ≡ length old.rest.bytes)
     × (length new.rest.bytes < length old.rest.bytes)))
     → OnErr result (new.rest.bytes ≡ []) → OnErr result (1 ≤ length old.rest.bytes)
-    → MakesProgress (λ _. ⊤) (λ (s : Entries). at_most (length s.rest.bytes)) old (result_transpose result) new
-entries_progress old new result shorter =
-    makes_progress (λ (s : Entries). s.rest.bytes) old new result (entry_shorter old.width _ _ result shorter)
+    → MakesProgress (λ _. ⊤) (λ (s : Entries). at_most (length s.rest.bytes)) old given new
+entries_progress old new result given is shorter empty some =
+    rw is
+    (makes_progress (λ (s : Entries). s.rest.bytes) old new result (entry_shorter old.width _ _ result shorter) empty some)
 
 -- `next` makes progress over sets, so their iterators end
 pub sets_progress : {X : Type 0} (old new : Headers) (result : Result (Option X) Error)
+    (given : Option (Result X Error)) → given ≡ result_transpose result
     → IfOk result (λ item. IfSome item (λ _. length new.rest.bytes + 8 ≤ length old.rest.bytes))
     → OnErr result (new.rest.bytes ≡ []) → OnErr result (1 ≤ length old.rest.bytes)
-    → MakesProgress (λ _. ⊤) (λ (s : Headers). at_most (length s.rest.bytes)) old (result_transpose result) new
-sets_progress old new result shorter =
-    makes_progress (λ (s : Headers). s.rest.bytes) old new result (set_shorter _ _ result shorter)
+    → MakesProgress (λ _. ⊤) (λ (s : Headers). at_most (length s.rest.bytes)) old given new
+sets_progress old new result given is shorter empty some =
+    rw is (makes_progress (λ (s : Headers). s.rest.bytes) old new result (set_shorter _ _ result shorter) empty some)

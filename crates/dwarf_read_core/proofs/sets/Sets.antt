@@ -7,15 +7,15 @@ use Rattle.dwarf_base_core.specs.declared.common.Format.{Format}
 use Rattle.dwarf_base_core.specs.declared.common.Format.TheVariants.{Dwarf32, Dwarf64}
 use Rattle.dwarf_base_core.specs.declared.error.Error.{Error}
 use Rattle.dwarf_base_core.specs.Format.{initial_length_size}
-use Rattle.dwarf_reader_core.specs.Faults.{EndsBefore, WantsMemory}
+use Rattle.dwarf_reader_core.specs.Faults.{WantsMemory}
 use Rattle.dwarf_reader_core.specs.Input.{Input, first, Takes}
 use Rattle.dwarf_reader_core.specs.InitialLength.{initial_length, long_length}
 use Rattle.dwarf_reader_core.specs.Once.{HasOne}
-use Rattle.dwarf_reader_core.specs.Appended.{IsNoEof}
+use Rattle.dwarf_reader_core.specs.Appended.{IsNoEof, followed_by}
 use Rattle.dwarf_read_core.specs.Items.{ComesFirst, least_taken}
-use Rattle.dwarf_reader_core.specs.Layout.{Layout, read, none, fault, part, inside, pure, ◌>>=◌}
+use Rattle.dwarf_reader_core.specs.Layout.{Layout, read, none, fault}
 use Rattle.dwarf_read_core.specs.Sets.{Set, set, IsJoined, address_header, string_offsets_header, Headers, StandsForSets, followed_headers}
-use Rattle.dwarf_reader_core.proofs.Layouts.{Outcome, then_reads, then_fails, pure_reads, after_part, no_part, after_inside, no_inside, read_more, error_more}
+use Rattle.dwarf_reader_core.proofs.Layouts.{then_reads, pure_reads, after_part, after_inside, read_more, error_more}
 use Rattle.dwarf_reader_core.proofs.Layouts.{Spans, TakesLeast, spanned, number_spans, byte_spans, check_spans, pure_spans, refuse_spans, when_spans, then_spans, part_spans, inside_spans, then_read, part_read, inside_read, pure_read}
 use Rattle.dwarf_read_core.proofs.sets.ItemLists.{items-exactly_one, items-bounded, item-first, error-first, item-stays, error-stays, bytes-still_some}
 
@@ -137,46 +137,11 @@ string_offsets_header-four =
     then_spans (number_spans 2) (λ version. then_spans (check_spans _ _)
     (λ known. then_spans (number_spans 2) (λ padding. pure_spans refl)))
 
--- ---- a set, by what a reader reads
-
-module _ {H : Type 0} (header : Layout H) (greatest offset : ℕ) (old : Input) where
-  -- a set fails with the error of its initial length
-  pub set_length_fails : {e : Error} → read (initial_length greatest) old ≡ Err e
-      → read (set header greatest offset) old ≡ Err e
-  unfolding set
-  set_length_fails fails = then_fails _ _ _ fails
-
-  -- what follows the initial length of a set
-  abbrev behind_length : Format → ℕ → Layout (Set H)
-  behind_length format n =
-      part n >>= λ unit. inside unit header >>= λ said. pure
-      (record { offset = offset; format = format; unit_length = n; header = said.0; entries = said.1 })
-
-  module _ (n : ℕ) (format : Format) (behind : Input)
-      (measured : read (initial_length greatest) old ≡ Ok ((format, n), behind)) where
-    -- a set is read by reading what follows its initial length
-    after_length : {r : Outcome (Set H)} → read (behind_length format n) behind ≡ r
-        → read (set header greatest offset) old ≡ r
-    unfolding set
-    after_length rest = then_reads _ _ _ measured ∙ rest
-
-    -- a set fails if fewer bytes remain than its length says
-    pub set_part_fails : {e : Error} (new : Input) → EndsBefore n behind e new
-        → read (set header greatest offset) old ≡ Err e
-    set_part_fails new short = after_length (no_part _ short)
-
-    module _ {unit new : Input} (is : unit ≡ first n behind) (taken : Takes n behind new) where
-      -- a set fails with the error of its header
-      pub set_header_fails : {e : Error} → read header unit ≡ Err e → read (set header greatest offset) old ≡ Err e
-      set_header_fails h = after_length (after_part _ is taken (no_inside _ _ _ _ h))
-
-      -- a set is read if its header is, with the entries that remain behind the header
-      pub set_reads : {h : H} {entries : Input} → read header unit ≡ Ok (h, entries)
-          → read (set header greatest offset) old
-          ≡ Ok (record { offset = offset; format = format; unit_length = n; header = h; entries = entries }, new)
-      set_reads r = after_length (after_part _ is taken (after_inside _ _ _ _ r (pure_reads _ _)))
-
 -- ---- the lists of sets, and what `next` returns
+
+-- the sets that remain, by the offset of the first and the bytes
+abbrev headers_at : ℕ → Input → Headers
+headers_at offset rest = record { offset = offset; rest = rest }
 
 -- an input without bytes has no sets
 pub sets_none : {H : Type 0} (header : Layout H) (greatest : ℕ) (headers : Headers) → headers.rest.bytes ≡ []
@@ -198,23 +163,24 @@ module _ {H : Type 0} (header : Layout H) (greatest : ℕ) where
   set_error_more headers e more are_items settled = error-stays are_items settled more
 
   -- an error in place of a set is the first item, or memory ran out; nothing remains behind either
-  pub set_error_first : (old new : Headers) {e : Error} (is_free : Bool) → old.rest.bytes ≢ []
-      → ((read (set header greatest old.offset) old.rest ≡ Err e) ⊎ WantsMemory is_free e) → new.rest.bytes ≡ []
-      → ComesFirst (StandsForSets header greatest) old (Err e) new
-      ⊎ (WantsMemory is_free e × StandsForSets header greatest new [])
-  set_error_first old new {e} is_free some (inl fails) empty =
-      inl (error-first old.offset new.offset old.rest new.rest e some fails empty)
-  set_error_first old new is_free some (inr want) empty = inr (want, none empty)
+  pub set_error_first : (offset place : ℕ) (rest left : Input) {e : Error} (is_free : Bool) → rest.bytes ≢ []
+      → ((read (set header greatest offset) rest ≡ Err e) ⊎ WantsMemory is_free e) → left.bytes ≡ []
+      → ComesFirst (StandsForSets header greatest) (headers_at offset rest) (Err e) (headers_at place left)
+      ⊎ (WantsMemory is_free e × StandsForSets header greatest (headers_at place left) [])
+  set_error_first offset place rest left {e} is_free some (inl fails) empty =
+      inl (error-first offset place rest left e some fails empty)
+  set_error_first offset place rest left is_free some (inr want) empty = inr (want, none empty)
 
   -- an error in place of a set, unless it is an `UnexpectedEof`, stays the only item when bytes are appended
-  pub set_error_stays : (old : Headers) {e : Error} (is_free : Bool) → old.rest.bytes ≢ []
-      → ((read (set header greatest old.offset) old.rest ≡ Err e) ⊎ WantsMemory is_free e) → IsNoEof e
+  pub set_error_stays : (offset : ℕ) (rest : Input) {e : Error} (is_free : Bool) → rest.bytes ≢ []
+      → ((read (set header greatest offset) rest ≡ Err e) ⊎ WantsMemory is_free e) → IsNoEof e
       → (more : List ℕ)
-      → StandsForSets header greatest (followed_headers more old) (Err e ∷ []) ⊎ WantsMemory is_free e
-  set_error_stays old is_free some (inl fails) settled more =
-      inl (fault (bytes-still_some old.rest.bytes more some)
-      (error_more (set header greatest old.offset) more old.rest settled fails))
-  set_error_stays old is_free some (inr want) settled more = inr want
+      → StandsForSets header greatest (followed_headers more (headers_at offset rest)) (Err e ∷ [])
+      ⊎ WantsMemory is_free e
+  set_error_stays offset rest is_free some (inl fails) settled more =
+      inl (fault (bytes-still_some rest.bytes more some)
+      (error_more (set header greatest offset) more rest settled fails))
+  set_error_stays offset rest is_free some (inr want) settled more = inr want
 
 -- an initial length has at least four bytes
 initial_length_size-least : (format : Format) → 4 ≤ initial_length_size format
@@ -244,20 +210,36 @@ module _ {H : Type 0} {header : Layout H} (four : HasFour header) (greatest : �
   sets_bounded headers items are_items = items-bounded set_least are_items
 
   -- a set that is read is the first item
-  pub set_first : (old new : Headers) {s : Set H} → old.rest.bytes ≢ []
-      → read (set header greatest old.offset) old.rest ≡ Ok (s, new.rest)
-      → new.offset ≡ old.offset + (length old.rest.bytes - length new.rest.bytes)
-      → ComesFirst (StandsForSets header greatest) old (Ok s) new
-  set_first old new {s} some h place =
-      item-first set_least (omega arith) old.offset new.offset old.rest new.rest s some h place
+  pub set_first : (offset place : ℕ) (rest left : Input) {s : Set H} → rest.bytes ≢ []
+      → read (set header greatest offset) rest ≡ Ok (s, left)
+      → place ≡ offset + (length rest.bytes - length left.bytes)
+      → ComesFirst (StandsForSets header greatest) (headers_at offset rest) (Ok s) (headers_at place left)
+  set_first offset place rest left {s} some h is = item-first set_least (omega arith) offset place rest left s some h is
 
   -- a set that is read stays the first item when bytes are appended
-  pub set_stays : (old new : Headers) {s : Set H} → old.rest.bytes ≢ []
-      → read (set header greatest old.offset) old.rest ≡ Ok (s, new.rest)
-      → new.offset ≡ old.offset + (length old.rest.bytes - length new.rest.bytes) → (more : List ℕ)
-      → ComesFirst (StandsForSets header greatest) (followed_headers more old) (Ok s) (followed_headers more new)
-  set_stays old new {s} some h place more =
-      let l = (set_least old.offset).by old.rest new.rest s h in
-      set_first (followed_headers more old) (followed_headers more new) (bytes-still_some old.rest.bytes more some)
-      (read_more (set header greatest old.offset) more old.rest h)
-      (omega (arith, place, l, length-append old.rest.bytes more, length-append new.rest.bytes more))
+  pub set_stays : (offset place : ℕ) (rest left : Input) {s : Set H} → rest.bytes ≢ []
+      → read (set header greatest offset) rest ≡ Ok (s, left)
+      → place ≡ offset + (length rest.bytes - length left.bytes) → (more : List ℕ)
+      → ComesFirst (StandsForSets header greatest) (followed_headers more (headers_at offset rest)) (Ok s)
+      (followed_headers more (headers_at place left))
+  set_stays offset place rest left {s} some h is more =
+      let l = (set_least offset).by rest left s h in
+      set_first offset place (followed_by rest more) (followed_by left more) (bytes-still_some rest.bytes more some)
+      (read_more (set header greatest offset) more rest h)
+      (omega (arith, is, l, length-append rest.bytes more, length-append left.bytes more))
+
+-- a set that a reader read has at least eight bytes, if its header has four
+pub set_bound : {H : Type 0} {header : Layout H} (greatest : ℕ) {n : ℕ} {format : Format} (old new : Input)
+    {behind unit entries : Input} {h : H} → read (initial_length greatest) old ≡ Ok ((format, n), behind)
+    → unit ≡ first n behind → Takes n behind new → read header unit ≡ Ok (h, entries) → HasFour header
+    → length new.bytes + 8 ≤ length old.bytes
+unfolding set
+set_bound greatest old new measured is taken said four =
+    (set_least four greatest 0).by old new _
+    (then_reads _ _ _ measured ∙ after_part _ is taken (after_inside _ _ _ _ said (pure_reads _ _)))
+
+-- how many bytes a set of each kind has
+pub ruleset set_bounds = (set_bound, address_header-four, string_offsets_header-four)
+
+-- the parts of a set of each kind
+pub ruleset parts_of_sets = (set-joined, address_header-four, string_offsets_header-four)

@@ -236,6 +236,7 @@ impl<R: Reader> Iterator for AddrHeaderIter<R> {
 
     ghost remaining = { λ headers. at_most (length headers.rest.bytes) };
 
+    #[tactic(auto, using(crate::proofs::sets::IteratorsEnd::sets_progress))]
     fn next(&mut self) -> Option<Result<AddrHeader<R>>> {
         self.next().transpose()
     }
@@ -326,6 +327,7 @@ impl<R: Reader + Clone> Clone for AddrHeader<R> {
 }
 
 impl<R: Reader> AddrHeader<R> {
+    #[tactic(auto, using(crate::proofs::sets::Sets::set_bounds), unfolding(crate::specs::Sets::set, dwarf_reader_core::specs::Layout::read))]
     fn parse(input: &mut R, offset: DebugAddrOffset<R::Offset>) -> Result<AddrHeader<R>>
         ensures ok { IfOk result
             (λ header. read (set address_header R.Offset.GREATEST (R.Offset.value offset.0))
@@ -338,20 +340,11 @@ impl<R: Reader> AddrHeader<R> {
     {
         let (length, format) = input.read_initial_length()?;
         let mut unit = input.split(length)?;
-        let version = unit.read_u16()?;
-        if version != VERSION {
-            return Err(Error::UnknownVersion(u64::from(version)));
-        }
-        let address_size = unit.read_address_size()?;
-        let segment_size = unit.read_u8()?;
-        if segment_size != 0 {
-            return Err(Error::UnsupportedSegmentSize(segment_size));
-        }
         let encoding = SetEncoding {
             encoding: Encoding {
-                address_size,
+                address_size: Self::parse_address_size(&mut unit)?,
                 format,
-                version,
+                version: VERSION,
             },
         };
         Ok(AddrHeader {
@@ -360,6 +353,25 @@ impl<R: Reader> AddrHeader<R> {
             length,
             entries: unit,
         })
+    }
+
+    // Reads what is between the length of a set and its addresses, and returns their size.
+    #[tactic(auto, unfolding(crate::specs::Sets::address_header, dwarf_reader_core::specs::Layout::read, dwarf_reader_core::specs::Layout::fixed, dwarf_reader_core::specs::Layout::byte, dwarf_reader_core::specs::Layout::check))]
+    fn parse_address_size(unit: &mut R) -> Result<u8>
+        ensures ok { IfOk result
+            (λ size. read address_header (R.view unit.old) ≡ Ok (size, R.view unit.new)) }
+        ensures sized { IfOk result (λ size. IsTrue (is_number_size size)) }
+        ensures err { IfErr result (λ e. read address_header (R.view unit.old) ≡ Err e) }
+    {
+        let version = unit.read_u16()?;
+        if version != VERSION {
+            return Err(Error::UnknownVersion(u64::from(version)));
+        }
+        let address_size = unit.read_address_size()?;
+        match unit.read_u8()? {
+            0 => Ok(address_size),
+            segment_size => Err(Error::UnsupportedSegmentSize(segment_size)),
+        }
     }
 
     /// Returns where the set begins, in bytes from the section's start.
@@ -463,6 +475,7 @@ impl<R: Reader> Iterator for AddrEntryIter<R> {
 
     ghost remaining = { λ entries. at_most (length entries.rest.bytes) };
 
+    #[tactic(auto, using(crate::proofs::sets::IteratorsEnd::entries_progress))]
     fn next(&mut self) -> Option<Result<u64>> {
         self.next().transpose()
     }

@@ -122,6 +122,7 @@ impl<R: Reader> Iterator for StrOffsetsHeaderIter<R> {
 
     ghost remaining = { λ headers. at_most (length headers.rest.bytes) };
 
+    #[tactic(auto, using(crate::proofs::sets::IteratorsEnd::sets_progress))]
     fn next(&mut self) -> Option<Result<StrOffsetsHeader<R>>> {
         self.next().transpose()
     }
@@ -203,6 +204,7 @@ impl<R: Reader + Clone> Clone for StrOffsetsHeader<R> {
 }
 
 impl<R: Reader> StrOffsetsHeader<R> {
+    #[tactic(auto, using(crate::proofs::sets::Sets::set_bounds), unfolding(crate::specs::Sets::set, dwarf_reader_core::specs::Layout::read))]
     fn parse(input: &mut R, offset: R::Offset) -> Result<StrOffsetsHeader<R>>
         ensures ok { IfOk result
             (λ header. read (set string_offsets_header R.Offset.GREATEST (R.Offset.value offset))
@@ -215,17 +217,28 @@ impl<R: Reader> StrOffsetsHeader<R> {
     {
         let (length, format) = input.read_initial_length()?;
         let mut unit = input.split(length)?;
-        let version = unit.read_u16()?;
-        if version != VERSION {
-            return Err(Error::UnknownVersion(u64::from(version)));
-        }
-        let _padding = unit.read_u16()?;
+        Self::skip_version(&mut unit)?;
         Ok(StrOffsetsHeader {
             offset,
             length,
             format,
             entries: unit,
         })
+    }
+
+    // Reads what is between the length of a set and its offsets: the version, and padding.
+    #[tactic(auto, unfolding(crate::specs::Sets::string_offsets_header, dwarf_reader_core::specs::Layout::read, dwarf_reader_core::specs::Layout::fixed, dwarf_reader_core::specs::Layout::check))]
+    fn skip_version(unit: &mut R) -> Result<()>
+        ensures ok { OnOk result
+            (read string_offsets_header (R.view unit.old) ≡ Ok (tt, R.view unit.new)) }
+        ensures err { IfErr result (λ e. read string_offsets_header (R.view unit.old) ≡ Err e) }
+    {
+        let version = unit.read_u16()?;
+        if version != VERSION {
+            return Err(Error::UnknownVersion(u64::from(version)));
+        }
+        let _padding = unit.read_u16()?;
+        Ok(())
     }
 
     /// Returns where the set begins, in bytes from the section's start.
@@ -328,6 +341,7 @@ impl<R: Reader> Iterator for StrOffsetsEntryIter<R> {
 
     ghost remaining = { λ entries. at_most (length entries.rest.bytes) };
 
+    #[tactic(auto, using(crate::proofs::sets::IteratorsEnd::entries_progress))]
     fn next(&mut self) -> Option<Result<DebugStrOffset<R::Offset>>> {
         self.next().transpose()
     }

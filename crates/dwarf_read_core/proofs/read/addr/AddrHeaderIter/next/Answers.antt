@@ -6,34 +6,17 @@ use Rattle.dwarf_read_core.proofs.read.addr.AddrHeaderIter.next.Goals as goal
 
 pub returns-in-Ok-clause-first : goal.returns-in-Ok-clause-first
 returns-in-Ok-clause-first g c =
-    rw (← c.self.view_is)
-    (set_first address_header-four _ (record {
-      offset = g.R.Offset.ReaderOffset.value c.self.inside.offset.0;
-      rest = g.R.Reader.view c.self.inside.input;
-    })
-    (record { offset = g.R.Offset.ReaderOffset.value c.add_assign.new.self; rest = g.R.Reader.view c.parse.new.input })
-    (search rules) c.in-Ok.ensures.ok (search rules))
+    rw (← c.self.view_is) (set_first address_header-four _ _ _ _ _ (search rules) c.in-Ok.ensures.ok (search rules))
 
 pub returns-in-Ok-clause-stable : goal.returns-in-Ok-clause-stable
 returns-in-Ok-clause-stable g c =
-    rw (← c.self.view_is)
-    (set_stays address_header-four _ (record {
-      offset = g.R.Offset.ReaderOffset.value c.self.inside.offset.0;
-      rest = g.R.Reader.view c.self.inside.input;
-    })
-    (record { offset = g.R.Offset.ReaderOffset.value c.add_assign.new.self; rest = g.R.Reader.view c.parse.new.input })
-    (search rules) c.in-Ok.ensures.ok (search rules))
+    rw (← c.self.view_is) (set_stays address_header-four _ _ _ _ _ (search rules) c.in-Ok.ensures.ok (search rules))
 
 pub returns-in-Err-clause-first : goal.returns-in-Err-clause-first
 returns-in-Err-clause-first g c =
-    rw (← c.self.view_is)
-    (set_error_first address_header _
-    (record { offset = g.R.Offset.ReaderOffset.value c.self.inside.offset.0; rest = g.R.Reader.view c.self.inside.input })
-    _ _ (search rules) c.in-Err.ensures.err (ap (λ (i : Input). i.bytes) c.empty.ensures.left))
+    rw (← c.self.view_is) (set_error_first address_header _ _ _ _ _ _ (search rules) c.in-Err.ensures.err
+    (ap (λ (i : Input). i.bytes) c.empty.ensures.left))
 
 pub returns-in-Err-clause-stable : goal.returns-in-Err-clause-stable
-returns-in-Err-clause-stable g c = λ settled more.
-    rw (← c.self.view_is)
-    (set_error_stays address_header _
-    (record { offset = g.R.Offset.ReaderOffset.value c.self.inside.offset.0; rest = g.R.Reader.view c.self.inside.input })
-    _ (search rules) c.in-Err.ensures.err settled more)
+returns-in-Err-clause-stable g c =
+    rw (← c.self.view_is) (set_error_stays address_header _ _ _ _ (search rules) c.in-Err.ensures.err)
