@@ -1,10 +1,10 @@
 -- What contracts see of an abbreviation and its parts.
-use Rattle.std.specs.Prelude.{◌≡◌, ◌≢◌, ◌<◌, ◌≤◌, ℕ, suc, ℤ, pos, Bool, true, false, List, [], ◌∷◌, ◌++◌, length, Some, None, unwrap_or, if◌then◌else◌, ◌==◌, refl}
+use Rattle.std.specs.Prelude.{◌≡◌, ◌≢◌, ◌<◌, ◌≤◌, ℕ, suc, ℤ, pos, Bool, true, false, List, [], ◌∷◌, ◌++◌, length, reverse, Some, None, unwrap_or, if◌then◌else◌, ◌==◌, refl}
 use Rattle.std.specs.BTreeMap.{is_at}
 use Rattle.std.specs.FinMap.{from_entries}
 use Rattle.std.specs.Map.{lookup}
 use Rattle.std.specs.Ordering.{nat_cmp}
-use Rattle.std.specs.VecDeque.Iter.{deque_iter_rest}
+use Rattle.std.specs.Slice.Iter.{iter_rest}
 use Rattle.std.proofs.Common.{sym, ap}
 use Rattle.std.proofs.lemmas.Bool.{eqb-false}
 use Rattle.dwarf_read_core.specs.Grammar.{Specification, Declaration, Table, closed, close_from, implicit_const}
@@ -12,7 +12,7 @@ use Rattle.dwarf_read_core.specs.declared.read.abbrev.AttributeSpecification.The
 use Rattle.dwarf_read_core.specs.declared.read.abbrev.Abbreviation.TheInside as abbreviation
 use Rattle.dwarf_read_core.specs.declared.read.abbrev.Abbreviations.TheInside as abbreviations
 use Rattle.dwarf_read_core.specs.declared.read.abbrev.others.OthersIter.{OthersIter}
-use Rattle.dwarf_read_core.specs.declared.read.abbrev.others.OthersIter.TheVariants.{InOrder, ByPlace}
+use Rattle.dwarf_read_core.specs.declared.read.abbrev.others.OthersIter.TheVariants.{Rising, Falling, ByPlace}
 
 abbrev pub specification_view : Inside → Specification
 specification_view a =
@@ -62,7 +62,8 @@ entries_of ds es = numbered 1 ds ++ es
 
 -- what an iterator over others has left
 abbrev pub others_rest : OthersIter → List Declaration
-others_rest (InOrder rest) = deque_iter_rest rest
+others_rest (Rising rest) = iter_rest rest
+others_rest (Falling rest) = reverse (iter_rest rest)
 others_rest (ByPlace rest) = rest
 
 -- the table that a vector, the others and a close represent

@@ -66,7 +66,7 @@ abbrev at : ℕ → List (ℕ × Declaration) → Option Declaration
 at q es = lookup (is_at (nat_cmp q)) es
 
 -- the order of codes finds two of them equal exactly if they are equal numbers
-pub same_code : (a b : ℕ) → is_at (nat_cmp a) b ≡ eqb a b
+same_code : (a b : ℕ) → is_at (nat_cmp a) b ≡ eqb a b
 same_code a b = grind (arith, nat_tests)
 
 -- a lookup finds the first entry at its code, and searches the others at other codes
@@ -102,7 +102,7 @@ at_within k (suc i) (x ∷ ds) more d lt =
     ∙ ap (λ q. at q (numbered (suc k) ds ++ more)) next ∙ at_within (suc k) i ds more d (omega arith)
 
 -- the order finds a code equal to the sought one exactly if they are equal numbers
-pub same_back : (c q : ℕ) → is_at (nat_cmp c) q ≡ eqb q c
+same_back : (c q : ℕ) → is_at (nat_cmp c) q ≡ eqb q c
 same_back c q = grind (arith, nat_tests)
 
 -- one more declaration in the vector changes the lookup of the next code alone
@@ -211,7 +211,7 @@ zero_not_found ds es code zero_code kept =
 -- ---- the length of a table
 
 -- a number compares as less than a greater one
-pub less : (a b : ℕ) → a < b → nat_cmp a b ≡ Less
+less : (a b : ℕ) → a < b → nat_cmp a b ≡ Less
 less a b lt = grind (arith, nat_tests)
 
 -- if the others lack each code up to n, all their keys are above n

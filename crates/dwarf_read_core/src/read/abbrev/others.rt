@@ -1,28 +1,32 @@
 //! The abbreviations of a table whose codes don't count up from 1.
 
-ghost use Rattle.std.specs.Prelude.{◌≡◌, ◌≢◌, ◌↔◌, ◌^◌, ◌<◌, length, ℕ, [], IsTrue, IsSome, IfOk, IfErr, OnOk, OnErr, option_copied, ⊤};
-ghost use Rattle.std.specs.List.{AllByRecursion};
+ghost use Rattle.std.specs.Prelude.{◌≡◌, ◌≢◌, ◌↔◌, ◌^◌, ◌<◌, ◌∷◌, ◌++◌, length, ℕ, [], IsTrue, IsSome, IfOk, IfErr, OnOk, OnErr, option_copied, ⊤};
+ghost use Rattle.std.specs.List.{IsDistinct};
 ghost use Rattle.std.specs.List.Sorted.{IsStrictlySortedBy};
 ghost use Rattle.std.specs.Map.{keys_of, values_of};
-ghost use Rattle.std.specs.Ordering.{nat_cmp};
+ghost use Rattle.std.specs.Ordering.{nat_cmp, eq_by_cmp};
 ghost use Rattle.std.specs.Iterator.{YieldsFirstRef, item_count};
-ghost use Rattle.dwarf_read_core.specs.Others.{others_entries, AreOthers, ArePlaces, Adds, at_code, codes_of, with_codes, with_places, counted_from};
+ghost use Rattle.dwarf_read_core.specs.Others.{others_entries, AreOthers, ArePlaces, Adds, at_code, code_cmp, codes_of, in_order, with_codes, with_places};
+ghost use Rattle.dwarf_read_core.specs.Views.{others_rest};
 
 use super::super::key::Key;
 use super::Abbreviation;
 use dwarf_base_core::{Error, Result};
 use std::alloc::{AllocError, Global};
+use std::cmp::Ordering;
+use std::collections::BTreeMap;
 use std::collections::btree_map::{Entry, Values};
-use std::collections::vec_deque::Iter;
-use std::collections::{BTreeMap, VecDeque};
 use std::marker::Model;
+use std::slice::Iter;
 
 // Abbreviations with any codes, by their codes.
 #[derive(Debug, Drop)]
 pub(super) struct Others {
-    // In the order of their codes, as long as each new code is below or above all others.
-    items: VecDeque<Abbreviation>,
-    // The place of each code in `items`, once they aren't in order. Until then it is empty.
+    // In the order in which they came. As long as there are no places, their codes rise or fall.
+    items: Vec<Abbreviation>,
+    // Whether the codes fall, as long as there are no places.
+    falls: bool,
+    // The place of each code in `items`, once they are in neither order. Until then it is empty.
     places: BTreeMap<Key, usize>,
 }
 
@@ -33,19 +37,18 @@ impl Model for Others {
 
     ghost Value = { List (ℕ × Declaration) };
 
-    ghost view = { λ o. others_entries o.items.items o.places.entries };
+    ghost view = { λ o. others_entries o.falls o.items.items o.places.entries };
 
-    ghost invariant = { λ o. AreOthers o.items.items o.places.entries };
+    ghost invariant = { λ o. AreOthers o.falls o.items.items o.places.entries };
 }
 
 impl Others {
-    ghost use Rattle.dwarf_read_core.specs.Views.{others_rest};
-
     pub(super) fn new(mem: Global) -> Others
         ensures { result ≡ [] }
     {
         Others {
-            items: VecDeque::new(mem),
+            items: Vec::new(mem),
+            falls: false,
             places: BTreeMap::new(mem),
         }
     }
@@ -69,7 +72,7 @@ impl Others {
         ensures { option_copied result ≡ at_code code self.now }
     {
         if self.places.is_empty() {
-            get_in_order(&self.items, code)
+            get_in_order(&self.items, self.falls, code)
         } else {
             get_by_place(&self.items, &self.places, code)
         }
@@ -81,7 +84,7 @@ impl Others {
         ensures ordered { IsStrictlySortedBy nat_cmp (keys_of self.now) }
     {
         if self.places.is_empty() {
-            OthersIter::InOrder(self.items.iter())
+            iter_in_order(&self.items, self.falls)
         } else {
             OthersIter::ByPlace(Placed {
                 items: &self.items,
@@ -100,7 +103,12 @@ impl Others {
         ensures unchanged { OnErr result (self.new ≡ self.old) }
     {
         if self.places.is_empty() {
-            insert_in_order(&mut self.items, &mut self.places, abbreviation)
+            insert_in_order(
+                &mut self.items,
+                &mut self.falls,
+                &mut self.places,
+                abbreviation,
+            )
         } else {
             insert_by_place(&mut self.items, &mut self.places, abbreviation)
         }
@@ -113,104 +121,131 @@ impl Clone for Others {
     fn clone(&self) -> std::result::Result<Self, AllocError> {
         Ok(Others {
             items: self.items.clone()?,
+            falls: self.falls,
             places: self.places.clone()?,
         })
     }
 }
 
-// If the codes up to this one have no gaps, its place is known. If not, it is searched for.
-fn get_in_order(items: &VecDeque<Abbreviation>, code: u64) -> Option<&Abbreviation>
-    requires { IsStrictlySortedBy nat_cmp (codes_of items.now.items) }
-    ensures { option_copied result ≡ at_code code (with_codes items.now.items) }
+// Codes that fall are read from the back.
+fn iter_in_order(items: &[Abbreviation], falls: bool) -> OthersIter<'_>
+    ensures { others_rest result ≡ in_order falls items.now }
 {
-    let first = items.front().map_or(0, |item| item.code());
-    let place = code.wrapping_sub(first) as usize;
-    match items.get(place) {
-        Some(item) if item.code() == code => Some(item),
-        _ => search_in_order(items, code),
+    if falls {
+        OthersIter::Falling(items.iter())
+    } else {
+        OthersIter::Rising(items.iter())
     }
 }
 
-fn search_in_order(items: &VecDeque<Abbreviation>, code: u64) -> Option<&Abbreviation>
-    requires { IsStrictlySortedBy nat_cmp (codes_of items.now.items) }
-    ensures { option_copied result ≡ at_code code (with_codes items.now.items) }
+// If no code between the first and this one is left out, its place is known. If not, it is
+// searched for.
+fn get_in_order(items: &[Abbreviation], falls: bool, code: u64) -> Option<&Abbreviation>
+    requires { IsStrictlySortedBy (code_cmp falls) (codes_of items.now) }
+    ensures { option_copied result ≡ at_code code (with_codes (in_order falls items.now)) }
 {
-    match items.binary_search_by_key(&code, |item| item.code()) {
+    let first = items.first().map_or(0, |item| item.code());
+    let place = code.abs_diff(first) as usize;
+    match items.get(place) {
+        Some(item) if item.code() == code => Some(item),
+        _ => search_in_order(items, falls, code),
+    }
+}
+
+fn search_in_order(items: &[Abbreviation], falls: bool, code: u64) -> Option<&Abbreviation>
+    requires { IsStrictlySortedBy (code_cmp falls) (codes_of items.now) }
+    ensures { option_copied result ≡ at_code code (with_codes (in_order falls items.now)) }
+{
+    match items.binary_search_by(|item| compare(falls, item.code(), code)) {
         Ok(place) => items.get(place),
         Err(_) => None,
     }
 }
 
+// Compares codes in the order in which they fall, or rise.
+fn compare(falls: bool, code: u64, other: u64) -> Ordering
+    ensures { result ≡ code_cmp falls code other }
+{
+    if falls {
+        other.cmp(&code)
+    } else {
+        code.cmp(&other)
+    }
+}
+
 fn get_by_place<'items>(
-    items: &'items VecDeque<Abbreviation>,
+    items: &'items [Abbreviation],
     places: &BTreeMap<Key, usize>,
     code: u64,
 ) -> Option<&'items Abbreviation>
-    requires { ArePlaces items.now.items places.now.entries }
-    ensures { option_copied result ≡ at_code code (with_places items.now.items places.now.entries) }
+    requires { ArePlaces items.now places.now.entries }
+    ensures { option_copied result ≡ at_code code (with_places items.now places.now.entries) }
 {
     let place = *places.get(&Key(code))?;
     items.get(place)
 }
 
-// Adds an abbreviation at an end of others that are in order. If its code belongs between others,
-// all get places.
+// Adds an abbreviation at the back of others that are in order. If its code doesn't come next in
+// that order, all get places.
 #[tactic(auto, using(crate::proofs::tables::OthersByCode::by_either))]
 fn insert_in_order(
-    items: &mut VecDeque<Abbreviation>,
+    items: &mut Vec<Abbreviation>,
+    falls: &mut bool,
     places: &mut BTreeMap<Key, usize>,
     abbreviation: Abbreviation,
 ) -> Result<()>
-    requires in_order { IsStrictlySortedBy nat_cmp (codes_of items.old.items) }
+    requires in_order { IsStrictlySortedBy (code_cmp falls.old) (codes_of items.old.items) }
     requires no_places { places.old.entries ≡ [] }
-    ensures ok { OnOk result (Adds abbreviation (with_codes items.old.items)
-        (others_entries items.new.items places.new.entries)) }
+    ensures ok { OnOk result (Adds abbreviation (with_codes (in_order falls.old items.old.items))
+        (others_entries falls.new items.new.items places.new.entries)) }
     ensures repeated { IfErr result (λ e. e ≢ Error.OutOfMemory
-        → IsSome (at_code abbreviation.code (with_codes items.old.items))
+        → IsSome (at_code abbreviation.code (with_codes (in_order falls.old items.old.items)))
         × (e ≡ Error.DuplicateAbbreviationCode abbreviation.code)) }
-    ensures unchanged { OnErr result
-        (others_entries items.new.items places.new.entries ≡ with_codes items.old.items) }
-    ensures kept { AreOthers items.new.items places.new.entries }
+    ensures unchanged { OnErr result (others_entries falls.new items.new.items places.new.entries
+        ≡ with_codes (in_order falls.old items.old.items)) }
+    ensures kept { AreOthers falls.new items.new.items places.new.entries }
 {
     let code = abbreviation.code();
-    if is_above_all(items, code) {
-        items.push_back(abbreviation)?;
+    *falls = falls_with(items, *falls, code);
+    if is_next(items, *falls, code) {
+        items.push(abbreviation)?;
         return Ok(());
     }
-    if is_below_all(items, code) {
-        items.push_front(abbreviation)?;
-        return Ok(());
-    }
-    *places = places_in_order(items)?;
+    *places = places_of(items)?;
     insert_by_place(items, places, abbreviation)
 }
 
-fn is_above_all(items: &VecDeque<Abbreviation>, code: u64) -> bool
-    requires { IsStrictlySortedBy nat_cmp (codes_of items.now.items) }
-    ensures { IsTrue result → AllByRecursion (λ other. other < code) (codes_of items.now.items) }
+// Returns whether codes fall with this one behind them. A single code is in both orders.
+fn falls_with(items: &[Abbreviation], falls: bool, code: u64) -> bool
+    requires { IsStrictlySortedBy (code_cmp falls) (codes_of items.now) }
+    ensures in_order { IsStrictlySortedBy (code_cmp result) (codes_of items.now) }
+    ensures same { in_order result items.now ≡ in_order falls items.now }
 {
-    match items.back() {
-        Some(last) => last.code() < code,
+    match items {
+        [only] => code < only.code(),
+        _ => falls,
+    }
+}
+
+// Returns whether codes stay in order with this one behind them.
+fn is_next(items: &[Abbreviation], falls: bool, code: u64) -> bool
+    requires { IsStrictlySortedBy (code_cmp falls) (codes_of items.now) }
+    ensures { IsTrue result
+        → IsStrictlySortedBy (code_cmp falls) (codes_of items.now ++ code ∷ []) }
+{
+    match items.last() {
+        Some(last) => compare(falls, last.code(), code).is_lt(),
         None => true,
     }
 }
 
-fn is_below_all(items: &VecDeque<Abbreviation>, code: u64) -> bool
-    requires { IsStrictlySortedBy nat_cmp (codes_of items.now.items) }
-    ensures { IsTrue result → AllByRecursion (λ other. code < other) (codes_of items.now.items) }
-{
-    match items.front() {
-        Some(first) => code < first.code(),
-        None => true,
-    }
-}
-
-// The places of abbreviations that are in order.
-fn places_in_order(
-    items: &VecDeque<Abbreviation>,
-) -> std::result::Result<BTreeMap<Key, usize>, AllocError>
-    requires { IsStrictlySortedBy nat_cmp (codes_of items.now.items) }
-    ensures { IfOk result (λ places. places.entries ≡ counted_from 0 items.now.items) }
+// The places of abbreviations, whose codes all differ.
+fn places_of(items: &Vec<Abbreviation>) -> std::result::Result<BTreeMap<Key, usize>, AllocError>
+    requires { IsDistinct (eq_by_cmp nat_cmp) (codes_of items.now.items) }
+    ensures places { IfOk result (λ places. ArePlaces items.now.items places.entries) }
+    ensures same { IfOk result (λ places. (code : ℕ)
+        → at_code code (with_places items.now.items places.entries)
+        ≡ at_code code (with_codes items.now.items)) }
 {
     let mut places = BTreeMap::new(*items.allocator());
     for (place, item) in items.iter().enumerate() {
@@ -221,7 +256,7 @@ fn places_in_order(
 
 // Adds an abbreviation at the back, and its place by its code.
 fn insert_by_place(
-    items: &mut VecDeque<Abbreviation>,
+    items: &mut Vec<Abbreviation>,
     places: &mut BTreeMap<Key, usize>,
     abbreviation: Abbreviation,
 ) -> Result<()>
@@ -241,13 +276,14 @@ fn insert_by_place(
         return Err(Error::DuplicateAbbreviationCode(code));
     };
     entry.insert(items.len());
-    items.push_back_reserved(abbreviation);
+    items.push_reserved(abbreviation);
     Ok(())
 }
 
 #[derive(Debug, Drop)]
 pub(super) enum OthersIter<'table> {
-    InOrder(Iter<'table, Abbreviation>),
+    Rising(Iter<'table, Abbreviation>),
+    Falling(Iter<'table, Abbreviation>),
     ByPlace(Placed<'table>),
 }
 
@@ -262,7 +298,8 @@ impl<'table> Iterator for OthersIter<'table> {
 
     fn next(&mut self) -> Option<&'table Abbreviation> {
         match self {
-            OthersIter::InOrder(items) => items.next(),
+            OthersIter::Rising(items) => items.next(),
+            OthersIter::Falling(items) => items.next_back(),
             OthersIter::ByPlace(placed) => placed.next(),
         }
     }
@@ -277,7 +314,8 @@ impl<'table> Clone for OthersIter<'table> {
 
     fn clone(&self) -> std::result::Result<Self, AllocError> {
         match self {
-            OthersIter::InOrder(items) => Ok(OthersIter::InOrder(items.clone()?)),
+            OthersIter::Rising(items) => Ok(OthersIter::Rising(items.clone()?)),
+            OthersIter::Falling(items) => Ok(OthersIter::Falling(items.clone()?)),
             OthersIter::ByPlace(placed) => Ok(OthersIter::ByPlace(placed.clone()?)),
         }
     }
@@ -286,7 +324,7 @@ impl<'table> Clone for OthersIter<'table> {
 // The abbreviations at places that are left.
 #[derive(Debug, Drop)]
 pub(super) struct Placed<'table> {
-    items: &'table VecDeque<Abbreviation>,
+    items: &'table [Abbreviation],
     places: Values<'table, Key, usize>,
 }
 
@@ -298,9 +336,9 @@ impl<'table> Model for Placed<'table> {
 
     ghost Value = { List Declaration };
 
-    ghost view = { λ p. map (at_place p.items.now.items) p.places };
+    ghost view = { λ p. map (at_place p.items.now) p.places };
 
-    ghost invariant = { λ p. AllByRecursion (λ place. place < length p.items.now.items) p.places };
+    ghost invariant = { λ p. AllByRecursion (λ place. place < length p.items.now) p.places };
 }
 
 impl<'table> Iterator for Placed<'table> {

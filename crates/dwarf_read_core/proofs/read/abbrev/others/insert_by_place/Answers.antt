@@ -6,7 +6,7 @@ use Rattle.dwarf_base_core.specs.declared.error.Error.TheVariants.{DuplicateAbbr
 use Rattle.dwarf_read_core.specs.Others.{at_code, with_places}
 use Rattle.dwarf_read_core.proofs.tables.OthersByCode.{has_by_place, added_by_place, places_put}
 use Rattle.dwarf_read_core.proofs.read.abbrev.others.insert_by_place.Goals as goal
-use Rattle.dwarf_read_core.proofs.read.abbrev.others.insert_by_place.Goals.{After-push_back_reserved}
+use Rattle.dwarf_read_core.proofs.read.abbrev.others.insert_by_place.Goals.{After-push_reserved}
 
 pub returns-in_default-clause-repeated : goal.returns-in_default-clause-repeated
 returns-in_default-clause-repeated c =
@@ -20,14 +20,14 @@ returns-in_default-clause-repeated c =
     )
 
 -- the new abbreviation's place is behind all others
-last : (c : After-push_back_reserved) → c.len.result ≡ length c.args.items.now.items
+last : (c : After-push_reserved) → c.len.result ≡ length c.args.items.now.items
 last c = omega (arith, c.len.ensures, c.reserve.ensures.len, c.args.items.now.ok.0)
 
 pub returns-clause-ok : goal.returns-clause-ok
 returns-clause-ok c =
     let ds = c.args.items.now.items in
     let ps = c.args.places.now.entries in
-    rw (c.push_back_reserved.ensures.items, c.reserve.ensures.items)
+    rw (c.push_reserved.ensures.items, c.reserve.ensures.items)
     (added_by_place ds ps _ c.args.abbreviation c.code-code.result c.len.result c.requires c.code-code.ensures (last c)
     (rw c.in-Vacant.is at c.in_ok-entry.ensures.found) (search rules))
 
@@ -35,6 +35,6 @@ pub returns-clause-kept : goal.returns-clause-kept
 returns-clause-kept c =
     let ds = c.args.items.now.items in
     let ps = c.args.places.now.entries in
-    rw (c.push_back_reserved.ensures.items, c.reserve.ensures.items)
+    rw (c.push_reserved.ensures.items, c.reserve.ensures.items)
     (places_put ds ps _ c.args.abbreviation c.code-code.result c.len.result c.requires (last c) (search rules)
     (search rules) (search rules))
