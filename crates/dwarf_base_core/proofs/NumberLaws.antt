@@ -1,6 +1,5 @@
 -- The number of a list of bytes: how large it can be, and that it determines the bytes.
-use Rattle.std.proofs.Common.{◌/◌, ◌%◌, ◌≡◌, ℕ, suc, ◌+◌, ◌*◌, ◌^◌, ◌<◌, ◌≤◌, true, false, List, [], ◌∷◌, length, refl, sym, ◌∙◌, arith}
-use Rattle.std.specs.Prelude.{All}
+use Rattle.std.proofs.Common.{◌/◌, ◌%◌, ◌≡◌, ℕ, suc, ◌+◌, ◌*◌, ◌^◌, ◌<◌, ◌≤◌, true, false, List, [], ◌∷◌, length, refl, sym, ◌∙◌, arith, All}
 use Rattle.std.proofs.Math.Nat.{mul-le-mul_left, mul-le-mul_right, pow-succ'}
 use Rattle.std.proofs.lemmas.Nat.{div-mul-add, mod-mul-add}
 use Rattle.dwarf_base_core.specs.Number.{big_number, little_number, NumberIsBounded, NumberTellsBytes}
@@ -18,10 +17,7 @@ first x xs bytes = bytes 0 0 (omega arith)
 little_number-lt : (xs : List ℕ) → All (λ b. b < 256) xs → little_number xs < 256 ^ length xs
 little_number-lt [] bytes = omega arith
 little_number-lt (x ∷ xs) bytes =
-    let low = first x xs bytes in
-    let high = little_number-lt xs (after_first x xs bytes) in
-    let room : 256 * (little_number xs + 1) ≤ 256 * 256 ^ length xs = mul-le-mul_left 256 (omega arith) in
-    rw (pow-succ' 256 (length xs)) (omega arith)
+    grind (arith, first, after_first, mul-le-mul_left, (little_number-lt xs (after_first x xs bytes)))
 
 -- n bytes with the highest first have a number below 256 ^ n
 big_number-lt : (xs : List ℕ) → All (λ b. b < 256) xs → big_number xs < 256 ^ length xs
@@ -34,8 +30,7 @@ big_number-lt (x ∷ xs) bytes =
 
 -- n bytes in either order have a number below 256 ^ n
 pub number_is_bounded : NumberIsBounded
-number_is_bounded true xs bytes = big_number-lt xs bytes
-number_is_bounded false xs bytes = little_number-lt xs bytes
+number_is_bounded h xs bytes = grind (arith, big_number-lt, little_number-lt)
 
 -- two lists of bytes of one length, with the lowest first, are equal if their numbers are
 little_number-tells : (xs ys : List ℕ) → All (λ b. b < 256) xs → All (λ b. b < 256) ys → length xs ≡ length ys

@@ -1,4 +1,5 @@
 -- The numbers of lists of bytes: joined lists, zeros, and the bytes that `to_le_bytes` and `to_be_bytes` make.
+use Rattle.std.proofs.lemmas.Grind.{common_steps}
 use Rattle.std.proofs.Common.{◌/◌, ◌%◌, ◌≡◌, ℕ, zero, suc, ◌+◌, ◌-◌, ◌*◌, ◌^◌, ◌<◌, ◌≤◌, List, [], ◌∷◌, ◌++◌, length, take, drop, replicate, reverse, refl, sym, ap, ◌∙◌, arith}
 use Rattle.std.proofs.Math.Nat.{add-mul, add_assoc, div-add-mod', div-div-eq-div-mul, div-one, mod-eq_of_lt, mod-lt, mul-add-mod_self_right, mul-le-mul_right, mul_assoc, one-le-pow, pow-suc, pow-zero, pow-succ'}
 use borrow.Rule.Slice.PartMut.{put_mid}
@@ -21,9 +22,7 @@ number_in_base-zeros base (suc n) = rw (number_in_base-zeros base n) (omega arit
 
 -- the first byte in big-endian order is the highest of the number
 pub big_number-cons : (x : ℕ) (xs : List ℕ) → big_number (x ∷ xs) ≡ x * 256 ^ length xs + big_number xs
-big_number-cons x xs =
-    let joined = number_in_base-append 256 (reverse xs) (x ∷ []) in
-    ap little_number (reverse-append (x ∷ []) xs) ∙ joined ∙ rw (length-reverse xs) (grind arith)
+big_number-cons x xs = grind (arith, common_steps, number_in_base-append, reverse, reverse-append, length-reverse)
 
 -- the remainder of n by m * c is the remainder by m of its quotient by c, times c, plus its remainder by c
 mod-split : (n m c : ℕ) → zero < m → zero < c → n % (m * c) ≡ n / c % m * c + n % c
@@ -43,8 +42,7 @@ mod-split n m c hm hc =
 
 -- a byte of a number is the quotient by its place, modulo 256
 byte_at-pow : (k x : ℕ) → byte_at k x ≡ x / 256 ^ k % 256
-byte_at-pow zero x = ap (λ (y : ℕ). y % 256) (sym (div-one x))
-byte_at-pow (suc k) x = refl
+byte_at-pow k x = grind arith
 
 -- a power of 256 is above 0
 pow_pos256 : (n : ℕ) → zero < 256 ^ n
@@ -82,10 +80,7 @@ little_number-bytes_low_first i (suc k) x =
 pub big_number-written : (k n : ℕ) (written rest : List ℕ) → n < 256 ^ k → written ≡ bytes_high_first k n
     → big_number (take k (written ++ rest)) ≡ n
 big_number-written k n written rest fits is =
-    let long : length written ≡ k = ap length is ∙ length-bytes_high_first k n in
-    let whole : take k (written ++ rest) ≡ written = take-append-le k written rest (omega arith)
-    ∙ take_all k written (omega arith) in
-    ap big_number (whole ∙ is) ∙ big_number-bytes_high_first k n ∙ mod-eq_of_lt fits
+    grind (arith, length-bytes_high_first, take-append-le, take_all, big_number-bytes_high_first, mod-eq_of_lt)
 
 -- a number that was written to the front of a buffer, the lowest byte first, is read there
 pub little_number-written : (k n : ℕ) (written rest : List ℕ) → n < 256 ^ k → written ≡ bytes_low_first 0 k n

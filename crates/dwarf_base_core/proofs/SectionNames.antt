@@ -1,6 +1,5 @@
 -- A section's name determines the section.
-use Rattle.std.proofs.Common.{◌≡◌, ℕ, ◌==◌, List, ap, refl, sym, ◌∙◌}
-use Rattle.std.specs.Prelude.{if◌then◌else◌, codes}
+use Rattle.std.proofs.Common.{arith, ◌≡◌, ℕ, ◌==◌, List, ap, sym, ◌∙◌, if◌then◌else◌, codes}
 use lib.Pointwise.{pointwise}
 use Rattle.dwarf_base_core.specs.declared.common.SectionId.{SectionId}
 use Rattle.dwarf_base_core.specs.declared.common.SectionId.TheVariants.{DebugAbbrev, DebugAddr, DebugAranges, DebugCuIndex, DebugFrame, EhFrame, EhFrameHdr, DebugGnuPubNames, DebugGnuPubTypes, DebugInfo, DebugLine, DebugLineStr, DebugLoc, DebugLocLists, DebugMacinfo, DebugMacro, DebugNames, DebugPubNames, DebugPubTypes, DebugRanges, DebugRngLists, DebugStr, DebugStrOffsets, DebugTuIndex, DebugTypes}
@@ -37,31 +36,7 @@ section_of name =
 
 -- the section that a section's name belongs to is that section
 section_of-name : (id : SectionId) → section_of (section_names id).name ≡ id
-section_of-name DebugAbbrev = refl
-section_of-name DebugAddr = refl
-section_of-name DebugAranges = refl
-section_of-name DebugCuIndex = refl
-section_of-name DebugFrame = refl
-section_of-name EhFrame = refl
-section_of-name EhFrameHdr = refl
-section_of-name DebugGnuPubNames = refl
-section_of-name DebugGnuPubTypes = refl
-section_of-name DebugInfo = refl
-section_of-name DebugLine = refl
-section_of-name DebugLineStr = refl
-section_of-name DebugLoc = refl
-section_of-name DebugLocLists = refl
-section_of-name DebugMacinfo = refl
-section_of-name DebugMacro = refl
-section_of-name DebugNames = refl
-section_of-name DebugPubNames = refl
-section_of-name DebugPubTypes = refl
-section_of-name DebugRanges = refl
-section_of-name DebugRngLists = refl
-section_of-name DebugStr = refl
-section_of-name DebugStrOffsets = refl
-section_of-name DebugTuIndex = refl
-section_of-name DebugTypes = refl
+section_of-name id = grind arith
 
 -- no two sections have one name
 pub names_are_distinct : NamesAreDistinct

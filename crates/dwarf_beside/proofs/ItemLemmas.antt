@@ -1,6 +1,5 @@
 -- Sums over the items that an iterator yields.
-use Rattle.std.proofs.Common.{◌≡◌, ℕ, ◌+◌, ◌%◌, ◌^◌, true, List, [], ◌∷◌, ◌++◌, Result, Ok, Err, refl, subst, append_assoc, inl, inr, ◌⊎◌}
-use Rattle.std.proofs.lemmas.List.{append-nil}
+use Rattle.std.proofs.Common.{◌≡◌, ℕ, ◌+◌, ◌%◌, ◌^◌, true, List, [], ◌∷◌, ◌++◌, Result, Ok, Err, refl, subst, append_assoc, inl, inr, ◌⊎◌, append-nil}
 use Rattle.dwarf_read_core.specs.declared.Error.{Error}
 use Rattle.dwarf_read_core.specs.Faults.{WantsMemory}
 use Rattle.dwarf_read_core.specs.Items.{ComesFirst}

@@ -1,10 +1,7 @@
 -- The digits of numbers in a base.
-use Rattle.std.proofs.Common.{◌≡◌, ◌≢◌, ℕ, zero, suc, ◌+◌, ◌-◌, ◌<◌, ◌≤◌, ◌/◌, ◌%◌, drop, set, Bool, true, false, List, [], ◌∷◌, ◌++◌, length, refl, sym, ap, ◌∙◌, arith, append_assoc}
-use Rattle.std.proofs.lemmas.Bool.Decides.{nat_tests}
-use Rattle.std.proofs.lemmas.Grind.{common_steps}
+use Rattle.std.proofs.Common.{◌≡◌, ◌≢◌, ℕ, zero, suc, ◌+◌, ◌-◌, ◌<◌, ◌≤◌, ◌/◌, ◌%◌, drop, set, Bool, true, false, List, [], ◌∷◌, ◌++◌, length, refl, sym, ap, ◌∙◌, arith, append_assoc, ◌==◌, if◌then◌else◌}
 use Rattle.std.proofs.lemmas.List.{drop-set}
 use Rattle.std.specs.Fmt.{digit_glyph, digits, digits_onto}
-use Rattle.std.specs.Prelude.{◌==◌, if◌then◌else◌}
 
 -- if two texts both end with a third one, so does the one that a test chooses
 either-append : (b : Bool) (one other longer others text : List ℕ) → longer ≡ one ++ text → others ≡ other ++ text
@@ -39,17 +36,12 @@ digits_onto-last base (suc k) n text some last = rw last refl
 digits_onto-more : (base i n : ℕ) (text : List ℕ) → 0 < i → n / base ≢ 0
     → digits_onto i base false n text ≡ digits_onto (i - 1) base false (n / base) (digit_glyph false (n % base) ∷ text)
 digits_onto-more base zero n text some more = absurd (omega arith)
-digits_onto-more base (suc k) n text some more =
-    let before : suc k - 1 ≡ k = omega arith in
-    let test : (n / base == 0) ≡ false = grind (arith, common_steps, nat_tests) in
-    rw (before, test) refl
+digits_onto-more base (suc k) n text some more = grind arith
 
 -- putting a byte before a place puts it in front of the bytes from that place on
 drop-put : (bytes : List ℕ) (i byte : ℕ) → 0 < i → i ≤ length bytes
     → drop (i - 1) (set bytes (i - 1) byte) ≡ byte ∷ drop i bytes
-drop-put bytes i byte some within =
-    let next : i - 1 + 1 ≡ i = omega arith in
-    drop-set bytes (i - 1) byte (omega arith) ∙ ap (λ j. byte ∷ drop j bytes) next
+drop-put bytes i byte some within = grind (arith, drop-set)
 
 module _ (base : ℕ) (bytes : List ℕ) (i n byte : ℕ) (some : 0 < i) (within : i ≤ length bytes)
     (digit : byte ≡ digit_glyph false (n % base)) where

@@ -1,5 +1,6 @@
 -- Bytes in hexadecimal.
-use Rattle.std.proofs.Common.{◌≡◌, ℕ, ◌+◌, ◌<◌, List, [], ◌∷◌, ◌++◌, length, take, get_or, map, refl, sym, ap, ◌∙◌, arith, append_assoc, length-take}
+use Rattle.std.proofs.lemmas.Grind.{common_steps}
+use Rattle.std.proofs.Common.{◌≡◌, ℕ, ◌+◌, ◌<◌, List, [], ◌∷◌, ◌++◌, length, take, get_or, map, refl, arith, append_assoc, length-take}
 use Rattle.std.proofs.lemmas.List.{take_more, map-append, length-map}
 use Rattle.std.specs.List.{join_with_byte}
 use Rattle.dwarf_listing_core.specs.Lines.{hex_byte, hex_text}
@@ -9,9 +10,7 @@ joined_more : (c : ℕ) (pieces : List (List ℕ)) (piece : List ℕ) → 0 < le
     → join_with_byte c (pieces ++ piece ∷ []) ≡ join_with_byte c pieces ++ c ∷ piece
 joined_more c [] piece some = absurd (omega arith)
 joined_more c (x ∷ []) piece some = refl
-joined_more c (x ∷ y ∷ xs) piece some =
-    ap (λ rest. x ++ c ∷ rest) (joined_more c (y ∷ xs) piece (omega arith))
-    ∙ sym (append_assoc x (c ∷ join_with_byte c (y ∷ xs)) (c ∷ piece))
+joined_more c (x ∷ y ∷ xs) piece some = grind (arith, append_assoc, (joined_more c (y ∷ xs) piece (omega arith)))
 
 -- the hexadecimal text of the first byte alone is the two digits of that byte
 pub hex_text-first : (bytes : List ℕ) → 0 < length bytes → hex_text (take 1 bytes) ≡ hex_byte (get_or bytes 0 0)
@@ -22,6 +21,4 @@ hex_text-first (byte ∷ bytes) some = refl
 pub hex_text-next : (bytes : List ℕ) (i : ℕ) → 0 < i → i < length bytes
     → hex_text (take (i + 1) bytes) ≡ hex_text (take i bytes) ++ 32 ∷ hex_byte (get_or bytes i 0)
 hex_text-next bytes i positive within =
-    let before : 0 < length (map hex_byte (take i bytes)) = simp (length-map, length-take) (omega arith) in
-    rw (take_more bytes i 0 within, map-append)
-    (joined_more 32 (map hex_byte (take i bytes)) (hex_byte (get_or bytes i 0)) before)
+    grind (arith, common_steps, length-map, length-take, take_more, map-append, joined_more, get_or)

@@ -1,7 +1,6 @@
 -- The texts of items that are read one after the other.
-use Rattle.std.proofs.Common.{◌≡◌, ℕ, Bool, List, [], ◌∷◌, ◌++◌, Result, Ok, Err, refl, sym, ap, subst, ◌∙◌, append_assoc, inl, inr}
+use Rattle.std.proofs.Common.{arith, ◌≡◌, ℕ, Bool, List, [], ◌∷◌, ◌++◌, Result, Ok, Err, refl, ap, subst, ◌∙◌, append_assoc, inl, inr, append-nil}
 use Rattle.std.specs.Prelude.{◌≢◌, Option, Some, None, ⊤}
-use Rattle.std.proofs.lemmas.List.{append-nil}
 use Rattle.dwarf_read_core.specs.declared.Error.{Error}
 use Rattle.dwarf_read_core.specs.declared.Error.TheVariants.{OutOfMemory}
 use Rattle.dwarf_read_core.specs.Items.{GivesFirst}
@@ -12,16 +11,10 @@ use Rattle.dwarf_listing_core.specs.Sets.{SetListing, ListsLine, ListsSet}
 
 -- ---- the loop over an iterator
 
--- the empty text in front changes nothing
-in_front-nil : (listed : Result (List ℕ) Error) → in_front [] listed ≡ listed
-in_front-nil (Ok text) = refl
-in_front-nil (Err e) = refl
-
 -- a text in front of another one's, or both in front
 in_front-append : (a b : List ℕ) (listed : Result (List ℕ) Error)
     → in_front a (in_front b listed) ≡ in_front (a ++ b) listed
-in_front-append a b (Ok text) =
-    ap (λ (t : List ℕ). let r : Result (List ℕ) Error = Ok t in r) (sym (append_assoc a b text))
+in_front-append a b (Ok text) = grind (arith, append_assoc)
 in_front-append a b (Err e) = refl
 
 -- the text ends with those of the items so far, which are in front of those of the items that remain
@@ -30,16 +23,6 @@ pub record AreListed {I : Type 0} (Lists : I → Result (List ℕ) Error → Typ
   pub added : List ℕ
   pub appended : text ≡ old ++ added
   pub completes : (rest : Result (List ℕ) Error) → Lists now rest → Lists start (in_front added rest)
-
--- at the start nothing is listed
-pub none_listed : {I : Type 0} (Lists : I → Result (List ℕ) Error → Type 0) (start : I) (text : List ℕ)
-    → AreListed Lists start start text text
-none_listed Lists start text =
-    record {
-      added = [];
-      appended = sym (append-nil text);
-      completes = λ rest h. subst (Lists start) (sym (in_front-nil rest)) h;
-    }
 
 module _ {I X : Type 0} {gives : I → Option (Result X Error) → I → Type 0}
     {Lists : X → Result (List ℕ) Error → Type 0} {start now : I} {old text : List ℕ}
@@ -105,8 +88,7 @@ module _ {I X A : Type 0} (StandsFor : I → List (Result A Error) → Type 0) (
 -- what is appended to no text is the whole text
 pub whole_text : (Lists : Result (List ℕ) Error → Type 0) (old added new : List ℕ) → old ≡ [] → new ≡ old ++ added
     → Lists (Ok added) → Lists (Ok new)
-whole_text Lists old added new none appended h =
-    subst (λ (t : List ℕ). Lists (Ok t)) (sym (appended ∙ ap (λ t. t ++ added) none)) h
+whole_text Lists old added new none appended h = grind arith
 
 -- the line of a set and the lines that its entries append are those of the set
 pub set_appended : {H X : Type 0} (listing : SetListing H) (s : Set H) (view : X → ℕ) (is_free : Bool) (now : Entries)

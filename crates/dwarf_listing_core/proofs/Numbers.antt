@@ -1,17 +1,13 @@
 -- How `parse` reads digits.
-use Rattle.std.proofs.Common.{◌≡◌, ℕ, Bool, true, false, cond, ◌&&◌, ◌+◌, ◌<◌, ◌≤◌, List, length, drop, get_or, ◌^◌, ℤ, pos, neg_ℤ, Option, Some, None, rules, refl, ◌∙◌, arith, Result, Ok, Err}
+use Rattle.std.proofs.Common.{◌≡◌, ℕ, Bool, true, false, cond, ◌&&◌, ◌+◌, ◌<◌, ◌≤◌, List, length, get_or, ℤ, neg_ℤ, Option, Some, None, rules, refl, arith, Result, Ok, Err, All, option_map, IsUtf8}
+use Rattle.std.specs.Int.{w64}
 use Rattle.std.proofs.lemmas.Bool.Decides.{nat_tests}
 use Rattle.std.proofs.lemmas.Grind.{common_steps}
-use Rattle.std.proofs.lemmas.List.Sums.{AllPass-from_list_all}
 use Rattle.std.proofs.lemmas.Str.{IsUtf8-from_ascii}
 use Rattle.std.proofs.lemmas.Str.Ascii.{IsAscii-from_all}
 use Rattle.std.proofs.lemmas.Str.Parse.{IsNumeralModel, numerals_by_value, parse_digits, parse_signed_digits, parse_signed_minus}
 use Rattle.std.specs.Char.{is_ascii_digit}
-use Rattle.std.specs.Int.{w64}
-use Rattle.std.specs.List.{All}
-use Rattle.std.specs.Option.{option_map}
 use Rattle.std.specs.Result.{result_ok, OkIff}
-use Rattle.std.specs.Str.{IsUtf8}
 use Rattle.std.specs.Str.Parse.{digits_value, ParsesSigned, ParsesUnsigned, starts_with_minus}
 use Rattle.dwarf_listing_core.specs.Number.{is_all_digits, number_below, signed_of, unsigned_of, without_minus}
 
@@ -34,9 +30,7 @@ same_option (Some n) = refl
 -- a text of digits is parsed as the number of its digits
 pub parsed_unsigned : {E : Type 0} → (text : List ℕ) (parsed : Result ℕ E) → ParsesUnsigned 64 10 text parsed
     → is_all_digits text ≡ true → result_ok parsed ≡ unsigned_of text
-parsed_unsigned text parsed told digits =
-    below_by_cases (λ n. n) (2 ^ 64) text parsed digits (parse_digits numerals 64 text parsed told digits)
-    ∙ same_option (unsigned_of text)
+parsed_unsigned text parsed told digits = grind (arith, below_by_cases, parse_digits, numerals, same_option)
 
 -- a number that is at most a limit is below the next number
 below_next : {T E : Type 0} → (parsed : Result T E) (text : List ℕ) (limit : ℕ) (value : T)
@@ -51,13 +45,9 @@ signed_by_sign : {E : Type 0} → (text : List ℕ) (parsed : Result ℤ E) → 
     → is_all_digits (without_minus text) ≡ true → (minus : Bool) → starts_with_minus text ≡ minus
     → result_ok parsed ≡ signed_of text
 signed_by_sign text parsed told digits true sign =
-    let rest = rw sign at digits in
-    rw sign (below_by_cases (λ n. neg_ℤ (pos n)) (2 ^ 63 + 1) (drop 1 text) parsed rest
-    (below_next parsed (drop 1 text) (2 ^ 63) _ rest
-    (parse_signed_minus numerals w64 text parsed told (grind arith))))
+    grind (arith, common_steps, below_by_cases, neg_ℤ, below_next, parse_signed_minus, numerals)
 signed_by_sign text parsed told digits false sign =
-    let whole = rw sign at digits in
-    rw sign (below_by_cases pos (2 ^ 63) text parsed whole (parse_signed_digits numerals w64 text parsed told whole))
+    grind (arith, common_steps, below_by_cases, parse_signed_digits, numerals)
 
 -- a text of digits behind an optional minus is parsed as its signed number
 pub parsed_signed : {E : Type 0} → (text : List ℕ) (parsed : Result ℤ E) → ParsesSigned w64 10 text parsed
@@ -70,8 +60,7 @@ below_by_test byte digit = grind (arith, common_steps, nat_tests)
 
 -- each byte of a text of digits is below 128
 digits_are_ascii : (text : List ℕ) → is_all_digits text ≡ true → All (λ byte. byte < 128) text
-digits_are_ascii text digits k d within =
-    below_by_test (get_or text k d) (AllPass-from_list_all is_ascii_digit text digits k d within)
+digits_are_ascii text digits k d within = grind (arith, common_steps, below_by_test, get_or)
 
 -- there is no number if the test for digits fails
 none_by_test : (some digits below : Bool) (value : ℕ) → digits ≡ false

@@ -1,6 +1,5 @@
 -- Sets have exactly one text or error.
-use Rattle.std.proofs.Common.{◌≡◌, ◌-◌, ◌^◌, ◌<◌, ℕ, zero, suc, List, [], ◌∷◌, Result, Ok, Err, refl, ap, ◌∙◌, arith}
-use Rattle.std.specs.Prelude.{IsTrue}
+use Rattle.std.proofs.Common.{◌≡◌, ◌-◌, ◌^◌, ◌<◌, ℕ, zero, suc, List, [], ◌∷◌, Result, Ok, Err, refl, ap, ◌∙◌, arith, IsTrue}
 use Rattle.dwarf_read_core.specs.declared.Error.{Error}
 use Rattle.dwarf_read_core.specs.declared.Format.{Format}
 use Rattle.dwarf_read_core.specs.declared.Format.TheVariants.{Dwarf32, Dwarf64}
@@ -92,14 +91,7 @@ positive (suc width) sized = omega arith
 -- the header of a set of addresses has a size above 0
 header_size : (unit : Input) {size : ℕ} {rest : Input} → read address_header unit ≡ Ok (size, rest) → 0 < size
 unfolding address_header
-header_size unit h =
-    let version = then_read _ _ _ h in
-    let known = then_read _ _ _ version.3 in
-    let size = then_read _ _ _ known.3 in
-    let sized = then_read _ _ _ size.3 in
-    let segment = then_read _ _ _ sized.3 in
-    let flat = then_read _ _ _ segment.3 in
-    rw (pure_read _ _ flat.3).0 (positive size.0 (check_read _ _ _ sized.2).0)
+header_size unit h = grind (arith, then_read, pure_read, positive, check_read)
 
 -- a set of addresses has a size above 0 in its header
 pub address_size : (greatest offset : ℕ) (old new : Input) (s : Set ℕ)

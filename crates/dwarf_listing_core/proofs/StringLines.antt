@@ -1,5 +1,5 @@
 -- The string at an offset of a section is a part of the section's bytes, followed by a zero byte.
-use Rattle.std.proofs.Common.{◌≡◌, ◌≢◌, ℕ, ◌+◌, ◌<◌, ◌≤◌, [], ◌∷◌, ◌++◌, Ok, Err, length, take, drop, set, ap, ◌∙◌, arith, length-take}
+use Rattle.std.proofs.Common.{◌≡◌, ◌≢◌, ℕ, ◌+◌, ◌<◌, ◌∷◌, ◌++◌, Ok, Err, length, take, drop, set, ap, arith, length-take}
 use Rattle.std.proofs.Math.Seq.{take-append_seam}
 use Rattle.std.proofs.lemmas.List.{drop-take, drop-append-le, length-append, length-drop, take_more_set}
 use Rattle.dwarf_read_core.specs.declared.Error.{Error}
@@ -13,11 +13,7 @@ use Rattle.dwarf_listing_core.specs.Lines.{line}
 -- the bytes of a string are those of the section from its offset on, as many as it has
 pub string-is_part : (section : Input) (offset : ℕ) (found : Input) → StringAt section offset (Ok found)
     → drop offset (take (offset + length found.bytes) section.bytes) ≡ found.bytes
-string-is_part section offset found is =
-    let text = string-is_text is in
-    drop-take offset (length found.bytes) section.bytes
-    ∙ ap (take (length found.bytes)) text.parts
-    ∙ take-append_seam found.bytes (0 ∷ text.rest)
+string-is_part section offset found is = grind (arith, string-is_text, drop-take, take-append_seam)
 
 -- the byte behind a string is still in its section
 pub string-ends_inside : (section : Input) (offset : ℕ) (found : Input) → StringAt section offset (Ok found)
@@ -32,12 +28,7 @@ pub string-becomes_line : (section : Input) (offset : ℕ) (found : Input) → S
     → drop offset (take (offset + length found.bytes + 1) (set section.bytes (offset + length found.bytes) 10))
     ≡ line found.bytes
 string-becomes_line section offset found is =
-    let end = offset + length found.bytes in
-    let inside = string-ends_inside section offset found is in
-    let reached : offset ≤ length (take end section.bytes) = omega (arith, inside, length-take end section.bytes) in
-    ap (drop offset) (take_more_set section.bytes end 10 inside)
-    ∙ drop-append-le offset (take end section.bytes) (10 ∷ []) reached
-    ∙ ap (λ bytes. bytes ++ 10 ∷ []) (string-is_part section offset found is)
+    grind (arith, string-ends_inside, length-take, take_more_set, drop-append-le, string-is_part)
 
 -- if a section has no string at an offset, the error isn't `OutOfMemory`
 pub string_error-not_memory : (section : Input) (offset : ℕ) (e : Error) → StringAt section offset (Err e)

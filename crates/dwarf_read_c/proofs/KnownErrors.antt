@@ -1,7 +1,6 @@
 -- The errors that a call for C can return have numbers of their own.
-use Rattle.std.proofs.Common.{◌≡◌, ◌≢◌, ℕ, ◌<◌, List, Result, Err, ap, arith, inl, inr}
+use Rattle.std.proofs.Common.{◌≡◌, ◌≢◌, ℕ, ◌<◌, List, Result, Err, ap, arith, inl, inr, IfErr, nat_lt}
 use Rattle.std.proofs.lemmas.Bool.{cases_lt}
-use Rattle.std.specs.Prelude.{IfErr, nat_lt}
 use Rattle.dwarf_read_core.specs.declared.Error.{Error}
 use Rattle.dwarf_read_core.specs.declared.Error.TheVariants.{OutOfMemory, UnknownReservedLength}
 use Rattle.dwarf_read_core.specs.declared.Format.{Format}

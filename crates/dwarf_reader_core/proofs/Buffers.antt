@@ -1,7 +1,8 @@
 -- The ten places of an encoding that is being written.
+use Rattle.std.proofs.lemmas.Grind.{common_steps}
 use Rattle.std.proofs.Common.{◌≡◌, ℕ, ◌+◌, ◌-◌, ◌<◌, List, [], ◌∷◌, ◌++◌, length, take, drop, set, replicate, sym, ap, ◌∙◌, arith}
 use Rattle.std.proofs.lemmas.List.{take_more_set, drop-set-lt, drop-drop, drop-replicate, append_assoc, length-set}
-use Rattle.dwarf_reader_core.proofs.Shortest.{IsSpelled, IsEncoding-from}
+use Rattle.dwarf_reader_core.proofs.Shortest.{IsSpelled}
 use Rattle.dwarf_reader_core.specs.Shortest.{IsPadded}
 
 -- a buffer has a free place, and all places from there on are zeros
@@ -20,11 +21,7 @@ zeros-more bytes len b has_room =
 
 -- a buffer with one byte more has room for the others
 pub HasRoom-more : (bytes : List ℕ) (len b : ℕ) → HasRoom bytes len → len + 1 < 10 → HasRoom (set bytes len b) (len + 1)
-HasRoom-more bytes len b has_room more = record {
-  places = length-set bytes len b ∙ has_room.places;
-  room = more;
-  zeros = zeros-more bytes len b has_room;
-}
+HasRoom-more bytes len b has_room more = grind (arith, length-set, zeros-more)
 
 -- the bytes so far, with one more byte placed behind them, end with that byte
 pub take-placed : (bytes : List ℕ) (len b : ℕ) → HasRoom bytes len
@@ -34,15 +31,9 @@ take-placed bytes len b has_room = take_more_set bytes len b (rw has_room.places
 -- the bytes so far, one more byte placed behind them and a tail are joined in that order
 pub take-placed-append : (bytes : List ℕ) (len b : ℕ) (tail : List ℕ) → HasRoom bytes len
     → take (len + 1) (set bytes len b) ++ tail ≡ take len bytes ++ b ∷ tail
-take-placed-append bytes len b tail has_room =
-    ap (λ front. front ++ tail) (take-placed bytes len b has_room) ∙ append_assoc (take len bytes) (b ∷ []) tail
+take-placed-append bytes len b tail has_room = grind (arith, take-placed, append_assoc)
 
 -- the buffer is padded once the last byte of an encoding is placed
 pub IsPadded-last : (bytes : List ℕ) (len b : ℕ) → HasRoom bytes len → IsSpelled (take len bytes ++ b ∷ [])
     → IsPadded record { bytes = set bytes len b; len = len + 1 }
-IsPadded-last bytes len b has_room spelled = record {
-  places = length-set bytes len b ∙ has_room.places;
-  within = omega arith;
-  zeros = zeros-more bytes len b has_room;
-  encoding = rw (take-placed bytes len b has_room) (IsEncoding-from _ spelled);
-}
+IsPadded-last bytes len b has_room spelled = grind (arith, common_steps)

@@ -1,6 +1,7 @@
 -- The bits of a byte of an encoding.
-use Rattle.std.proofs.Common.{◌≡◌, ℕ, ◌+◌, ◌%◌, ◌<◌, bit_and, bit_or, ◌∙◌, arith}
-use Rattle.std.proofs.lemmas.Nat.{and_mask, or_comm, or_shifted}
+use Rattle.std.proofs.lemmas.Grind.{common_steps}
+use Rattle.std.proofs.Common.{◌≡◌, ℕ, ◌+◌, ◌%◌, ◌<◌, bit_and, bit_or, arith}
+use Rattle.std.proofs.lemmas.Nat.{and_mask}
 
 -- the low seven bits are the remainder by 128
 pub low_digit : (n : ℕ) → bit_and n 127 ≡ n % 128
@@ -8,6 +9,4 @@ low_digit n = and_mask n 7
 
 -- setting the high bit of a digit adds 128
 pub continued : (digit : ℕ) → digit < 128 → bit_or digit 128 ≡ digit + 128
-continued digit small =
-    let added : bit_or 128 digit ≡ 128 + digit = or_shifted 1 7 digit small in
-    or_comm digit 128 ∙ added ∙ omega arith
+continued digit small = grind (arith, common_steps)

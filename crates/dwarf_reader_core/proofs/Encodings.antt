@@ -1,9 +1,6 @@
 -- Lemmas on encodings of LEB128 numbers.
-use Rattle.std.proofs.Common.{◌≡◌, ℕ, zero, suc, ◌+◌, ◌-◌, ◌*◌, ◌%◌, ◌^◌, ◌<◌, ◌≤◌, List, [], ◌∷◌, ◌++◌, length, take, refl, arith, lit<, ℤ, pos, negsuc, IsTrue, nat_le, FitsSigned, w64}
-use Rattle.std.proofs.lemmas.Bool.Decides.{nat_tests}
-use Rattle.std.proofs.lemmas.Bool.{le-leb}
+use Rattle.std.proofs.Common.{◌≡◌, ℕ, zero, suc, ◌+◌, ◌-◌, ◌*◌, ◌%◌, ◌^◌, ◌<◌, ◌≤◌, List, [], ◌∷◌, ◌++◌, length, take, refl, arith, ℤ, IsTrue, nat_le, FitsSigned, w64, length-take-le}
 use Rattle.std.proofs.Math.Nat.{pow-suc, pow-le-pow_right}
-use Rattle.std.proofs.lemmas.List.{length-take-le}
 use Rattle.dwarf_reader_core.proofs.Bits.{pow_digits}
 use Rattle.dwarf_reader_core.specs.Leb128.{IsEncoding, NoneIsLast, unsigned_value, is_negative, is_in_range, signed64}
 
@@ -49,10 +46,7 @@ past_none (b ∷ c ∷ bs) (suc k) (suc (suc n)) enough none encoding =
 
 -- the value of n bytes is below each place from n on
 pub worth_below : (bytes : List ℕ) (n m : ℕ) → n ≤ length bytes → n ≤ m → unsigned_value (take n bytes) < 2 ^ (7 * m)
-worth_below bytes n m enough within =
-    let below = unsigned_value-lt (take n bytes) in
-    let places : 128 ^ n ≤ 128 ^ m = pow-le-pow_right {n = 128} (lit< tt) within in
-    rw pow_digits (omega (arith, rw (length-take-le n bytes enough) at below, places))
+worth_below bytes n m enough within = grind (arith, unsigned_value-lt, pow-le-pow_right, pow_digits, length-take-le)
 
 -- bytes are negative if their last byte has the sign bit
 pub is_negative-push : (xs : List ℕ) (b : ℕ) → is_negative (xs ++ b ∷ []) ≡ nat_le 64 (b % 128)
@@ -62,13 +56,11 @@ is_negative-push (x ∷ y ∷ xs) b = is_negative-push (y ∷ xs) b
 
 -- each i64 is in the range of signed numbers of 64 bits
 pub in_range_i64 : (v : ℤ) → FitsSigned w64 v → IsTrue (is_in_range signed64 v)
-in_range_i64 (pos n) fits = le-leb n (2 ^ 63 - 1) (omega (arith, fits.sfits))
-in_range_i64 (negsuc n) fits = rw (le-leb n (2 ^ 63 - 1) (omega (arith, fits.sfits))) refl
+in_range_i64 v fits = grind arith
 
 -- each number in the range of signed numbers of 64 bits is an i64
 pub fits_i64 : (v : ℤ) → IsTrue (is_in_range signed64 v) → FitsSigned w64 v
-fits_i64 (pos n) has = record { sfits = grind (arith, nat_tests) }
-fits_i64 (negsuc n) has = record { sfits = grind (arith, nat_tests) }
+fits_i64 v has = grind arith
 
 -- no encoding is the beginning of another
 pub same_encoding : (a b x y : List ℕ) → IsEncoding a → IsEncoding b → a ++ x ≡ b ++ y → (a ≡ b) × (x ≡ y)

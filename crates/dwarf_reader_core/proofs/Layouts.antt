@@ -1,7 +1,8 @@
 -- Laws of layouts: steps of reading, exactly one outcome, appended bytes, the front of the bytes, and how many are
 -- consumed.
-use Rattle.std.proofs.Common.{◌≡◌, ℕ, zero, suc, ◌+◌, ◌-◌, ◌≤◌, take, drop, Bool, true, false, cond, leb, List, [], ◌∷◌, ◌++◌, length, Option, None, Some, Result, Ok, Err, refl, sym, ap, subst, ◌∙◌, arith, slice_index}
-use Rattle.std.proofs.lemmas.Bool.{le-leb, lt-leb, leb-true, eqb-true, eq-eqb}
+use Rattle.std.proofs.lemmas.Grind.{common_steps}
+use Rattle.std.proofs.Common.{◌≡◌, ℕ, zero, suc, ◌+◌, ◌-◌, ◌≤◌, take, drop, Bool, true, false, cond, leb, List, [], ◌∷◌, ◌++◌, length, Option, None, Some, Result, Ok, Err, refl, sym, ap, subst, ◌∙◌, arith}
+use Rattle.std.proofs.lemmas.Bool.{lt-leb, eq-eqb}
 use Rattle.std.proofs.lemmas.List.{length-append, length-drop, length-take-le, take-append-le, drop-append-le}
 use Rattle.std.proofs.lemmas.List.Elements.{All-head, All-tail}
 use Rattle.std.proofs.Math.Seq.{drop-append-add}
@@ -10,9 +11,8 @@ use Rattle.dwarf_base_core.specs.declared.error.Error.{Error}
 use Rattle.dwarf_reader_core.specs.Appended.{followed_by, IsNoEof}
 use Rattle.dwarf_reader_core.specs.Faults.{EndsBefore, Lacks, end_fault}
 use Rattle.dwarf_reader_core.specs.Input.{Input, after, first, Takes, TakesByte, TakesNumber, TakesString, IsFirst}
-use Rattle.dwarf_reader_core.specs.Layout.{Layout, read, remains, remains_behind, or_unread, FailsAt, and_then, with_byte, split_at, before_end, fixed, byte, part, ended, pure, refuse, when◌then◌else◌, check, ◌>>=◌, inside, At, alone}
+use Rattle.dwarf_reader_core.specs.Layout.{Layout, read, remains, remains_behind, or_unread, FailsAt, and_then, split_at, before_end, fixed, byte, part, ended, pure, refuse, when◌then◌else◌, check, ◌>>=◌, inside, At, alone}
 use Rattle.dwarf_reader_core.specs.Once.{HasOne}
-use Rattle.dwarf_reader_core.proofs.Reading.{after-after}
 
 -- ---- steps of reading
 
@@ -49,8 +49,7 @@ refuse_fails e old = refl
 pub part_reads : {n : ℕ} {old new unit : Input} → unit ≡ first n old → Takes n old new
     → read (part n) old ≡ Ok (unit, new)
 unfolding read
-part_reads {n} {old} is takes =
-    rw (le-leb n (length old.bytes) takes.enough) (λ i. Ok ((sym is) i, (sym takes.left) i))
+part_reads {n} {old} is takes = grind arith
 
 -- a part fails with `UnexpectedEof` if the input has fewer bytes
 pub part_fails : {n : ℕ} {old new : Input} {e : Error} → EndsBefore n old e new → read (part n) old ≡ Err e
@@ -60,25 +59,17 @@ part_fails {n} {old} short = rw (lt-leb n (length old.bytes) short.short) (λ i.
 -- a number that a reader reads is read by its layout
 pub number_reads : {n : ℕ} {old new : Input} {x : ℕ} → TakesNumber n old x new → read (fixed n) old ≡ Ok (x, new)
 unfolding read fixed
-number_reads {n} {old} takes =
-    rw (le-leb n (length old.bytes) takes.enough) (λ i. Ok ((sym takes.is) i, (sym takes.left) i))
+number_reads {n} {old} takes = grind arith
 
 -- a number fails with `UnexpectedEof` if the input has fewer bytes
 pub number_fails : {n : ℕ} {old new : Input} {e : Error} → EndsBefore n old e new → read (fixed n) old ≡ Err e
 unfolding fixed
 number_fails short = then_fails _ _ _ (part_fails short)
 
--- taking one byte of a list keeps its first byte
-first-byte : (bytes : List ℕ) → 1 ≤ length bytes → slice_index (take 1 bytes) 0 ≡ slice_index bytes 0
-first-byte [] some = absurd (omega (arith, some))
-first-byte (b ∷ bytes) some = refl
-
 -- a byte that a reader reads is read by its layout
 pub byte_reads : {old new : Input} {x : ℕ} → TakesByte old x new → read byte old ≡ Ok (x, new)
 unfolding read byte
-byte_reads {old} takes =
-    rw (le-leb 1 (length old.bytes) takes.enough)
-    (λ i. Ok ((first-byte old.bytes takes.enough ∙ sym takes.is) i, (sym takes.left) i))
+byte_reads {old} takes = grind arith
 
 -- a byte fails with `UnexpectedEof` if the input has none
 pub byte_fails : {old new : Input} {e : Error} → EndsBefore 1 old e new → read byte old ≡ Err e
@@ -87,11 +78,7 @@ byte_fails short = then_fails _ _ _ (part_fails short)
 
 -- the test finds two numbers that differ not equal
 differs : (a b : ℕ) → a ≢ b → (a == b) ≡ false
-differs a b other = go (a == b) refl
-  where
-    go : (t : Bool) → (a == b) ≡ t → t ≡ false
-    go true e = absurd (other (eqb-true a b e))
-    go false e = refl
+differs a b other = grind arith
 
 -- bytes are split at the first byte with the sought value
 split-first : (end : ℕ) (bytes : List ℕ) (len : ℕ) → IsFirst end bytes len
@@ -229,59 +216,32 @@ pub then_read : {A B : Type 0} (p : Layout A) (f : A → Layout B) (old : Input)
     → read (p >>= f) old ≡ Ok (y, new)
     → (x : A) × (mid : Input) × (read p old ≡ Ok (x, mid)) × (read (f x) mid ≡ Ok (y, new))
 unfolding read
-then_read {A} {B} p f old {y} {new} is = go (read p old) refl is
-  where
-    go : (r : Outcome A) → read p old ≡ r → and_then r (λ x. read (f x.0) x.1) ≡ Ok (y, new)
-        → (x : A) × (mid : Input) × (read p old ≡ Ok (x, mid)) × (read (f x) mid ≡ Ok (y, new))
-    go (Ok (x, mid)) q h = (x, mid, q, h)
-    go (Err e) q h = absurd cc
+then_read {A} {B} p f old {y} {new} is = grind arith
 
 -- if a check was read, its test holds, and nothing was consumed
 pub check_read : (b : Bool) (e : Error) (old : Input) {x : Unit {0}} {new : Input}
     → read (check b e) old ≡ Ok (x, new) → (b ≡ true) × (new ≡ old)
 unfolding read check
-check_read true e old {x} {new} is =
-    let same : ◌≡◌ {A = Unit {0} × Input} (tt, old) (x, new) = cc in
-    (refl, λ i. ((sym same) i).1)
+check_read true e old {x} {new} is = grind arith
 check_read false e old is = absurd cc
 
 -- if a value without bytes was read, it is that value, and nothing was consumed
 pub pure_read : {A : Type 0} (a : A) (old : Input) {x : A} {new : Input} → read (pure a) old ≡ Ok (x, new)
     → (x ≡ a) × (new ≡ old)
 unfolding read
-pure_read {A} a old {x} {new} is =
-    let same : ◌≡◌ {A = A × Input} (a, old) (x, new) = cc in
-    (λ i. ((sym same) i).0, λ i. ((sym same) i).1)
+pure_read {A} a old {x} {new} is = grind arith
 
 -- if a part was read, it is the first bytes of the input, which were consumed
 pub part_read : (n : ℕ) (old : Input) {unit new : Input} → read (part n) old ≡ Ok (unit, new)
     → (unit ≡ first n old) × Takes n old new
 unfolding read
-part_read n old {unit} {new} is = go (leb n (length old.bytes)) refl is
-  where
-    go : (enough : Bool) → leb n (length old.bytes) ≡ enough
-        → ◌≡◌ {A = Outcome Input} (cond enough (Ok (first n old, after n old)) (Err (end_fault old))) (Ok (unit, new))
-        → (unit ≡ first n old) × Takes n old new
-    go true e h =
-        let same : ◌≡◌ {A = Input × Input} (first n old, after n old) (unit, new) = cc in (
-          λ i. ((sym same) i).0,
-          record { enough = leb-true n (length old.bytes) e; left = λ i. ((sym same) i).1 },
-        )
-    go false e h = absurd cc
+part_read n old {unit} {new} is = grind arith
 
 -- if a layout inside a part was read, its value is at the front of the part, and nothing more was consumed
 pub inside_read : {A : Type 0} (unit : Input) (f : Layout A) (old : Input) {x : A × Input} {new : Input}
     → read (inside unit f) old ≡ Ok (x, new) → (read f unit ≡ Ok x) × (new ≡ old)
 unfolding read
-inside_read {A} unit f old {x} {new} is = go (read f unit) refl is
-  where
-    go : (r : Outcome A) → read f unit ≡ r
-        → ◌≡◌ {A = Outcome (A × Input)} (and_then r (λ y. Ok (y, old))) (Ok (x, new))
-        → (read f unit ≡ Ok x) × (new ≡ old)
-    go (Ok y) q h =
-        let same : ◌≡◌ {A = (A × Input) × Input} (y, old) (x, new) = cc in
-        (q ∙ λ i. Ok ((same i).0), λ i. ((sym same) i).1)
-    go (Err e) q h = absurd cc
+inside_read {A} unit f old {x} {new} is = grind arith
 
 -- ---- exactly one outcome
 
@@ -321,26 +281,19 @@ part-stays : (n : ℕ) (more : List ℕ) (old : Input) (enough : Bool) → leb n
     → Stays more (cond enough (Ok (first n old, after n old)) (Err (end_fault old)))
     (read (part n) (followed_by old more))
 unfolding read
-part-stays n more old true e =
-    let le : n ≤ length old.bytes = leb-true n (length old.bytes) e in
-    rw (le-leb n (length (old.bytes ++ more)) (omega (arith, length-append old.bytes more)), take-append-le n old.bytes more le, drop-append-le n old.bytes more le) refl
-part-stays n more old false e = λ settled. absurd (settled old.position refl)
+part-stays n more old enough e = grind (arith, length-append, take-append-le, drop-append-le)
 
 -- the outcome of two layouts in a row stays if the outcome of each does
 then-stays : {A B : Type 0} (more : List ℕ) (f : A → Layout B)
     → ((x : A × Input) → Stays more (read (f x.0) x.1) (read (f x.0) (followed_by x.1 more)))
     → (r s : Outcome A) → Stays more r s
     → Stays more (and_then r (λ x. read (f x.0) x.1)) (and_then s (λ x. read (f x.0) x.1))
-then-stays more f behind (Ok x) s h =
-    subst (λ (s : Outcome _). Stays more (read (f x.0) x.1) (and_then s (λ x. read (f x.0) x.1))) (sym h) (behind x)
-then-stays more f behind (Err e) s h =
-    λ settled. ap (λ (s : Outcome _). and_then s (λ x. read (f x.0) x.1)) (h settled)
+then-stays more f behind r s h = grind arith
 
 -- what is read inside a part stays, as the part has an end of its own
 inside-stays : {A : Type 0} (more : List ℕ) (old : Input) (r : Outcome A)
     → Stays more (and_then r (λ x. Ok (x, old))) (and_then r (λ x. Ok (x, followed_by old more)))
-inside-stays more old (Ok x) = refl
-inside-stays more old (Err e) = λ settled. refl
+inside-stays more old r = grind arith
 
 -- bytes that are split at an end are split there with more bytes behind
 abbrev EndStays : List ℕ → Option (List ℕ × List ℕ) → Option (List ℕ × List ℕ) → Type 0
@@ -350,20 +303,12 @@ EndStays more (Some x) longer = longer ≡ Some (x.0, x.1 ++ more)
 -- a list is split at the same place with more bytes behind
 split-stays : (end : ℕ) (bytes more : List ℕ) → EndStays more (split_at end bytes) (split_at end (bytes ++ more))
 split-stays end [] more = tt
-split-stays end (b ∷ bytes) more =
-    go (b == end) (split_at end bytes) (split_at end (bytes ++ more)) (split-stays end bytes more)
-  where
-    go : (t : Bool) (r s : Option (List ℕ × List ℕ)) → EndStays more r s
-        → EndStays more (cond t (Some ([], bytes)) (with_byte b r)) (cond t (Some ([], bytes ++ more)) (with_byte b s))
-    go true r s h = refl
-    go false (Some x) s h = ap (with_byte b) h
-    go false None s h = tt
+split-stays end (b ∷ bytes) more = grind (arith, (split-stays end bytes more))
 
 -- bytes up to an end stay the same with more bytes behind
 ended-stays : (more : List ℕ) (old : Input) (r s : Option (List ℕ × List ℕ)) → EndStays more r s
     → Stays more (before_end old r) (before_end (followed_by old more) s)
-ended-stays more old (Some x) s h = ap (before_end (followed_by old more)) h
-ended-stays more old None s h = λ settled. absurd (settled old.position refl)
+ended-stays more old r s h = grind arith
 
 -- the outcome of every layout stays with more bytes behind
 stays : {A : Type 0} (f : Layout A) (more : List ℕ) (old : Input) → Stays more (read f old) (read f (followed_by old more))
@@ -406,21 +351,11 @@ rest-length n old new takes = ap (λ (i : Input). length i.bytes) takes.left ∙
 
 -- taking no bytes leaves the input as it is
 takes-nothing : (old : Input) → Takes 0 old old
-takes-nothing old = record {
-  enough = omega arith;
-  left = λ i. record {
-    bytes = old.bytes;
-    position = (let p : old.position ≡ old.position + 0 = omega arith in p) i;
-    is_big = old.is_big;
-  };
-}
+takes-nothing old = grind arith
 
 -- bytes that are consumed in two steps are consumed in one step of both lengths
 pub takes-both : {m n : ℕ} {old mid new : Input} → Takes m old mid → Takes n mid new → Takes (m + n) old new
-takes-both {m} {n} {old} {mid} a b = record {
-  enough = omega (arith, a.enough, b.enough, rest-length m old mid a);
-  left = b.left ∙ ap (after n) a.left ∙ after-after n m old;
-}
+takes-both {m} {n} {old} {mid} a b = grind (arith, common_steps)
 
 -- a list is the bytes before an end, the end, and the bytes behind it
 abbrev AreSplit : ℕ → List ℕ → Option (List ℕ × List ℕ) → Type 0
@@ -430,22 +365,12 @@ AreSplit end bytes (Some x) = bytes ≡ x.0 ++ end ∷ x.1
 -- a list that is split at its first end is joined again from the parts
 split-parts : (end : ℕ) (bytes : List ℕ) → AreSplit end bytes (split_at end bytes)
 split-parts end [] = tt
-split-parts end (b ∷ bytes) = go (b == end) refl (split_at end bytes) (split-parts end bytes)
-  where
-    go : (t : Bool) → (b == end) ≡ t → (r : Option (List ℕ × List ℕ)) → AreSplit end bytes r
-        → AreSplit end (b ∷ bytes) (cond t (Some ([], bytes)) (with_byte b r))
-    go true e r h = ap (λ (x : ℕ). x ∷ bytes) (eqb-true b end e)
-    go false e (Some x) h = ap (λ (l : List ℕ). b ∷ l) h
-    go false e None h = tt
+split-parts end (b ∷ bytes) = grind (arith, (split-parts end bytes))
 
 -- the bytes behind an end are those behind the bytes before it and the end
 behind-takes : (end : ℕ) (old : Input) (x : List ℕ × List ℕ) → old.bytes ≡ x.0 ++ end ∷ x.1
     → Takes (length x.0 + 1) old (record old { bytes = x.1; position = old.position + (length x.0 + 1) })
-behind-takes end old x is = record {
-  enough = omega (arith, ap (λ (l : List ℕ). length l) is, length-append x.0 (end ∷ x.1));
-  left = ap (λ (l : List ℕ). record { bytes = l; position = old.position + (length x.0 + 1); is_big = old.is_big })
-      (sym (ap (drop (length x.0 + 1)) is ∙ drop-append-add x.0 (end ∷ x.1) 1));
-}
+behind-takes end old x is = grind (arith, length-append, drop-append-add)
 
 -- a value that is read is at the front of the bytes, and the rest remains
 pub read_front : {A : Type 0} (f : Layout A) (old : Input) {new : Input} {x : A} → read f old ≡ Ok (x, new)
@@ -499,10 +424,7 @@ spans_least fits law = record { by = λ old new x is. omega (arith, law.by old n
 
 -- a part consumes as many bytes as its size
 pub part_spans : (n : ℕ) → Spans 0 (λ _. n) (part n)
-part_spans n = record {
-  by = λ old new x is.
-      let taken = (part_read n old is).1 in omega (arith, taken.enough, rest-length n old new taken);
-}
+part_spans n = grind (arith, common_steps, part_read)
 
 module _ {A : Type 0} {credit : ℕ} {size : A → ℕ} where
   -- a value without bytes has the size that is the credit
@@ -549,6 +471,4 @@ check_spans b e = when_spans b (pure_spans refl) refuse_spans
 
 -- a layout inside a part consumes no bytes behind the part
 pub inside_spans : {A : Type 0} (unit : Input) (f : Layout A) → Spans 0 (λ _. 0) (inside unit f)
-inside_spans unit f = record {
-  by = λ old new x is. omega (arith, ap (λ (i : Input). length i.bytes) (inside_read unit f old is).1);
-}
+inside_spans unit f = grind (arith, inside_read)

@@ -21,8 +21,7 @@ string_or_none old s x e a b = let both = sym (string_reads a) ∙ string_fails 
 -- bytes have no zero byte, or a first zero byte at some index
 zero_or_none : (bytes : List ℕ) → All (λ b. b ≢ 0) bytes ⊎ ((index : ℕ) × IsFirst 0 bytes index)
 zero_or_none [] = inl (All-nil (λ b. b ≢ 0))
-zero_or_none (zero ∷ bytes) =
-    inr (0, record { within = omega arith; here = refl; before = All-nil (λ b. b ≢ 0) })
+zero_or_none (zero ∷ bytes) = grind arith
 zero_or_none (suc b ∷ bytes) =
     elim (zero_or_none bytes) [
       | inl none ↦ inl (All-cons (λ b. b ≢ 0) (suc b) bytes (λ e. omega arith) none)

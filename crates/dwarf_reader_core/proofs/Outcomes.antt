@@ -1,15 +1,13 @@
 -- Every list of bytes has exactly one outcome.
-use Rattle.std.proofs.Common.{◌≡◌, ℕ, zero, suc, ◌<◌, ◌≤◌, List, [], ◌∷◌, length, take, drop, refl, sym, ap, ◌∙◌, arith, inl, inr, ◌⊎◌, ⊎_elim, Bool, true, false}
+use Rattle.std.proofs.Common.{◌≡◌, ℕ, zero, suc, ◌<◌, ◌≤◌, List, [], ◌∷◌, length, take, drop, refl, sym, ap, ◌∙◌, arith, inl, inr, ◌⊎◌, ⊎_elim, Bool, true, false, take_all, length-take-le, take-append-drop}
 use Rattle.std.proofs.lemmas.Bool.{cases_lt}
-use Rattle.std.proofs.lemmas.List.{take_all, length-take-le, take-append-drop}
 use Rattle.dwarf_reader_core.specs.Leb128.{IsEncoding, NoneIsLast, Kind, Number, value, limit, is_in_range, Outcome, Value, End, Bad, IsNumber, HasNumber, IsCut, HasOutcome}
 use Rattle.dwarf_reader_core.specs.Once.{HasOne}
 use Rattle.dwarf_reader_core.proofs.Encodings.{past_none, same_encoding}
 
 -- a byte with a continuation bit and an encoding behind it are an encoding
 IsEncoding-cons : (b : ℕ) (s : List ℕ) → 128 ≤ b → IsEncoding s → IsEncoding (b ∷ s)
-IsEncoding-cons b [] more encoding = absurd encoding
-IsEncoding-cons b (c ∷ s) more encoding = (more, encoding)
+IsEncoding-cons b s more encoding = grind arith
 
 -- an encoding at the front ends within the bound
 record Ends (bound : ℕ) (bytes : List ℕ) : Type 0 where

@@ -1,8 +1,8 @@
 -- Reading a LEB128 number, one byte after the other.
-use Rattle.std.proofs.Common.{◌≡◌, ℕ, suc, ◌+◌, ◌-◌, ◌*◌, ◌%◌, ◌^◌, ◌<◌, ◌≤◌, List, [], ◌∷◌, ◌++◌, length, get_or, take, drop, refl, sym, ap, ◌∙◌, subst, arith, inr, IsTrue, ◌↔◌, ⊎_elim, Bool, true, false, pos, ◌-ℤ◌, nat_le, if◌then◌else◌}
-use Rattle.std.proofs.lemmas.List.{take_more, length-take-le, drop-drop, get_or-drop, length-drop}
-use Rattle.std.proofs.lemmas.Bool.{cases_lt, false≢true, le-leb, lt-leb}
+use Rattle.std.proofs.lemmas.Grind.{common_steps}
+use Rattle.std.proofs.Common.{◌≡◌, ℕ, suc, ◌+◌, ◌-◌, ◌*◌, ◌%◌, ◌^◌, ◌<◌, ◌≤◌, List, [], ◌∷◌, ◌++◌, length, get_or, take, drop, refl, sym, ap, ◌∙◌, subst, arith, inr, IsTrue, ◌↔◌, Bool, pos, ◌-ℤ◌, nat_le, if◌then◌else◌}
 use Rattle.std.proofs.Math.Nat.{add_assoc, add-zero}
+use Rattle.std.proofs.lemmas.List.{take_more, length-take-le, drop-drop, length-drop}
 use Rattle.dwarf_reader_core.specs.Input.{Input, after, Takes, TakesByte}
 use Rattle.dwarf_reader_core.specs.Leb128.{IsEncoding, NoneIsLast, unsigned_value, signed_value, is_negative, Kind, Number, value, limit, is_in_range, refusal, HasNumber, IsCut, ReadsNumber, RefusesNumber, TakesEncoding}
 use Rattle.dwarf_reader_core.proofs.Encodings.{NoneIsLast-push, IsEncoding-push, IsEncoding-last, unsigned_value-push, worth_below, past_none, is_negative-push}
@@ -37,39 +37,19 @@ begun_none old = record { enough = omega arith; none = tt; left = sym (after-zer
 pub begun_at : {old mid : Input} {k n value : ℕ} → k ≡ n → Begun old k mid value → Begun old n mid value
 begun_at {old} {mid} {value = value} is b = subst (λ i. Begun old i mid value) is b
 
--- after k bytes, k fewer bytes remain
-begun_rest : {old mid : Input} {k value : ℕ} → Begun old k mid value → length mid.bytes ≡ length old.bytes - k
-begun_rest {old} {mid} {k} b = ap (λ (i : Input). length i.bytes) b.left ∙ length-drop k old.bytes
-
 -- reading a byte gives the byte behind the first k
 pub begun_next : {old mid new : Input} {k value byte : ℕ} → Begun old k mid value → TakesByte mid byte new
     → TakesNext old k byte new
-begun_next {old} {mid} {new} {k} {value} {byte} b t =
-    let rest = begun_rest b in
-    let enough : k < length old.bytes = omega (arith, rest, t.enough) in
-    let found : byte ≡ get_or old.bytes k 0 =
-    t.is ∙ ap (λ (i : Input). get_or i.bytes 0 0) b.left ∙ get_or-drop k old.bytes 0 0
-    ∙ ap (λ i. get_or old.bytes i 0) (add-zero k)
-    in
-    record {
-      enough = enough;
-      taken = take_more old.bytes k 0 enough ∙ ap (λ x. take k old.bytes ++ x ∷ []) (sym found);
-      left = t.left ∙ ap (after 1) b.left ∙ after-after 1 k old;
-    }
+begun_next {old} {mid} {new} {k} {value} {byte} b t = grind (arith, common_steps, after-after)
 
 -- the value of k + 1 digits is that of k digits and the next one
 worth_next : {old mid new : Input} {k value byte : ℕ} → Begun old k mid value → TakesNext old k byte new
     → unsigned_value (take (k + 1) old.bytes) ≡ value + byte % 128 * 128 ^ k
-worth_next {old} {k = k} {value = value} {byte = byte} b n =
-    ap unsigned_value n.taken
-    ∙ unsigned_value-push (take k old.bytes) byte
-    ∙ ap (λ v. v + byte % 128 * 128 ^ length (take k old.bytes)) (sym b.worth)
-    ∙ ap (λ i. value + byte % 128 * 128 ^ i) (length-take-le k old.bytes b.enough)
+worth_next {old} {k = k} {value = value} {byte = byte} b n = grind (arith, unsigned_value-push, length-take-le)
 
 -- the value of k digits has at most 7 * k bits
 pub begun_below : {old mid : Input} {k value : ℕ} → Begun old k mid value → value < 2 ^ (7 * k)
-begun_below {old} {k = k} b =
-    rw b.worth (worth_below old.bytes k k b.enough (omega arith))
+begun_below {old} {k = k} b = grind (arith, worth_below)
 
 -- a byte with a continuation bit leads to the state after k + 1 bytes
 pub begun_more : {old mid new : Input} {k value byte : ℕ} → Begun old k mid value → TakesNext old k byte new
@@ -163,9 +143,7 @@ signed_next {old} {k = k} {value = value} {byte = byte} b n =
 
 -- the test for the sign of a digit has the result that the code found
 pub is_sign : (sign : Bool) (digit : ℕ) → (IsTrue sign ↔ (64 ≤ digit)) → nat_le 64 digit ≡ sign
-is_sign true digit is = le-leb 64 digit (is.0 refl)
-is_sign false digit is =
-    ⊎_elim (λ low. lt-leb 64 digit low) (λ high. absurd (false≢true (is.1 high))) (cases_lt digit 64)
+is_sign sign digit is = grind arith
 
 -- the signed number that the loop makes of its value and the last byte is that of all bytes
 pub signed_worth : {old mid new : Input} {k value byte : ℕ} → Begun old k mid value → TakesNext old k byte new
@@ -188,8 +166,7 @@ next_below {old} {k = k} {value = value} {byte = byte} b n m within =
 
 -- a byte with a continuation bit before an encoding makes an encoding
 IsEncoding-before : (b : ℕ) (bytes : List ℕ) → 128 ≤ b → IsEncoding bytes → IsEncoding (b ∷ bytes)
-IsEncoding-before b [] more encoding = absurd encoding
-IsEncoding-before b (c ∷ bytes) more encoding = (more, encoding)
+IsEncoding-before b bytes more encoding = grind arith
 
 -- behind a first byte with a continuation bit, the first byte without one ends the encoding
 IsEncoding-behind : (bytes : List ℕ) (n : ℕ) → n + 1 < length bytes → 128 ≤ get_or bytes 0 0

@@ -1,10 +1,8 @@
 -- What follows from a result that `?` propagates.
-use Rattle.std.proofs.Common.{◌≡◌, Result, Ok, Err, sym, subst}
-use Rattle.std.specs.Prelude.{IfErr, IsErrAnd}
+use Rattle.std.proofs.Common.{arith, ◌≡◌, Result, IfErr, IsErrAnd}
 use Rattle.dwarf_base_core.specs.declared.error.Error.{Error}
 
 -- the error that `?` propagates has each property that it had before
 pub propagated-err : {X : Type 0} (P : Error → Type 0) {e : Error} (result : Result X Error)
     → IsErrAnd result (λ x. x ≡ e) → P e → IfErr result P
-propagated-err P (Ok x) h is = tt
-propagated-err P (Err x) h is = subst P (sym h) is
+propagated-err P result h is = grind arith

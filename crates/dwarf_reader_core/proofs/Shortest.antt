@@ -1,5 +1,5 @@
 -- Encodings of bytes below 256, and the shortest of a number.
-use Rattle.std.proofs.Common.{◌≡◌, ◌≢◌, ℕ, ◌<◌, ◌≤◌, List, [], ◌∷◌, ◌++◌, length, take, All, IsTrue, ◌∙◌, arith}
+use Rattle.std.proofs.Common.{◌≡◌, ◌≢◌, ℕ, ◌<◌, ◌≤◌, List, [], ◌∷◌, ◌++◌, length, take, All, IsTrue, arith}
 use Rattle.std.specs.List.{AllByRecursion}
 use Rattle.std.proofs.lemmas.List.{length-append, take-append-le, take_all}
 use Rattle.std.proofs.lemmas.List.Elements.{All-head, All-tail, All-from_recursion}
@@ -57,16 +57,4 @@ IsShortest-from k number bytes least = record {
 -- what encodes a number is read as the number, whatever follows
 pub HasNumber-append : (k : Kind) (number : Number k) (bytes rest : List ℕ) → Encodes k bytes number
     → length bytes ≤ limit k → IsTrue (is_in_range k number) → HasNumber k (bytes ++ rest) number (length bytes)
-HasNumber-append k number bytes rest encodes within in_range =
-    let front : take (length bytes) (bytes ++ rest)
-    ≡ bytes = take-append-le (length bytes) bytes rest (omega arith)
-    ∙ take_all (length bytes) bytes (omega arith) in
-    record {
-      enough = omega (arith, length-append bytes rest);
-      is_number = rw front record {
-        encoding = encodes.encoding;
-        within = within;
-        means = encodes.means;
-        in_range = in_range;
-      };
-    }
+HasNumber-append k number bytes rest encodes within in_range = grind (arith, take-append-le, take_all, length-append)

@@ -1,7 +1,6 @@
 -- Every number has exactly one shortest encoding.
-use Rattle.std.proofs.Common.{◌≡◌, ◌≢◌, ℕ, zero, suc, ◌+◌, ◌-◌, ◌/◌, ◌%◌, ◌<◌, ◌≤◌, List, [], ◌∷◌, arith, inl, inr, ◌⊎◌, refl, sym}
-use Rattle.std.specs.Prelude.{ℤ, pos, negsuc, ◌+ℤ◌, ◌*ℤ◌}
-use Rattle.std.proofs.lemmas.Bool.{cases_eq, cases_lt}
+use Rattle.std.proofs.Common.{◌≡◌, ◌≢◌, ℕ, zero, suc, ◌+◌, ◌-◌, ◌/◌, ◌%◌, ◌<◌, ◌≤◌, List, [], ◌∷◌, arith, inl, inr, ◌⊎◌, refl, sym, ℤ, pos, negsuc, ◌+ℤ◌, ◌*ℤ◌}
+use Rattle.std.proofs.lemmas.Bool.{cases_lt}
 use Rattle.std.proofs.lemmas.Int.{ints}
 use Rattle.dwarf_reader_core.specs.Leb128.{Kind, unsigned64, unsigned16, signed64, Number, unsigned_value, signed_value, value}
 use Rattle.dwarf_reader_core.specs.Once.{HasOne}
@@ -76,11 +75,7 @@ same_or_not : (a b : List ℕ) → (a ≡ b) ⊎ (a ≢ b)
 same_or_not [] [] = inl refl
 same_or_not [] (y ∷ ys) = inr (λ e. absurd cc)
 same_or_not (x ∷ xs) [] = inr (λ e. absurd cc)
-same_or_not (x ∷ xs) (y ∷ ys) =
-    elim (cases_eq x y) [
-      | inl same ↦ elim (same_or_not xs ys) [ inl others ↦ inl cc | inr apart ↦ inr (λ e. apart cc) ]
-      | inr apart ↦ inr (λ e. apart cc)
-    ]
+same_or_not (x ∷ xs) (y ∷ ys) = grind (arith, (same_or_not xs ys))
 
 -- two shortest encodings of a number are equal
 only_shortest : (k : Kind) (number : Number k) (a b : List ℕ) → IsShortest k number a → IsShortest k number b → a ≡ b

@@ -1,5 +1,5 @@
 -- The shortest encodings of unsigned numbers.
-use Rattle.std.proofs.Common.{◌≡◌, ◌≢◌, ℕ, zero, suc, ◌+◌, ◌-◌, ◌*◌, ◌/◌, ◌%◌, ◌^◌, ◌<◌, ◌≤◌, List, [], ◌∷◌, length, bit_or, ap, arith}
+use Rattle.std.proofs.Common.{◌≡◌, ◌≢◌, ℕ, suc, ◌+◌, ◌-◌, ◌*◌, ◌/◌, ◌%◌, ◌^◌, ◌<◌, ◌≤◌, List, [], ◌∷◌, length, bit_or, arith}
 use Rattle.std.proofs.Math.Nat.{pow-suc}
 use Rattle.std.proofs.lemmas.Nat.{div_below}
 use Rattle.dwarf_reader_core.proofs.Bytes.{continued}
@@ -8,15 +8,13 @@ use Rattle.dwarf_reader_core.proofs.Shortest.{IsSpelled, IsLeast}
 
 -- a byte with a continuation bit before a spelling makes a spelling
 pub IsSpelled-cons : (b : ℕ) (bytes : List ℕ) → 128 ≤ b → b < 256 → IsSpelled bytes → IsSpelled (b ∷ bytes)
-IsSpelled-cons b [] low high spelled = absurd spelled
-IsSpelled-cons b (c ∷ bytes) low high spelled = (low, high, spelled)
+IsSpelled-cons b bytes low high spelled = grind arith
 
 -- any other spelling of a number below 128 is longer than a byte
 unsigned_last-no_other : (v : ℕ) → v < 128 → (other : List ℕ) → IsSpelled other → unsigned_value other ≡ v
     → other ≢ (v ∷ []) → 1 < length other
 unsigned_last-no_other v small [] spelled same apart = absurd spelled
-unsigned_last-no_other v small (b ∷ []) spelled same apart =
-    let b_is : b ≡ v = omega arith in absurd (apart (ap (λ x. x ∷ []) b_is))
+unsigned_last-no_other v small (b ∷ []) spelled same apart = grind arith
 unsigned_last-no_other v small (b ∷ c ∷ bytes) spelled same apart = omega arith
 
 -- any other spelling of a number of at least 128 is longer than the least one
@@ -35,11 +33,7 @@ unsigned_more-no_other v digit rest tail small more v_is shortest (b ∷ c ∷ b
 
 -- a number below 128 is spelled least by the one byte that it is
 pub unsigned_last-is_least : (v : ℕ) → v < 128 → IsLeast unsigned_value v (v ∷ [])
-unsigned_last-is_least v small = record {
-  is_spelled = small;
-  has_value = omega arith;
-  shorter = unsigned_last-no_other v small;
-}
+unsigned_last-is_least v small = grind (arith, unsigned_last-no_other)
 
 -- the lowest digit goes before the shortest encoding of the number above it
 pub unsigned_more-is_least : (v digit rest : ℕ) (tail : List ℕ) → digit < 128 → 0 < rest → v ≡ digit + 128 * rest
@@ -52,8 +46,7 @@ unsigned_more-is_least v digit rest tail small more v_is shortest = record {
 
 -- a number from 1 up to the limit has room for at least one digit
 no_power_of_zero : (left n : ℕ) → 0 < n → n < 128 ^ left → 0 < left
-no_power_of_zero zero n some below = absurd (omega arith)
-no_power_of_zero (suc left) n some below = omega arith
+no_power_of_zero left n some below = grind arith
 
 -- a number that needs more than one byte leaves room for the next byte
 pub unsigned_more-has_room : (len rest : ℕ) → len < 10 → rest < 128 ^ (10 - len) → 0 < rest / 128
@@ -69,10 +62,7 @@ unsigned_more-has_room len rest room fits more =
 -- the byte that the code computes for a number below 128 is its least spelling
 pub unsigned_last_of-is_least : (rest digit : ℕ) → rest / 128 ≡ 0 → digit ≡ rest % 128
     → IsLeast unsigned_value rest (digit ∷ [])
-unsigned_last_of-is_least rest digit none_above is =
-    let small : rest < 128 = omega arith in
-    let digit_is : digit ≡ rest = omega arith in
-    rw digit_is (unsigned_last-is_least rest small)
+unsigned_last_of-is_least rest digit none_above is = grind (arith, unsigned_last-is_least)
 
 -- the byte that the code computes, before the least spelling of the digits above, is the least spelling
 pub unsigned_more_of-is_least : (rest digit : ℕ) (tail : List ℕ) → 0 < rest / 128 → digit ≡ rest % 128

@@ -1,13 +1,12 @@
 -- What a cache keeps after one more offset.
-use Rattle.std.proofs.Common.{◌≡◌, ◌≢◌, ℕ, ◌+◌, ◌<◌, ◌≤◌, Bool, true, false, cond, eqb, List, [], ◌∷◌, ◌++◌, length, take, get_or, map, Option, Some, None, Result, MatchOption, refl, sym, ap, subst, ◌∙◌, arith}
+use Rattle.std.proofs.lemmas.Grind.{common_steps}
+use Rattle.std.proofs.Common.{◌≡◌, ◌≢◌, ℕ, ◌+◌, ◌<◌, ◌≤◌, Bool, true, false, cond, eqb, List, [], ◌∷◌, ◌++◌, length, take, get_or, map, Option, Some, None, Result, MatchOption, refl, sym, subst, ◌∙◌, arith, All, IsPermutation}
 use Rattle.std.proofs.lemmas.Bool.{eqb-true, eqb-false, eq-eqb, ne_eqb}
 use Rattle.std.proofs.lemmas.List.{take_more, map_push}
 use Rattle.std.proofs.lemmas.Bool.Decides.{nat_tests}
 use Rattle.std.proofs.lemmas.List.Elements.{All-head, All-tail}
 use Rattle.std.proofs.lemmas.List.Sorted.{sum_by-IsPermutation}
 use Rattle.std.proofs.lemmas.List.Sums.{sum_by_push}
-use Rattle.std.specs.List.{All}
-use Rattle.std.specs.List.Sorted.{IsPermutation}
 use Rattle.dwarf_base_core.specs.declared.error.Error.{Error}
 use Rattle.dwarf_reader_core.specs.Input.{Input}
 use Rattle.dwarf_read_core.specs.Answer.{Answer}
@@ -41,10 +40,7 @@ occurrences_above key last (offset ∷ seen) upto above =
 pub seen_more : {O : Type 0} (number : O → ℕ) (offsets : List O) (i : ℕ) (offset : O) (key : ℕ)
     → i < length offsets → get_or offsets i offset ≡ offset → key ≡ number offset
     → map number (take (i + 1) offsets) ≡ map number (take i offsets) ++ key ∷ []
-seen_more number offsets i offset key within is named =
-    ap (map number) (take_more offsets i offset within)
-    ∙ map_push number (take i offsets) (get_or offsets i offset)
-    ∙ ap (λ (k : ℕ). map number (take i offsets) ++ k ∷ []) (ap number is ∙ sym named)
+seen_more number offsets i offset key within is named = grind (arith, common_steps, take_more, map_push, get_or)
 
 abbrev Keeps : ℕ → Input → ℕ → ℕ → Option (Result Table Error) → Type 0
 Keeps least section key count kept =
@@ -53,20 +49,12 @@ Keeps least section key count kept =
 -- what is kept at an offset stays as it is while the count of the offset rises without reaching the least count
 stays_kept : (least : ℕ) (section : Input) (key before now : ℕ) (kept : Option (Result Table Error)) → before ≤ now
     → (before < least → now < least) → Keeps least section key before kept → Keeps least section key now kept
-stays_kept least section key before now None more short h = short h
-stays_kept least section key before now (Some answer) more short h = (omega (arith, h.0, more), h.1)
-
--- an offset isn't kept before it occurs often enough
-not_kept_yet : (least : ℕ) (section : Input) (key count : ℕ) (kept : Option (Result Table Error)) → count + 1 ≡ least
-    → Keeps least section key count kept → kept ≡ None
-not_kept_yet least section key count None enough h = refl
-not_kept_yet least section key count (Some answer) enough h = absurd (omega (arith, h.0))
+stays_kept least section key before now kept more short h = grind arith
 
 -- an offset isn't kept before the occurrence that is just enough
 pub kept_none : (least : ℕ) (section : Input) (seen : List ℕ) (key : ℕ) (kept : ℕ → Option (Result Table Error))
     → KeepsAnswers least section seen kept → occurrences key seen + 1 ≡ least → kept key ≡ None
-kept_none least section seen key kept h enough =
-    not_kept_yet least section key (occurrences key seen) (kept key) enough (h key)
+kept_none least section seen key kept h enough = grind arith
 
 -- what is kept stays the same if the new offset doesn't occur just often enough
 pub kept_same : (least : ℕ) (section : Input) (seen : List ℕ) (key : ℕ) (kept : ℕ → Option (Result Table Error))
@@ -117,6 +105,4 @@ kept_more least section seen key answer kept new h enough is put q = go (eqb q k
 -- what is kept for offsets is kept for the same offsets in another order
 pub kept_in_any_order : (least : ℕ) (section : Input) (offsets others : List ℕ) (kept : ℕ → Option (Result Table Error))
     → IsPermutation offsets others → KeepsAnswers least section others kept → KeepsAnswers least section offsets kept
-kept_in_any_order least section offsets others kept moved h q =
-    subst (λ (count : ℕ). Keeps least section q count (kept q))
-    (sum_by-IsPermutation (λ o. cond (eqb o q) 1 0) offsets others moved) (h q)
+kept_in_any_order least section offsets others kept moved h q = grind (arith, sum_by-IsPermutation)

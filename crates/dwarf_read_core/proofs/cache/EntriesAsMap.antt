@@ -1,14 +1,11 @@
 -- The entries of a cache are one finite map.
-use Rattle.std.proofs.Common.{◌≡◌, ℕ, ◌<◌, ◌≤◌, length, set, List, [], ◌∷◌, ◌++◌, eqb, Bool, true, false, cond, Option, Some, None, Result, option_map, refl, sym, ap, ◌∙◌, arith}
+use Rattle.std.proofs.Common.{◌≡◌, ℕ, ◌<◌, ◌≤◌, length, set, List, [], ◌∷◌, ◌++◌, eqb, Bool, cond, Option, Some, None, Result, option_map, refl, sym, ap, ◌∙◌, arith, filter, All, HoldsAt, nat_cmp, Less, Equal, Greater}
 use Rattle.std.specs.BTreeMap.{is_at}
 use Rattle.std.specs.Cmp.{nat_cmp_total, eq_by_cmp_equiv}
 use Rattle.std.specs.FinMap.{find, get, insert, from_entries, get-from_entries, get-insert, same_map, nat_cmp-IsAntisymmetric}
 use Rattle.std.specs.List as list
-use Rattle.std.specs.List.{filter, All, HoldsAt}
 use Rattle.std.specs.List.Sorted.{IsPartitionPoint}
 use Rattle.std.specs.Map.{lookup}
-use Rattle.std.specs.Ordering.{nat_cmp}
-use Rattle.std.specs.declared.cmp.Ordering.TheVariants.{Less, Equal, Greater}
 use Rattle.std.specs.declared.rc.Rc.{Rc}
 use Rattle.std.proofs.lemmas.Bool.Decides.{nat_tests}
 use Rattle.std.proofs.lemmas.Map.Entries.{option_filter, lookup-filter-values}
@@ -21,16 +18,12 @@ use Rattle.dwarf_read_core.proofs.cache.EntriesInOrder.{offsets_rise, lookup-set
 -- a choice between a value and an option may be made before or after a function is applied to both
 mapped_choice : {X Y : Type 0} (f : X → Y) (b : Bool) (x : X) (o : Option X)
     → cond b (Some (f x)) (option_map f o) ≡ option_map f (cond b (Some x) o)
-mapped_choice f true x o = refl
-mapped_choice f false x o = refl
+mapped_choice f b x o = grind arith
 
 -- retaining the final results is the same before and after the sharing of tables is dropped
 mapped_filter : {X : Type 0} (f : X → Result Table Error) (o : Option X)
     → option_map f (option_filter (λ x. is_final (f x)) o) ≡ still_kept (option_map f o)
-mapped_filter f None = refl
-mapped_filter f (Some x) =
-    elim (is_final (f x)) as (λ b. option_map f (cond b (Some x) None)
-    ≡ cond b (Some (f x)) None) [ true ↦ refl | false ↦ refl ]
+mapped_filter f o = grind arith
 
 -- the entries of a cache, with their tables shared
 abbrev pub SharedEntries : Type 0 → Type 0

@@ -1,12 +1,10 @@
 -- Entries in the order of their offsets: what a search finds there, and what an edit leaves.
-use Rattle.std.proofs.Common.{◌≡◌, ℕ, suc, zero, ◌+◌, ◌-◌, ◌<◌, ◌≤◌, List, [], ◌∷◌, ◌++◌, Bool, false, cond, length, get_or, set, Some, None, refl, sym, ap, subst, ◌∙◌, arith}
+use Rattle.std.proofs.Common.{◌≡◌, ℕ, suc, zero, ◌+◌, ◌-◌, ◌<◌, ◌≤◌, List, [], ◌∷◌, ◌++◌, Bool, false, cond, length, get_or, set, Some, None, refl, sym, ap, subst, ◌∙◌, arith, insert, filter, All, HoldsAt, Less, Equal, Greater}
 use Rattle.std.specs.BTreeMap.{is_at}
 use Rattle.std.specs.Cmp.{nat_cmp_total, eq_by_cmp_equiv}
-use Rattle.std.specs.List.{insert, filter, All, HoldsAt}
 use Rattle.std.specs.List.Sorted.{IsPartitionPoint, IsNonDecreasingBy, IsStrictlySortedBy}
 use Rattle.std.specs.Map.{lookup, keys_of, set_value}
 use Rattle.std.specs.Ordering.{nat_cmp, ordering_index, ordering_reverse}
-use Rattle.std.specs.declared.cmp.Ordering.TheVariants.{Less, Equal, Greater}
 use Rattle.std.proofs.lemmas.Bool.Decides.{nat_tests}
 use Rattle.std.proofs.lemmas.Cmp.{ranked}
 use Rattle.std.proofs.lemmas.Grind.{common_steps}
@@ -23,7 +21,7 @@ use Rattle.dwarf_read_core.specs.Cache.{IsInOrder}
 
 -- a number compares as `Less` to one that it is below
 less_from_below : (a b : ℕ) → a < b → nat_cmp a b ≡ Less
-less_from_below a b below = grind (arith, nat_tests)
+less_from_below a b below = grind arith
 
 module _ {X : Type 0} where
   -- the offsets of entries in order rise

@@ -1,6 +1,5 @@
 -- The first item of an iterator, by what it yielded.
-use Rattle.std.proofs.Common.{◌≡◌, ◌≢◌, List, [], ◌∷◌, map, Option, Some, Result, Ok, Err, refl, subst}
-use Rattle.std.specs.Prelude.{OnErr}
+use Rattle.std.proofs.Common.{arith, ◌≡◌, ◌≢◌, List, [], ◌∷◌, map, Option, Some, Result, Ok, Err, refl, OnErr}
 use Rattle.std.specs.Iterator.{Yields, YieldsThen}
 use Rattle.dwarf_base_core.specs.declared.error.Error.{Error}
 use Rattle.dwarf_base_core.specs.declared.error.Error.TheVariants.{OutOfMemory}
@@ -20,9 +19,7 @@ pub first_item-of_memory_error : {S T : Type 0} (steps : S → Option (Result T 
     (given : List (Result T Error)) (items : List T) (item : Result T Error)
     → item ≡ Err OutOfMemory → given ≡ map (λ (item : T). let r : Result T Error = Ok item in r) items
     → Yields steps from given now → steps now (Some item) left → GivesSome steps from
-first_item-of_memory_error {T = T} steps from now left [] items item want same given after =
-    rw given (Err OutOfMemory, left, subst (λ (y : Result T Error). steps now (Some y) left) want after, refl)
+first_item-of_memory_error {T = T} steps from now left [] items item want same given after = grind arith
 first_item-of_memory_error steps from now left (x ∷ xs) [] item want same given after = absurd cc
 first_item-of_memory_error {T = T} steps from now left (x ∷ xs) (y ∷ items) item want same (j, first, others) after =
-    let is : x ≡ Ok y = cc in
-    (Ok y, j, subst (λ (z : Result T Error). steps from (Some z) j) is first, tt)
+    grind arith

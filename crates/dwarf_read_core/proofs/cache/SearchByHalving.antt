@@ -1,11 +1,9 @@
 -- A search among entries by steps that are powers of two.
-use Rattle.std.proofs.Common.{◌≡◌, ℕ, zero, suc, ◌+◌, ◌-◌, ◌*◌, ◌/◌, ◌^◌, ◌<◌, ◌≤◌, List, length, get_or, subst, ◌∙◌, arith}
+use Rattle.std.proofs.Common.{◌≡◌, ℕ, zero, suc, ◌+◌, ◌-◌, ◌*◌, ◌/◌, ◌^◌, ◌<◌, ◌≤◌, List, length, get_or, subst, arith, Less, Greater}
+use Rattle.std.proofs.lemmas.Nat.{pow_pos}
 use Rattle.std.specs.List.Sorted.{IsNonDecreasingBy, IsPartitionPoint}
 use Rattle.std.specs.Ordering.{nat_cmp, ordering_index}
-use Rattle.std.specs.declared.cmp.Ordering.TheVariants.{Less, Greater}
-use Rattle.std.proofs.Math.Nat.{pow-suc}
 use Rattle.std.proofs.lemmas.List.{get_or_default}
-use Rattle.std.proofs.lemmas.Nat.{pow_pos}
 use Rattle.std.proofs.lemmas.Bool.Decides.{nat_tests}
 
 -- comparisons with an offset rise along the entries
@@ -22,9 +20,7 @@ pub record IsUpto {X : Type 0} (es : List (ℕ × X)) (key place size : ℕ) : T
 -- a power of two above 1 is twice a power of two
 half : (k size : ℕ) → size ≡ 2 ^ k → 1 < size → (m : ℕ) × (size / 2 ≡ 2 ^ m) × (size ≡ size / 2 + size / 2)
 half zero size is above = absurd (omega arith)
-half (suc k) size is above =
-    let twice : size ≡ 2 ^ k * 2 = is ∙ pow-suc 2 k in
-    (k, omega arith, omega arith)
+half (suc k) size is above = grind arith
 
 module _ {X : Type 0} (es : List (ℕ × X)) (key : ℕ) where
   -- what stands behind an entry above the offset is above it too

@@ -1,10 +1,9 @@
 -- A slot has the number that its bytes encode, or an error that says what is missing.
-use Rattle.std.proofs.Common.{◌≡◌, ℕ, ◌<◌, Bool, true, false, cond, leb, length, Ok, Err, refl, subst, arith}
-use Rattle.std.proofs.lemmas.Bool.{leb-true, leb-false}
+use Rattle.std.proofs.Common.{◌≡◌, ℕ, ◌<◌, Bool, true, false, leb, length, Ok, Err, refl, subst, arith, leb-true, leb-false}
 use Rattle.dwarf_base_core.specs.declared.error.Error.{Error}
 use Rattle.dwarf_base_core.specs.declared.error.Error.TheVariants.{UnsupportedOffset, UnsupportedAddressSize}
 use Rattle.dwarf_reader_core.specs.Faults.{EndsBefore, end_fault, is_number_size}
-use Rattle.dwarf_reader_core.specs.Input.{Input, after, first, Takes, TakesNumber}
+use Rattle.dwarf_reader_core.specs.Input.{Input, after, Takes, TakesNumber}
 use Rattle.dwarf_reader_core.specs.Layout.{Layout, read, part, fixed, pure, check, alone, ◌>>=◌}
 use Rattle.dwarf_reader_core.proofs.Layouts.{Outcome, number_reads, number_fails, rest-length, takes-both}
 use Rattle.dwarf_read_core.specs.Entries.{string_offset}
@@ -25,13 +24,7 @@ then_outcome p f old one next = outcome-bind _ one next
 part_outcome : (n : ℕ) (old : Input) → HasOutcome (λ (x : Input × Input). Takes n old x.1)
     (λ e. (length old.bytes < n) × (e ≡ end_fault old)) (read (part n) old)
 unfolding read
-part_outcome n old = go (leb n (length old.bytes)) refl
-  where
-    go : (t : Bool) → leb n (length old.bytes) ≡ t → HasOutcome (λ (x : Input × Input). Takes n old x.1)
-        (λ e. (length old.bytes < n) × (e ≡ end_fault old))
-        (cond t (Ok (first n old, after n old)) (Err (end_fault old)))
-    go true le = returned _ (record { enough = leb-true n (length old.bytes) le; left = refl })
-    go false gt = failed _ (leb-false n (length old.bytes) gt, refl)
+part_outcome n old = grind (arith, returned, failed)
 
 -- a number is read, or fewer bytes remain, and the error is at their end
 fixed_outcome : (n : ℕ) (old : Input) → HasOutcome (λ (x : ℕ × Input). TakesNumber n old x.0 x.1)
@@ -63,8 +56,7 @@ check_outcome : (test : Bool) (error : Error) (old : Input)
     → HasOutcome (λ (x : Unit {0} × Input). (test ≡ true) × (x.1 ≡ old)) (λ e. (test ≡ false) × (e ≡ error))
     (read (check test error) old)
 unfolding read check
-check_outcome true error old = returned _ (refl, refl)
-check_outcome false error old = failed _ (refl, refl)
+check_outcome test error old = grind (arith, returned, failed)
 
 -- ---- the outcomes of slots
 
@@ -131,14 +123,12 @@ module _ (greatest : ℕ) (section : Input) (s : Slot) where
 -- the value at the front has the property of values
 value_has : {A : Type 0} {Good : A × Input → Type 0} {Bad : Error → Type 0} {r : Outcome A} (P : A → Type 0)
     → ((x : A × Input) → Good x → P x.0) → HasOutcome Good Bad r → (x : A) → Ok x ≡ alone r → P x
-value_has P has (returned y good) x is = subst P (cc) (has y good)
-value_has P has (failed e bad) x is = absurd (cc)
+value_has P has h x is = grind arith
 
 -- the error at the front has the property of errors
 error_has : {A : Type 0} {Good : A × Input → Type 0} {Bad : Error → Type 0} {r : Outcome A} → HasOutcome Good Bad r
     → (e : Error) → Err e ≡ alone r → Bad e
-error_has (returned y good) e is = absurd (cc)
-error_has {Bad = Bad} (failed d bad) e is = subst Bad (cc) bad
+error_has h e is = grind arith
 
 module _ (greatest : ℕ) (section : Input) (s : Slot) where
   -- the word of a slot is the number that it holds

@@ -1,6 +1,5 @@
 -- A string that is read at an offset is the section's string there.
-use Rattle.std.proofs.Common.{◌≡◌, ◌≢◌, ℕ, zero, suc, ◌+◌, ◌<◌, ◌≤◌, List, [], ◌∷◌, ◌++◌, length, take, drop, Result, Ok, Err, refl, sym, ap, subst, ◌∙◌, arith, ◌⊎◌, inl, inr, Bool}
-use Rattle.std.specs.Prelude.{slice_index, IfOk, IfErr, All}
+use Rattle.std.proofs.Common.{◌≡◌, ◌≢◌, ℕ, zero, suc, ◌+◌, ◌<◌, ◌≤◌, List, [], ◌∷◌, ◌++◌, length, take, drop, Result, Ok, Err, refl, sym, ap, subst, ◌∙◌, arith, ◌⊎◌, inl, inr, Bool, slice_index, IfOk, IfErr, All}
 use Rattle.dwarf_base_core.specs.declared.error.Error.{Error}
 use Rattle.dwarf_reader_core.specs.Appended.{followed_by}
 use Rattle.dwarf_reader_core.specs.Faults.{EndsBefore, Lacks, WantsMemory}

@@ -1,7 +1,7 @@
 -- Lookups of numbers by an index, as layouts.
-use Rattle.std.proofs.Common.{◌≡◌, ℕ, ◌<◌, ◌≤◌, List, take, Bool, Result, Ok, Err, refl, sym, ap, subst, ◌∙◌, arith, ◌⊎◌, inl, inr}
+use Rattle.std.proofs.lemmas.Grind.{common_steps}
+use Rattle.std.proofs.Common.{◌≡◌, ℕ, ◌<◌, ◌≤◌, List, Bool, Result, Ok, Err, refl, sym, subst, ◌∙◌, arith, ◌⊎◌, inl, inr, IsTrue, IfOk, IfErr, IsErrAnd}
 use Rattle.std.proofs.lemmas.Bool.{le-leb, lt-leb}
-use Rattle.std.specs.Prelude.{IsTrue, IfOk, IfErr, IsErrAnd}
 use Rattle.dwarf_base_core.specs.declared.error.Error.{Error}
 use Rattle.dwarf_base_core.specs.declared.error.Error.TheVariants.{UnsupportedOffset}
 use Rattle.dwarf_reader_core.specs.Faults.{EndsBefore, IsNoOffset, RefusesAddress, is_number_size}
@@ -12,9 +12,7 @@ use Rattle.dwarf_reader_core.specs.Appended.{followed_by, IsNoEof}
 use Rattle.dwarf_reader_core.specs.Layout.{read}
 use Rattle.dwarf_read_core.specs.Lookups.{AnswersBy, StaysBy}
 use Rattle.dwarf_read_core.specs.Words.{Slot, distance, place, IsPlaced, Misplaced, Holds, to_slot, word, address, WordAt, AddressAt}
-use Rattle.dwarf_base_core.specs.Number.{number_of}
 use Rattle.dwarf_reader_core.proofs.Layouts.{At_one, At_more, At_value, At_error, then_reads, then_fails, error_is, part_reads, part_fails, number_reads, number_fails, after_part, no_part, after_check, no_check, rest-length, takes-both}
-use Rattle.dwarf_read_core.proofs.lookups.Returned.{result-stays, propagated-result}
 use Rattle.dwarf_read_core.proofs.sets.Entries.{offset_reads, offset_fails}
 
 -- ---- going to the place
@@ -52,11 +50,7 @@ past_end_found greatest section s rest new far (Err e) takes is counted h =
 -- if the bytes before the base and the distance are consumed, the slot has a place in the section
 pub placed : (greatest : ℕ) (section : Input) (s : Slot) (rest new : Input) → Takes s.base section rest
     → distance s ≤ greatest → Takes (distance s) rest new → IsPlaced greatest section s
-placed greatest section s rest new takes counted further = record {
-  based = takes.enough;
-  counted = counted;
-  within = omega (arith, takes.enough, further.enough, rest-length s.base section rest takes);
-}
+placed greatest section s rest new takes counted further = grind (arith, common_steps, rest-length)
 
 -- the bytes before the base and the distance are the bytes before the slot's place
 pub skipped : (section : Input) (s : Slot) (rest new : Input) → Takes s.base section rest
@@ -148,10 +142,7 @@ address-read greatest section s rest new clone_is_free (Err e) is_placed takes r
 -- a number that is consumed at the place of a slot is the one that the slot holds
 pub slot_holds : (section : Input) (s : Slot) (x : ℕ) (rest new : Input) → Takes (place s) section rest
     → TakesNumber s.width rest x new → Holds section s x
-slot_holds section s x rest new takes number = record {
-  within = omega (arith, takes.enough, number.enough, rest-length (place s) section rest takes);
-  is = number.is ∙ ap (λ (i : Input). number_of i.is_big (take s.width i.bytes)) takes.left;
-}
+slot_holds section s x rest new takes number = grind (arith, common_steps, rest-length)
 
 -- ---- exactly one result
 
@@ -182,30 +173,25 @@ address_more greatest section s = At_more (address greatest s) section
 pub word-stays : {X : Type 0} (greatest : ℕ) (section : Input) (s : Slot) (view : X → ℕ) (clone_is_free : Bool)
     (r : Result X Error) → AnswersBy (WordAt greatest section s) view clone_is_free r
     → StaysBy (λ input. WordAt greatest input s) view clone_is_free section r
-word-stays greatest section s view clone_is_free r =
-    result-stays (λ input. WordAt greatest input s) view clone_is_free section r (word_more greatest section s)
+word-stays greatest section s view clone_is_free r = grind (arith, word_more)
 
 -- an error that `?` propagates is the result of the lookup of a word
 pub word-propagated : {X : Type 0} (greatest : ℕ) (section : Input) (s : Slot) (view : X → ℕ) (clone_is_free : Bool)
     {e : Error} (r : Result X Error) → IsErrAnd r (λ x. x ≡ e) → WordAt greatest section s (Err e)
     → AnswersBy (WordAt greatest section s) view clone_is_free r
-word-propagated greatest section s view clone_is_free r h is =
-    propagated-result (WordAt greatest section s) view clone_is_free r h (inl is)
+word-propagated greatest section s view clone_is_free r h is = grind arith
 
 -- the address that a lookup returned stays when bytes are appended
 pub address-stays : (greatest : ℕ) (section : Input) (s : Slot) (clone_is_free : Bool) (r : Result ℕ Error)
     → AnswersBy (AddressAt greatest section s) (λ x. x) clone_is_free r
     → StaysBy (λ input. AddressAt greatest input s) (λ x. x) clone_is_free section r
-address-stays greatest section s clone_is_free r =
-    result-stays (λ input. AddressAt greatest input s) (λ x. x) clone_is_free section r
-    (address_more greatest section s)
+address-stays greatest section s clone_is_free r = grind (arith, address_more)
 
 -- an error that `?` propagates is the result of the lookup of an address
 pub address-propagated : (greatest : ℕ) (section : Input) (s : Slot) (clone_is_free : Bool) {e : Error}
     (r : Result ℕ Error) → IsErrAnd r (λ x. x ≡ e) → AddressAt greatest section s (Err e)
     → AnswersBy (AddressAt greatest section s) (λ x. x) clone_is_free r
-address-propagated greatest section s clone_is_free r h is =
-    propagated-result (AddressAt greatest section s) (λ x. x) clone_is_free r h (inl is)
+address-propagated greatest section s clone_is_free r h is = grind arith
 
 -- each way a lookup of a word can return
 pub ruleset word_steps = (word_taken, word_fails, word_misplaced)

@@ -1,7 +1,5 @@
 -- The entries of sets, as layouts, and what `next` returns of them.
-use Rattle.std.proofs.Common.{◌≡◌, ◌≢◌, ℕ, zero, suc, ◌<◌, ◌≤◌, List, [], ◌∷◌, length, Result, Ok, Err, sym, ◌∙◌, arith, inl, inr, ◌⊎◌}
-use Rattle.std.specs.List.{sum_by}
-use Rattle.std.specs.Prelude.{IsTrue}
+use Rattle.std.proofs.Common.{◌≡◌, ◌≢◌, ℕ, ◌<◌, ◌≤◌, List, [], ◌∷◌, length, Result, Ok, Err, sym, ◌∙◌, arith, inl, inr, ◌⊎◌, sum_by, IsTrue}
 use Rattle.std.proofs.lemmas.Bool.{le-leb, lt-leb}
 use Rattle.dwarf_base_core.specs.declared.common.Format.{Format}
 use Rattle.dwarf_base_core.specs.declared.common.Format.TheVariants.{Dwarf32, Dwarf64}
@@ -53,8 +51,7 @@ addresses_bounded entries items are_items = items-bounded (λ _. number_least en
 
 -- a size of addresses is above 0
 size-positive : (width : ℕ) → IsTrue (is_number_size width) → 0 < width
-size-positive zero sized = absurd cc
-size-positive (suc width) sized = omega arith
+size-positive width sized = grind arith
 
 module _ (width : ℕ) (old new : Input) (sized : IsTrue (is_number_size width)) (some : old.bytes ≢ []) where
   -- an address that is read is the first item

@@ -1,6 +1,6 @@
 -- Bytes have exactly one list of items, and a call returns the first.
-use Rattle.std.proofs.Common.{◌≡◌, ◌≢◌, ℕ, zero, suc, ◌+◌, ◌-◌, ◌<◌, ◌≤◌, List, [], ◌∷◌, ◌++◌, length, Result, Ok, Err, refl, sym, subst, ◌∙◌, arith, inl, inr, ◌⊎◌}
-use Rattle.std.specs.List.{sum_by}
+use Rattle.std.proofs.lemmas.Grind.{common_steps}
+use Rattle.std.proofs.Common.{◌≡◌, ◌≢◌, ℕ, zero, suc, ◌+◌, ◌-◌, ◌<◌, ◌≤◌, List, [], ◌∷◌, ◌++◌, length, Result, Ok, Err, refl, sym, subst, ◌∙◌, arith, inl, inr, ◌⊎◌, sum_by}
 use Rattle.std.proofs.lemmas.List.Sums.{sum_by-cons}
 use Rattle.dwarf_base_core.specs.declared.error.Error.{Error}
 use Rattle.dwarf_reader_core.specs.Input.{Input}
@@ -12,8 +12,7 @@ use Rattle.dwarf_reader_core.proofs.Layouts.{Outcome, TakesLeast, read_more, err
 
 -- bytes that aren't empty are at least one
 bytes-some : (bytes : List ℕ) → bytes ≢ [] → 1 ≤ length bytes
-bytes-some [] some = absurd (some refl)
-bytes-some (b ∷ bytes) some = omega arith
+bytes-some bytes some = grind (arith, common_steps)
 
 -- bytes are empty, or they aren't
 bytes-none_or_some : (bytes : List ℕ) → (bytes ≡ []) ⊎ (bytes ≢ [])

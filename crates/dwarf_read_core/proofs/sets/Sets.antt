@@ -1,10 +1,7 @@
 -- Sets as layouts: what a reader reads of one, and what `next` returns.
-use Rattle.std.proofs.Common.{◌≡◌, ◌≢◌, ℕ, ◌+◌, ◌-◌, ◌≤◌, List, [], ◌∷◌, ◌++◌, length, take, Result, Ok, Err, refl, sym, ap, subst, arith, Bool, ◌⊎◌, inl, inr, ◌∙◌, append_assoc}
-use Rattle.std.specs.List.{sum_by}
-use Rattle.std.specs.Prelude.{nat_lt}
-use Rattle.std.proofs.lemmas.List.{length-append, length-take-le, take-append-drop}
+use Rattle.std.proofs.lemmas.Grind.{common_steps}
+use Rattle.std.proofs.Common.{◌≡◌, ◌≢◌, ℕ, ◌+◌, ◌-◌, ◌≤◌, List, [], ◌∷◌, ◌++◌, length, take, Result, Ok, Err, refl, sym, ap, subst, arith, Bool, ◌⊎◌, inl, inr, ◌∙◌, append_assoc, sum_by, nat_lt, length-append, length-take-le, take-append-drop}
 use Rattle.dwarf_base_core.specs.declared.common.Format.{Format}
-use Rattle.dwarf_base_core.specs.declared.common.Format.TheVariants.{Dwarf32, Dwarf64}
 use Rattle.dwarf_base_core.specs.declared.error.Error.{Error}
 use Rattle.dwarf_base_core.specs.Format.{initial_length_size}
 use Rattle.dwarf_reader_core.specs.Faults.{WantsMemory}
@@ -15,8 +12,7 @@ use Rattle.dwarf_reader_core.specs.Appended.{IsNoEof, followed_by}
 use Rattle.dwarf_read_core.specs.Items.{ComesFirst, least_taken}
 use Rattle.dwarf_reader_core.specs.Layout.{Layout, read, none, fault}
 use Rattle.dwarf_read_core.specs.Sets.{Set, set, IsJoined, address_header, string_offsets_header, Headers, StandsForSets, followed_headers}
-use Rattle.dwarf_reader_core.proofs.Layouts.{then_reads, pure_reads, after_part, after_inside, read_more, error_more}
-use Rattle.dwarf_reader_core.proofs.Layouts.{Spans, TakesLeast, spanned, number_spans, byte_spans, check_spans, pure_spans, refuse_spans, when_spans, then_spans, part_spans, inside_spans, then_read, part_read, inside_read, pure_read}
+use Rattle.dwarf_reader_core.proofs.Layouts.{then_reads, pure_reads, after_part, after_inside, read_more, error_more, Spans, TakesLeast, spanned, number_spans, byte_spans, check_spans, pure_spans, refuse_spans, when_spans, then_spans, part_spans, inside_spans, then_read, part_read, inside_read, pure_read}
 use Rattle.dwarf_read_core.proofs.sets.ItemLists.{items-exactly_one, items-bounded, item-first, error-first, item-stays, error-stays, bytes-still_some}
 
 -- ---- how many bytes a set has
@@ -79,14 +75,11 @@ set-parts greatest offset header_four old is =
 
 -- bytes that are consumed are the first ones, and the rest remains behind them
 taken_front : {n : ℕ} {old new : Input} → Takes n old new → old.bytes ≡ take n old.bytes ++ new.bytes
-taken_front {n} {old} takes =
-    sym (take-append-drop n old.bytes) ∙ ap (λ (i : Input). take n old.bytes ++ i.bytes) (sym takes.left)
+taken_front {n} {old} takes = grind (arith, common_steps, take-append-drop)
 
 -- four lists that are joined from the right are the same as joined from the left
 joined_left : (a b c d : List ℕ) → a ++ (b ++ c ++ d) ≡ a ++ b ++ c ++ d
-joined_left a b c d =
-    ap (λ (x : List ℕ). a ++ x) (append_assoc b c d) ∙ sym (append_assoc a b (c ++ d))
-    ∙ sym (append_assoc (a ++ b) c d)
+joined_left a b c d = grind (arith, common_steps, append_assoc)
 
 -- a set that is read has its parts joined, if the header has four bytes
 pub set-joined : {H : Type 0} {header : Layout H} (greatest offset : ℕ) → HasFour header → (old : Input) {s : Set H}
@@ -184,8 +177,7 @@ module _ {H : Type 0} (header : Layout H) (greatest : ℕ) where
 
 -- an initial length has at least four bytes
 initial_length_size-least : (format : Format) → 4 ≤ initial_length_size format
-initial_length_size-least Dwarf32 = omega arith
-initial_length_size-least Dwarf64 = omega arith
+initial_length_size-least format = grind arith
 
 -- ---- if the header has four bytes
 module _ {H : Type 0} {header : Layout H} (four : HasFour header) (greatest : ℕ) where

@@ -1,5 +1,5 @@
 -- Appended bytes change no result that is final.
-use Rattle.std.proofs.Common.{◌≡◌, ◌≢◌, ℕ, List, [], ◌∷◌, ◌++◌, length, take, drop, Result, Ok, Err, refl, sym, ap, subst, append_assoc, arith}
+use Rattle.std.proofs.Common.{◌≡◌, ◌≢◌, ℕ, List, [], ◌∷◌, ◌++◌, length, take, drop, Result, refl, sym, ap, subst, append_assoc, arith}
 use Rattle.std.proofs.lemmas.List.{length-append, drop-append-le, take-append-drop}
 use Rattle.dwarf_reader_core.specs.Input.{Input, end_of}
 use Rattle.dwarf_read_core.proofs.tables.ReadingNumbers.{found_has}
@@ -120,5 +120,4 @@ answer_more {section} {offset} more (fault e le is) final =
 -- a final result that a call returned is still the section's result when bytes are appended
 pub returned_stays : (r : Result Table Error) (section : Input) (offset : ℕ) → Answers r section offset → IsFinal r
     → (more : List ℕ) → Answers r (followed_by section more) offset
-returned_stays (Ok t) section offset h final more = answer_more more h final
-returned_stays (Err e) section offset h final more = λ memory. answer_more more (h memory) final
+returned_stays r section offset h final more = grind (arith, answer_more)

@@ -1,32 +1,24 @@
 -- The map of a table has the codes of its declarations, and each code occurs once.
-use Rattle.std.proofs.Common.{◌≡◌, ℕ, Bool, true, false, cond, eqb, List, [], ◌∷◌, ◌++◌, map, Some, None, refl, sym, ap, ◌∙◌, arith, ◌⊎◌, inl, inr}
-use Rattle.std.specs.Prelude.{is_some}
-use Rattle.std.specs.Ordering.{nat_cmp, eq_by_cmp}
-use Rattle.std.proofs.lemmas.Bool.Decides.{nat_tests}
+use Rattle.std.proofs.Common.{◌≡◌, ℕ, Bool, true, false, cond, eqb, List, [], ◌∷◌, ◌++◌, map, Some, None, refl, sym, ap, ◌∙◌, arith, ◌⊎◌, inl, inr, is_some}
+use Rattle.std.specs.Ordering.{nat_cmp}
 use Rattle.std.specs.Cmp.{nat_cmp_total}
 use Rattle.std.specs.FinMap.{find, insert, contains_key, from_entries, from_entries_push, get-from_entries, nat_cmp-IsAntisymmetric}
-use Rattle.std.proofs.lemmas.Bool.{eqb-true, eqb-false, ne_eqb, true≢false}
+use Rattle.std.proofs.lemmas.Bool.{eqb-true, eqb-false, true≢false}
 use Rattle.std.proofs.lemmas.List.{map_push}
 use Rattle.dwarf_read_core.specs.Grammar.{Declaration, Declares, AreDistinct, by_code_of}
 
 abbrev pub entries_by_code : List Declaration → List (ℕ × Declaration)
 entries_by_code ds = map (λ d. (d.code, d)) ds
 
--- the order of codes finds two of them equal exactly if they are equal numbers
-same_code_in_order : (a b : ℕ) → eq_by_cmp nat_cmp a b ≡ eqb a b
-same_code_in_order a b = grind (arith, nat_tests)
-
 -- a search for a code finds the first declaration if it has the code, and otherwise searches the others
 looked_up : (code : ℕ) (x : Declaration) (ds : List Declaration) (t : Bool) → eqb code x.code ≡ t
     → find nat_cmp code (entries_by_code (x ∷ ds)) ≡ cond t (Some x) (find nat_cmp code (entries_by_code ds))
-looked_up code x ds t e =
-    ap (λ b. cond b (Some x) (find nat_cmp code (entries_by_code ds))) (same_code_in_order code x.code ∙ e)
+looked_up code x ds t e = grind arith
 
 -- a search for a code that no declaration has finds nothing
 find_none : (ds : List Declaration) (code : ℕ) → (Declares ds code → ⊥) → find nat_cmp code (entries_by_code ds) ≡ None
 find_none [] code h = refl
-find_none (x ∷ ds) code h =
-    looked_up code x ds false (ne_eqb code x.code (λ e. h (inl (sym e)))) ∙ find_none ds code (λ w. h (inr w))
+find_none (x ∷ ds) code h = grind (arith, (find_none ds code (λ w. h (inr w))))
 
 -- a search for a code that a declaration has finds something
 find_some : (ds : List Declaration) (code : ℕ) → Declares ds code
@@ -93,11 +85,7 @@ declared_later (x ∷ ds) d code (inr h) = elim (declared_later ds d code h) [ i
 pub distinct_push : (ds : List Declaration) (d : Declaration) → AreDistinct ds → (Declares ds d.code → ⊥)
     → AreDistinct (ds ++ d ∷ [])
 distinct_push [] d h new = (λ w. w, tt)
-distinct_push (x ∷ ds) d h new = (
-  λ w. elim (declared_later ds d x.code w) [ inl v ↦ h.0 v | inr v ↦ new (inl (sym v)) ],
-  distinct_push ds d h.1
-      (λ w. new (inr w)),
-)
+distinct_push (x ∷ ds) d h new = grind (arith, declared_later, (distinct_push ds d h.1))
 
 -- among declarations with distinct codes, no declaration before another has its code
 pub distinct_front : (ds more : List Declaration) (d : Declaration) → AreDistinct (ds ++ d ∷ more)

@@ -1,6 +1,6 @@
 -- A declaration that is read part by part: what the outcome of a part means for the whole.
-use Rattle.std.proofs.Common.{◌≡◌, ◌≢◌, ℕ, List, [], length, Option, Some, None, Result, Ok, Err, refl, ap, ◌∙◌, sym}
-use Rattle.std.proofs.lemmas.Bool.{ne_eqb}
+use Rattle.std.proofs.Common.{arith, ◌≡◌, ◌≢◌, ℕ, List, [], length, Option, Some, None, Result, Ok, Err, refl, ◌∙◌, ne_eqb}
+use Rattle.std.proofs.lemmas.Grind.{common_steps}
 use Rattle.std.proofs.lemmas.List.{nil_from_length}
 use Rattle.dwarf_base_core.specs.declared.error.Error.{Error}
 use Rattle.dwarf_reader_core.specs.Leb128.{unsigned64}
@@ -24,28 +24,12 @@ pub record IsCoded (end : ℕ) (bytes : List ℕ) (code : ℕ) (after : List ℕ
 pub declaration-coded : (end : ℕ) (bytes : List ℕ) (code : ℕ) (after : List ℕ) → bytes ≢ []
     → number_at unsigned64 end bytes ≡ Ok (code, after) → code ≢ 0 → IsCoded end bytes code after
 unfolding declaration_at
-declaration-coded end bytes code after some q nonzero =
-    record {
-      read = rw (
-        ne_eqb (length bytes) 0
-            (λ h. some (nil_from_length bytes h)),
-        q,
-        ne_eqb code 0 nonzero,
-      ) refl;
-    }
+declaration-coded end bytes code after some q nonzero = grind (arith, common_steps, ne_eqb, nil_from_length)
 
 -- if a code is read that isn't 0, a declaration is read, or an error
 pub declaration-some : {end : ℕ} {bytes : List ℕ} {code : ℕ} {after : List ℕ} → IsCoded end bytes code after
     → (rest : List ℕ) → declaration_at end bytes ≢ Ok (None, rest)
-declaration-some {end} {bytes} {code} {after} h rest e = go (declared_at end code after) (sym h.read ∙ e)
-  where
-    go : (r : Result (Declaration × List ℕ) Error)
-        → let none : ReadEntry = Ok (None, rest) in (r >>= λ d. Ok (Some d.0, d.1)) ≢ none
-    go (Ok d) q =
-        let p : ◌≡◌ {A = Option Declaration × List ℕ} (Some d.0, d.1) (None, rest) = cc in
-        let none : ◌≡◌ {A = Option Declaration} (Some d.0) None = ap (λ (z : Option Declaration × List ℕ). z.0) p in
-        cc
-    go (Err d) q = cc
+declaration-some {end} {bytes} {code} {after} h rest e = grind arith
 
 -- reading a declaration fails with the error of what follows its code
 pub declared_fails : {end : ℕ} {bytes : List ℕ} {code : ℕ} {after : List ℕ} {e : Error}

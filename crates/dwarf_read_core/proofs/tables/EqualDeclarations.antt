@@ -1,35 +1,16 @@
 -- Two abbreviations are equal exactly if they are the same declaration.
-use Rattle.std.proofs.Common.{◌≡◌, true, List, [], ◌∷◌, Option, Some, None, ap, refl, eqb}
-use Rattle.std.specs.Prelude.{◌↔◌, ℤ, pos, unwrap_or, IsTrue, IsSome, All}
+use Rattle.std.proofs.Common.{arith, ◌≡◌, true, List, [], ◌∷◌, refl, eqb, ◌↔◌, IsTrue, All}
 use Rattle.std.specs.Bool.{beq}
 use Rattle.std.specs.Cmp.Lexicographic.{pointwise}
 use Rattle.std.specs.Cmp.{booleans_Decides}
 use Rattle.std.proofs.lemmas.Bool.{and_parts, eqb-true}
-use Rattle.std.proofs.lemmas.Bool.Decides.{Decides-int_eq}
 use Rattle.std.proofs.lemmas.List.Elements.{All-head, All-tail}
 use Rattle.dwarf_read_core.specs.Equality.{HasValueByForm, same_declaration, same_declaration_equiv, same_specification}
 use Rattle.dwarf_read_core.specs.Grammar.{Declaration, Specification}
 
--- two values, both there or both missing, are equal if they are with 0 in place of a missing one
-same_value : (v w : Option ℤ) → (IsSome v → IsSome w) → (IsSome w → IsSome v)
-    → unwrap_or v (pos 0) ≡ unwrap_or w (pos 0) → v ≡ w
-same_value None None to from same = refl
-same_value None (Some y) to from same = let h : IsSome (let n : Option ℤ = None in n) = from refl in absurd cc
-same_value (Some x) None to from same = let h : IsSome (let n : Option ℤ = None in n) = to refl in absurd cc
-same_value (Some x) (Some y) to from same = ap (λ (z : ℤ). Some z) same
-
 -- two specifications that the test finds equal are equal if their values are as their forms say
 same_one : (s t : Specification) → HasValueByForm s → HasValueByForm t → same_specification s t ≡ true → s ≡ t
-same_one s t of_s of_t same =
-    let parts = and_parts (eqb s.name t.name) _ same in
-    let more = and_parts (eqb s.form t.form) _ parts.1 in
-    let name : s.name ≡ t.name = eqb-true s.name t.name parts.0 in
-    let form : s.form ≡ t.form = eqb-true s.form t.form more.0 in
-    let value : s.value ≡ t.value =
-    same_value s.value t.value (λ some. of_t.1 (rw (← form) (of_s.0 some)))
-    (λ some. of_s.1 (rw form (of_t.0 some))) ((Decides-int_eq _ _).0 more.1)
-    in
-    λ i. record { name = name i; form = form i; value = value i }
+same_one s t of_s of_t same = grind arith
 
 -- two lists of specifications that the test finds equal are equal if their values are as their forms say
 same_all : (ss ts : List Specification) → All HasValueByForm ss → All HasValueByForm ts

@@ -1,7 +1,7 @@
 -- A section has exactly one result at each offset, and the parser returns it.
-use Rattle.std.proofs.Common.{◌≡◌, ℕ, ◌+◌, ◌≤◌, Bool, true, false, cond, ltb, List, [], length, drop, None, Ok, Err, refl, sym, ap, subst, ◌∙◌, arith, inl, inr}
+use Rattle.std.proofs.lemmas.Grind.{common_steps}
+use Rattle.std.proofs.Common.{◌≡◌, ℕ, ◌+◌, ◌≤◌, Bool, true, false, cond, ltb, List, [], length, drop, None, Ok, Err, refl, sym, ap, subst, ◌∙◌, arith, inl, inr, lt-ltb, le-ltb, ltb-true, ltb-false}
 use Rattle.std.specs.FinMap.{empty}
-use Rattle.std.proofs.lemmas.Bool.{lt-ltb, le-ltb, ltb-true, ltb-false}
 use Rattle.std.proofs.lemmas.List.{length-drop, nil_from_length}
 use Rattle.dwarf_base_core.specs.declared.error.Error.{Error}
 use Rattle.dwarf_reader_core.specs.Input.{Input, end_of, Takes}
@@ -49,8 +49,7 @@ pub only_answer : {section : Input} {offset : ℕ} {r : TableRead} → Answer se
     → answer_at section offset ≡ r
 unfolding answer_at
 only_answer {section} {offset} (outside lt) = rw (lt-ltb (length section.bytes) offset lt) refl
-only_answer {section} {offset} (table t le is) =
-    rw (le-ltb (length section.bytes) offset le, table_again (end_of section) is) refl
+only_answer {section} {offset} (table t le is) = grind (arith, table_again)
 only_answer {section} {offset} (fault e le is) = rw (le-ltb (length section.bytes) offset le, first_error_again is) refl
 
 -- what the parser returns behind the offset is the section's result there
@@ -84,8 +83,5 @@ outside_of section offset e new short =
 pub nothing_declared : (end : ℕ) (section : Input) (offset : ℕ) (rest : List ℕ) → TakesNoMemory section offset
     → rest ≡ drop offset section.bytes → (behind : List ℕ) × (declaration_at end rest ≡ Ok (None, behind))
 nothing_declared end section offset rest (inl past) is =
-    let none : rest ≡ [] = is ∙ nil_from_length (drop offset section.bytes)
-    (omega (arith, length-drop offset section.bytes)) in
-    ([], ap (declaration_at end) none ∙ end_again end)
-nothing_declared end section offset rest (inr z) is =
-    (z.1, ap (declaration_at end) (is ∙ z.2) ∙ zero_again end z.0 z.1 z.3)
+    grind (arith, common_steps, nil_from_length, length-drop, end_again)
+nothing_declared end section offset rest (inr z) is = grind (arith, zero_again)

@@ -1,5 +1,5 @@
 -- Declarations in order, or by places, are entries in the order of their codes.
-use Rattle.std.proofs.Common.{◌≡◌, ℕ, ◌+◌, ◌-◌, ◌<◌, get_or, reverse, ◌++◌, arith, Bool, true, false, cond, List, [], ◌∷◌, length, map, take, Option, Some, None, Ok, Err, Result, Bor, IfSome, refl, sym, ap, subst, ◌∙◌, inl, inr}
+use Rattle.std.proofs.Common.{◌≡◌, ℕ, ◌+◌, ◌-◌, ◌<◌, get_or, reverse, ◌++◌, arith, Bool, true, false, cond, List, [], ◌∷◌, length, map, take, Option, Some, None, Ok, Err, Result, Bor, IfSome, refl, sym, ap, subst, ◌∙◌, inl, inr, option_map, option_copied, IsSome, MatchResult, Less, Equal}
 use Rattle.std.proofs.Math.Seq.{get_or-append_seam}
 use Rattle.std.specs.BTreeMap.{is_at, insert_entry}
 use Rattle.std.specs.Cmp.{IsEquivalence, IsTotalOrder, nat_cmp_total, eq_by_cmp_equiv}
@@ -7,10 +7,7 @@ use Rattle.std.specs.FinMap.{same_map, nat_cmp-IsAntisymmetric, from_entries, en
 use Rattle.std.specs.List.{All, IsDistinct}
 use Rattle.std.specs.List.Sorted.{IsSortedBy, IsStrictlySortedBy, IsBinarySearchResult, IsSearchInRange}
 use Rattle.std.specs.Map.{keys_of, values_of, lookup}
-use Rattle.std.specs.Option.{option_map, option_copied, IsSome}
-use Rattle.std.specs.Result.{MatchResult}
 use Rattle.std.specs.Ordering.{nat_cmp, eq_by_cmp, is_eq, is_lt, ordering_reverse}
-use Rattle.std.specs.declared.cmp.Ordering.TheVariants.{Less, Equal}
 use Rattle.std.proofs.lemmas.Bool.{cases_lt}
 use Rattle.std.proofs.lemmas.Cmp.{back_total}
 use Rattle.std.proofs.lemmas.List.{length-map, nil_from_length, get_or_append_left, get_or_push, take_more, take_at, get_or_default, get_or-map, get_or-reverse, get_or-take, length-reverse, length-take-le, length_push, map_push, reverse-append}
@@ -106,14 +103,6 @@ pub entries_sorted : (falls : Bool) (ds : List Declaration) (ps : List (ℕ × �
     → IsStrictlySortedBy nat_cmp (keys_of (others_entries falls ds ps))
 entries_sorted falls ds [] h = rw (keys_with_codes (in_order falls ds)) (codes_rise falls ds h)
 entries_sorted falls ds (p ∷ ps) h = rw (keys_with_places ds (p ∷ ps)) h.ordered
-
--- there are as many entries as declarations
-pub entries_counted : (falls : Bool) (ds : List Declaration) (ps : List (ℕ × ℕ)) → AreOthers falls ds ps
-    → length (others_entries falls ds ps) ≡ length ds
-entries_counted true ds [] h = length-map (reverse ds) coded ∙ length-reverse ds
-entries_counted false ds [] h = length-map ds coded
-entries_counted falls ds (p ∷ ps) h =
-    length-map (p ∷ ps) (λ (q : ℕ × ℕ). let e : ℕ × Declaration = (q.0, at_place ds q.1) in e) ∙ h.counted
 
 -- ---- with places and without
 

@@ -1,6 +1,5 @@
 -- Reading the specifications up to the null one, as the loop does and as the grammar says.
-use Rattle.std.proofs.Common.{◌≡◌, ℕ, zero, suc, ◌+◌, ◌<◌, List, [], ◌∷◌, ◌++◌, length, Option, Some, None, Result, Ok, Err, refl, sym, ap, ◌∙◌, append_assoc, arith}
-use Rattle.std.proofs.lemmas.List.{append-nil}
+use Rattle.std.proofs.Common.{◌≡◌, ℕ, zero, suc, ◌+◌, ◌<◌, List, [], ◌∷◌, ◌++◌, length, Option, Some, None, Result, Ok, Err, refl, sym, ap, ◌∙◌, append_assoc, arith, append-nil}
 use Rattle.dwarf_base_core.specs.declared.error.Error.{Error}
 use Rattle.dwarf_read_core.specs.Grammar.{Specification, Declaration, Sequence, IsSpecification, IsNull, IsFront}
 use Rattle.dwarf_read_core.specs.Answer.{IsFaulty}
@@ -48,16 +47,14 @@ next end bytes x q =
 pub attributes_fail : (end : ℕ) (bytes : List ℕ) (e : Error) → specification_at end bytes ≡ Err e
     → attributes_in end bytes ≡ Err e
 unfolding attributes_in attributes_at
-attributes_fail end bytes e q =
-    attributes_enough (length bytes + 1) (suc (length bytes)) end bytes (omega arith) (omega arith) ∙ rw q refl
+attributes_fail end bytes e q = grind arith
 
 -- ---- as the loop does
 
 -- a specification in front of those that are read, and a list in front of both, is the list with that one at its end
 front-regrouped : (front : List Specification) (s : Specification) (read : AttributesRead)
     → with_front front (read >>= λ x. Ok (s ∷ x.0, x.1)) ≡ with_front (front ++ s ∷ []) read
-front-regrouped front s (Ok x) = ap (λ (all : List Specification). Ok (all, x.1)) (simp append_assoc)
-front-regrouped front s (Err e) = refl
+front-regrouped front s read = grind (arith, append_assoc)
 
 -- reading behind a list of specifications goes on behind the list with the next one at its end
 pub front-goes_on : (front : List Specification) (end : ℕ) (bytes : List ℕ) (s : Specification) (after : List ℕ)
@@ -84,8 +81,7 @@ front-fails front end bytes e total q so_far = sym so_far ∙ ap (with_front fro
 
 -- an empty list in front of what is read changes nothing
 pub front-begins : (read : AttributesRead) → with_front [] read ≡ read
-front-begins (Ok x) = refl
-front-begins (Err e) = refl
+front-begins read = grind arith
 
 -- ---- what is read is in the grammar
 
@@ -159,8 +155,7 @@ attributes_behind end front bytes whole d parts is =
 -- one specification in front of others in front of a reading are all of them in front of that reading
 twice : (s : Specification) (ss : List Specification) (read : AttributesRead)
     → (with_front ss read >>= λ x. Ok (s ∷ x.0, x.1)) ≡ with_front (s ∷ ss) read
-twice s ss (Ok x) = refl
-twice s ss (Err e) = refl
+twice s ss read = grind arith
 
 -- the bytes of specifications are read as those, in front of what is read behind them
 pub attributes_again : (end : ℕ) (bytes rest : List ℕ) (ss : List Specification)

@@ -1,6 +1,6 @@
 -- What the grammar has at the front is read, and so is each of its errors.
-use Rattle.std.proofs.Common.{◌≡◌, ◌≢◌, ℕ, ◌<◌, Bool, true, false, eqb, List, [], ◌∷◌, ◌++◌, length, Option, Some, None, Result, Ok, Err, refl, sym, ap, ◌∙◌, append_assoc, arith}
-use Rattle.std.proofs.lemmas.Bool.{ne_eqb}
+use Rattle.std.proofs.lemmas.Grind.{common_steps}
+use Rattle.std.proofs.Common.{◌≡◌, ◌≢◌, ℕ, ◌<◌, Bool, false, eqb, List, [], ◌∷◌, ◌++◌, length, Option, Some, None, Result, Ok, Err, refl, sym, ap, ◌∙◌, append_assoc, arith, ne_eqb}
 use Rattle.std.proofs.lemmas.List.{length-append, append-nil, nil_from_length}
 use Rattle.dwarf_base_core.specs.declared.error.Error.{Error}
 use Rattle.dwarf_base_core.specs.declared.error.Error.TheVariants.{AttributeNameZero, AttributeFormZero}
@@ -63,8 +63,7 @@ head_again end front rest code tag is =
 children_again : (end : ℕ) (children : Bool) (rest : List ℕ)
     → children_at end (children_byte children ∷ rest) ≡ Ok (children, rest)
 unfolding children_at
-children_again end true rest = refl
-children_again end false rest = refl
+children_again end children rest = grind arith
 
 -- a declaration that begins with a front is read as that front and the attributes behind it
 front_again : (end : ℕ) (front rest : List ℕ) (d : Declaration) → IsFront front d
@@ -134,9 +133,7 @@ value_fails end name form bytes n e is_name named is_form q =
 stops : {k : Kind} {front : List ℕ} (end : ℕ) (bytes : List ℕ) (e : Error) → IsBeginning front k
     → front ++ bytes ≢ [] → number_at k end bytes ≡ Err e → declaration_at end (front ++ bytes) ≡ Err e
 unfolding declaration_at declared_at tag_at specification_at
-stops end bytes e before_code some q =
-    let n : eqb (length bytes) 0 ≡ false = ne_eqb (length bytes) 0 (λ h. some (nil_from_length bytes h)) in
-    rw (n, q) refl
+stops end bytes e before_code some q = grind (arith, common_steps, eqb, ne_eqb, nil_from_length)
 stops end bytes e (before_tag front code is) some q = code_again end front bytes code is ∙ rw q refl
 stops end bytes e (before_name front d is) some q = front_fails end front bytes d e is (rw q refl)
 stops end bytes e (before_form front name d n is is_name) some q =

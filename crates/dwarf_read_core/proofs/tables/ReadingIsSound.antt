@@ -1,4 +1,5 @@
 -- A declaration that is read, or its error, is what the grammar says.
+use Rattle.std.proofs.lemmas.Grind.{common_steps}
 use Rattle.std.proofs.Common.{◌≡◌, ◌≢◌, ℕ, ◌<◌, ◌≤◌, Bool, true, false, cond, eqb, List, [], ◌∷◌, ◌++◌, length, Option, Some, None, Ok, Err, refl, sym, ap, subst, append_assoc, arith}
 use Rattle.std.proofs.lemmas.Bool.{eqb-true, eqb-false}
 use Rattle.std.proofs.lemmas.List.{length-append, append-nil, nil_from_length}
@@ -148,22 +149,12 @@ declaration_outcome end bytes = go (eqb (length bytes) 0) refl
 
 -- the front of a declaration has at least three bytes
 pub front_long : (bytes : List ℕ) (d : Declaration) → IsFront bytes d → 3 ≤ length bytes
-front_long bytes d is =
-    let h = is.is_head in
-    let c = encoding-nonempty h.first h.is_code.is_code.encoding in
-    let t = encoding-nonempty h.second h.is_tag.encoding in
-    let e : length is.head ≡ length (h.first ++ h.second) = ap length h.parts in
-    let w : length bytes ≡ length (is.head ++ children_byte d.children ∷ is.specifications) = ap length is.parts in
-    omega (arith, length-append h.first h.second, length-append is.head (children_byte d.children ∷ is.specifications))
+front_long bytes d is = grind (arith, common_steps, encoding-nonempty, length-append)
 
 -- fewer bytes remain behind a declaration that is found
 pub declaration_found_shorter : (bytes : List ℕ) (d : Declaration) (rest : List ℕ) → DeclarationFound bytes d rest
     → length rest < length bytes
-declaration_found_shorter bytes d rest f =
-    let is = f.is_declaration in
-    let w : length bytes ≡ length (f.front ++ rest) = ap length f.parts in
-    let v : length f.front ≡ length (is.front ++ is.null) = ap length is.parts in
-    omega (arith, length-append f.front rest, length-append is.front is.null, front_long is.front d is.is_front)
+declaration_found_shorter bytes d rest f = grind (arith, common_steps, length-append, front_long)
 
 -- fewer bytes remain behind a declaration that is read
 pub declaration_shorter : (end : ℕ) (bytes : List ℕ) (d : Declaration) (rest : List ℕ)

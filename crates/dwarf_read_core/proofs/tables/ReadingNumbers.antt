@@ -1,9 +1,8 @@
 -- The function that reads a LEB128 number returns what the definition says, and nothing else.
-use Rattle.std.proofs.Common.{◌≡◌, ℕ, zero, suc, ◌<◌, ◌≤◌, Bool, true, false, cond, eqb, ltb, List, [], ◌∷◌, ◌++◌, length, drop, Option, Some, None, Result, Ok, Err, refl, sym, ap, subst, ◌∙◌, arith, ◌⊎◌, inl, inr}
+use Rattle.std.proofs.lemmas.Grind.{common_steps}
+use Rattle.std.proofs.Common.{◌≡◌, ℕ, zero, suc, ◌<◌, ◌≤◌, Bool, true, false, cond, eqb, ltb, List, [], ◌∷◌, ◌++◌, length, drop, Option, Some, None, Result, Ok, Err, refl, sym, ap, ◌∙◌, arith, ◌⊎◌, inl, inr, length-append, length-drop, take-append-drop, take}
 use Rattle.std.proofs.lemmas.Bool.{eqb-false, ltb-true, ltb-false, lt-ltb, le-ltb}
-use Rattle.std.proofs.lemmas.List.{length-append, length-drop, take-append-drop}
 use Rattle.std.proofs.Math.Seq.{take-append_seam}
-use Rattle.std.proofs.Common.{take}
 use Rattle.dwarf_base_core.specs.declared.error.Error.{Error}
 use Rattle.dwarf_reader_core.specs.Leb128.{Kind, Number, unsigned64, unsigned16, signed64, limit, value, is_in_range, refusal, IsEncoding, NoneIsLast, IsNumber, HasNumber, IsCut, IsBad, ReadsNumber, RefusesNumber}
 use Rattle.dwarf_reader_core.specs.Input.{Input, end_of, after}
@@ -13,8 +12,7 @@ use Rattle.dwarf_read_core.proofs.ResultLemmas.{HasOutcome, returned, failed}
 
 -- an encoding of a number has at least one byte
 pub encoding-nonempty : (bytes : List ℕ) → IsEncoding bytes → 0 < length bytes
-encoding-nonempty [] h = absurd h
-encoding-nonempty (b ∷ bytes) h = omega arith
+encoding-nonempty bytes h = grind (arith, common_steps)
 
 -- a number that the test finds not equal to 0 is above 0
 pub number-positive : (n : ℕ) → eqb n 0 ≡ false → 0 < n
@@ -30,7 +28,7 @@ encoding_at-string [] rest n encoding short = absurd encoding
 encoding_at-string (b ∷ s) rest zero encoding short = absurd (omega arith)
 encoding_at-string (b ∷ []) rest (suc n) encoding short = rw (lt-ltb b 128 encoding) refl
 encoding_at-string (b ∷ c ∷ s) rest (suc n) encoding short =
-    rw (le-ltb b 128 encoding.0, encoding_at-string (c ∷ s) rest n encoding.1 (omega arith)) refl
+    grind (arith, (encoding_at-string (c ∷ s) rest n encoding.1 (omega arith)))
 
 pub record IsSplit (n : ℕ) (bytes front rest : List ℕ) : Type 0 where
   pub parts : bytes ≡ front ++ rest
@@ -40,13 +38,7 @@ pub record IsSplit (n : ℕ) (bytes front rest : List ℕ) : Type 0 where
 -- an encoding with one more byte in front of it is split from the front in one more step
 longer : (n b : ℕ) (bytes front rest : List ℕ) → 128 ≤ b → IsSplit n bytes front rest
     → IsSplit (suc n) (b ∷ bytes) (b ∷ front) rest
-longer n b bytes [] rest high s = absurd s.encoding
-longer n b bytes (c ∷ front) rest high s =
-    record {
-      parts = ap (λ (x : List ℕ). b ∷ x) s.parts;
-      encoding = (high, s.encoding);
-      short = let h = s.short in omega arith;
-    }
+longer n b bytes front rest high s = grind arith
 
 -- what is split from the front of bytes: an encoding of at most n bytes, or nothing, if none of them is a last byte
 data Split (n : ℕ) (bytes : List ℕ) : Option (List ℕ × List ℕ) → Type 0 where
@@ -81,14 +73,12 @@ encoding_at-unended (suc n) (b ∷ bytes) high = rw (le-ltb b 128 high.0, encodi
 pub number_at-string : (k : Kind) (end : ℕ) (front rest : List ℕ) (number : Number k) → IsNumber k front number
     → number_at k end (front ++ rest) ≡ Ok (number, rest)
 unfolding number_at
-number_at-string k end front rest number s =
-    rw (encoding_at-string front rest (limit k) s.encoding s.within, s.means, s.in_range) refl
+number_at-string k end front rest number s = grind (arith, encoding_at-string)
 
 -- bytes that end before their number does are read as an `UnexpectedEof` at the end
 pub number_at-cut : (k : Kind) (end : ℕ) (bytes : List ℕ) → IsCut k bytes → number_at k end bytes ≡ Err (eof end)
 unfolding number_at
-number_at-cut k end bytes c =
-    rw (encoding_at-unended (limit k) bytes c.unended, lt-ltb (length bytes) (limit k) c.short) refl
+number_at-cut k end bytes c = grind (arith, encoding_at-unended)
 
 pub record Found (k : Kind) (bytes : List ℕ) (number : Number k) (rest : List ℕ) : Type 0 where
   pub front : List ℕ
@@ -152,12 +142,8 @@ number_outcome k end bytes = go (encoding_split (limit k) bytes) refl
 -- a number that is read is encoded by as many bytes as were consumed
 pub found_has : {k : Kind} {bytes : List ℕ} {number : Number k} {rest : List ℕ} → (f : Found k bytes number rest)
     → HasNumber k bytes number (length f.front)
-found_has {k = k} {bytes = bytes} {number = number} {rest = rest} f = record {
-  enough = let e : length bytes ≡ length (f.front ++ rest) = ap length f.parts in
-      omega (arith, length-append f.front rest);
-  is_number = subst (λ (b : List ℕ). IsNumber k b number)
-      (sym (ap (take (length f.front)) f.parts ∙ take-append_seam f.front rest)) f.string;
-}
+found_has {k = k} {bytes = bytes} {number = number} {rest = rest} f =
+    grind (arith, common_steps, length-append, take-append_seam)
 
 -- bad bytes are read as the error of a bad number
 pub number_at-bad : (k : Kind) (end : ℕ) (bytes : List ℕ) → IsBad k bytes → number_at k end bytes ≡ Err (refusal k)
@@ -174,17 +160,13 @@ number_at-bad k end bytes b = go (number_outcome k end bytes)
 -- the error that a reader returns in place of a number is what the function reads
 pub number_not_read : {k : Kind} {old : Input} {e : Error} {new : Input} → RefusesNumber k old e new
     → number_at k (end_of old) old.bytes ≡ Err e
-number_not_read {k = k} {old = old} (inl r) =
-    number_at-cut k (end_of old) old.bytes r.cut
-    ∙ ap (λ (x : Error). Err x) (sym (r.fault ∙ ap (λ (i : Input). eof i.position) r.left))
-number_not_read {k = k} {old = old} (inr r) =
-    number_at-bad k (end_of old) old.bytes r.bad ∙ ap (λ (x : Error). Err x) (sym r.fault)
+number_not_read {k = k} {old = old} (inl r) = grind (arith, number_at-cut)
+number_not_read {k = k} {old = old} (inr r) = grind (arith, number_at-bad)
 
 -- the number that a reader reads is what the function reads, and the same bytes remain
 pub number_read : {k : Kind} {old : Input} {number : Number k} {new : Input} (end : ℕ)
     → ReadsNumber k old number new → number_at k end old.bytes ≡ Ok (number, new.bytes)
-number_read {k = k} {old = old} {number = number} end r =
-    number_at-has k end old.bytes number r.len r.is ∙ ap (λ (i : Input). Ok (number, i.bytes)) (sym r.left)
+number_read {k = k} {old = old} {number = number} end r = grind (arith, number_at-has)
 
 -- consuming bytes doesn't change the position of the end
 pub end_after : (n : ℕ) (old : Input) → n ≤ length old.bytes → end_of (after n old) ≡ end_of old

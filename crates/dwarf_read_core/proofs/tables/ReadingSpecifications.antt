@@ -1,7 +1,7 @@
 -- A specification that is read, or its error, is what the grammar says, and conversely.
-use Rattle.std.proofs.Common.{◌≡◌, ℕ, ◌<◌, ◌≤◌, Bool, true, false, cond, eqb, ℤ, List, [], ◌∷◌, ◌++◌, length, Option, Some, None, Result, Ok, Err, refl, ap, subst, ◌∙◌, append_assoc, arith, ◌⊎◌, inl, inr}
+use Rattle.std.proofs.lemmas.Grind.{common_steps}
+use Rattle.std.proofs.Common.{◌≡◌, ℕ, ◌<◌, ◌≤◌, Bool, true, false, cond, eqb, ℤ, List, [], ◌∷◌, ◌++◌, length, Option, Some, None, Result, Ok, Err, refl, ap, subst, ◌∙◌, append_assoc, arith, ◌⊎◌, inl, inr, length-append}
 use Rattle.std.proofs.lemmas.Bool.{eqb-true, eqb-false, eq-eqb, ne_eqb}
-use Rattle.std.proofs.lemmas.List.{length-append}
 use Rattle.dwarf_base_core.specs.declared.error.Error.{Error}
 use Rattle.dwarf_base_core.specs.declared.error.Error.TheVariants.{AttributeNameZero, AttributeFormZero}
 use Rattle.dwarf_reader_core.specs.Leb128.{Kind, unsigned16, signed64, refusal, IsNumber, IsCut, IsBad}
@@ -163,29 +163,16 @@ null_again end bytes rest is =
 
 -- a specification has at least two bytes
 pub specification_long : (s : Specification) (bytes : List ℕ) → IsSpecification bytes s → 2 ≤ length bytes
-specification_long s bytes is =
-    let n = encoding-nonempty is.name is.is_name.encoding in
-    let f = encoding-nonempty is.form is.is_form.encoding in
-    let e : length bytes ≡ length (is.name ++ is.form ++ is.value) = ap length is.parts in
-    omega (arith, length-append (is.name ++ is.form) is.value, length-append is.name is.form)
+specification_long s bytes is = grind (arith, common_steps, encoding-nonempty, length-append)
 
 -- the null specification has at least two bytes
 pub null_long : (bytes : List ℕ) → IsNull bytes → 2 ≤ length bytes
-null_long bytes is =
-    let n = encoding-nonempty is.name is.is_name.encoding in
-    let f = encoding-nonempty is.form is.is_form.encoding in
-    let e : length bytes ≡ length (is.name ++ is.form) = ap length is.parts in
-    omega (arith, length-append is.name is.form)
+null_long bytes is = grind (arith, common_steps, encoding-nonempty, length-append)
 
 -- fewer bytes remain behind a specification that is found, or the null one
 pub found_shorter : (bytes : List ℕ) (o : Option Specification) (rest : List ℕ) → SomeFound bytes o rest
     → length rest < length bytes
-found_shorter bytes None rest f =
-    let e : length bytes ≡ length (f.front ++ rest) = ap length f.parts in
-    omega (arith, null_long f.front f.is_null, length-append f.front rest)
-found_shorter bytes (Some s) rest f =
-    let e : length bytes ≡ length (f.front ++ rest) = ap length f.parts in
-    omega (arith, specification_long s f.front f.is_specification, length-append f.front rest)
+found_shorter bytes o rest f = grind (arith, common_steps, null_long, length-append, specification_long)
 
 -- a declaration begins somehow
 some_front : IsFront (1 ∷ 1 ∷ 0 ∷ []) (declaration_of 1 1 false [])

@@ -1,7 +1,7 @@
 -- How a table changes with the next entry that its parser reads.
-use Rattle.std.proofs.Common.{◌≡◌, ◌≢◌, ℕ, zero, suc, ◌+◌, ◌<◌, true, false, cond, eqb, List, [], length, Option, Some, None, Result, Ok, Err, refl, ap, ◌∙◌, arith}
+use Rattle.std.proofs.lemmas.Grind.{common_steps}
+use Rattle.std.proofs.Common.{◌≡◌, ◌≢◌, ℕ, zero, suc, ◌<◌, true, false, cond, eqb, List, [], length, Option, Some, None, Result, Ok, Err, refl, ap, arith, ne_eqb}
 use Rattle.std.specs.FinMap.{insert, contains_key}
-use Rattle.std.proofs.lemmas.Bool.{ne_eqb}
 use Rattle.std.proofs.lemmas.List.{nil_from_length}
 use Rattle.dwarf_base_core.specs.declared.error.Error.{Error}
 use Rattle.dwarf_base_core.specs.declared.error.Error.TheVariants.{DuplicateAbbreviationCode}
@@ -36,41 +36,32 @@ table_enough (suc n) (suc m) end t bytes short other =
 pub table_fails : (end : ℕ) (t : ByCode) (bytes : List ℕ) (e : Error) → declaration_at end bytes ≡ Err e
     → table_in end t bytes ≡ Err e
 unfolding table_in table_at
-table_fails end t bytes e q =
-    table_enough (length bytes + 1) (suc (length bytes)) end t bytes (omega arith) (omega arith) ∙ rw q refl
+table_fails end t bytes e q = grind arith
 
 -- reading a table ends if no declaration is next: the end closes it if no bytes are left, or else a null code
 pub table_ends : (end : ℕ) (t : ByCode) (bytes rest : List ℕ) → declaration_at end bytes ≡ Ok (None, rest)
     → table_in end t bytes ≡ Ok (closed t (close_of bytes))
 unfolding table_in table_at
-table_ends end t bytes rest q =
-    table_enough (length bytes + 1) (suc (length bytes)) end t bytes (omega arith) (omega arith) ∙ rw q refl
+table_ends end t bytes rest q = grind arith
 
 -- a code of value 0 in front of any bytes closes the table
 pub table_nulled : (end : ℕ) (t : ByCode) (bytes rest : List ℕ) → bytes ≢ []
     → declaration_at end bytes ≡ Ok (None, rest) → table_in end t bytes ≡ Ok (closed t by_null)
-table_nulled end t bytes rest some q =
-    let n : eqb (length bytes) 0 ≡ false = ne_eqb (length bytes) 0 (λ h. some (nil_from_length bytes h)) in
-    table_ends end t bytes rest q ∙ rw n refl
+table_nulled end t bytes rest some q = grind (arith, common_steps, eqb, ne_eqb, nil_from_length, table_ends)
 
 -- reading a table fails with `DuplicateAbbreviationCode` if the table has the code of the next declaration
 pub table_repeats : (end : ℕ) (t : ByCode) (bytes : List ℕ) (d : Declaration) (rest : List ℕ)
     → declaration_at end bytes ≡ Ok (Some d, rest) → contains_key t d.code ≡ true
     → table_in end t bytes ≡ Err (DuplicateAbbreviationCode d.code)
 unfolding table_in table_at
-table_repeats end t bytes d rest q twice =
-    table_enough (length bytes + 1) (suc (length bytes)) end t bytes (omega arith) (omega arith) ∙ rw (q, twice) refl
+table_repeats end t bytes d rest q twice = grind arith
 
 -- reading a table goes on behind the next declaration with that one inserted, if its code is new
 pub table_goes_on : (end : ℕ) (t : ByCode) (bytes : List ℕ) (d : Declaration) (rest : List ℕ)
     → declaration_at end bytes ≡ Ok (Some d, rest) → contains_key t d.code ≡ false
     → table_in end t bytes ≡ table_in end (insert t d.code d) rest
 unfolding table_in table_at
-table_goes_on end t bytes d rest q fresh =
-    let h = declaration_shorter end bytes d rest q in
-    table_enough (length bytes + 1) (suc (length bytes)) end t bytes (omega arith) (omega arith)
-    ∙ rw (q, fresh)
-    (table_enough (length bytes) (length rest + 1) end (insert t d.code d) rest (omega arith) (omega arith))
+table_goes_on end t bytes d rest q fresh = grind (arith, declaration_shorter, table_enough)
 
 -- how a table changes with the next entry
 pub ruleset table_steps = (table_fails, table_ends, table_repeats, table_goes_on, declaration_shorter)

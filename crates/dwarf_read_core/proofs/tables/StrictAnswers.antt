@@ -1,5 +1,5 @@
 -- The strict result follows from the result.
-use Rattle.std.proofs.Common.{◌≡◌, ℕ, cond, List, Result, Ok, Err, refl, sym, ap, subst, ◌∙◌}
+use Rattle.std.proofs.Common.{arith, ◌≡◌, ℕ, cond, List, Result, Ok, Err, refl, sym, ap, ◌∙◌}
 use Rattle.dwarf_base_core.specs.declared.error.Error.{Error}
 use Rattle.dwarf_base_core.specs.declared.error.Error.TheVariants.{UnterminatedAbbreviations}
 use Rattle.dwarf_base_core.specs.declared.reader_offset.ReaderOffsetId.{ReaderOffsetId}
@@ -40,27 +40,13 @@ err_strictly section offset e h = λ memory. (Err e, h memory, refl)
 pub strict_answer_more : (section : Input) (more : List ℕ) (offset : ℕ) (strict : Result Table Error)
     → StrictAnswer section offset strict → IsStrictlyFinal strict
     → StrictAnswer (followed_by section more) offset strict
-strict_answer_more section more offset strict is final =
-    subst (StrictAnswer (followed_by section more) offset) (sym is.2) (go is.0 is.1 (subst IsStrictlyFinal is.2 final))
-  where
-    by_close : (t : Table) → Answer section offset (Ok t) → (close : Close) → t.close ≡ close
-        → IsStrictlyFinal (strict_by section t close)
-        → StrictAnswer (followed_by section more) offset (strict_by section t close)
-    by_close t is by_null e final = closed_strictly (followed_by section more) offset t (answer_more more is e) e
-    by_close t is by_end e final = absurd (final.1 (end_of section) refl)
-
-    go : (answer : Result Table Error) → Answer section offset answer → IsStrictlyFinal (strictly section answer)
-        → StrictAnswer (followed_by section more) offset (strictly section answer)
-    go (Ok t) is final = by_close t is t.close refl final
-    go (Err e) is final = (Err e, answer_more more is final.0, refl)
+strict_answer_more section more offset strict is final = grind (arith, answer_more)
 
 -- a strict result that a call returned, and that is final, is still the section's when bytes are appended
 pub strictly_stays : (strict : Result Table Error) (section : Input) (offset : ℕ)
     → AnswersStrictly strict section offset → IsStrictlyFinal strict → (more : List ℕ)
     → AnswersStrictly strict (followed_by section more) offset
-strictly_stays (Ok t) section offset h final more = strict_answer_more section more offset (Ok t) h final
-strictly_stays (Err e) section offset h final more =
-    λ memory. strict_answer_more section more offset (Err e) (h memory) final
+strictly_stays strict section offset h final more = grind (arith, strict_answer_more)
 
 -- the error for an unclosed table isn't final at any position, so nothing is said of it when bytes are appended
 pub unclosed_stays : (id : ReaderOffsetId) (section : Input) (offset : ℕ)

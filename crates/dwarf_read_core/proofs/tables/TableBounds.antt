@@ -1,17 +1,13 @@
 -- A table has no more declarations and attributes than fit its bytes.
-use Rattle.std.proofs.Common.{◌≡◌, ℕ, ◌+◌, ◌*◌, ◌≤◌, false, cond, List, [], ◌∷◌, ◌++◌, length, map, Some, Result, Ok, Err, sym, ap, ◌∙◌, arith}
-use Rattle.std.specs.Prelude.{IfOk, is_some}
-use Rattle.std.specs.List.{sum_by}
-use Rattle.std.specs.Ordering.{nat_cmp, is_eq}
-use Rattle.std.specs.declared.cmp.Ordering.{Ordering}
-use Rattle.std.specs.declared.cmp.Ordering.TheVariants.{Less, Equal, Greater}
+use Rattle.std.proofs.lemmas.Grind.{common_steps}
+use Rattle.std.proofs.Common.{◌≡◌, ℕ, ◌+◌, ◌*◌, ◌≤◌, false, List, [], ◌∷◌, length, map, Result, Ok, sym, ap, ◌∙◌, arith, IfOk, is_some, sum_by, nat_cmp}
 use Rattle.std.specs.Cmp.{nat_cmp_total}
 use Rattle.std.specs.FinMap.{find, empty, len, entries, entries-insert, len-insert, len-empty, len-entries, get-entries}
-use Rattle.std.specs.FinMap.Entries.{put, by_order}
+use Rattle.std.specs.FinMap.Entries.{put}
 use Rattle.std.proofs.lemmas.List.{length-append, length-drop, nil_from_length}
 use Rattle.std.proofs.lemmas.List.Sums.{sum_by-cons}
 use Rattle.dwarf_base_core.specs.declared.error.Error.{Error}
-use Rattle.dwarf_read_core.specs.Grammar.{Specification, Declaration, Sequence, children_byte, IsSpecification, IsDeclaration, AreDistinct, Table, by_code_of, attribute_count, IsTable, closed_by_null, closed_by_end}
+use Rattle.dwarf_read_core.specs.Grammar.{Specification, Declaration, Sequence, IsSpecification, IsDeclaration, AreDistinct, Table, by_code_of, attribute_count, IsTable}
 use Rattle.dwarf_reader_core.specs.Input.{Input, Takes, end_of}
 use Rattle.dwarf_read_core.specs.Reading.{Gives, table_in}
 use Rattle.dwarf_read_core.specs.Answer.{Answer, table, Answers}
@@ -31,44 +27,20 @@ specifications_long : (bytes : List ℕ) (ss : List Specification) → Sequence 
     → 2 * length ss ≤ length bytes
 specifications_long bytes [] e = omega arith
 specifications_long bytes (s ∷ ss) q =
-    let e : length bytes ≡ length (q.0 ++ q.1) = ap length q.2 in
-    omega (arith, length-append q.0 q.1, specification_long s q.0 q.3, specifications_long q.1 ss q.4)
+    grind (arith, common_steps, length-append, specification_long, (specifications_long q.1 ss q.4))
 
 -- a declaration has at least five bytes, and two more for each attribute
 declaration_long : (bytes : List ℕ) (d : Declaration) → IsDeclaration bytes d
     → 5 + 2 * length d.attributes ≤ length bytes
 declaration_long bytes d is =
-    let f = is.is_front in
-    let h = f.is_head in
-    let e1 : length bytes ≡ length (is.front ++ is.null) = ap length is.parts in
-    let e2 : length is.front ≡ length (f.head ++ children_byte d.children ∷ f.specifications) = ap length f.parts in
-    let e3 : length f.head ≡ length (h.first ++ h.second) = ap length h.parts in
-    let n1 = encoding-nonempty h.first h.is_code.is_code.encoding in
-    let n2 = encoding-nonempty h.second h.is_tag.encoding in
-    let n3 = null_long is.null is.is_null in
-    let n4 = specifications_long f.specifications d.attributes f.are_attributes in
-    omega (
-      arith,
-      length-append is.front is.null,
-      length-append f.head
-          (children_byte d.children ∷ f.specifications),
-      length-append h.first h.second,
-    )
+    grind (arith, common_steps, encoding-nonempty, null_long, specifications_long, attributes, length-append)
 
 -- declarations have at least five bytes each, and two more for each attribute
 declarations_long : (bytes : List ℕ) (ds : List Declaration) → Sequence IsDeclaration bytes ds
     → 5 * length ds + 2 * sum_by (λ d. length d.attributes) ds ≤ length bytes
 declarations_long bytes [] e = omega arith
 declarations_long bytes (d ∷ ds) q =
-    let e : length bytes ≡ length (q.0 ++ q.1) = ap length q.2 in
-    omega (
-      arith,
-      length-append q.0 q.1,
-      declaration_long q.0 d q.3,
-      declarations_long q.1 ds q.4,
-      sum_by-cons
-          (λ (x : Declaration). length x.attributes) d ds,
-    )
+    grind (arith, common_steps, length-append, declaration_long, sum_by-cons, attributes, (declarations_long q.1 ds q.4))
 
 -- ---- tables
 
@@ -79,20 +51,7 @@ total es = sum_by (λ d. length d.attributes) (map (λ e. e.1) es)
 total_put : (k : ℕ) (d : Declaration) (es : List (ℕ × Declaration)) → is_some (find nat_cmp k es) ≡ false
     → total (put nat_cmp k d es) ≡ length d.attributes + total es
 total_put k d [] none = sum_by-cons (λ (x : Declaration). length x.attributes) d []
-total_put k d (e ∷ es) none = go (nat_cmp k e.0) (total_put k d es) none
-  where
-    go : (r : Ordering) → (is_some (find nat_cmp k es) ≡ false
-        → total (put nat_cmp k d es) ≡ length d.attributes + total es)
-        → is_some (cond (is_eq r) (Some e.1) (find nat_cmp k es)) ≡ false
-        → total (by_order r ((k, d) ∷ e ∷ es) ((e.0, d) ∷ es) (e ∷ put nat_cmp k d es))
-        ≡ length d.attributes + total (e ∷ es)
-    go Less later none = sum_by-cons (λ (x : Declaration). length x.attributes) d (map (λ x. x.1) (e ∷ es))
-    go Equal later none = absurd cc
-    go Greater later none =
-        let a = sum_by-cons (λ (x : Declaration). length x.attributes) e.1 (map (λ x. x.1) (put nat_cmp k d es)) in
-        let b = sum_by-cons (λ (x : Declaration). length x.attributes) e.1 (map (λ x. x.1) es) in
-        let c = later none in
-        omega arith
+total_put k d (e ∷ es) none = grind (arith, common_steps, attributes, sum_by-cons, (total_put k d es))
 
 -- the map of declarations with distinct codes has as many entries as there are declarations
 len_is : (ds : List Declaration) → AreDistinct ds → len (by_code_of ds) ≡ length ds
@@ -118,13 +77,7 @@ count_is (d ∷ ds) h =
 -- the bytes of a table are at least five for each declaration and two for each attribute
 table_bound : {bytes : List ℕ} {t : Table} → IsTable bytes t
     → 5 * len t.by_code + 2 * attribute_count t.by_code ≤ length bytes
-table_bound (closed_by_null bytes zero_code rest ds are is) =
-    let counted = len_is ds are.distinct in
-    let attributed = count_is ds are.distinct in
-    let long = declarations_long bytes ds are.each in
-    omega (arith, counted, attributed, long, length-append (bytes ++ zero_code) rest, length-append bytes zero_code)
-table_bound (closed_by_end bytes ds are) =
-    omega (arith, len_is ds are.distinct, count_is ds are.distinct, declarations_long bytes ds are.each)
+table_bound h = grind (arith, len_is, count_is, declarations_long, length-append)
 
 -- a section with a table at an offset has five bytes there for each declaration and two for each attribute
 answer_bound : {section : Input} {offset : ℕ} {t : Table} → Answer section offset (Ok t)
@@ -134,12 +87,10 @@ answer_bound {section} {offset} (table t le is) = omega (arith, table_bound is, 
 -- a table that a call returned has no more declarations and attributes than fit the section there
 bounded : (r : Result Table Error) (section : Input) (offset : ℕ) → Answers r section offset
     → IfOk r (λ t. 5 * len t.by_code + 2 * attribute_count t.by_code + offset ≤ length section.bytes)
-bounded (Ok t) section offset h = answer_bound h
-bounded (Err e) section offset h = tt
+bounded r section offset h = grind (arith, answer_bound)
 
 -- a table that the parser returned has no more declarations and attributes than fit the section there
 pub bounded_read : (r : Result Table Error) (section : Input) (offset : ℕ) (rest : Input)
     → Takes offset section rest → Gives (λ t. t) r (table_in (end_of rest) empty rest.bytes)
     → IfOk r (λ t. 5 * len t.by_code + 2 * attribute_count t.by_code + offset ≤ length section.bytes)
-bounded_read r section offset rest takes given =
-    bounded r section offset (answer_returned r section offset rest takes given)
+bounded_read r section offset rest takes given = grind (arith, bounded, answer_returned)

@@ -1,7 +1,6 @@
 -- A vector of the first abbreviations, and the others, are one finite map.
-use Rattle.std.proofs.Common.{◌≡◌, ℕ, zero, suc, ◌+◌, ◌<◌, ◌≤◌, eqb, get_or, ◌++◌, arith, Bool, true, false, cond, List, [], ◌∷◌, length, map, Option, Some, None, Result, Ok, Err, OnOk, OnErr, Bor, refl, sym, ap, ◌∙◌, inl, inr, ◌⊎◌, length-append}
-use Rattle.std.specs.Prelude.{is_some, option_copied}
-use Rattle.std.specs.Ordering.{nat_cmp}
+use Rattle.std.proofs.lemmas.Grind.{common_steps}
+use Rattle.std.proofs.Common.{◌≡◌, ℕ, zero, suc, ◌+◌, ◌<◌, ◌≤◌, eqb, get_or, ◌++◌, arith, Bool, true, false, cond, List, [], ◌∷◌, length, map, Option, Some, None, Result, Ok, Err, OnOk, OnErr, Bor, refl, sym, ap, ◌∙◌, inl, inr, ◌⊎◌, length-append, is_some, option_copied, nat_cmp, Less}
 use Rattle.std.specs.Cmp.{nat_cmp_total, eq_by_cmp_equiv}
 use Rattle.std.specs.Map.{lookup}
 use Rattle.std.specs.BTreeMap.{is_at}
@@ -9,9 +8,7 @@ use Rattle.std.specs.FinMap.{find, get, insert, contains_key, values, from_entri
 use Rattle.std.specs.FinMap.Entries.{put, by_order}
 use Rattle.std.specs.List.{AllByRecursion}
 use Rattle.std.specs.List.Sorted.{IsStrictlySortedBy}
-use Rattle.std.specs.declared.cmp.Ordering.TheVariants.{Less}
-use Rattle.std.proofs.lemmas.Bool.{eqb-true, eq-eqb, ne_eqb, cases_lt}
-use Rattle.std.proofs.lemmas.Bool.Decides.{nat_tests}
+use Rattle.std.proofs.lemmas.Bool.{eq-eqb, ne_eqb, cases_lt}
 use Rattle.std.proofs.lemmas.List.{nil_from_length}
 use Rattle.dwarf_read_core.specs.Grammar.{Declaration}
 use Rattle.dwarf_read_core.specs.Others.{Adds}
@@ -67,94 +64,47 @@ at q es = lookup (is_at (nat_cmp q)) es
 
 -- the order of codes finds two of them equal exactly if they are equal numbers
 same_code : (a b : ℕ) → is_at (nat_cmp a) b ≡ eqb a b
-same_code a b = grind (arith, nat_tests)
+same_code a b = grind arith
 
 -- a lookup finds the first entry at its code, and searches the others at other codes
 at_first : (q k : ℕ) (d : Declaration) (es : List (ℕ × Declaration)) (t : Bool) → eqb q k ≡ t
     → at q ((k, d) ∷ es) ≡ cond t (Some d) (at q es)
 at_first q k d es t e = ap (λ b. cond b (Some d) (at q es)) (same_code q k ∙ e)
 
--- a code below those of the vector is looked up among the others
-at_below : (k q : ℕ) (ds : List Declaration) (more : List (ℕ × Declaration)) → q < k
-    → at q (numbered k ds ++ more) ≡ at q more
-at_below k q [] more lt = refl
-at_below k q (d ∷ ds) more lt =
-    at_first q k d (numbered (suc k) ds ++ more) false (ne_eqb q k (λ e. omega arith))
-    ∙ at_below (suc k) q ds more (omega arith)
-
 -- a code above those of the vector is looked up among the others
 at_above : (k q : ℕ) (ds : List Declaration) (more : List (ℕ × Declaration)) → k + length ds ≤ q
     → at q (numbered k ds ++ more) ≡ at q more
 at_above k q [] more le = refl
-at_above k q (d ∷ ds) more le =
-    at_first q k d (numbered (suc k) ds ++ more) false (ne_eqb q k (λ e. omega arith))
-    ∙ at_above (suc k) q ds more (omega arith)
+at_above k q (d ∷ ds) more le = grind (arith, (at_above (suc k) q ds more (omega arith)))
 
 -- a code of the vector is looked up as the declaration at its index
 at_within : (k i : ℕ) (ds : List Declaration) (more : List (ℕ × Declaration)) (d : Declaration) → i < length ds
     → at (k + i) (numbered k ds ++ more) ≡ Some (get_or ds i d)
 at_within k i [] more d lt = absurd (omega arith)
-at_within k zero (x ∷ ds) more d lt =
-    at_first (k + 0) k x (numbered (suc k) ds ++ more) true (eq-eqb (k + 0) k (omega arith))
-at_within k (suc i) (x ∷ ds) more d lt =
-    let next : k + suc i ≡ suc k + i = omega arith in
-    at_first (k + suc i) k x (numbered (suc k) ds ++ more) false (ne_eqb (k + suc i) k (λ e. omega arith))
-    ∙ ap (λ q. at q (numbered (suc k) ds ++ more)) next ∙ at_within (suc k) i ds more d (omega arith)
+at_within k zero (x ∷ ds) more d lt = grind arith
+at_within k (suc i) (x ∷ ds) more d lt = grind (arith, (at_within (suc k) i ds more d (omega arith)))
 
 -- the order finds a code equal to the sought one exactly if they are equal numbers
 same_back : (c q : ℕ) → is_at (nat_cmp c) q ≡ eqb q c
-same_back c q = grind (arith, nat_tests)
+same_back c q = grind arith
 
 -- one more declaration in the vector changes the lookup of the next code alone
 at_push : (k q : ℕ) (ds : List Declaration) (d : Declaration) (more : List (ℕ × Declaration))
     → at q (numbered k (ds ++ d ∷ []) ++ more)
     ≡ cond (is_at (nat_cmp (k + length ds)) q) (Some d) (at q (numbered k ds ++ more))
-at_push k q [] d more =
-    let none : k + 0 ≡ k = omega arith in
-    ap (λ b. cond b (Some d) (at q more)) (same_code q k ∙ sym (same_back (k + 0) q ∙ ap (eqb q) none))
-at_push k q (x ∷ ds) d more = go (eqb q k) refl (at_push (suc k) q ds d more)
-  where
-    go : (t : Bool) → eqb q k ≡ t → at q (numbered (suc k) (ds ++ d ∷ []) ++ more)
-        ≡ cond (is_at (nat_cmp (suc k + length ds)) q) (Some d) (at q (numbered (suc k) ds ++ more))
-        → at q (numbered k ((x ∷ ds) ++ d ∷ []) ++ more)
-        ≡ cond (is_at (nat_cmp (k + length (x ∷ ds))) q) (Some d) (at q (numbered k (x ∷ ds) ++ more))
-    go true e later =
-        let same = eqb-true q k e in
-        let other : is_at (nat_cmp (k + length (x ∷ ds))) q ≡ false = same_back (k + length (x ∷ ds)) q
-        ∙ ne_eqb q (k + length (x ∷ ds)) (λ w. omega arith) in
-        at_first q k x (numbered (suc k) (ds ++ d ∷ []) ++ more) true e
-        ∙ sym (rw other (at_first q k x (numbered (suc k) ds ++ more) true e))
-    go false e later =
-        let next : suc k + length ds ≡ k + length (x ∷ ds) = omega arith in
-        at_first q k x (numbered (suc k) (ds ++ d ∷ []) ++ more) false e
-        ∙ later
-        ∙ ap (λ n. cond (is_at (nat_cmp n) q) (Some d) (at q (numbered (suc k) ds ++ more))) next
-        ∙ ap (cond (is_at (nat_cmp (k + length (x ∷ ds))) q) (Some d))
-        (sym (at_first q k x (numbered (suc k) ds ++ more) false e))
+at_push k q [] d more = grind arith
+at_push k q (x ∷ ds) d more = grind (arith, (at_push (suc k) q ds d more))
 
 -- one more declaration among the others changes the lookup of its code alone
 at_insert : (k q c : ℕ) (ds : List Declaration) (d : Declaration) (es fs : List (ℕ × Declaration))
     → k + length ds ≤ c → at q fs ≡ cond (is_at (nat_cmp c) q) (Some d) (at q es)
     → at q (numbered k ds ++ fs) ≡ cond (is_at (nat_cmp c) q) (Some d) (at q (numbered k ds ++ es))
 at_insert k q c [] d es fs le h = h
-at_insert k q c (x ∷ ds) d es fs le h = go (eqb q k) refl (at_insert (suc k) q c ds d es fs (omega arith) h)
-  where
-    go : (t : Bool) → eqb q k ≡ t → at q (numbered (suc k) ds ++ fs)
-        ≡ cond (is_at (nat_cmp c) q) (Some d) (at q (numbered (suc k) ds ++ es))
-        → at q (numbered k (x ∷ ds) ++ fs) ≡ cond (is_at (nat_cmp c) q) (Some d) (at q (numbered k (x ∷ ds) ++ es))
-    go true e later =
-        let same = eqb-true q k e in
-        let other : is_at (nat_cmp c) q ≡ false = same_back c q ∙ ne_eqb q c (λ w. omega arith) in
-        at_first q k x (numbered (suc k) ds ++ fs) true e
-        ∙ sym (rw other (at_first q k x (numbered (suc k) ds ++ es) true e))
-    go false e later =
-        at_first q k x (numbered (suc k) ds ++ fs) false e ∙ later
-        ∙ ap (cond (is_at (nat_cmp c) q) (Some d)) (sym (at_first q k x (numbered (suc k) ds ++ es) false e))
+at_insert k q c (x ∷ ds) d es fs le h = grind (arith, (at_insert (suc k) q c ds d es fs (omega arith) h))
 
 -- an option that isn't some is `None`
 none_of_no : (o : Option Declaration) → is_some o ≡ false → o ≡ None
-none_of_no None e = refl
-none_of_no (Some d) e = absurd (cc)
+none_of_no o e = grind arith
 
 -- a list of entries that is empty, or that doesn't have a code, has no declaration at that code
 pub none_at : (code : ℕ) (es : List (ℕ × Declaration)) → (length es ≡ 0) ⊎ (is_some (at code es) ≡ false)
@@ -165,37 +115,30 @@ none_at code es (inr missed) = none_of_no (at code es) missed
 -- a reference that is missing is to a declaration that is missing
 pub missed : (o : Option (Bor Declaration)) (code : ℕ) (es : List (ℕ × Declaration)) → option_copied o ≡ at code es
     → is_some o ≡ false → is_some (at code es) ≡ false
-missed None code es same none = ap is_some (sym same)
-missed (Some x) code es same none = absurd (cc)
+missed o code es same none = grind arith
 
 -- a push to the vector is an insertion into the map that vector and others make
 pub table_pushed : (ds : List Declaration) (es : List (ℕ × Declaration)) (code : ℕ) (d : Declaration)
     → code ≡ 1 + length ds → from_entries {R = nat_cmp} (numbered 1 (ds ++ d ∷ []) ++ es)
     ≡ insert (from_entries (entries_of ds es)) code d
-table_pushed ds es code d e =
-    inserted (entries_of ds es) (numbered 1 (ds ++ d ∷ []) ++ es) code d
-    (λ q. at_push 1 q ds d es ∙ ap (λ n. cond (is_at (nat_cmp n) q) (Some d) (at q (entries_of ds es))) (sym e))
+table_pushed ds es code d e = grind (arith, inserted, at_push)
 
 -- the map that vector and others make lacks the vector's next code if the others do
 pub lacks_next : (ds : List Declaration) (es : List (ℕ × Declaration)) (code : ℕ) → code ≡ 1 + length ds
     → at code es ≡ None → contains_key (from_entries {R = nat_cmp} (entries_of ds es)) code ≡ false
-lacks_next ds es code e none =
-    ap is_some (get_is_lookup (entries_of ds es) code ∙ at_above 1 code ds es (omega arith) ∙ none)
+lacks_next ds es code e none = grind (arith, get_is_lookup, at_above)
 
 -- an insertion among the others above the vector's codes is an insertion into the map that vector and others make
 pub table_put : (ds : List Declaration) (es fs : List (ℕ × Declaration)) (code : ℕ) (d : Declaration)
     → length ds < code → ((q : ℕ) → at q fs ≡ cond (is_at (nat_cmp code) q) (Some d) (at q es))
     → from_entries {R = nat_cmp} (entries_of ds fs) ≡ insert (from_entries (entries_of ds es)) code d
-table_put ds es fs code d lt h =
-    inserted (entries_of ds es) (entries_of ds fs) code d (λ q. at_insert 1 q code ds d es fs (omega arith) (h q))
+table_put ds es fs code d lt h = grind (arith, common_steps, inserted, at_insert)
 
 -- the map that vector and others make has at a code of the vector the declaration at that index
 pub found_in_vec : (ds : List Declaration) (es : List (ℕ × Declaration)) (code index : ℕ) (d : Declaration)
     → code ≡ index + 1 → index < length ds
     → get (from_entries {R = nat_cmp} (entries_of ds es)) code ≡ Some (get_or ds index d)
-found_in_vec ds es code index d e lt =
-    let place : code ≡ 1 + index = omega arith in
-    get_is_lookup (entries_of ds es) code ∙ ap (λ q. at q (entries_of ds es)) place ∙ at_within 1 index ds es d lt
+found_in_vec ds es code index d e lt = grind (arith, common_steps, get_is_lookup, at_within)
 
 -- the map that vector and others make has at a code above the vector's what the others have
 pub found_in_map : (ds : List Declaration) (es : List (ℕ × Declaration)) (code : ℕ) → length ds < code
@@ -205,14 +148,13 @@ found_in_map ds es code lt = get_is_lookup (entries_of ds es) code ∙ at_above 
 -- the map that vector and others make lacks code 0
 pub zero_not_found : (ds : List Declaration) (es : List (ℕ × Declaration)) (code : ℕ) → code ≡ 0 → AreKeyed ds es
     → get (from_entries {R = nat_cmp} (entries_of ds es)) code ≡ None
-zero_not_found ds es code zero_code kept =
-    get_is_lookup (entries_of ds es) code ∙ at_below 1 code ds es (omega arith) ∙ kept.apart code (omega arith)
+zero_not_found ds es code zero_code kept = grind (arith, get_is_lookup)
 
 -- ---- the length of a table
 
 -- a number compares as less than a greater one
 less : (a b : ℕ) → a < b → nat_cmp a b ≡ Less
-less a b lt = grind (arith, nat_tests)
+less a b lt = grind arith
 
 -- if the others lack each code up to n, all their keys are above n
 keys_above : (n : ℕ) (es : List (ℕ × Declaration)) → ((q : ℕ) → q ≤ n → at q es ≡ None)
@@ -283,9 +225,7 @@ values_numbered k (d ∷ ds) es = ap (λ rest. d ∷ rest) (values_numbered (suc
 pub table_values : (ds : List Declaration) (es : List (ℕ × Declaration)) → AreKeyed ds es
     → IsStrictlySortedBy nat_cmp (map (λ e. e.0) es)
     → values (from_entries {R = nat_cmp} (entries_of ds es)) ≡ ds ++ map (λ e. e.1) es
-table_values ds es kept sorted =
-    ap (map (λ (e : ℕ × Declaration). e.1)) (entries_kept (entries_of ds es) (sorted_of_both ds es kept sorted))
-    ∙ values_numbered 1 ds es
+table_values ds es kept sorted = grind (arith, entries_kept, sorted_of_both, values_numbered)
 
 -- ---- what stays true of vector and others
 
@@ -294,15 +234,7 @@ keyed_by_update : (es fs : List (ℕ × Declaration)) (code : ℕ) (d : Declarat
     → ((q : ℕ) → at q fs ≡ cond (is_at (nat_cmp code) q) (Some d) (at q es)) → d.code ≡ code → 0 < code
     → ((q : ℕ) (x : Declaration) → at q es ≡ Some x → (x.code ≡ q) × (0 < q)) → (q : ℕ) (x : Declaration)
     → at q fs ≡ Some x → (x.code ≡ q) × (0 < q)
-keyed_by_update es fs code d h same above keyed q x found = go (is_at (nat_cmp code) q) refl
-  where
-    go : (t : Bool) → is_at (nat_cmp code) q ≡ t → (x.code ≡ q) × (0 < q)
-    go true e =
-        let is : q ≡ code = eqb-true q code (sym (same_back code q) ∙ e) in
-        let new : Some d ≡ Some x = sym (h q ∙ ap (λ b. cond b (Some d) (at q es)) e) ∙ found in
-        let one : d ≡ x = cc in
-        (sym (ap (λ (y : Declaration). y.code) one) ∙ same ∙ sym is, omega arith)
-    go false e = keyed q x (sym (h q ∙ ap (λ b. cond b (Some d) (at q es)) e) ∙ found)
+keyed_by_update es fs code d h same above keyed q x found = grind arith
 
 -- a declaration that is found among the others has the code by which it is found
 pub keyed_in_map : (ds : List Declaration) (es : List (ℕ × Declaration)) (code : ℕ) (d : Declaration)
@@ -322,18 +254,8 @@ keyed_in_vec ds es code index d kept e lt =
 -- a push of a declaration with the vector's next code, which the others lack, leaves all declarations at their codes
 pub keyed_pushed : (ds : List Declaration) (es : List (ℕ × Declaration)) (code : ℕ) (d : Declaration)
     → code ≡ 1 + length ds → d.code ≡ code → at code es ≡ None → AreKeyed ds es → AreKeyed (ds ++ d ∷ []) es
-keyed_pushed ds es code d e same none kept = record {
-  apart = apart;
-  keyed = keyed_by_update (entries_of ds es) (entries_of (ds ++ d ∷ []) es) code d
-      (λ q. at_push 1 q ds d es ∙ ap (λ n. cond (is_at (nat_cmp n) q) (Some d) (at q (entries_of ds es)))
-      (sym e)) same (omega arith) kept.keyed;
-}
-  where
-    apart : (q : ℕ) → q ≤ length (ds ++ d ∷ []) → at q es ≡ None
-    apart q le = elim (cases_lt (length ds) q) [
-      | inl lt ↦ (let is : q ≡ code = omega (arith, length-append {A = Declaration}) in rw is none)
-      | inr low ↦ kept.apart q low
-    ]
+keyed_pushed ds es code d e same none kept =
+    grind (arith, common_steps, keyed_by_update, at_push, cases_lt, length-append)
 
 -- an insertion among the others at a code above the vector's leaves all declarations at their codes
 pub keyed_put : (ds : List Declaration) (es fs : List (ℕ × Declaration)) (code : ℕ) (d : Declaration)

@@ -1,5 +1,4 @@
-use Rattle.std.proofs.Common.{List, ℕ, drop, take, subst}
-use Rattle.std.proofs.lemmas.List.{take-append-drop}
+use Rattle.std.proofs.Common.{List, ℕ, drop, take, subst, take-append-drop}
 use Rattle.dwarf_read_core.specs.Cache.{IsFaithful}
 use Rattle.dwarf_beside.specs.Sections.{section_of}
 use Rattle.dwarf_beside.proofs.single.filled_before.Goals as goal

@@ -1,7 +1,6 @@
 use Rattle.std.proofs.Common.{take}
 use Rattle.dwarf_beside.specs.Sections.{section_of}
-use Rattle.dwarf_beside.specs.Sums.{CountsAs}
-use Rattle.dwarf_beside.specs.Sums.{Adds}
+use Rattle.dwarf_beside.specs.Sums.{CountsAs, Adds}
 use Rattle.dwarf_beside.proofs.tables.beside_tables.Given as goal
 
 -- the items so far have this sum

@@ -1,5 +1,4 @@
-use Rattle.std.proofs.Common.{◌≡◌, ◌++◌, Result, Ok, Err, append_assoc}
-use Rattle.std.specs.Prelude.{OnOk, is_ok}
+use Rattle.std.proofs.Common.{◌≡◌, ◌++◌, Result, Ok, Err, append_assoc, OnOk, is_ok}
 use Rattle.dwarf_listing_core.specs.Sets.{address_header_line}
 use Rattle.dwarf_listing_core.proofs.sets.push_address_header.Goals as goal
 

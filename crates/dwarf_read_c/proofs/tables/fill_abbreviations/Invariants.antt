@@ -1,6 +1,5 @@
-use Rattle.std.proofs.Common.{◌≡◌, ◌++◌, drop, length, map}
+use Rattle.std.proofs.Common.{◌≡◌, ◌++◌, drop, length, map, sum_by}
 use Rattle.std.specs.FinMap.{values}
-use Rattle.std.specs.List.{sum_by}
 use Rattle.dwarf_read_c.specs.Tables.{laid_from}
 use Rattle.dwarf_read_c.proofs.tables.fill_abbreviations.Given as goal
 

@@ -1,6 +1,5 @@
-use Rattle.std.proofs.Common.{◌≡◌, ◌++◌, length, map}
+use Rattle.std.proofs.Common.{◌≡◌, ◌++◌, length, map, sum_by}
 use Rattle.std.specs.FinMap.{values}
-use Rattle.std.specs.List.{sum_by}
 use Rattle.dwarf_read_c.proofs.tables.measure_of.Given as goal
 
 -- the attributes of the abbreviations so far are counted

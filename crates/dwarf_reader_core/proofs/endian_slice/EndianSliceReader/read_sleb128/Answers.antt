@@ -3,7 +3,7 @@ use Rattle.dwarf_reader_core.proofs.Bits.{tenth_out}
 use Rattle.std.proofs.lemmas.Int.{ints, to_z-of_z}
 use Rattle.dwarf_reader_core.specs.Leb128.{signed64}
 use Rattle.dwarf_reader_core.proofs.Encodings.{in_range_i64, fits_i64}
-use Rattle.dwarf_reader_core.proofs.Reading.{begun_none, begun_at, begun_below, begun_next, begun_more, begun_reads, begun_bad, next_below, is_sign, signed_worth}
+use Rattle.dwarf_reader_core.proofs.Reading.{begun_at, begun_below, begun_next, begun_more, begun_reads, begun_bad, next_below, is_sign, signed_worth}
 use Rattle.std.proofs.lemmas.Bool.{le-leb, lt-leb}
 use Rattle.dwarf_reader_core.proofs.endian_slice.EndianSliceReader.read_sleb128.Goals as goal
 
@@ -93,11 +93,4 @@ with_sign-requires-in-127-clause-below g c =
     begun_below b
 
 pub returns-then-not-has_continuation_bit-clause-ok : goal.returns-then-not-has_continuation_bit-clause-ok
-returns-then-not-has_continuation_bit-clause-ok g c =
-    let b = begun_none _ in
-    let n = begun_next b c.in_ok-first.ensures.ok in
-    let last : c.in_ok-first.first < 128 = search rules in
-    let sign = is_sign c.has_sign_bit.result _ c.has_sign_bit.ensures in
-    let fits : FitsSigned w64 c.with_sign.result = search rules in
-    let value = signed_worth b n c.has_sign_bit.result c.with_digit-result.result 7 sign c.with_digit-result.ensures refl in
-    rw to_z-of_z (begun_reads signed64 _ b n last (omega arith) (value ∙ sym c.with_sign.ensures) (in_range_i64 _ fits))
+returns-then-not-has_continuation_bit-clause-ok g c = grind arith

@@ -7,8 +7,7 @@ use Rattle.dwarf_reader_core.proofs.reader.Reader.read_initial_length.Goals as g
 
 pub returns-in_err-len-clause-err : goal.returns-in_err-len-clause-err
 unfolding initial_length
-returns-in_err-len-clause-err g c =
-    propagated-err _ _ c.from_residual.ensures.1 (fails_first (number_fails_at c.in_err-len.ensures.err))
+returns-in_err-len-clause-err g c = grind (arith, propagated-err, fails_first, number_fails_at)
 
 pub returns-then-len-lt-FIRST_RESERVED-clause-ok : goal.returns-then-len-lt-FIRST_RESERVED-clause-ok
 unfolding initial_length

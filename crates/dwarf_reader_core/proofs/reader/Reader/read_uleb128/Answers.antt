@@ -1,8 +1,7 @@
-use Rattle.std.proofs.Common.{rules, ◌≡◌, ◌<◌, ◌≤◌, arith, ◌∙◌, sym, refl}
-use Rattle.std.proofs.lemmas.Bool.{ltb-true, lt-ltb}
+use Rattle.std.proofs.Common.{rules, ◌≡◌, ◌<◌, ◌≤◌, arith, ◌∙◌, sym, refl, ltb-true, lt-ltb}
 use Rattle.dwarf_reader_core.specs.Leb128.{unsigned64}
 use Rattle.dwarf_reader_core.proofs.Bits.{or_digit}
-use Rattle.dwarf_reader_core.proofs.Reading.{Begun, begun_none, begun_below, begun_next, begun_more, begun_ends, begun_reads, begun_bad}
+use Rattle.dwarf_reader_core.proofs.Reading.{Begun, begun_below, begun_next, begun_more, begun_ends, begun_reads, begun_bad}
 use Rattle.dwarf_reader_core.proofs.reader.Reader.read_uleb128.Goals as goal
 
 pub with_digit-result-requires-in-loop-index-clause-below : goal.with_digit-result-requires-in-loop-index-clause-below
@@ -48,10 +47,4 @@ returns-clause-ok g c =
     (lt-ltb _ _ (omega (arith, sum, begun_below b)))
 
 pub returns-then-not-has_continuation_bit-clause-ok : goal.returns-then-not-has_continuation_bit-clause-ok
-returns-then-not-has_continuation_bit-clause-ok g c =
-    let b = begun_none (g.Self.Reader.view c.args.self.now) in
-    let n = begun_next b c.in_ok-first.ensures.ok in
-    let last : c.in_ok-first.first < 128 = search rules in
-    let e = begun_ends b n last in
-    begun_reads unsigned64 _ b n last (omega arith) (omega (arith, e.worth, c.from.ensures))
-    (lt-ltb _ _ (omega (arith, c.from.ensures)))
+returns-then-not-has_continuation_bit-clause-ok g c = grind arith

@@ -1,18 +1,11 @@
-use Rattle.std.proofs.Common.{rules, ◌<◌, ◌≤◌, ◌^◌, take, arith, ◌∙◌, sym, refl}
-use Rattle.std.proofs.lemmas.Bool.{ltb-true, lt-ltb}
+use Rattle.std.proofs.Common.{rules, ◌<◌, ◌≤◌, ◌^◌, take, arith, ◌∙◌, sym, refl, ltb-true, lt-ltb}
 use Rattle.dwarf_reader_core.specs.Leb128.{unsigned16, unsigned_value}
 use Rattle.dwarf_reader_core.proofs.Encodings.{worth_below}
 use Rattle.dwarf_reader_core.proofs.Reading.{begun_none, begun_next, begun_on, begun_ends, begun_reads, begun_bad}
 use Rattle.dwarf_reader_core.proofs.reader.Reader.read_uleb128_u16.Goals as goal
 
 pub returns-then-not-has_continuation_bit-clause-ok : goal.returns-then-not-has_continuation_bit-clause-ok
-returns-then-not-has_continuation_bit-clause-ok g c =
-    let b = begun_none (g.Self.Reader.view c.args.self.now) in
-    let n = begun_next b c.in_ok-first.ensures.ok in
-    let last : c.in_ok-first.first < 128 = search rules in
-    let e = begun_ends b n last in
-    begun_reads unsigned16 _ b n last (omega arith) (omega (arith, e.worth, c.from.ensures))
-    (lt-ltb _ _ (omega (arith, c.from.ensures)))
+returns-then-not-has_continuation_bit-clause-ok g c = grind arith
 
 pub returns-then-not-has_continuation_bit-2-clause-ok : goal.returns-then-not-has_continuation_bit-2-clause-ok
 returns-then-not-has_continuation_bit-2-clause-ok g c =

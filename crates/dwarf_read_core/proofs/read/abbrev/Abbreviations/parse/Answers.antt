@@ -1,6 +1,5 @@
-use Rattle.std.proofs.Common.{◌≢◌, [], Ok, sym, ap, ◌∙◌}
+use Rattle.std.proofs.Common.{arith, sym, ◌∙◌}
 use Rattle.dwarf_read_core.proofs.ResultLemmas.{gives_err}
-use Rattle.dwarf_read_core.specs.Grammar.{ByCode, Table, closed, by_null}
 use Rattle.dwarf_read_core.proofs.tables.ReadingTables.{table_fails, table_nulled, table_repeats}
 use Rattle.dwarf_read_core.proofs.read.abbrev.Abbreviations.parse.Goals as goal
 
@@ -21,9 +20,4 @@ returns-in_err-insert-in-Declared-clause-read g c =
     (rw (loop.invariant.same_end, c.in-Declared.is) at c.in_ok-head.ensures.read)) r.0))
 
 pub returns-in-NullCode-clause-read : goal.returns-in-NullCode-clause-read
-returns-in-NullCode-clause-read g c =
-    let loop = c.declarations in
-    let some : (g.R.Reader.view loop.input).bytes ≢ [] = rw c.in-NullCode.is at c.in_ok-head.ensures.closes in
-    let read = rw (loop.invariant.same_end, c.in-NullCode.is) at c.in_ok-head.ensures.read in
-    sym loop.invariant.told ∙ table_nulled _ _ _ _ some read
-    ∙ ap (λ (t : ByCode). Ok (closed t by_null)) (sym (ap (λ (t : Table). t.by_code) c.abbreviations.view_is))
+returns-in-NullCode-clause-read g c = grind (arith, table_nulled)

@@ -1,4 +1,4 @@
-use Rattle.std.proofs.Common.{◌≡◌, drop, ap, ◌∙◌}
+use Rattle.std.proofs.Common.{arith, ◌≡◌, drop, ap, ◌∙◌}
 use Rattle.std.proofs.lemmas.Result.{err_from_is_err_and}
 use Rattle.dwarf_base_core.specs.declared.error.Error.TheVariants.{OutOfMemory}
 use Rattle.dwarf_reader_core.specs.Input.{Input, end_of}
@@ -9,11 +9,7 @@ use Rattle.dwarf_read_core.proofs.tables.TableBounds.{bounded_read}
 use Rattle.dwarf_read_core.proofs.read.abbrev.DebugAbbrev.abbreviations.Goals as goal
 
 pub returns-in_err-skip-clause-answer : goal.returns-in_err-skip-clause-answer
-returns-in_err-skip-clause-answer g c =
-    let p = err_from_is_err_and c.from_residual-in_err-skip.result c.from_residual-in_err-skip.ensures.1 in
-    let view = g.R.Reader.view in
-    let same : view c.in_ok-input.input ≡ view (debug_abbrev_reader c.args.self.now) = c.in_ok-input.ensures.ok in
-    rw (p.1, p.2) (λ memory. outside_of _ _ _ _ (rw same at c.in_err-skip.ensures.err))
+returns-in_err-skip-clause-answer g c = grind (arith, err_from_is_err_and, outside_of)
 
 pub returns-clause-bound : goal.returns-clause-bound
 returns-clause-bound g c =

@@ -1,5 +1,4 @@
-use Rattle.std.proofs.Common.{◌≡◌, sym, ◌∙◌}
-use Rattle.std.proofs.lemmas.Bool.{ltb-true}
+use Rattle.std.proofs.Common.{◌≡◌, sym, ◌∙◌, ltb-true}
 use Rattle.dwarf_read_core.proofs.tables.OthersByCode.{found_at}
 use Rattle.dwarf_read_core.proofs.read.abbrev.others.get_in_order.Goals as goal
 

@@ -1,7 +1,5 @@
-use Rattle.std.proofs.Common.{◌≡◌, length, ℕ, ap, subst, arith, rules}
+use Rattle.std.proofs.Common.{◌≡◌, length, ℕ, ap, subst, arith, rules, IsSome, nat_cmp}
 use Rattle.std.specs.BTreeMap.{is_at}
-use Rattle.std.specs.Option.{IsSome}
-use Rattle.std.specs.Ordering.{nat_cmp}
 use Rattle.dwarf_base_core.specs.declared.error.Error.TheVariants.{DuplicateAbbreviationCode}
 use Rattle.dwarf_read_core.specs.Others.{at_code, with_places}
 use Rattle.dwarf_read_core.proofs.tables.OthersByCode.{has_by_place, added_by_place, places_put}

@@ -1,5 +1,4 @@
-use Rattle.std.proofs.Common.{◌≡◌, rules, arith}
-use Rattle.std.specs.declared.cmp.Ordering.TheVariants.{Less}
+use Rattle.std.proofs.Common.{◌≡◌, rules, arith, Less}
 use Rattle.dwarf_read_core.specs.Others.{code_cmp, at_place}
 use Rattle.dwarf_read_core.proofs.tables.OthersByCode.{codes_push}
 use Rattle.dwarf_read_core.proofs.read.abbrev.others.is_next.Goals as goal

@@ -1,3 +1,4 @@
+use Rattle.std.proofs.Common.{arith}
 use Rattle.dwarf_read_core.proofs.lookups.Words.{word-propagated, word-stays, word_misplaced, word_more, word_fails, word_taken}
 use Rattle.dwarf_read_core.proofs.read.str.DebugStrOffsets.get_str_offset.Goals as goal
 
@@ -12,12 +13,7 @@ returns-in_err-skip_to_word-clause-stable g c =
     word-stays _ _ _ _ _ _ (returns-in_err-skip_to_word-clause-answer g c)
 
 pub returns-in_err-read_offset-clause-answer : goal.returns-in_err-read_offset-clause-answer
-returns-in_err-read_offset-clause-answer g c =
-    word-propagated _ _ _ _ _ _ c.from_residual-in_err-read_offset.ensures.1
-    (word_fails _ _ _ _ _ _
-    (rw c.in_ok-input.ensures.ok at c.in_ok-skip_to_word.ensures.placed)
-    (rw c.in_ok-input.ensures.ok at c.in_ok-skip_to_word.ensures.ok)
-    c.in_err-read_offset.ensures.err)
+returns-in_err-read_offset-clause-answer g c = grind (arith, word-propagated, word_fails)
 
 pub returns-in_err-read_offset-clause-stable : goal.returns-in_err-read_offset-clause-stable
 returns-in_err-read_offset-clause-stable g c =

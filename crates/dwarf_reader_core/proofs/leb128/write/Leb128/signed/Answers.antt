@@ -1,15 +1,14 @@
-use Rattle.std.proofs.Common.{◌%◌, [], ◌∷◌, bit_and, bit_or, to_z, w64, refl, arith}
+use Rattle.std.proofs.lemmas.Grind.{common_steps}
+use Rattle.std.proofs.Common.{◌%◌, [], ◌∷◌, bit_and, bit_or, to_z, w64, refl, arith, length-take}
 use Rattle.std.proofs.Math.IntN.{nat_abs}
-use Rattle.std.proofs.lemmas.Bool.{false≢true}
-use Rattle.dwarf_reader_core.proofs.ShortestSigned.{FitsByte}
 use Rattle.std.proofs.lemmas.Int.{to_z-of_z}
+use Rattle.std.proofs.lemmas.Bool.{false≢true}
+use Rattle.dwarf_reader_core.proofs.ShortestSigned.{FitsByte, signed_last_of-is_least, signed_more_of-is_least, signed_more-has_room}
 use Rattle.dwarf_reader_core.proofs.Buffers.{HasRoom-more, IsPadded-last, take-placed, take-placed-append}
-use Rattle.dwarf_reader_core.proofs.ShortestSigned.{signed_last_of-is_least, signed_more_of-is_least, signed_more-has_room}
 use Rattle.dwarf_reader_core.proofs.SignedBits.{rest_of, split}
-use Rattle.std.proofs.lemmas.List.{length-take}
 use Rattle.dwarf_reader_core.specs.Leb128.{signed64}
 use Rattle.dwarf_reader_core.proofs.Encodings.{in_range_i64}
-use Rattle.dwarf_reader_core.proofs.Shortest.{IsShortest-from, HasNumber-append}
+use Rattle.dwarf_reader_core.proofs.Shortest.{IsShortest-from}
 use Rattle.dwarf_reader_core.proofs.leb128.write.Leb128.signed.Goals as goal
 
 pub invariant_of-result : goal.invariant_of-result
@@ -30,8 +29,7 @@ returns-then-fits_byte-clause-shortest c =
 
 pub returns-then-fits_byte-clause-read : goal.returns-then-fits_byte-clause-read
 returns-then-fits_byte-clause-read c rest =
-    HasNumber-append signed64 c.args.value _ rest (returns-then-fits_byte-clause-shortest c).encodes
-    (simp length-take (omega arith)) (in_range_i64 _ c.ranges.value)
+    grind (arith, common_steps, returns-then-fits_byte-clause-shortest, length-take, in_range_i64)
 
 pub digits-preserved : goal.digits-preserved
 digits-preserved c =

@@ -1,17 +1,13 @@
-use Rattle.std.proofs.Common.{[], ◌∷◌, bit_or, arith}
-use Rattle.std.proofs.lemmas.Bool.{lt-ltb}
-use Rattle.std.proofs.lemmas.List.{length-take}
+use Rattle.std.proofs.lemmas.Grind.{common_steps}
+use Rattle.std.proofs.Common.{[], ◌∷◌, bit_or, arith, lt-ltb, length-take}
 use Rattle.dwarf_reader_core.specs.Leb128.{unsigned64}
-use Rattle.dwarf_reader_core.proofs.Buffers.{HasRoom-more, IsPadded-last, take-placed, take-placed-append}
-use Rattle.dwarf_reader_core.proofs.Shortest.{IsShortest-from, HasNumber-append}
+use Rattle.dwarf_reader_core.proofs.Buffers.{HasRoom-more, take-placed, take-placed-append}
+use Rattle.dwarf_reader_core.proofs.Shortest.{IsShortest-from}
 use Rattle.dwarf_reader_core.proofs.ShortestUnsigned.{unsigned_last_of-is_least, unsigned_more_of-is_least, unsigned_more-has_room}
 use Rattle.dwarf_reader_core.proofs.leb128.write.Leb128.unsigned.Goals as goal
 
 pub invariant_of-result : goal.invariant_of-result
-invariant_of-result c =
-    let digit = c.low_bits_of_u64-digit.result in
-    let least = unsigned_last_of-is_least c.digits.rest digit c.if-rest-eq0.true c.low_bits_of_u64-digit.ensures in
-    IsPadded-last _ _ digit c.digits.invariant.has_room (c.digits.invariant.completes (digit ∷ []) least).is_spelled
+invariant_of-result c = grind (arith, common_steps, unsigned_last_of-is_least)
 
 pub returns-then-rest-eq0-clause-shortest : goal.returns-then-rest-eq0-clause-shortest
 returns-then-rest-eq0-clause-shortest c =
@@ -22,8 +18,7 @@ returns-then-rest-eq0-clause-shortest c =
 
 pub returns-then-rest-eq0-clause-read : goal.returns-then-rest-eq0-clause-read
 returns-then-rest-eq0-clause-read c rest =
-    HasNumber-append unsigned64 c.args.value _ rest (returns-then-rest-eq0-clause-shortest c).encodes
-    (simp length-take (omega arith)) (lt-ltb _ _ (omega arith))
+    grind (arith, common_steps, returns-then-rest-eq0-clause-shortest, length-take, lt-ltb)
 
 pub digits-preserved : goal.digits-preserved
 digits-preserved c =

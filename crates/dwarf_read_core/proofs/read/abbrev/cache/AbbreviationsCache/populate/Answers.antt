@@ -1,4 +1,4 @@
-use Rattle.std.proofs.Common.{map, refl}
+use Rattle.std.proofs.Common.{arith, map, refl}
 use Rattle.dwarf_read_core.specs.Cache.{least_count}
 use Rattle.dwarf_read_core.specs.Sections.{debug_abbrev_reader}
 use Rattle.dwarf_read_core.proofs.cache.FaithfulToSection.{faithful_of_kept}
@@ -19,11 +19,7 @@ returns-clause-ok g c = (
 )
 
 pub returns-clause-faithful : goal.returns-clause-faithful
-returns-clause-faithful g c =
-    faithful_of_kept (least_count c.args.strategy) _
-    (map (λ offset. g.R.Offset.ReaderOffset.value offset.0) c.in_ok-offsets.offsets.items)
-    (shown c.in_ok-entries.entries.items)
-    (λ key. rw (get-shown c.in_ok-entries.entries.items key) (c.in_ok-entries.ensures.ok key))
+returns-clause-faithful g c = grind (arith, faithful_of_kept, shown, get-shown)
 
 pub invariant_of-self : goal.invariant_of-self
 invariant_of-self g c = (

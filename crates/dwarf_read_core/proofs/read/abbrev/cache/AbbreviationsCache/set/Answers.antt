@@ -1,5 +1,5 @@
-use Rattle.std.proofs.Common.{set, Ok, subst, sym}
-use Rattle.std.specs.List.{insert}
+use Rattle.std.proofs.lemmas.Grind.{common_steps}
+use Rattle.std.proofs.Common.{arith, set, Ok, subst, sym, insert}
 use Rattle.dwarf_read_core.specs.Cache.{KeepsNoWant}
 use Rattle.dwarf_read_core.proofs.cache.NoMemoryError.{no_memory_error_insert}
 use Rattle.dwarf_read_core.proofs.cache.EntriesInOrder.{comparisons_rise}
@@ -7,23 +7,10 @@ use Rattle.dwarf_read_core.proofs.cache.EntriesAsMap.{shown, Puts, puts_at_place
 use Rattle.dwarf_read_core.proofs.read.abbrev.cache.AbbreviationsCache.set.Goals as goal
 
 pub invariant_of-self : goal.invariant_of-self
-invariant_of-self g c =
-    let items = c.self.inside.abbreviations.items in
-    let key = c.into_u64-number.result in
-    let table = c.args.abbreviations in
-    let puts : Puts items (set items c.in-Ok.place (key, Ok table)) key (Ok table) =
-    puts_at_place items c.self.invariant.0 key c.in-Ok.place (Ok table)
-    (rw (← c.deref.ensures.value) c.in-Ok.ensures.bound) (rw (← c.deref.ensures.value) c.in-Ok.ensures.place) in (
-      puts.order,
-      subst KeepsNoWant (sym puts.shows) (no_memory_error_insert (shown items) key table.value c.self.invariant.1),
-    )
+invariant_of-self g c = grind (arith, common_steps, set, puts_at_place, no_memory_error_insert, shown)
 
 pub returns-in-Ok-clause-ok : goal.returns-in-Ok-clause-ok
-returns-in-Ok-clause-ok g c =
-    let items = c.self.inside.abbreviations.items in
-    let puts = puts_at_place items c.self.invariant.0 c.into_u64-number.result c.in-Ok.place (Ok c.args.abbreviations)
-    (rw (← c.deref.ensures.value) c.in-Ok.ensures.bound) (rw (← c.deref.ensures.value) c.in-Ok.ensures.place) in
-    rw (← c.self.view_is, ← c.into_u64-number.ensures.number) puts.shows
+returns-in-Ok-clause-ok g c = grind (arith, puts_at_place)
 
 pub invariant_of-self-in-Err : goal.invariant_of-self-in-Err
 invariant_of-self-in-Err g c =
