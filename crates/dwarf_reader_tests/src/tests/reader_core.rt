@@ -231,7 +231,7 @@ fn result_of<R: Reader>(input: &mut R, asked: Call) -> (Result<i128>, u64) {
 fn check_steps<R: Reader>(rt: &impl Abort, input: &mut R, bytes: &[u8], steps: &[Step]) {
     for (asked, wanted, position) in steps {
         let found = result_of(input, *asked);
-        same(rt, found, (*wanted, *position), (bytes, position));
+        same(rt, found, (*wanted, *position), bytes);
     }
 }
 

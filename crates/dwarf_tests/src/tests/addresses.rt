@@ -8,6 +8,7 @@ use dwarf_read_core::{
     Format, Reader, ReaderOffset, Result, RunTimeEndian,
 };
 use std::alloc::Global;
+use std::process::Abort;
 use std::test::Fail;
 
 const LITTLE: RunTimeEndian = RunTimeEndian::Little;
@@ -126,19 +127,24 @@ fn address_at(
 fn addresses_are_looked_up(rt: HostRuntime) {
     for (bytes, order, size, base, index, wanted) in ADDRESSES {
         let address = address_at(bytes, *order, *size, *base, *index);
-        same(&rt, address, *wanted, (size, base, index));
+        same(&rt, address, *wanted, index);
+    }
+}
+
+// Ends the test where twenty addresses of a size aren't 1000 and what follows.
+fn check_twenty(rt: &impl Abort, bytes: &[u8], size: u8, base: usize) {
+    for index in 0..20usize {
+        let address = address_at(bytes, LITTLE, size, base, index);
+        same(rt, address, Ok(1000 + index as u64), index);
     }
 }
 
 #[test]
 fn twenty_addresses_are_looked_up(rt: HostRuntime) -> std::result::Result<(), Fail> {
-    for (format, size, base) in [(Format::Dwarf32, 4, 8), (Format::Dwarf64, 8, 16)] {
-        let bytes = twenty_words(rt.alloc(), format, false)?;
-        for index in 0..20usize {
-            let address = address_at(&bytes, LITTLE, size, base, index);
-            same(&rt, address, Ok(1000 + index as u64), index);
-        }
-    }
+    let words = twenty_words(rt.alloc(), Format::Dwarf32, false)?;
+    check_twenty(&rt, &words, 4, 8);
+    let words = twenty_words(rt.alloc(), Format::Dwarf64, false)?;
+    check_twenty(&rt, &words, 8, 16);
     Ok(())
 }
 

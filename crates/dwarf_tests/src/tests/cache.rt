@@ -164,6 +164,10 @@ fn is_shared<R: Reader>(
     Ok(Rc::ptr_eq(&first, &second))
 }
 
+fn check_shared(rt: &impl Abort, cache: &AbbreviationsCache, offset: u8, wanted: bool) {
+    same(rt, is_shared(cache, &one(), offset), Ok(wanted), offset);
+}
+
 // `get` itself keeps nothing, so a table that wasn't kept before is read at each call.
 #[test]
 fn kept_tables_are_shared(rt: HostRuntime) -> std::result::Result<(), Fail> {
@@ -172,13 +176,10 @@ fn kept_tables_are_shared(rt: HostRuntime) -> std::result::Result<(), Fail> {
     let strategy = AbbreviationsCacheStrategy::All;
     populate(&mut cache, strategy, &one(), &[Ok(DebugAbbrevOffset(0))])?;
     set_nine(mem, &mut cache)?;
-    for (offset, wanted, what) in [
-        (0, true, "populated"),
-        (5, true, "set"),
-        (4, false, "read by get alone"),
-    ] {
-        same(&rt, is_shared(&cache, &one(), offset), Ok(wanted), what);
-    }
+    check_shared(&rt, &cache, 0, true);
+    check_shared(&rt, &cache, 5, true);
+    // A table that is only read.
+    check_shared(&rt, &cache, 4, false);
     Ok(())
 }
 
@@ -217,54 +218,74 @@ fn offsets_are_kept_if_they_occur_often_enough(rt: HostRuntime) -> std::result::
     Ok(())
 }
 
-#[test]
-fn nothing_is_asked_behind_an_error(rt: HostRuntime) -> std::result::Result<(), Fail> {
-    let mut offsets = [
-        Ok(DebugAbbrevOffset(5)),
-        Err(Error::BadUtf8),
-        Ok(DebugAbbrevOffset(7)),
-    ]
-    .into_iter();
-    let mut cache = AbbreviationsCache::new(rt.alloc());
+static ENDED_OFFSETS: &[Wanted] = &[
+    Ok(DebugAbbrevOffset(5)),
+    Err(Error::BadUtf8),
+    Ok(DebugAbbrevOffset(7)),
+];
+
+// The offset that the iterator yields behind those that `populate` has requested of it.
+fn first_behind(cache: &mut AbbreviationsCache) -> Result<Option<usize>> {
+    let mut offsets = ENDED_OFFSETS.iter().map(|offset| *offset);
     let strategy = AbbreviationsCacheStrategy::All;
     cache.populate(strategy, &one(), offsets.by_ref())?;
+    match offsets.next() {
+        Some(behind) => Ok(Some(behind?.0)),
+        None => Ok(None),
+    }
+}
+
+#[test]
+fn nothing_is_asked_behind_an_error(rt: HostRuntime) {
+    let mut cache = AbbreviationsCache::new(rt.alloc());
+    same(&rt, first_behind(&mut cache), Ok(Some(7)), "behind");
     same(&rt, code_at(&cache, &none(), 5), Ok(0), "before");
-    let left: Option<Wanted> = offsets.next();
-    same(&rt, left, Some(Ok(DebugAbbrevOffset(7))), "behind");
-    Ok(())
+}
+
+static GROWN_OFFSETS: &[Wanted] = &[
+    Ok(DebugAbbrevOffset(0)),
+    Ok(DebugAbbrevOffset(2)),
+    Ok(DebugAbbrevOffset(5)),
+    Ok(DebugAbbrevOffset(11)),
+];
+
+// Offsets, and the code that a cache returns at each.
+static BEFORE: &[(u8, Result<u64>)] = &[
+    (0, Ok(0)),
+    (2, Err(Error::AbbreviationTagZero)),
+    (5, Ok(1)),
+    (11, Err(eof!(0))),
+];
+
+static BEHIND: &[(u8, Result<u64>)] = &[
+    (0, Ok(0)),
+    (2, Err(Error::AbbreviationTagZero)),
+    (5, Ok(0)),
+    (11, Ok(0)),
+];
+
+fn check_codes(
+    rt: &impl Abort,
+    cache: &AbbreviationsCache,
+    section: &DebugAbbrev<Slice<'_>>,
+    rows: &[(u8, Result<u64>)],
+) {
+    for (offset, wanted) in rows {
+        same(rt, code_at(cache, section, *offset), *wanted, offset);
+    }
 }
 
 #[test]
 fn growing_sections_are_read_again(rt: HostRuntime) -> std::result::Result<(), Fail> {
     let bytes = b"\x80\0\x01\0\x02\x01\x11\0\0\0";
     let longer = DebugAbbrev::new(b"\x01\x11\0\0\0\0\0\0\0\0\0\0", LittleEndian);
-    let offsets = [
-        Ok(DebugAbbrevOffset(0)),
-        Ok(DebugAbbrevOffset(2)),
-        Ok(DebugAbbrevOffset(5)),
-        Ok(DebugAbbrevOffset(11)),
-    ];
     let mut cache = AbbreviationsCache::new(rt.alloc());
     let section = DebugAbbrev::new(bytes, LittleEndian);
     let strategy = AbbreviationsCacheStrategy::All;
-    populate(&mut cache, strategy, &section, &offsets)?;
-    for (offset, wanted) in [
-        (0, Ok(0)),
-        (2, Err(Error::AbbreviationTagZero)),
-        (5, Ok(1)),
-        (11, Err(eof(0))),
-    ] {
-        same(&rt, code_at(&cache, &longer, offset), wanted, offset);
-    }
+    populate(&mut cache, strategy, &section, GROWN_OFFSETS)?;
+    check_codes(&rt, &cache, &longer, BEFORE);
     cache.section_grew();
-    for (offset, wanted) in [
-        (0, Ok(0)),
-        (2, Err(Error::AbbreviationTagZero)),
-        (5, Ok(0)),
-        (11, Ok(0)),
-    ] {
-        same(&rt, code_at(&cache, &longer, offset), wanted, offset);
-    }
+    check_codes(&rt, &cache, &longer, BEHIND);
     Ok(())
 }
 

@@ -129,7 +129,7 @@ fn entries_are_found_by_their_index(rt: HostRuntime) {
     same(&rt, found, Ok(cut), "two bytes too few");
     for (format, base, index, wanted) in BY_INDEX {
         let offset = offset_at(TWO_SETS, RunTimeEndian::Little, *format, *base, *index);
-        same(&rt, offset, Ok(*wanted), (base, index));
+        same(&rt, offset, Ok(*wanted), index);
     }
 }
 

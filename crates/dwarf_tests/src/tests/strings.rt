@@ -107,7 +107,7 @@ fn offsets_are_looked_up(rt: HostRuntime) -> std::result::Result<(), Fail> {
         for (order, is_big) in [(RunTimeEndian::Little, false), (RunTimeEndian::Big, true)] {
             let bytes = twenty_words(rt.alloc(), *format, is_big)?;
             let offset = offset_at(&bytes, order, *format, *base, *index);
-            same(&rt, offset, *wanted, (base, index));
+            same(&rt, offset, *wanted, index);
         }
     }
     Ok(())
@@ -129,6 +129,6 @@ static FAULTS: &[(Format, usize, usize, Error)] = &[
 fn first_faults_are_returned(rt: HostRuntime) {
     for (format, base, index, fault) in FAULTS {
         let offset = offset_at(&[0; 64], RunTimeEndian::Little, *format, *base, *index);
-        same(&rt, offset, Err(*fault), (base, index));
+        same(&rt, offset, Err(*fault), index);
     }
 }
