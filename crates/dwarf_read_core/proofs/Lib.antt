@@ -1,3 +1,4 @@
+pub mod Common
 pub mod ResultLemmas
 pub mod tables
 pub mod cache

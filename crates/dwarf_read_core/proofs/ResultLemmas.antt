@@ -1,7 +1,8 @@
 -- What follows from the result of steps that may fail.
-use Rattle.std.proofs.Common.{◌≡◌, ◌≢◌, ◌∙◌, Result, Ok, Err, subst, IsErrAnd, IsOk, IsErrOf}
+use Rattle.std.proofs.Common.{arith, Bool, true, false, cond, refl, ◌≡◌, ◌≢◌, Result, Ok, Err, IsErrAnd, IsOk, IsErrOf}
 use Rattle.dwarf_base_core.specs.declared.error.Error.TheVariants.{OutOfMemory}
 use Rattle.dwarf_base_core.specs.declared.error.Error.{Error}
+use Rattle.dwarf_read_core.specs.Lookups.{AnswersBy}
 use Rattle.dwarf_read_core.specs.Reading.{◌>>=◌, Gives}
 
 -- a result is a value with one property, or an error with another
@@ -16,6 +17,12 @@ pub outcome-bind : {A B : Type 0} {Good : A → Type 0} {Last : B → Type 0} {B
 outcome-bind f (returned x good) next = next x good
 outcome-bind f (failed e bad) next = failed e bad
 
+-- a choice has an outcome if each of its sides has it where the test picks that side
+pub outcome-cond : {A : Type 0} {Good : A → Type 0} {Bad : Error → Type 0} (t : Bool) {r s : Result A Error}
+    → (t ≡ true → HasOutcome Good Bad r) → (t ≡ false → HasOutcome Good Bad s) → HasOutcome Good Bad (cond t r s)
+outcome-cond true holds fails = holds refl
+outcome-cond false holds fails = fails refl
+
 -- an outcome has each property that its values and errors have
 pub outcome-map : {A : Type 0} {Good Fine : A → Type 0} {Bad Worse : Error → Type 0} {r : Result A Error}
     → ((x : A) → Good x → Fine x) → ((e : Error) → Bad e → Worse e) → HasOutcome Good Bad r → HasOutcome Fine Worse r
@@ -25,16 +32,18 @@ outcome-map fine worse (failed e bad) = failed e (worse e bad)
 -- a value that is returned has the property of values
 pub outcome-ok : {A : Type 0} {Good : A → Type 0} {Bad : Error → Type 0} {r : Result A Error} → HasOutcome Good Bad r
     → (x : A) → r ≡ Ok x → Good x
-outcome-ok {Good = Good} (returned y good) x e = subst Good (cc) good
-outcome-ok (failed d bad) x e = absurd (cc)
+outcome-ok h x e = grind arith
 
 -- an error that `?` propagates is the one that the function reads, unless memory ran out
 pub gives_err : {X Y : Type 0} (view : X → Y) {read : Result Y Error} {e : Error} (result : Result X Error)
     → IsErrAnd result (λ x. x ≡ e) → (e ≢ OutOfMemory → read ≡ Err e) → Gives view result read
-gives_err view (Ok x) h step = absurd h
-gives_err view {read = read} (Err x) h step = λ memory. rw h (step (λ q. memory (h ∙ q)))
+gives_err view result h step = grind arith
+
+-- an error that `?` propagates is the result of the lookup
+pub result-propagated : {X A : Type 0} (Is : Result A Error → Type 0) (view : X → A) (clone_is_free : Bool) {e : Error}
+    (r : Result X Error) → IsErrAnd r (λ x. x ≡ e) → Is (Err e) → AnswersBy Is view clone_is_free r
+result-propagated Is view clone_is_free r h is = grind arith
 
 -- a result isn't both a value and an error
 pub ok_is_no_error : {A : Type 0} (r : Result A Error) (e : Error) → IsOk r → IsErrOf r e → ⊥
-ok_is_no_error (Ok x) e ok err = cc
-ok_is_no_error (Err d) e ok err = cc
+ok_is_no_error r e ok err = grind arith

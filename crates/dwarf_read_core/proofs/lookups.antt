@@ -1,5 +1,4 @@
 -- Proofs about lookups: strings, ranges, and numbers by an index.
-pub mod Returned
 pub mod Strings
 pub mod Ranges
 pub mod Words

@@ -4,7 +4,6 @@ pub mod ReadingSpecifications
 pub mod ReadingAttributes
 pub mod ReadingIsSound
 pub mod ReadingIsComplete
-pub mod DeclarationSteps
 pub mod ReadingTables
 pub mod CodesOnce
 pub mod TablesAreRead
@@ -15,4 +14,3 @@ pub mod TableBounds
 pub mod VectorAndMap
 pub mod OthersByCode
 pub mod EqualDeclarations
-pub mod Sequences

@@ -1,18 +1,8 @@
 -- The entries of a cache are one finite map.
-use Rattle.std.proofs.Common.{◌≡◌, ℕ, ◌<◌, ◌≤◌, length, set, List, [], ◌∷◌, ◌++◌, eqb, Bool, cond, Option, Some, None, Result, option_map, refl, sym, ap, ◌∙◌, arith, filter, All, HoldsAt, nat_cmp, Less, Equal, Greater}
-use Rattle.std.specs.BTreeMap.{is_at}
-use Rattle.std.specs.Cmp.{nat_cmp_total, eq_by_cmp_equiv}
-use Rattle.std.specs.FinMap.{find, get, insert, from_entries, get-from_entries, get-insert, same_map, nat_cmp-IsAntisymmetric}
+use Rattle.dwarf_read_core.proofs.Common.{◌≡◌, ℕ, ◌<◌, ◌≤◌, length, set, List, [], ◌∷◌, ◌++◌, eqb, Bool, cond, Option, Some, None, Result, option_map, sym, ap, ◌∙◌, arith, filter, All, HoldsAt, nat_cmp, Less, Equal, Greater, is_at, nat_cmp_total, eq_by_cmp_equiv, get, insert, from_entries, IsPartitionPoint, lookup, nat_tests, option_filter, lookup-filter-values, IsDistinct-from_sorted, lookup-map_values, Error, Table, Cache, IsInOrder, answer_of, kept_at, shown_entries, is_final, still_kept}
 use Rattle.std.specs.List as list
-use Rattle.std.specs.List.Sorted.{IsPartitionPoint}
-use Rattle.std.specs.Map.{lookup}
 use Rattle.std.specs.declared.rc.Rc.{Rc}
-use Rattle.std.proofs.lemmas.Bool.Decides.{nat_tests}
-use Rattle.std.proofs.lemmas.Map.Entries.{option_filter, lookup-filter-values}
-use Rattle.std.proofs.lemmas.Map.Keys.{IsDistinct-from_sorted}
-use Rattle.dwarf_base_core.specs.declared.error.Error.{Error}
-use Rattle.dwarf_read_core.specs.Grammar.{Table}
-use Rattle.dwarf_read_core.specs.Cache.{Cache, IsInOrder, answer_of, kept_at, shown_entries, is_final, still_kept}
+use Rattle.dwarf_read_core.proofs.tables.VectorAndMap.{get_is_lookup, inserted}
 use Rattle.dwarf_read_core.proofs.cache.EntriesInOrder.{offsets_rise, lookup-set, set-in_order, lookup-insert_gap, insert-in_order, lookup-push, push-in_order}
 
 -- a choice between a value and an option may be made before or after a function is applied to both
@@ -33,27 +23,21 @@ module _ {Z : Type 0} where
   abbrev pub shown : SharedEntries Z → Cache
   shown entries = from_entries (shown_entries entries)
 
-  find-shown : (entries : SharedEntries Z) (key : ℕ) → find nat_cmp key (shown_entries entries) ≡ kept_at entries key
-  find-shown [] key = refl
-  find-shown (e ∷ es) key =
-      ap (cond (is_at (nat_cmp key) e.0) (Some (answer_of e.1))) (find-shown es key)
-      ∙ mapped_choice answer_of (is_at (nat_cmp key) e.0) e.1 _
-
   -- the map that entries show has at a key what a search of the entries finds
   pub get-shown : (entries : SharedEntries Z) (key : ℕ) → get (shown entries) key ≡ kept_at entries key
-  get-shown entries key = get-from_entries nat_cmp_total (shown_entries entries) key ∙ find-shown entries key
+  get-shown entries key = get_is_lookup (shown_entries entries) key
+      ∙ lookup-map_values answer_of (is_at (nat_cmp key)) entries
 
   -- entries that differ at one key show maps that differ there
   pub shown-insert : (es fs : SharedEntries Z) (key : ℕ) (v : Result (Rc Table Z) Error)
       → ((q : ℕ) → lookup (is_at (nat_cmp q)) fs
       ≡ cond (is_at (nat_cmp key) q) (Some v) (lookup (is_at (nat_cmp q)) es))
       → shown fs ≡ insert (shown es) key (answer_of v)
-  shown-insert es fs key v h = same_map nat_cmp_total nat_cmp-IsAntisymmetric _ _ (λ q.
-      get-shown fs q ∙ ap (option_map answer_of) (h q) ∙ sym (mapped_choice answer_of (is_at (nat_cmp key) q) v _)
-      ∙ ap (λ b. cond b (Some (answer_of v)) (option_map answer_of (lookup (is_at (nat_cmp q)) es)))
-      ((eq_by_cmp_equiv nat_cmp_total).symm key q)
-      ∙ sym (get-insert nat_cmp_total (shown es) key (answer_of v) q
-      ∙ ap (cond (is_at (nat_cmp q) key) (Some (answer_of v))) (get-shown es q)))
+  shown-insert es fs key v h = inserted (shown_entries es) (shown_entries fs) key (answer_of v) (λ q.
+      lookup-map_values answer_of (is_at (nat_cmp q)) fs ∙ ap (option_map answer_of) (h q)
+      ∙ sym (mapped_choice answer_of (is_at (nat_cmp key) q) v _)
+      ∙ ap (cond (is_at (nat_cmp key) q) (Some (answer_of v)))
+      (sym (lookup-map_values answer_of (is_at (nat_cmp q)) es)))
 
   -- entries in order that show the map of others with a result put at an offset
   pub record Puts (es fs : SharedEntries Z) (key : ℕ) (v : Result (Rc Table Z) Error) : Type 0 where
@@ -90,8 +74,7 @@ module _ {Z : Type 0} where
 
   -- a look-up finds nothing at an offset where nothing is kept
   lookup-none : (o : Option (Result (Rc Table Z) Error)) → option_map answer_of o ≡ None → o ≡ None
-  lookup-none None e = refl
-  lookup-none (Some answer) e = absurd cc
+  lookup-none o e = grind arith
 
   module _ (es : SharedEntries Z) (key : ℕ) (v : Result (Rc Table Z) Error) (absent : kept_at es key ≡ None) where
     -- an entry that is appended is kept beside the others, if nothing was kept at its offset

@@ -1,37 +1,21 @@
 -- Entries in the order of their offsets: what a search finds there, and what an edit leaves.
-use Rattle.std.proofs.Common.{◌≡◌, ℕ, suc, zero, ◌+◌, ◌-◌, ◌<◌, ◌≤◌, List, [], ◌∷◌, ◌++◌, Bool, false, cond, length, get_or, set, Some, None, refl, sym, ap, subst, ◌∙◌, arith, insert, filter, All, HoldsAt, Less, Equal, Greater}
-use Rattle.std.specs.BTreeMap.{is_at}
-use Rattle.std.specs.Cmp.{nat_cmp_total, eq_by_cmp_equiv}
-use Rattle.std.specs.List.Sorted.{IsPartitionPoint, IsNonDecreasingBy, IsStrictlySortedBy}
-use Rattle.std.specs.Map.{lookup, keys_of, set_value}
-use Rattle.std.specs.Ordering.{nat_cmp, ordering_index, ordering_reverse}
-use Rattle.std.proofs.lemmas.Bool.Decides.{nat_tests}
-use Rattle.std.proofs.lemmas.Cmp.{ranked}
-use Rattle.std.proofs.lemmas.Grind.{common_steps}
-use Rattle.std.proofs.lemmas.List.{get_or-map, get_or_default}
-use Rattle.std.proofs.lemmas.List.Elements.{All-from_recursion}
+use Rattle.dwarf_read_core.proofs.Common.{◌≡◌, ℕ, suc, zero, ◌+◌, ◌-◌, ◌<◌, ◌≤◌, List, [], ◌∷◌, ◌++◌, Bool, false, cond, length, get_or, set, Some, None, refl, sym, ap, subst, ◌∙◌, arith, filter, All, HoldsAt, Less, Equal, Greater, is_at, nat_cmp_total, eq_by_cmp_equiv, IsPartitionPoint, IsNonDecreasingBy, IsStrictlySortedBy, lookup, keys_of, set_value, nat_cmp, ordering_index, ordering_reverse, nat_tests, ranked, common_steps, get_or-map, get_or_default, All-from_recursion, searchable_from_sorted, length-keys_of, lookup_from_place, lookup_at_gap, IsDistinct-from_sorted, sorted_from_strictly_increasing, IsInOrder}
+use Rattle.std.proofs.Common.{insert}
 use Rattle.std.proofs.lemmas.List.Edits.{length-insert, get_or-insert_below, get_or-insert_at, get_or-insert_above, insert_end}
 use Rattle.std.proofs.lemmas.List.Kept.{AllPairs-filter}
-use Rattle.std.proofs.lemmas.List.Sorted.{searchable_from_sorted}
+use Rattle.std.proofs.lemmas.List.Quantifiers.{all_pairs_push}
 use Rattle.std.proofs.lemmas.Map.{lookup-insert, lookup-set_value, none_passes_from_lookup}
-use Rattle.std.proofs.lemmas.Map.Entries.{length-keys_of, lookup_from_place, lookup_at_gap}
-use Rattle.std.proofs.lemmas.Map.Keys.{IsDistinct-from_sorted, sorted_from_all_adjacent}
 use Rattle.std.proofs.lemmas.Option.{slice_get_read, slice_get_within, get_or_from_slice_get}
-use Rattle.dwarf_read_core.specs.Cache.{IsInOrder}
-
--- a number compares as `Less` to one that it is below
-less_from_below : (a b : ℕ) → a < b → nat_cmp a b ≡ Less
-less_from_below a b below = grind arith
 
 module _ {X : Type 0} where
   -- the offsets of entries in order rise
   pub offsets_rise : (es : List (ℕ × X)) → IsInOrder es → IsStrictlySortedBy nat_cmp (keys_of es)
-  offsets_rise [] ordered = sorted_from_all_adjacent nat_cmp_total [] 0 (λ k within. absurd (omega arith))
-  offsets_rise (e ∷ es) ordered = sorted_from_all_adjacent nat_cmp_total (keys_of (e ∷ es)) 0 (λ k within.
+  offsets_rise [] ordered = sorted_from_strictly_increasing [] (λ k within. absurd (omega arith))
+  offsets_rise (e ∷ es) ordered = sorted_from_strictly_increasing (keys_of (e ∷ es)) (λ k within.
       let long = length-keys_of (e ∷ es) in
       let here = get_or-map (λ (f : ℕ × X). f.0) (e ∷ es) k e 0 (omega arith) in
       let next = get_or-map (λ (f : ℕ × X). f.0) (e ∷ es) (k + 1) e 0 (omega arith) in
-      rw (here, next) (less_from_below _ _ (ordered k (k + 1) e (omega arith) (omega arith))))
+      rw (here, next) (ordered k (k + 1) e (omega arith) (omega arith)))
 
   module _ (es : List (ℕ × X)) (ordered : IsInOrder es) (key : ℕ) where
     -- comparisons with an offset rise along the entries, as a binary search asks
@@ -43,8 +27,7 @@ module _ {X : Type 0} where
     pub lookup_at_place : (i : ℕ) (e : ℕ × X) → i < length es → e ≡ get_or es i e
         → HoldsAt (λ f. nat_cmp f.0 key ≡ Equal) es i → lookup (is_at (nat_cmp key)) es ≡ Some e.1
     lookup_at_place i e within is equal =
-        let here = subst (λ (f : ℕ × X). nat_cmp f.0 key ≡ Equal) (sym is) (equal e) in
-        let same : e.0 ≡ key = ranked e.0 key Equal (sym here) in
+        let same : e.0 ≡ key = ranked e.0 key Equal (sym (rw (← is) at (equal e))) in
         lookup_from_place (eq_by_cmp_equiv nat_cmp_total) es i key e.1
         (IsDistinct-from_sorted nat_cmp _ (offsets_rise es ordered))
         (slice_get_read es (length es) i e refl within is ∙ ap (λ (k : ℕ). Some (k, e.1)) same)
@@ -87,8 +70,7 @@ module _ {X : Type 0} where
         (λ x y test. (eq_by_cmp_equiv nat_cmp_total).congr key x y test) q v es (rw found refl))
 
     -- and keeps the order
-    pub set-in_order : i < length es → HoldsAt (λ e. nat_cmp e.0 key ≡ Equal) es i
-        → IsInOrder (set es i (key, v))
+    pub set-in_order : i < length es → HoldsAt (λ e. nat_cmp e.0 key ≡ Equal) es i → IsInOrder (set es i (key, v))
     set-in_order within equal j k d earlier inside =
         let same : (get_or es i d).0 ≡ key = ranked _ key Equal (sym (equal d)) in
         grind (arith, common_steps, ordered j k d, ordered j i d, ordered i k d)
@@ -120,20 +102,11 @@ module _ {X : Type 0} where
         λ m lt. ranked _ key Less (sym (gap.0 m d (omega arith) lt)) in
         let greater : (m : ℕ) → i ≤ m → m < length es → key < (get_or es m d).0 =
         λ m le lt. ranked _ key Greater (sym (gap.1 m d le lt)) in
-        grind (
-          arith,
-          before j,
-          here j,
-          behind j,
-          before k,
-          here k,
-          behind k,
-          ordered j k d,
-          ordered j (k - 1) d,
-          ordered (j - 1) (k - 1) d,
-          smaller j,
-          greater (k - 1),
-        )
+        let rise = λ (m n : ℕ). ordered m n d in
+        let order = rise j k in
+        let low = smaller j in
+        let high = greater (k - 1) in
+        grind (arith, before j, here j, behind j, before k, here k, behind k, rise j (k - 1), rise (j - 1) (k - 1))
 
   module _ (es : List (ℕ × X)) (key : ℕ) (v : X) (absent : lookup (is_at (nat_cmp key)) es ≡ None) where
     -- an entry that is appended adds what is at its offset, if nothing was there
@@ -145,16 +118,12 @@ module _ {X : Type 0} where
         (none_passes_from_lookup (is_at (nat_cmp key)) es absent))
 
     -- and keeps the order, if no offset is above its own
-    pub push-in_order : IsInOrder es → All (λ e. e.0 ≤ key) es
-        → IsInOrder (es ++ (key, v) ∷ [])
+    pub push-in_order : IsInOrder es → All (λ e. e.0 ≤ key) es → IsInOrder (es ++ (key, v) ∷ [])
     push-in_order ordered upto =
         let others = All-from_recursion (λ e. is_at (nat_cmp key) e.0 ≡ false) es
         (none_passes_from_lookup (is_at (nat_cmp key)) es absent) in
-        let less : (k : ℕ) (d : ℕ × X) → k < length es → nat_cmp (get_or es k d).0 key ≡ Less =
-        λ k d within. let le = upto k d within in let other = others k d within in grind (arith, nat_tests) in
-        subst (IsInOrder {X = X}) (insert_end es (key, v))
-        (insert-in_order es ordered key (length es) v (omega arith)
-        ((λ k d low within. less k d within), λ k d low within. absurd (omega arith)))
+        all_pairs_push (λ e f. e.0 < f.0) es (key, v) ordered (λ k d within.
+        let le = upto k d within in let other = others k d within in grind (arith, nat_tests))
 
   -- entries of which some are retained stay in order
   pub filter-in_order : (test : ℕ × X → Bool) (es : List (ℕ × X)) → IsInOrder es → IsInOrder (filter test es)

@@ -1,9 +1,6 @@
 -- The first item of an iterator, by what it yielded.
-use Rattle.std.proofs.Common.{arith, ◌≡◌, ◌≢◌, List, [], ◌∷◌, map, Option, Some, Result, Ok, Err, refl, OnErr}
+use Rattle.dwarf_read_core.proofs.Common.{arith, ◌≡◌, ◌≢◌, List, [], ◌∷◌, map, Option, Some, Result, Ok, Err, refl, OnErr, Error, OutOfMemory, GivesSome}
 use Rattle.std.specs.Iterator.{Yields, YieldsThen}
-use Rattle.dwarf_base_core.specs.declared.error.Error.{Error}
-use Rattle.dwarf_base_core.specs.declared.error.Error.TheVariants.{OutOfMemory}
-use Rattle.dwarf_read_core.specs.Cache.{GivesSome}
 
 -- an iterator that yielded some items yielded an item first
 pub first_item-of_items : {S T A : Type 0} (steps : S → Option (Result T Error) → S → Type 0) (from : S)

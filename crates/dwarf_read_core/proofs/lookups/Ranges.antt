@@ -1,11 +1,5 @@
 -- A part that is read is the range at its offset.
-use Rattle.std.proofs.Common.{arith, ◌≡◌, ℕ, ◌≤◌, length, Result, Ok, Err, refl, Bool, IsErrAnd}
-use Rattle.dwarf_base_core.specs.declared.error.Error.{Error}
-use Rattle.dwarf_reader_core.specs.Faults.{EndsBefore}
-use Rattle.dwarf_reader_core.specs.Input.{Input, first, Takes}
-use Rattle.dwarf_reader_core.specs.Once.{HasOne}
-use Rattle.dwarf_reader_core.proofs.Layouts.{At_one, At_value, At_error, after_part, no_part, part_reads, part_fails}
-use Rattle.dwarf_read_core.specs.Lookups.{AnswersBy}
+use Rattle.dwarf_read_core.proofs.Common.{◌≡◌, ℕ, ◌≤◌, length, Ok, Err, refl, Error, EndsBefore, Input, first, Takes, HasOne, At_one, At_value, At_error, after_part, no_part, part_reads, part_fails}
 use Rattle.dwarf_read_core.specs.Ranges.{RangeAt, range_at}
 
 -- the first bytes behind an offset are the range there, if the section has as many
@@ -26,12 +20,6 @@ pub range_outside : (section : Input) (offset size : ℕ) (e : Error) (new : Inp
     → RangeAt section offset size (Err e)
 unfolding RangeAt range_at
 range_outside section offset size e new short = At_error _ _ (no_part _ short)
-
--- an error that `?` propagates is the result of the lookup of a range
-pub range-propagated : {X : Type 0} (section : Input) (offset size : ℕ) (view : X → Input) (clone_is_free : Bool)
-    (e : Error) (r : Result X Error) → IsErrAnd r (λ x. x ≡ e) → RangeAt section offset size (Err e)
-    → AnswersBy (RangeAt section offset size) view clone_is_free r
-range-propagated section offset size view clone_is_free e r h is = grind arith
 
 -- a section has exactly one range or error at each offset and size
 pub range_exactly_one : (section : Input) (offset size : ℕ) → HasOne (RangeAt section offset size)

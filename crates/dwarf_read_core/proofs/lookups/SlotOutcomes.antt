@@ -1,14 +1,7 @@
 -- A slot has the number that its bytes encode, or an error that says what is missing.
-use Rattle.std.proofs.Common.{◌≡◌, ℕ, ◌<◌, Bool, true, false, leb, length, Ok, Err, refl, subst, arith, leb-true, leb-false}
-use Rattle.dwarf_base_core.specs.declared.error.Error.{Error}
-use Rattle.dwarf_base_core.specs.declared.error.Error.TheVariants.{UnsupportedOffset, UnsupportedAddressSize}
-use Rattle.dwarf_reader_core.specs.Faults.{EndsBefore, end_fault, is_number_size}
-use Rattle.dwarf_reader_core.specs.Input.{Input, after, Takes, TakesNumber}
-use Rattle.dwarf_reader_core.specs.Layout.{Layout, read, part, fixed, pure, check, alone, ◌>>=◌}
-use Rattle.dwarf_reader_core.proofs.Layouts.{Outcome, number_reads, number_fails, rest-length, takes-both}
-use Rattle.dwarf_read_core.specs.Entries.{string_offset}
+use Rattle.dwarf_read_core.proofs.Common.{inl, inr, ◌≡◌, ℕ, ◌<◌, Bool, true, false, leb, length, Ok, Err, refl, subst, arith, leb-true, leb-false, cases_lt, Error, UnsupportedOffset, UnsupportedAddressSize, EndsBefore, end_fault, is_number_size, Input, after, Takes, TakesNumber, Layout, read, part, fixed, pure, check, alone, Outcome, number_reads, number_fails, rest-length, takes-both, string_offset, HasOutcome, returned, failed, outcome-bind, outcome-map}
+use Rattle.dwarf_reader_core.specs.Layout.{◌>>=◌}
 use Rattle.dwarf_read_core.specs.Words.{Slot, distance, place, Holds, IsPlaced, HasNoPlace, no_base, no_distance, no_place, HasNoWord, word_unplaced, word_cut, word_too_great, HasNoAddress, address_unplaced, address_unsized, address_cut, to_slot, word, address, WordAt, AddressAt}
-use Rattle.dwarf_read_core.proofs.ResultLemmas.{HasOutcome, returned, failed, outcome-bind, outcome-map}
 use Rattle.dwarf_read_core.proofs.lookups.Words.{slot_holds}
 
 -- ---- the outcomes of layouts
@@ -29,21 +22,14 @@ part_outcome n old = grind (arith, returned, failed)
 -- a number is read, or fewer bytes remain, and the error is at their end
 fixed_outcome : (n : ℕ) (old : Input) → HasOutcome (λ (x : ℕ × Input). TakesNumber n old x.0 x.1)
     (λ e. (length old.bytes < n) × (e ≡ end_fault old)) (read (fixed n) old)
-fixed_outcome n old = go (leb n (length old.bytes)) refl
-  where
-    go : (t : Bool) → leb n (length old.bytes) ≡ t → HasOutcome (λ (x : ℕ × Input). TakesNumber n old x.0 x.1)
-        (λ e. (length old.bytes < n) × (e ≡ end_fault old)) (read (fixed n) old)
-    go true le =
-        let takes : TakesNumber n old _ (after n old) = record {
-          enough = leb-true n (length old.bytes) le;
-          is = refl;
-          left = refl;
-        } in
-        rw (number_reads takes) (returned _ takes)
-    go false gt =
-        let short = leb-false n (length old.bytes) gt in
-        let ends : EndsBefore n old (end_fault old) old = record { short = short; fault = refl; left = refl } in
-        rw (number_fails ends) (failed _ (short, refl))
+fixed_outcome n old = elim (cases_lt (length old.bytes) n) [
+  | inl short ↦
+      let ends : EndsBefore n old (end_fault old) old = record { short = short; fault = refl; left = refl } in
+      rw (number_fails ends) (failed _ (short, refl))
+  | inr enough ↦
+      let takes : TakesNumber n old _ (after n old) = record { enough = enough; is = refl; left = refl } in
+      rw (number_reads takes) (returned _ takes)
+]
 
 -- a value is read without any bytes
 value_outcome : {A : Type 0} {Good : A × Input → Type 0} {Bad : Error → Type 0} (a : A) (old : Input) → Good (a, old)

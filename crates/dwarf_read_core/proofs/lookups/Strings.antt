@@ -1,29 +1,10 @@
 -- A string that is read at an offset is the section's string there.
-use Rattle.std.proofs.Common.{◌≡◌, ◌≢◌, ℕ, zero, suc, ◌+◌, ◌<◌, ◌≤◌, List, [], ◌∷◌, ◌++◌, length, take, drop, Result, Ok, Err, refl, sym, ap, subst, ◌∙◌, arith, ◌⊎◌, inl, inr, Bool, slice_index, IfOk, IfErr, All}
-use Rattle.dwarf_base_core.specs.declared.error.Error.{Error}
-use Rattle.dwarf_reader_core.specs.Appended.{followed_by}
-use Rattle.dwarf_reader_core.specs.Faults.{EndsBefore, Lacks, WantsMemory}
-use Rattle.dwarf_reader_core.specs.Input.{Input, Takes, TakesString}
-use Rattle.dwarf_reader_core.specs.Once.{HasOne}
-use Rattle.dwarf_reader_core.proofs.Layouts.{At_one, At_more, At_value, At_error, At_read, after_part, no_part, string_reads, string_fails, then_read, part_read}
+use Rattle.dwarf_read_core.proofs.Common.{◌≡◌, ◌≢◌, ℕ, suc, ◌+◌, ◌<◌, ◌≤◌, List, ◌∷◌, ◌++◌, length, take, drop, Result, Ok, Err, refl, sym, ap, subst, ◌∙◌, arith, ◌⊎◌, inl, inr, Bool, slice_index, IfOk, IfErr, All, Error, followed_by, EndsBefore, Lacks, WantsMemory, Input, Takes, TakesString, HasOne, At_one, At_more, At_value, At_error, At_read, after_part, no_part, string_reads, string_fails, then_read, part_read, AnswersBy, StaysBy, set}
+use Rattle.std.proofs.lemmas.List.{set-get_or, set_split}
 use Rattle.dwarf_reader_core.proofs.Once.{string_was_read}
-use Rattle.dwarf_read_core.specs.Lookups.{AnswersBy, StaysBy}
 use Rattle.dwarf_read_core.specs.Strings.{StringAt, string_at}
-use Rattle.dwarf_read_core.proofs.lookups.Returned.{result-stays}
 
 -- ---- what a lookup returns
-
--- a string that is read behind an offset is the section's string at the offset
-string_taken : (section : Input) (offset : ℕ) (rest found new : Input) → Takes offset section rest
-    → TakesString rest found new → StringAt section offset (Ok found)
-unfolding StringAt string_at
-string_taken section offset rest found new takes t = At_value _ _ (after_part _ refl takes (string_reads t))
-
--- if no zero byte remains behind an offset, that error is the section's result there
-string_lacks : (section : Input) (offset : ℕ) (rest : Input) (e : Error) → Takes offset section rest
-    → Lacks 0 rest e → StringAt section offset (Err e)
-unfolding StringAt string_at
-string_lacks section offset rest e takes lacks = At_error _ _ (after_part _ refl takes (string_fails lacks))
 
 -- what a reader returns for a string behind an offset is the section's result there
 pub string-read : {X : Type 0} (section : Input) (offset : ℕ) (rest new : Input) (view : X → Input)
@@ -31,11 +12,12 @@ pub string-read : {X : Type 0} (section : Input) (offset : ℕ) (rest new : Inpu
     → IfOk r (λ x. TakesString rest (view x) new)
     → IfErr r (λ e. Lacks 0 rest e ⊎ WantsMemory clone_is_free e)
     → AnswersBy (StringAt section offset) view clone_is_free r
-string-read section offset rest new view clone_is_free (Ok x) takes read h =
-    string_taken section offset rest (view x) new takes read
-string-read section offset rest new view clone_is_free (Err e) takes read (inl lacks) =
-    inl (string_lacks section offset rest e takes lacks)
-string-read section offset rest new view clone_is_free (Err e) takes read (inr want) = inr want
+unfolding StringAt string_at
+string-read section offset rest new view clone_is_free (Ok x) takes given h =
+    At_value _ _ (after_part _ refl takes (string_reads given))
+string-read section offset rest new view clone_is_free (Err e) takes given (inl lacks) =
+    inl (At_error _ _ (after_part _ refl takes (string_fails lacks)))
+string-read section offset rest new view clone_is_free (Err e) takes given (inr want) = inr want
 
 -- if the section ends before an offset, that error is its result there
 pub string_outside : (section : Input) (offset : ℕ) (e : Error) (new : Input) → EndsBefore offset section e new
@@ -59,17 +41,15 @@ pub string-stays : {X : Type 0} (section : Input) (offset : ℕ) (view : X → I
     (r : Result X Error) → AnswersBy (StringAt section offset) view clone_is_free r
     → StaysBy (λ input. StringAt input offset) view clone_is_free section r
 unfolding StringAt
-string-stays section offset view clone_is_free r =
-    result-stays (λ input. StringAt input offset) view clone_is_free section r (At_more (string_at offset) section)
+string-stays section offset view clone_is_free r = grind (arith, At_more (string_at offset) section)
 
 -- ---- what a string is
 
 -- a list is the items before an index, the item there and the items behind it
 cut_at : (bytes : List ℕ) (index item : ℕ) → index < length bytes → slice_index bytes index ≡ item
     → bytes ≡ take index bytes ++ item ∷ drop (suc index) bytes
-cut_at [] index item within is = absurd (omega arith)
-cut_at (b ∷ bytes) zero item within is = ap (λ (x : ℕ). x ∷ bytes) is
-cut_at (b ∷ bytes) (suc index) item within is = ap (λ (x : List ℕ). b ∷ x) (cut_at bytes index item (omega arith) is)
+cut_at bytes index item within is =
+    sym (ap (set bytes index) (sym is) ∙ set-get_or bytes index 0) ∙ set_split bytes index item within
 
 -- the bytes of a section from an offset on are a string, a zero byte and any others
 pub record IsText (section : Input) (offset : ℕ) (found : Input) : Type 0 where

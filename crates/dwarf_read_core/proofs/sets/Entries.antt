@@ -1,26 +1,14 @@
 -- The entries of sets, as layouts, and what `next` returns of them.
-use Rattle.std.proofs.Common.{◌≡◌, ◌≢◌, ℕ, ◌<◌, ◌≤◌, List, [], ◌∷◌, length, Result, Ok, Err, sym, ◌∙◌, arith, inl, inr, ◌⊎◌, sum_by, IsTrue}
-use Rattle.std.proofs.lemmas.Bool.{le-leb, lt-leb}
+use Rattle.dwarf_read_core.proofs.Common.{◌≡◌, ◌≢◌, ℕ, ◌<◌, ◌≤◌, List, [], length, Result, Ok, Err, sym, ◌∙◌, arith, inl, inr, ◌⊎◌, sum_by, IsTrue, le-leb, lt-leb, Error, is_number_size, EndsBefore, IsNoOffset, RefusesAddress, Input, TakesNumber, HasOne, Entries, StandsForAddresses, StandsForEntries, StandsForStringOffsets, string_offset, ComesFirst, least_taken, Layout, read, AreItems, none, more, fixed, TakesLeast, spans_least, number_spans, pure_spans, check_spans, then_spans, number_reads, number_fails, pure_reads, after_number, no_number, after_check, no_check}
 use Rattle.dwarf_base_core.specs.declared.common.Format.{Format}
 use Rattle.dwarf_base_core.specs.declared.common.Format.TheVariants.{Dwarf32, Dwarf64}
-use Rattle.dwarf_base_core.specs.declared.error.Error.{Error}
 use Rattle.dwarf_base_core.specs.Format.{word_size}
-use Rattle.dwarf_reader_core.specs.Faults.{is_number_size, EndsBefore, IsNoOffset, RefusesAddress}
-use Rattle.dwarf_reader_core.specs.Input.{Input, TakesNumber}
-use Rattle.dwarf_reader_core.specs.Once.{HasOne}
-use Rattle.dwarf_read_core.specs.Entries.{Entries, StandsForAddresses, StandsForEntries, StandsForStringOffsets, string_offset}
-use Rattle.dwarf_read_core.specs.Items.{ComesFirst, least_taken}
-use Rattle.dwarf_reader_core.specs.Layout.{Layout, read, AreItems, none, more, fixed}
-use Rattle.dwarf_reader_core.proofs.Layouts.{TakesLeast, spans_least, number_spans, pure_spans, check_spans, then_spans, number_reads, number_fails, pure_reads, after_number, no_number, after_check, no_check}
 use Rattle.dwarf_read_core.proofs.sets.ItemLists.{items-exactly_one, items-bounded, items-anywhere, error-first}
 
 module _ {f : Layout ℕ} {width : ℕ} (least : TakesLeast width f) (positive : 1 ≤ width) {old new : Input}
     (some : old.bytes ≢ []) where
   -- an entry that is read is the first item, and the others are behind it
-  entry-first : {x : ℕ} → read f old ≡ Ok (x, new)
-      → ((others : List (Result ℕ Error)) × AreItems (λ _. f) 0 new others)
-      × ((others : List (Result ℕ Error)) → AreItems (λ _. f) 0 new others
-      → AreItems (λ _. f) 0 old (Ok x ∷ others))
+  entry-first : {x : ℕ} → read f old ≡ Ok (x, new) → ComesFirst (λ rest. AreItems (λ _. f) 0 rest) old (Ok x) new
   entry-first {x} h =
       let found = items-exactly_one (λ _. least) positive 0 new in
       ((found.0, found.1), λ others k. more some h (items-anywhere _ k))
@@ -57,15 +45,13 @@ module _ (width : ℕ) (old new : Input) (sized : IsTrue (is_number_size width))
   -- an address that is read is the first item
   pub address_first : {x : ℕ} → TakesNumber width old x new
       → ComesFirst StandsForAddresses (entries_in width old) (Ok x) (entries_in width new)
-  address_first takes =
-      entry-first (number_least width) (size-positive width sized) some (number_reads takes)
+  address_first takes = entry-first (number_least width) (size-positive width sized) some (number_reads takes)
 
   -- an address that is cut is the first item, as an error behind which nothing remains
   pub address_error_first : {e : Error} {left : Input} → RefusesAddress width old e new → left.bytes ≡ []
       → ComesFirst StandsForAddresses (entries_in width old) (Err e) (entries_in width left)
   address_error_first (inl size) empty = absurd (let n = size.none in cc)
-  address_error_first {e} {left} (inr (_, short)) empty =
-      error-first 0 0 old left e some (number_fails short) empty
+  address_error_first {e} {left} (inr (_, short)) empty = error-first 0 0 old left e some (number_fails short) empty
 
 -- ---- offsets of strings
 
@@ -81,8 +67,7 @@ module _ (greatest : ℕ) where
   pub offset_reads : {width : ℕ} {old new : Input} {x : ℕ} → TakesNumber width old x new → x ≤ greatest
       → read (string_offset greatest width) old ≡ Ok (x, new)
   unfolding string_offset
-  offset_reads {x = x} takes fits =
-      after_number _ takes (after_check _ _ _ (le-leb x greatest fits) (pure_reads x _))
+  offset_reads {x = x} takes fits = after_number _ takes (after_check _ _ _ (le-leb x greatest fits) (pure_reads x _))
 
   -- a string offset fails if bytes are missing, or if the number is too great for an offset
   pub offset_fails : {width : ℕ} {old new : Input} {e : Error}

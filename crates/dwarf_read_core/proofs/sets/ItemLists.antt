@@ -1,14 +1,6 @@
 -- Bytes have exactly one list of items, and a call returns the first.
-use Rattle.std.proofs.lemmas.Grind.{common_steps}
-use Rattle.std.proofs.Common.{◌≡◌, ◌≢◌, ℕ, zero, suc, ◌+◌, ◌-◌, ◌<◌, ◌≤◌, List, [], ◌∷◌, ◌++◌, length, Result, Ok, Err, refl, sym, subst, ◌∙◌, arith, inl, inr, ◌⊎◌, sum_by}
-use Rattle.std.proofs.lemmas.List.Sums.{sum_by-cons}
-use Rattle.dwarf_base_core.specs.declared.error.Error.{Error}
-use Rattle.dwarf_reader_core.specs.Input.{Input}
-use Rattle.dwarf_reader_core.specs.Once.{HasOne}
-use Rattle.dwarf_reader_core.specs.Appended.{followed_by, IsNoEof}
-use Rattle.dwarf_read_core.specs.Items.{least_taken}
-use Rattle.dwarf_reader_core.specs.Layout.{Layout, read, AreItems, none, more, fault}
-use Rattle.dwarf_reader_core.proofs.Layouts.{Outcome, TakesLeast, read_more, error_more}
+use Rattle.dwarf_read_core.proofs.Common.{common_steps, ◌≡◌, ◌≢◌, ℕ, zero, suc, ◌+◌, ◌-◌, ◌<◌, ◌≤◌, List, [], ◌∷◌, ◌++◌, length, Result, Ok, Err, refl, sym, subst, ◌∙◌, arith, inl, inr, ◌⊎◌, sum_by, sum_by-cons, Error, Input, HasOne, followed_by, IsNoEof, least_taken, Layout, read, AreItems, none, more, Outcome, TakesLeast, read_more, error_more, ComesFirst}
+use Rattle.dwarf_reader_core.specs.Layout.{fault}
 
 -- bytes that aren't empty are at least one
 bytes-some : (bytes : List ℕ) → bytes ≢ [] → 1 ≤ length bytes
@@ -48,15 +40,6 @@ item-taken : {A : Type 0} {r : Outcome A} {x y : A} {i j : Input} → r ≡ Ok (
 item-taken h k = cc
 
 module _ {A : Type 0} {item : ℕ → Layout A} where
-  -- the items behind an item don't depend on how the item was read
-  items-behind : (offset : ℕ) (old i j : Input) (x y : A) (ys : List (Result A Error))
-      → ◌≡◌ {A = A × Input} (x, i) (y, j)
-      → AreItems item (offset + (length old.bytes - length j.bytes)) j ys
-      → AreItems item (offset + (length old.bytes - length i.bytes)) i ys
-  items-behind offset old i j x y ys e behind =
-      subst (λ (z : A × Input). AreItems item (offset + (length old.bytes - length (z.1).bytes)) z.1 ys)
-      (sym e) behind
-
   -- two lists of items of the same bytes are equal
   pub items-same : {offset : ℕ} {old : Input} {items others : List (Result A Error)} → AreItems item offset old items
       → AreItems item offset old others → items ≡ others
@@ -66,7 +49,8 @@ module _ {A : Type 0} {item : ℕ → Layout A} where
   items-same (more some h rest) (none e) = absurd (some e)
   items-same {offset} {old} (more {new = i} {x = x} some h rest) (more {new = j} {x = y} {items = ys} full k behind) =
       let e = item-taken h k in
-      let others = items-same rest (items-behind offset old i j x y ys e behind) in
+      let others = items-same rest (subst
+      (λ (z : A × Input). AreItems item (offset + (length old.bytes - length (z.1).bytes)) z.1 ys) (sym e) behind) in
       λ d. Ok ((e d).0) ∷ others d
   items-same (more some h rest) (fault full k) = absurd (let c = sym h ∙ k in cc)
   items-same (fault some h) (none e) = absurd (some e)
@@ -102,19 +86,14 @@ module _ {A : Type 0} {item : ℕ → Layout A} where
     -- an item that is read is the first, and the others are behind it
     pub item-first : (offset behind : ℕ) (old new : Input) (x : A) → old.bytes ≢ []
         → read (item offset) old ≡ Ok (x, new) → behind ≡ offset + (length old.bytes - length new.bytes)
-        → ((others : List (Result A Error)) × AreItems item behind new others)
-        × ((others : List (Result A Error)) → AreItems item behind new others
-        → AreItems item offset old (Ok x ∷ others))
+        → ComesFirst (λ (at : ℕ × Input). AreItems item at.0 at.1) (offset, old) (Ok x) (behind, new)
     item-first offset behind old new x some h place =
         let found = items-exactly_one behind new in
         ((found.0, found.1), λ others k. more some h (subst (λ (o : ℕ). AreItems item o new others) place k))
 
   -- an error is the first item, and no others are behind it
-  pub error-first : (offset behind : ℕ) (old left : Input) (e : Error) → old.bytes ≢ []
-      → read (item offset) old ≡ Err e → left.bytes ≡ []
-      → ((others : List (Result A Error)) × AreItems item behind left others)
-      × ((others : List (Result A Error)) → AreItems item behind left others
-      → AreItems item offset old (Err e ∷ others))
+  pub error-first : (offset behind : ℕ) (old left : Input) (e : Error) → old.bytes ≢ [] → read (item offset) old ≡ Err e
+      → left.bytes ≡ [] → ComesFirst (λ (at : ℕ × Input). AreItems item at.0 at.1) (offset, old) (Err e) (behind, left)
   error-first offset behind old left e some h empty = (
     ([], none empty),
     λ others k. subst (λ (all : List (Result A Error)). AreItems item offset old (Err e ∷ all))
@@ -126,8 +105,7 @@ module _ {A : Type 0} {item : ℕ → Layout A} where
   -- the first item stays the first when bytes are appended
   pub item-stays : {offset : ℕ} {old : Input} {x : A} {items : List (Result A Error)}
       → AreItems item offset old (Ok x ∷ items) → (behind : List ℕ) (others : List (Result A Error))
-      → AreItems item offset (followed_by old behind) others
-      → (rest : List (Result A Error)) × (others ≡ Ok x ∷ rest)
+      → AreItems item offset (followed_by old behind) others → (rest : List (Result A Error)) × (others ≡ Ok x ∷ rest)
   item-stays {offset} {old} {x} (more {new = new} some h rest) behind others are_items = go are_items
     where
       here : read (item offset) (followed_by old behind) ≡ Ok (x, followed_by new behind)

@@ -1,11 +1,8 @@
 -- Iterators over sets and entries end.
-use Rattle.std.proofs.Common.{◌≡◌, ◌+◌, ◌<◌, ◌≤◌, [], length, Option, Result, arith}
+use Rattle.dwarf_read_core.proofs.Common.{◌≡◌, ◌+◌, ◌<◌, ◌≤◌, [], length, Option, Result, arith, Error, Entries, Headers}
 use Rattle.std.specs.Prelude.{⊤, IfOk, IfSome, OnErr}
 use Rattle.std.specs.Iterator.{MakesProgress, at_most}
 use Rattle.std.specs.Result.{result_transpose}
-use Rattle.dwarf_base_core.specs.declared.error.Error.{Error}
-use Rattle.dwarf_read_core.specs.Entries.{Entries}
-use Rattle.dwarf_read_core.specs.Sets.{Headers}
 
 -- `next` makes progress over entries, so their iterators end
 pub entries_progress : {X : Type 0} (old new : Entries) (result : Result (Option X) Error)

@@ -1,18 +1,10 @@
 -- Sets as layouts: what a reader reads of one, and what `next` returns.
-use Rattle.std.proofs.lemmas.Grind.{common_steps}
-use Rattle.std.proofs.Common.{◌≡◌, ◌≢◌, ℕ, ◌+◌, ◌-◌, ◌≤◌, List, [], ◌∷◌, ◌++◌, length, take, Result, Ok, Err, refl, sym, ap, subst, arith, Bool, ◌⊎◌, inl, inr, ◌∙◌, append_assoc, sum_by, nat_lt, length-append, length-take-le, take-append-drop}
+use Rattle.dwarf_read_core.proofs.Common.{common_steps, ◌≡◌, ◌≢◌, ℕ, ◌+◌, ◌-◌, ◌≤◌, List, [], ◌∷◌, ◌++◌, length, take, Result, Ok, Err, refl, sym, ap, subst, arith, Bool, ◌⊎◌, inl, inr, ◌∙◌, append_assoc, sum_by, nat_lt, length-append, length-take-le, take-append-drop, Error, WantsMemory, Input, first, Takes, HasOne, IsNoEof, followed_by, ComesFirst, least_taken, Layout, read, none, Set, IsJoined, address_header, string_offsets_header, Headers, StandsForSets, followed_headers, then_reads, pure_reads, after_part, after_inside, read_more, error_more, Spans, TakesLeast, spanned, number_spans, byte_spans, check_spans, pure_spans, refuse_spans, when_spans, then_spans, part_spans, inside_spans, then_read, part_read, inside_read, pure_read}
 use Rattle.dwarf_base_core.specs.declared.common.Format.{Format}
-use Rattle.dwarf_base_core.specs.declared.error.Error.{Error}
 use Rattle.dwarf_base_core.specs.Format.{initial_length_size}
-use Rattle.dwarf_reader_core.specs.Faults.{WantsMemory}
-use Rattle.dwarf_reader_core.specs.Input.{Input, first, Takes}
 use Rattle.dwarf_reader_core.specs.InitialLength.{initial_length, long_length}
-use Rattle.dwarf_reader_core.specs.Once.{HasOne}
-use Rattle.dwarf_reader_core.specs.Appended.{IsNoEof, followed_by}
-use Rattle.dwarf_read_core.specs.Items.{ComesFirst, least_taken}
-use Rattle.dwarf_reader_core.specs.Layout.{Layout, read, none, fault}
-use Rattle.dwarf_read_core.specs.Sets.{Set, set, IsJoined, address_header, string_offsets_header, Headers, StandsForSets, followed_headers}
-use Rattle.dwarf_reader_core.proofs.Layouts.{then_reads, pure_reads, after_part, after_inside, read_more, error_more, Spans, TakesLeast, spanned, number_spans, byte_spans, check_spans, pure_spans, refuse_spans, when_spans, then_spans, part_spans, inside_spans, then_read, part_read, inside_read, pure_read}
+use Rattle.dwarf_reader_core.specs.Layout.{fault}
+use Rattle.dwarf_read_core.specs.Sets.{set}
 use Rattle.dwarf_read_core.proofs.sets.ItemLists.{items-exactly_one, items-bounded, item-first, error-first, item-stays, error-stays, bytes-still_some}
 
 -- ---- how many bytes a set has
@@ -58,19 +50,10 @@ set-parts greatest offset header_four old is =
     let front = spanned (initial_length-spans greatest) old initial.2 in
     let part = part_read _ _ unit.2 in
     let taken = spanned header_four unit.0 (inside_read _ _ _ said.2).0 in
+    let size = length-take-le (initial.0).1 (initial.1).bytes part.1.enough in
     subst (HasParts old) (sym (pure_read _ _ said.3).0) (record {
-      four = omega (
-        arith,
-        ap (λ (i : Input). length i.bytes) part.0,
-        length-take-le (initial.0).1 (initial.1).bytes part.1.enough,
-        taken.enough,
-      );
-      place = omega (
-        arith,
-        same_place taken.left,
-        same_place part.0,
-        same_place front.left,
-      );
+      four = omega (arith, ap (λ (i : Input). length i.bytes) part.0, size, taken.enough);
+      place = omega (arith, same_place taken.left, same_place part.0, same_place front.left);
     })
 
 -- bytes that are consumed are the first ones, and the rest remains behind them
@@ -94,24 +77,18 @@ set-joined greatest offset header_four old {new = new} is =
     let inner = inside_read _ _ _ said.2 in
     let taken = spanned header_four unit.0 inner.0 in
     let last = pure_read _ _ said.3 in
-    let size = length-take-le (initial.0).1 (initial.1).bytes part.1.enough in
-    let measured : (initial.1).bytes ≡ unit.0.bytes ++ unit.1.bytes = taken_front part.1
-    ∙ ap (λ (i : Input). i.bytes ++ unit.1.bytes) (sym part.0) in
-    let behind : new.bytes ≡ unit.1.bytes = ap (λ (i : Input). i.bytes) (last.1 ∙ inner.1) in
-    let joined : (initial.1).bytes ≡ (take 4 unit.0.bytes ++ said.0.1.bytes) ++ new.bytes =
-    measured ∙ ap (λ (b : List ℕ). b ++ unit.1.bytes) (taken_front taken)
-    ∙ ap (λ (b : List ℕ). (take 4 unit.0.bytes ++ said.0.1.bytes) ++ b) (sym behind) in
+    let bytes = λ (i : Input). i.bytes in
+    let regrouped = joined_left (take (initial_length_size (initial.0).0) old.bytes) (take 4 unit.0.bytes)
+    said.0.1.bytes new.bytes in
     subst (λ s. IsJoined old s new) (sym last.0) (record {
       initial = take (initial_length_size (initial.0).0) old.bytes;
       header = take 4 unit.0.bytes;
-      parts = taken_front front
-          ∙ ap (λ (b : List ℕ). take (initial_length_size (initial.0).0) old.bytes ++ b) joined
-          ∙ joined_left (take (initial_length_size (initial.0).0) old.bytes) (take 4 unit.0.bytes) said.0.1.bytes
-          new.bytes;
+      parts = cc
+          (taken_front front, taken_front part.1, taken_front taken, ap bytes part.0, ap bytes (last.1 ∙ inner.1));
       of_format = length-take-le (initial_length_size (initial.0).0) old.bytes front.enough;
       four = length-take-le 4 unit.0.bytes taken.enough;
       of_length = sym (length-append (take 4 unit.0.bytes) said.0.1.bytes) ∙ ap length (sym (taken_front taken))
-          ∙ ap (λ (i : Input). length i.bytes) part.0 ∙ size;
+          ∙ ap (λ (i : Input). length i.bytes) part.0 ∙ length-take-le (initial.0).1 (initial.1).bytes part.1.enough;
     })
 
 -- the header of a set of addresses has four bytes
@@ -184,12 +161,8 @@ module _ {H : Type 0} {header : Layout H} (four : HasFour header) (greatest : �
   -- a set has at least eight bytes
   pub set_least : (offset : ℕ) → TakesLeast 8 (set header greatest offset)
   set_least offset = record {
-    by = λ old new s is. omega (
-      arith,
-      (set-spans header greatest offset).by old new s is,
-      (set-parts greatest offset four old is).four,
-      initial_length_size-least s.format,
-    );
+    by = λ old new s is. let spans = (set-spans header greatest offset).by old new s is in
+        omega (arith, spans, (set-parts greatest offset four old is).four, initial_length_size-least s.format);
   }
 
   -- the bytes that remain have exactly one list of sets
@@ -201,24 +174,21 @@ module _ {H : Type 0} {header : Layout H} (four : HasFour header) (greatest : �
       → StandsForSets header greatest headers items → sum_by (least_taken 8) items ≤ length headers.rest.bytes
   sets_bounded headers items are_items = items-bounded set_least are_items
 
-  -- a set that is read is the first item
-  pub set_first : (offset place : ℕ) (rest left : Input) {s : Set H} → rest.bytes ≢ []
-      → read (set header greatest offset) rest ≡ Ok (s, left)
-      → place ≡ offset + (length rest.bytes - length left.bytes)
-      → ComesFirst (StandsForSets header greatest) (headers_at offset rest) (Ok s) (headers_at place left)
-  set_first offset place rest left {s} some h is = item-first set_least (omega arith) offset place rest left s some h is
+  module _ (offset place : ℕ) (rest left : Input) {s : Set H} (some : rest.bytes ≢ [])
+      (is_read : read (set header greatest offset) rest ≡ Ok (s, left))
+      (behind : place ≡ offset + (length rest.bytes - length left.bytes)) where
+    -- a set that is read is the first item
+    pub set_first : ComesFirst (StandsForSets header greatest) (headers_at offset rest) (Ok s) (headers_at place left)
+    set_first = item-first set_least (omega arith) offset place rest left s some is_read behind
 
-  -- a set that is read stays the first item when bytes are appended
-  pub set_stays : (offset place : ℕ) (rest left : Input) {s : Set H} → rest.bytes ≢ []
-      → read (set header greatest offset) rest ≡ Ok (s, left)
-      → place ≡ offset + (length rest.bytes - length left.bytes) → (more : List ℕ)
-      → ComesFirst (StandsForSets header greatest) (followed_headers more (headers_at offset rest)) (Ok s)
-      (followed_headers more (headers_at place left))
-  set_stays offset place rest left {s} some h is more =
-      let l = (set_least offset).by rest left s h in
-      set_first offset place (followed_by rest more) (followed_by left more) (bytes-still_some rest.bytes more some)
-      (read_more (set header greatest offset) more rest h)
-      (omega (arith, is, l, length-append rest.bytes more, length-append left.bytes more))
+    -- a set that is read stays the first item when bytes are appended
+    pub set_stays : (more : List ℕ) → ComesFirst (StandsForSets header greatest)
+        (followed_headers more (headers_at offset rest)) (Ok s) (followed_headers more (headers_at place left))
+    set_stays more =
+        let l = (set_least offset).by rest left s is_read in
+        item-first set_least (omega arith) offset place (followed_by rest more) (followed_by left more) s
+        (bytes-still_some rest.bytes more some) (read_more (set header greatest offset) more rest is_read)
+        (omega (arith, l, length-append rest.bytes more, length-append left.bytes more))
 
 -- a set that a reader read has at least eight bytes, if its header has four
 pub set_bound : {H : Type 0} {header : Layout H} (greatest : ℕ) {n : ℕ} {format : Format} (old new : Input)

@@ -1,19 +1,8 @@
 -- The map of a table has the codes of its declarations, and each code occurs once.
-use Rattle.std.proofs.Common.{◌≡◌, ℕ, Bool, true, false, cond, eqb, List, [], ◌∷◌, ◌++◌, map, Some, None, refl, sym, ap, ◌∙◌, arith, ◌⊎◌, inl, inr, is_some}
-use Rattle.std.specs.Ordering.{nat_cmp}
-use Rattle.std.specs.Cmp.{nat_cmp_total}
-use Rattle.std.specs.FinMap.{find, insert, contains_key, from_entries, from_entries_push, get-from_entries, nat_cmp-IsAntisymmetric}
-use Rattle.std.proofs.lemmas.Bool.{eqb-true, eqb-false, true≢false}
-use Rattle.std.proofs.lemmas.List.{map_push}
-use Rattle.dwarf_read_core.specs.Grammar.{Declaration, Declares, AreDistinct, by_code_of}
+use Rattle.dwarf_read_core.proofs.Common.{◌≡◌, ℕ, true, false, List, [], ◌∷◌, ◌++◌, map, None, refl, sym, ap, ◌∙◌, arith, ◌⊎◌, inl, inr, is_some, nat_cmp, nat_cmp_total, find, insert, contains_key, from_entries, from_entries_push, get-from_entries, nat_cmp-IsAntisymmetric, true≢false, map_push, Declaration, Declares, AreDistinct, by_code_of, nat_tests}
 
 abbrev pub entries_by_code : List Declaration → List (ℕ × Declaration)
 entries_by_code ds = map (λ d. (d.code, d)) ds
-
--- a search for a code finds the first declaration if it has the code, and otherwise searches the others
-looked_up : (code : ℕ) (x : Declaration) (ds : List Declaration) (t : Bool) → eqb code x.code ≡ t
-    → find nat_cmp code (entries_by_code (x ∷ ds)) ≡ cond t (Some x) (find nat_cmp code (entries_by_code ds))
-looked_up code x ds t e = grind arith
 
 -- a search for a code that no declaration has finds nothing
 find_none : (ds : List Declaration) (code : ℕ) → (Declares ds code → ⊥) → find nat_cmp code (entries_by_code ds) ≡ None
@@ -24,24 +13,13 @@ find_none (x ∷ ds) code h = grind (arith, (find_none ds code (λ w. h (inr w))
 find_some : (ds : List Declaration) (code : ℕ) → Declares ds code
     → is_some (find nat_cmp code (entries_by_code ds)) ≡ true
 find_some [] code h = absurd h
-find_some (x ∷ ds) code h = go (eqb code x.code) refl (λ w. find_some ds code w) h
-  where
-    go : (t : Bool) → eqb code x.code ≡ t → (Declares ds code → is_some (find nat_cmp code (entries_by_code ds)) ≡ true)
-        → (x.code ≡ code) ⊎ Declares ds code → is_some (find nat_cmp code (entries_by_code (x ∷ ds))) ≡ true
-    go true e later h = ap is_some (looked_up code x ds true e)
-    go false e later (inl same) = absurd (eqb-false code x.code e (sym same))
-    go false e later (inr w) = ap is_some (looked_up code x ds false e) ∙ later w
+find_some (x ∷ ds) code h = grind (arith, nat_tests, (find_some ds code))
 
 -- if a search for a code finds something, a declaration has the code
 declared_from_find : (ds : List Declaration) (code : ℕ) → is_some (find nat_cmp code (entries_by_code ds)) ≡ true
     → Declares ds code
 declared_from_find [] code h = absurd cc
-declared_from_find (x ∷ ds) code h = go (eqb code x.code) refl (λ w. declared_from_find ds code w)
-  where
-    go : (t : Bool) → eqb code x.code ≡ t → (is_some (find nat_cmp code (entries_by_code ds)) ≡ true → Declares ds code)
-        → (x.code ≡ code) ⊎ Declares ds code
-    go true e later = inl (sym (eqb-true code x.code e))
-    go false e later = inr (later (sym (ap is_some (looked_up code x ds false e)) ∙ h))
+declared_from_find (x ∷ ds) code h = grind (arith, nat_tests, (declared_from_find ds code))
 
 -- the map of declarations has a code exactly if a search for the code finds something
 contains_is : (ds : List Declaration) (code : ℕ)
@@ -76,10 +54,8 @@ table_push ds d h =
 -- a code of some declarations and one more is a code of those, or that of the one more
 declared_later : (ds : List Declaration) (d : Declaration) (code : ℕ) → Declares (ds ++ d ∷ []) code
     → Declares ds code ⊎ (d.code ≡ code)
-declared_later [] d code (inl e) = inr e
-declared_later [] d code (inr h) = absurd h
-declared_later (x ∷ ds) d code (inl e) = inl (inl e)
-declared_later (x ∷ ds) d code (inr h) = elim (declared_later ds d code h) [ inl w ↦ inl (inr w) | inr w ↦ inr w ]
+declared_later [] d code h = grind arith
+declared_later (x ∷ ds) d code h = grind (arith, (declared_later ds d code))
 
 -- declarations with distinct codes still have distinct codes with one more whose code is new
 pub distinct_push : (ds : List Declaration) (d : Declaration) → AreDistinct ds → (Declares ds d.code → ⊥)

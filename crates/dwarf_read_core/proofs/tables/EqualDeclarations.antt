@@ -1,12 +1,8 @@
 -- Two abbreviations are equal exactly if they are the same declaration.
-use Rattle.std.proofs.Common.{arith, ◌≡◌, true, List, [], ◌∷◌, refl, eqb, ◌↔◌, IsTrue, All}
+use Rattle.dwarf_read_core.proofs.Common.{arith, ◌≡◌, true, List, [], ◌∷◌, refl, eqb, ◌↔◌, IsTrue, All, booleans_Decides, and_parts, eqb-true, All-head, All-tail, Declaration, Specification}
 use Rattle.std.specs.Bool.{beq}
 use Rattle.std.specs.Cmp.Lexicographic.{pointwise}
-use Rattle.std.specs.Cmp.{booleans_Decides}
-use Rattle.std.proofs.lemmas.Bool.{and_parts, eqb-true}
-use Rattle.std.proofs.lemmas.List.Elements.{All-head, All-tail}
 use Rattle.dwarf_read_core.specs.Equality.{HasValueByForm, same_declaration, same_declaration_equiv, same_specification}
-use Rattle.dwarf_read_core.specs.Grammar.{Declaration, Specification}
 
 -- two specifications that the test finds equal are equal if their values are as their forms say
 same_one : (s t : Specification) → HasValueByForm s → HasValueByForm t → same_specification s t ≡ true → s ≡ t
@@ -19,10 +15,9 @@ same_all [] [] of_s of_t same = refl
 same_all [] (t ∷ ts) of_s of_t same = absurd cc
 same_all (s ∷ ss) [] of_s of_t same = absurd cc
 same_all (s ∷ ss) (t ∷ ts) of_s of_t same =
-    let parts = and_parts (same_specification s t) (pointwise same_specification ss ts) same in
-    let first = same_one s t (All-head HasValueByForm s ss of_s) (All-head HasValueByForm t ts of_t) parts.0 in
-    let others = same_all ss ts (All-tail HasValueByForm s ss of_s) (All-tail HasValueByForm t ts of_t) parts.1 in
-    cc
+    let first = same_one s t (All-head HasValueByForm s ss of_s) (All-head HasValueByForm t ts of_t) in
+    let others = same_all ss ts (All-tail HasValueByForm s ss of_s) (All-tail HasValueByForm t ts of_t) in
+    grind (arith, first, others)
 
 -- two declarations that the test finds equal are equal if their values are as their forms say
 same_by_parts : (a b : Declaration) → All HasValueByForm a.attributes → All HasValueByForm b.attributes

@@ -1,33 +1,25 @@
 -- A section has exactly one result at each offset, and the parser returns it.
-use Rattle.std.proofs.lemmas.Grind.{common_steps}
-use Rattle.std.proofs.Common.{◌≡◌, ℕ, ◌+◌, ◌≤◌, Bool, true, false, cond, ltb, List, [], length, drop, None, Ok, Err, refl, sym, ap, subst, ◌∙◌, arith, inl, inr, lt-ltb, le-ltb, ltb-true, ltb-false}
-use Rattle.std.specs.FinMap.{empty}
-use Rattle.std.proofs.lemmas.List.{length-drop, nil_from_length}
-use Rattle.dwarf_base_core.specs.declared.error.Error.{Error}
-use Rattle.dwarf_reader_core.specs.Input.{Input, end_of, Takes}
-use Rattle.dwarf_reader_core.specs.Faults.{end_fault, EndsBefore}
+use Rattle.dwarf_read_core.proofs.Common.{common_steps, ◌≡◌, ℕ, ◌+◌, ◌≤◌, cond, ltb, List, [], length, drop, None, Ok, Err, refl, sym, ap, subst, ◌∙◌, arith, inl, inr, lt-ltb, le-ltb, empty, length-drop, nil_from_length, Error, Input, end_of, Takes, end_fault, EndsBefore, HasOutcome, returned, failed, IsTable, HasOne, Answer, Answers, IsFault, TakesNoMemory, outside, table, fault, Gives, declaration_at, table_in, cases_lt}
 use Rattle.dwarf_read_core.proofs.tables.ReadingNumbers.{end_after}
-use Rattle.dwarf_read_core.proofs.ResultLemmas.{HasOutcome, returned, failed}
-use Rattle.dwarf_read_core.specs.Grammar.{IsTable}
-use Rattle.dwarf_reader_core.specs.Once.{HasOne}
-use Rattle.dwarf_read_core.specs.Answer.{Answer, Answers, IsFault, TakesNoMemory, outside, table, fault}
-use Rattle.dwarf_read_core.specs.Reading.{Gives, declaration_at, table_in}
 use Rattle.dwarf_read_core.proofs.tables.ReadingIsComplete.{zero_again, end_again}
 use Rattle.dwarf_read_core.proofs.tables.ReadingTables.{TableRead}
 use Rattle.dwarf_read_core.proofs.tables.TablesAreRead.{table_behind, table_again, first_error_again}
 
-abbrev AnswerBy : Bool → Input → ℕ → TableRead
-AnswerBy t section offset =
-    cond t (Err (end_fault section)) (table_in (end_of section) empty (drop offset section.bytes))
-
 -- what the functions read at an offset of a section
 unfoldable pub answer_at : Input → ℕ → TableRead
-answer_at section offset = AnswerBy (ltb (length section.bytes) offset) section offset
+answer_at section offset =
+    cond (ltb (length section.bytes) offset) (Err (end_fault section))
+    (table_in (end_of section) empty (drop offset section.bytes))
 
 -- what the functions read at an offset is a result that the section has there
 pub is_answer : (section : Input) (offset : ℕ) → Answer section offset (answer_at section offset)
 unfolding answer_at table_in
-is_answer section offset = go (ltb (length section.bytes) offset) refl
+is_answer section offset = elim (cases_lt (length section.bytes) offset) [
+  | inl lt ↦ rw (lt-ltb (length section.bytes) offset lt) (outside lt)
+  | inr le ↦ rw (le-ltb (length section.bytes) offset le) (read le
+      (table_behind (length bytes + 1) (end_of section) [] bytes bytes [] refl (omega arith)
+      (record { each = refl; distinct = tt })))
+]
   where
     bytes : List ℕ
     bytes = drop offset section.bytes
@@ -36,13 +28,6 @@ is_answer section offset = go (ltb (length section.bytes) offset) refl
         → HasOutcome (IsTable bytes) (IsFault (end_of section) bytes) r → Answer section offset r
     read le (returned t is) = table t le is
     read le (failed e is) = fault e le is
-
-    go : (t : Bool) → ltb (length section.bytes) offset ≡ t → Answer section offset (AnswerBy t section offset)
-    go true lt = outside (ltb-true (length section.bytes) offset lt)
-    go false le =
-        read (ltb-false (length section.bytes) offset le)
-        (table_behind (length bytes + 1) (end_of section) [] bytes bytes [] refl (omega arith)
-        (record { each = refl; distinct = tt }))
 
 -- every result that a section has at an offset is what the functions read there
 pub only_answer : {section : Input} {offset : ℕ} {r : TableRead} → Answer section offset r
@@ -57,17 +42,11 @@ pub answer_returned : (r : TableRead) (section : Input) (offset : ℕ) (rest : I
     → Gives (λ t. t) r (table_in (end_of rest) empty rest.bytes) → Answers r section offset
 unfolding answer_at
 answer_returned r section offset rest takes given =
-    go r (subst (λ (read : TableRead). Gives (λ t. t) r read) same given)
-  where
-    same : table_in (end_of rest) empty rest.bytes ≡ answer_at section offset
-    same =
-        let e : end_of rest ≡ end_of section = ap end_of takes.left ∙ end_after offset section takes.enough in
-        let b : rest.bytes ≡ drop offset section.bytes = ap (λ (i : Input). i.bytes) takes.left in
-        rw (e, b, le-ltb (length section.bytes) offset takes.enough) refl
-
-    go : (r : TableRead) → Gives (λ t. t) r (answer_at section offset) → Answers r section offset
-    go (Ok t) h = subst (Answer section offset) h (is_answer section offset)
-    go (Err e) h = λ memory. subst (Answer section offset) (h memory) (is_answer section offset)
+    let e : end_of rest ≡ end_of section = ap end_of takes.left ∙ end_after offset section takes.enough in
+    let b : rest.bytes ≡ drop offset section.bytes = ap (λ (i : Input). i.bytes) takes.left in
+    let same : table_in (end_of rest) empty rest.bytes ≡ answer_at section offset =
+    rw (e, b, le-ltb (length section.bytes) offset takes.enough) refl in
+    let is = is_answer section offset in grind arith
 
 -- a section has exactly one result at each offset
 pub answer_exactly_one : (section : Input) (offset : ℕ) → HasOne (Answer section offset)

@@ -1,34 +1,21 @@
 -- Declarations in order, or by places, are entries in the order of their codes.
-use Rattle.std.proofs.Common.{◌≡◌, ℕ, ◌+◌, ◌-◌, ◌<◌, get_or, reverse, ◌++◌, arith, Bool, true, false, cond, List, [], ◌∷◌, length, map, take, Option, Some, None, Ok, Err, Result, Bor, IfSome, refl, sym, ap, subst, ◌∙◌, inl, inr, option_map, option_copied, IsSome, MatchResult, Less, Equal}
-use Rattle.std.proofs.Math.Seq.{get_or-append_seam}
-use Rattle.std.specs.BTreeMap.{is_at, insert_entry}
-use Rattle.std.specs.Cmp.{IsEquivalence, IsTotalOrder, nat_cmp_total, eq_by_cmp_equiv}
-use Rattle.std.specs.FinMap.{same_map, nat_cmp-IsAntisymmetric, from_entries, entries}
-use Rattle.std.specs.List.{All, IsDistinct}
-use Rattle.std.specs.List.Sorted.{IsSortedBy, IsStrictlySortedBy, IsBinarySearchResult, IsSearchInRange}
-use Rattle.std.specs.Map.{keys_of, values_of, lookup}
-use Rattle.std.specs.Ordering.{nat_cmp, eq_by_cmp, is_eq, is_lt, ordering_reverse}
-use Rattle.std.proofs.lemmas.Bool.{cases_lt}
-use Rattle.std.proofs.lemmas.Cmp.{back_total}
-use Rattle.std.proofs.lemmas.List.{length-map, nil_from_length, get_or_append_left, get_or_push, take_more, take_at, get_or_default, get_or-map, get_or-reverse, get_or-take, length-reverse, length-take-le, length_push, map_push, reverse-append}
+use Rattle.dwarf_read_core.proofs.Common.{◌≡◌, ℕ, ◌+◌, ◌-◌, ◌<◌, get_or, reverse, ◌++◌, arith, Bool, true, false, cond, List, [], ◌∷◌, length, map, take, Option, Some, None, Ok, Err, Result, Bor, IfSome, refl, sym, ap, ◌∙◌, inl, inr, option_map, option_copied, IsSome, MatchResult, Less, common_steps, is_at, insert_entry, IsEquivalence, IsTotalOrder, nat_cmp_total, eq_by_cmp_equiv, same_map, nat_cmp-IsAntisymmetric, from_entries, entries, All, IsDistinct, IsSortedBy, IsStrictlySortedBy, IsBinarySearchResult, IsSearchInRange, keys_of, values_of, lookup, nat_cmp, eq_by_cmp, is_eq, is_lt, ordering_reverse, cases_lt, back_total, length-map, map-id, nil_from_length, get_or_push, take_more, take_at, get_or_default, get_or-map, get_or-reverse, length-reverse, length-take-le, length_push, map_push, reverse-append, All-map, recursion_from_All, searchable_from_sorted, lookup_from_place, none_past_head, IsDistinct-from_apart, IsDistinct-tail, Less-from_sorted, apart_from_distinct, sorted_from_all_adjacent, lookup-map_values, keys_of-map_values, Declaration, code_cmp, codes_of, in_order, with_codes, at_place, with_places, others_entries, ArePlaces, AreOthers, at_code, Adds, nat_tests}
+use mathlib.Core.List.{map-map}
 use Rattle.std.proofs.lemmas.List.Edits.{insert_end}
-use Rattle.std.proofs.lemmas.List.Elements.{All-map, recursion_from_All}
-use Rattle.std.proofs.lemmas.List.Sorted.{searchable_from_sorted}
 use Rattle.std.proofs.lemmas.Map.{lookup-none, lookup-insert, none_passes_from_lookup}
-use Rattle.std.proofs.lemmas.Map.Entries.{lookup_from_place, none_past_head}
-use Rattle.std.proofs.lemmas.Map.Keys.{IsDistinct-from_apart, IsDistinct-tail, Less-from_sorted, apart_from_distinct, sorted_from_all_adjacent}
 use Rattle.std.proofs.lemmas.Map.Lookups.{exact_unsigned}
-use Rattle.std.proofs.lemmas.Map.Made.{lookup-map_values}
-use Rattle.std.proofs.lemmas.Map.Views.{IfSome-lookup_from_All, All-values-insert_entry}
+use Rattle.std.proofs.lemmas.Map.Views.{tells_apart, IfSome-lookup_from_All, All-values-insert_entry}
 use Rattle.std.proofs.lemmas.Option.{slice_get-map, slice_get-get_or}
-use Rattle.dwarf_read_core.specs.Grammar.{Declaration}
 use Rattle.dwarf_read_core.proofs.tables.VectorAndMap.{get_is_lookup, entries_kept}
-use Rattle.dwarf_read_core.specs.Others.{code_cmp, codes_of, in_order, with_codes, at_place, with_places, others_entries, ArePlaces, AreOthers, at_code, Adds}
+
+-- the codes of declarations fall, or rise
+abbrev AreSorted : Bool → List Declaration → Type 0
+AreSorted falls ds = IsStrictlySortedBy (code_cmp falls) (codes_of ds)
 
 -- ---- the order of codes
 
 -- codes that fall, or rise, are totally ordered
-cmp_total : (falls : Bool) → IsTotalOrder (code_cmp falls)
+pub cmp_total : (falls : Bool) → IsTotalOrder (code_cmp falls)
 cmp_total true = back_total nat_cmp_total
 cmp_total false = nat_cmp_total
 
@@ -38,13 +25,7 @@ equal_codes = eq_by_cmp_equiv nat_cmp_total
 
 -- in either order the same codes are equal
 cmp_same : (falls : Bool) (a b : ℕ) → eq_by_cmp nat_cmp a b ≡ is_eq (code_cmp falls a b)
-cmp_same true a b = equal_codes.symm a b
-cmp_same false a b = refl
-
--- codes that compare as equal are the same
-cmp_equal : (falls : Bool) (a b : ℕ) → code_cmp falls a b ≡ Equal → a ≡ b
-cmp_equal true a b h = sym (exact_unsigned b a h)
-cmp_equal false a b h = exact_unsigned a b h
+cmp_same falls a b = grind (arith, nat_tests)
 
 -- codes in order all differ
 pub codes_distinct : (falls : Bool) (ks : List ℕ) → IsStrictlySortedBy (code_cmp falls) ks
@@ -64,23 +45,13 @@ codes_reversed ks sorted = sorted_from_all_adjacent nat_cmp_total (reverse ks) 0
 -- declarations that are turned round have their codes turned round
 codes_of_reverse : (ds : List Declaration) → codes_of (reverse ds) ≡ reverse (codes_of ds)
 codes_of_reverse [] = refl
-codes_of_reverse (d ∷ ds) =
-    ap codes_of (reverse-append (d ∷ []) ds) ∙ map_push (λ (x : Declaration). x.code) (reverse ds) d
-    ∙ ap (λ (ks : List ℕ). ks ++ d.code ∷ []) (codes_of_reverse ds) ∙ sym (reverse-append (d.code ∷ []) (codes_of ds))
+codes_of_reverse (d ∷ ds) = grind (arith, common_steps, map_push, reverse-append (d ∷ []) ds, (codes_of_reverse ds))
 
 -- so declarations in order have codes that rise
-codes_rise : (falls : Bool) (ds : List Declaration) → IsStrictlySortedBy (code_cmp falls) (codes_of ds)
+codes_rise : (falls : Bool) (ds : List Declaration) → AreSorted falls ds
     → IsStrictlySortedBy nat_cmp (codes_of (in_order falls ds))
 codes_rise true ds sorted = rw (codes_of_reverse ds) (codes_reversed (codes_of ds) sorted)
 codes_rise false ds sorted = sorted
-
--- a single code is in either order
-pub single_sorted : (falls : Bool) (ds : List Declaration) → length ds ≡ 1
-    → IsStrictlySortedBy (code_cmp falls) (codes_of ds)
-unfolding IsStrictlySortedBy
-single_sorted falls [] one = absurd (omega (arith, one))
-single_sorted falls (d ∷ []) one = (tt, tt)
-single_sorted falls (d ∷ e ∷ ds) one = absurd (omega (arith, one))
 
 -- ---- the codes of entries
 
@@ -90,19 +61,13 @@ coded d = (d.code, d)
 
 -- declarations with their codes have those codes
 keys_with_codes : (ds : List Declaration) → keys_of (with_codes ds) ≡ codes_of ds
-keys_with_codes [] = refl
-keys_with_codes (d ∷ ds) = ap (λ (ks : List ℕ). d.code ∷ ks) (keys_with_codes ds)
-
--- declarations at places have the codes of those places
-keys_with_places : (ds : List Declaration) (ps : List (ℕ × ℕ)) → keys_of (with_places ds ps) ≡ keys_of ps
-keys_with_places ds [] = refl
-keys_with_places ds (p ∷ ps) = ap (λ (ks : List ℕ). p.0 ∷ ks) (keys_with_places ds ps)
+keys_with_codes ds = map-map (λ (e : ℕ × Declaration). e.0) coded ds
 
 -- the entries are in the order of their codes
 pub entries_sorted : (falls : Bool) (ds : List Declaration) (ps : List (ℕ × ℕ)) → AreOthers falls ds ps
     → IsStrictlySortedBy nat_cmp (keys_of (others_entries falls ds ps))
 entries_sorted falls ds [] h = rw (keys_with_codes (in_order falls ds)) (codes_rise falls ds h)
-entries_sorted falls ds (p ∷ ps) h = rw (keys_with_places ds (p ∷ ps)) h.ordered
+entries_sorted falls ds (p ∷ ps) h = rw (keys_of-map_values (at_place ds) (p ∷ ps)) h.ordered
 
 -- ---- with places and without
 
@@ -113,7 +78,7 @@ entries_in_order falls ds ps none = ap (others_entries falls ds) (nil_from_lengt
 
 -- without places the codes are in order
 pub codes_in_order : (falls : Bool) (ds : List Declaration) (ps : List (ℕ × ℕ)) → length ps ≡ 0
-    → AreOthers falls ds ps → IsStrictlySortedBy (code_cmp falls) (codes_of ds)
+    → AreOthers falls ds ps → AreSorted falls ds
 codes_in_order falls ds [] none h = h
 codes_in_order falls ds (p ∷ ps) none h = absurd (omega arith)
 
@@ -149,11 +114,10 @@ code_at ds i d e lt = get_or-map (λ (x : Declaration). x.code) ds i e d lt
 -- a code is missing if it isn't equal to that of any declaration
 missing : (code : ℕ) (ds : List Declaration) → All (λ d. is_at (nat_cmp code) d.code ≡ false) ds
     → at_code code (with_codes ds) ≡ None
-missing code ds none = lookup-none (is_at (nat_cmp code)) (with_codes ds)
+missing code ds none =
+    let Apart = λ (e : ℕ × Declaration). is_at (nat_cmp code) e.0 ≡ false in
+    lookup-none (is_at (nat_cmp code)) (with_codes ds)
     (recursion_from_All Apart (with_codes ds) (All-map Apart coded ds none))
-  where
-    Apart : ℕ × Declaration → Type 0
-    Apart e = is_at (nat_cmp code) e.0 ≡ false
 
 -- a declaration behind others is found at its code if they haven't that code
 added_push : (ds : List Declaration) (d : Declaration) → at_code d.code (with_codes ds) ≡ None
@@ -173,84 +137,66 @@ found_reversed (d ∷ ds) distinct q =
     let rest = found_reversed ds (IsDistinct-tail (eq_by_cmp nat_cmp) d.code (keys_of (with_codes ds)) distinct) in
     let none : at_code d.code (with_codes ds) ≡ None = lookup-none (is_at (nat_cmp d.code)) (with_codes ds)
     (none_past_head equal_codes d.code (coded d) (with_codes ds) distinct (equal_codes.refl d.code)) in
-    ap (λ (es : List Declaration). at_code q (with_codes es)) (reverse-append (d ∷ []) ds)
-    ∙ (added_push (reverse ds) d (rest d.code ∙ none)).added q
-    ∙ ap (cond (is_at (nat_cmp d.code) q) (Some d)) (rest q)
-    ∙ ap (λ b. cond b (Some d) (at_code q (with_codes ds))) (equal_codes.symm d.code q)
+    let added = (added_push (reverse ds) d (rest d.code ∙ none)).added q in
+    cc (reverse-append (d ∷ []) ds, added, rest q, equal_codes.symm d.code q)
 
 -- so are declarations in order
-pub found_in_order : (falls : Bool) (ds : List Declaration) → IsStrictlySortedBy (code_cmp falls) (codes_of ds)
+pub found_in_order : (falls : Bool) (ds : List Declaration) → AreSorted falls ds
     → (q : ℕ) → at_code q (with_codes (in_order falls ds)) ≡ at_code q (with_codes ds)
 found_in_order true ds sorted = found_reversed ds (rw (keys_with_codes ds) (codes_distinct true (codes_of ds) sorted))
 found_in_order false ds sorted = λ q. refl
 
--- a declaration at an index is found by its code
-pub found_at : (falls : Bool) (ds : List Declaration) (code place : ℕ) (x : Declaration)
-    → IsStrictlySortedBy (code_cmp falls) (codes_of ds) → x ≡ get_or ds place x → place < length ds → x.code ≡ code
-    → at_code code (with_codes (in_order falls ds)) ≡ Some x
-found_at falls ds code place x sorted same within here = found_in_order falls ds sorted code
-    ∙ lookup_from_place equal_codes (with_codes ds) place code x
-    (rw (keys_with_codes ds) (codes_distinct falls (codes_of ds) sorted))
-    (slice_get-map coded ds place ∙ ap (option_map coded) (slice_get-get_or ds place x within ∙ ap Some (sym same))
-    ∙ ap (λ (c : ℕ). let e : ℕ × Declaration = (c, x) in Some e) here)
+module _ (falls : Bool) (ds : List Declaration) (sorted : AreSorted falls ds) where
+  -- a declaration at an index is found by its code
+  pub found_at : (code place : ℕ) (x : Declaration) → x ≡ get_or ds place x → place < length ds → x.code ≡ code
+      → at_code code (with_codes (in_order falls ds)) ≡ Some x
+  found_at code place x same within here = found_in_order falls ds sorted code
+      ∙ lookup_from_place equal_codes (with_codes ds) place code x
+      (rw (keys_with_codes ds) (codes_distinct falls (codes_of ds) sorted))
+      (slice_get-map coded ds place ∙ ap (option_map coded) (slice_get-get_or ds place x within ∙ ap Some (sym same))
+      ∙ ap (λ (c : ℕ). let e : ℕ × Declaration = (c, x) in Some e) here)
 
--- of two indices in order, the code at the first comes before the other
-code_before : (falls : Bool) (ds : List Declaration) (i j : ℕ) (d : Declaration)
-    → IsStrictlySortedBy (code_cmp falls) (codes_of ds) → i < j → j < length ds
-    → code_cmp falls (get_or ds i d).code (get_or ds j d).code ≡ Less
-code_before falls ds i j d sorted lt within =
-    let long : j < length (codes_of ds) = rw (length-map ds (λ (x : Declaration). x.code)) within in
-    rw (← code_at ds i 0 d (omega arith), ← code_at ds j 0 d within)
-    (Less-from_sorted (code_cmp falls) (codes_of ds) i j 0 sorted lt long)
+  -- codes stay in order if one comes behind the last
+  pub codes_push : (code : ℕ) (d : Declaration)
+      → (0 < length ds → code_cmp falls (get_or ds (length ds - 1) d).code code ≡ Less)
+      → IsStrictlySortedBy (code_cmp falls) (codes_of ds ++ code ∷ [])
+  codes_push code d last =
+      let more = length_push (codes_of ds) code in
+      let counted = length-map ds (λ (x : Declaration). x.code) in
+      sorted_from_all_adjacent (cmp_total falls) (codes_of ds ++ code ∷ []) 0 (λ k lt. grind
+      (arith, common_steps, code_at ds k 0 d, Less-from_sorted (code_cmp falls) (codes_of ds) k (k + 1) 0 sorted))
 
--- codes stay in order if one comes behind the last
-pub codes_push : (falls : Bool) (ds : List Declaration) (code : ℕ) (d : Declaration)
-    → IsStrictlySortedBy (code_cmp falls) (codes_of ds)
-    → (0 < length ds → code_cmp falls (get_or ds (length ds - 1) d).code code ≡ Less)
-    → IsStrictlySortedBy (code_cmp falls) (codes_of ds ++ code ∷ [])
-codes_push falls ds code d sorted last =
-    let ks = codes_of ds in
-    let more = length_push ks code in
-    let counted = length-map ds (λ (x : Declaration). x.code) in
-    sorted_from_all_adjacent (cmp_total falls) (ks ++ code ∷ []) 0 (λ k lt.
-    let low : k < length ks = omega (arith, more) in
-    rw (get_or_append_left ks (code ∷ []) 0 k low) (elim (cases_lt (k + 1) (length ks)) [
-      | inl inside ↦ rw (get_or_append_left ks (code ∷ []) 0 (k + 1) inside)
-          (Less-from_sorted (code_cmp falls) ks k (k + 1) 0 sorted (omega arith) inside)
-      | inr ge ↦ (let here : k ≡ length ds - 1 = omega (arith, more, counted) in
-          rw (get_or_push ks code 0 (k + 1) (omega (arith, low)), code_at ds k 0 d (omega (arith, counted)), here)
-          (last (omega (arith, counted))))
-    ]))
-
--- what a binary search finds, or doesn't find, is what a lookup does
-pub searched : (falls : Bool) (ds : List Declaration) (code : ℕ) (r : Result ℕ ℕ)
-    → IsStrictlySortedBy (code_cmp falls) (codes_of ds) → IsSearchInRange r (length ds)
-    → IsBinarySearchResult (λ d. code_cmp falls d.code code) ds r
-    → MatchResult r (λ i. (i < length ds) × (at_code code (with_codes (in_order falls ds)) ≡ Some (at_place ds i)))
-    (λ i. at_code code (with_codes (in_order falls ds)) ≡ None)
-searched falls ds code (Ok i) sorted within here = (
-  within,
-  found_at falls ds code i (at_place ds i) sorted (get_or_default ds i _ _ within) within
-      (cmp_equal falls (at_place ds i).code code (here _)),
-)
-searched falls ds code (Err i) sorted within parted =
-    let both = parted (searchable_from_sorted (cmp_total falls) (λ (d : Declaration). d.code) ds code rises) in
-    found_in_order falls ds sorted code
-    ∙ missing code ds (λ j d lt. equal_codes.symm code (get_or ds j d).code
-    ∙ cmp_same falls (get_or ds j d).code code ∙ elim (cases_lt j i) [
-      | inl low ↦ ap is_eq (both.0 j d (omega arith) low)
-      | inr high ↦ ap is_eq (both.1 j d high lt)
-    ])
-  where
-    rises : IsSortedBy (λ x y. is_lt (code_cmp falls x.code y.code)) ds
-    rises k d low high = ap is_lt ((cmp_total falls).antisymm _ _
-        ∙ ap ordering_reverse (code_before falls ds k (k + 1) d sorted (omega arith) high))
+  -- what a binary search finds, or doesn't find, is what a lookup does
+  pub searched : (code : ℕ) (r : Result ℕ ℕ) → IsSearchInRange r (length ds)
+      → IsBinarySearchResult (λ d. code_cmp falls d.code code) ds r
+      → MatchResult r
+      (λ i. (i < length ds) × (at_code code (with_codes (in_order falls ds)) ≡ Some (at_place ds i)))
+      (λ i. at_code code (with_codes (in_order falls ds)) ≡ None)
+  searched code (Ok i) within here = (
+    within,
+    found_at code i (at_place ds i) (get_or_default ds i _ _ within) within
+        (tells_apart exact_unsigned _ _ (cmp_same falls (at_place ds i).code code ∙ ap is_eq (here _))),
+  )
+  searched code (Err i) within parted =
+      let both = parted (searchable_from_sorted (cmp_total falls) (λ (d : Declaration). d.code) ds code rises) in
+      found_in_order falls ds sorted code
+      ∙ missing code ds (λ j d lt. equal_codes.symm code (get_or ds j d).code
+      ∙ cmp_same falls (get_or ds j d).code code ∙ elim (cases_lt j i) [
+        | inl low ↦ ap is_eq (both.0 j d (omega arith) low)
+        | inr high ↦ ap is_eq (both.1 j d high lt)
+      ])
+    where
+      rises : IsSortedBy (λ x y. is_lt (code_cmp falls x.code y.code)) ds
+      rises k d low high =
+          let less = Less-from_sorted (code_cmp falls) (codes_of ds) k (k + 1) 0 sorted in
+          let before : code_cmp falls (get_or ds k d).code (get_or ds (k + 1) d).code ≡ Less =
+          grind (arith, common_steps, code_at ds k 0 d, code_at ds (k + 1) 0 d, less) in
+          ap is_lt ((cmp_total falls).antisymm _ _ ∙ ap ordering_reverse before)
 
 -- a reference to the declaration at an index is that declaration
 pub copied_at : (r : Option (Bor Declaration)) (ds : List Declaration) (i : ℕ) → IsSome r
     → IfSome r (λ x. x.now ≡ get_or ds i x.now) → i < length ds → option_copied r ≡ Some (at_place ds i)
-copied_at None ds i some same lt = absurd (cc)
-copied_at (Some x) ds i some same lt = ap Some (same ∙ get_or_default ds i x.now _ lt)
+copied_at r ds i some same lt = grind (arith, get_or_default)
 
 -- ---- declarations at places
 
@@ -262,16 +208,7 @@ place_within test n place ps within found = rw found at (IfSome-lookup_from_All 
 -- a code that has a place has a declaration
 pub has_by_place : (test : ℕ → Bool) (ds : List Declaration) (ps : List (ℕ × ℕ)) → IsSome (lookup test ps)
     → IsSome (lookup test (with_places ds ps))
-has_by_place test ds ps some = rw (lookup-map_values (at_place ds) test ps) (go (lookup test ps) some)
-  where
-    go : (o : Option ℕ) → IsSome o → IsSome (option_map (at_place ds) o)
-    go None h = h
-    go (Some place) h = h
-
--- with more declarations behind them, places have the same declarations
-at_place_before : (ds more : List Declaration) (place : ℕ) → place < length ds
-    → at_place (ds ++ more) place ≡ at_place ds place
-at_place_before ds more place lt = get_or_append_left ds more _ place lt
+has_by_place test ds ps some = grind (arith, lookup-map_values (at_place ds) test ps)
 
 -- one more declaration, and its place at its code, is one more entry
 pub added_by_place : (ds : List Declaration) (ps qs : List (ℕ × ℕ)) (d : Declaration) (code place : ℕ) → ArePlaces ds ps
@@ -280,21 +217,14 @@ pub added_by_place : (ds : List Declaration) (ps qs : List (ℕ × ℕ)) (d : De
     ≡ cond (is_at (nat_cmp code) q) (Some place) (lookup (is_at (nat_cmp q)) ps))
     → Adds d (with_places ds ps) (with_places (ds ++ d ∷ []) qs)
 added_by_place ds ps qs d code place kept same last none h = record {
-  absent = lookup-map_values (at_place ds) (is_at (nat_cmp d.code)) ps
-      ∙ ap (option_map (at_place ds)) (rw same at none);
-  added = λ q. lookup-map_values (at_place (ds ++ d ∷ [])) (is_at (nat_cmp q)) qs
-      ∙ ap (option_map (at_place (ds ++ d ∷ []))) (rw same at (h q))
-      ∙ go q (is_at (nat_cmp d.code) q) (lookup (is_at (nat_cmp q)) ps) refl
-      ∙ ap (cond (is_at (nat_cmp d.code) q) (Some d)) (sym (lookup-map_values (at_place ds) (is_at (nat_cmp q)) ps));
+  absent = grind (arith, lookup-map_values (at_place ds) (is_at (nat_cmp d.code)) ps);
+  added = λ q.
+      let within : (other : ℕ) → lookup (is_at (nat_cmp q)) ps ≡ Some other → other < length ds =
+      λ other. place_within (is_at (nat_cmp q)) (length ds) other ps kept.within in
+      let old = lookup-map_values (at_place ds) (is_at (nat_cmp q)) ps in
+      let new = lookup-map_values (at_place (ds ++ d ∷ [])) (is_at (nat_cmp q)) qs in
+      grind (arith, common_steps, h q, within, old, new);
 }
-  where
-    go : (q : ℕ) (t : Bool) (o : Option ℕ) → lookup (is_at (nat_cmp q)) ps ≡ o
-        → option_map (at_place (ds ++ d ∷ [])) (cond t (Some place) o)
-        ≡ cond t (Some d) (option_map (at_place ds) o)
-    go q true o e = ap Some (ap (at_place (ds ++ d ∷ [])) last ∙ get_or-append_seam ds d [] _)
-    go q false None e = refl
-    go q false (Some other) e =
-        ap Some (at_place_before ds (d ∷ []) other (place_within _ (length ds) other ps kept.within e))
 
 -- with one more place, they are places of one more declaration
 pub places_put : (ds : List Declaration) (ps qs : List (ℕ × ℕ)) (d : Declaration) (code place : ℕ) → ArePlaces ds ps
@@ -304,8 +234,7 @@ places_put ds ps qs d code place kept last put more ordered =
     let longer = length_push ds d in
     record {
       ordered = ordered;
-      within = subst (λ (rs : List (ℕ × ℕ)). All (λ p. p < length (ds ++ d ∷ [])) (values_of rs)) (sym put)
-          (All-values-insert_entry nat_cmp code place (λ p. p < length (ds ++ d ∷ [])) ps
+      within = rw put (All-values-insert_entry nat_cmp code place (λ p. p < length (ds ++ d ∷ [])) ps
           (λ k p lt. let w = kept.within k p lt in omega (arith, longer)) (omega (arith, longer)));
       counted = omega (arith, longer, kept.counted);
     }
@@ -316,27 +245,24 @@ places_put ds ps qs d code place kept last put more ordered =
 missing_before : (ds : List Declaration) (i : ℕ) (d : Declaration) → IsDistinct (eq_by_cmp nat_cmp) (codes_of ds)
     → i < length ds → at_code (get_or ds i d).code (with_codes (take i ds)) ≡ None
 missing_before ds i d distinct within = missing _ (take i ds) (λ j e lt.
-    let low : j < i = omega (arith, length-take-le i ds (omega arith)) in
-    let long : i < length (codes_of ds) = rw (length-map ds (λ (x : Declaration). x.code)) within in
-    rw (get_or-take i ds j e low, ← code_at ds i 0 d within, ← code_at ds j 0 e (omega arith))
-    (equal_codes.symm (get_or (codes_of ds) i 0) (get_or (codes_of ds) j 0)
-    ∙ apart_from_distinct (eq_by_cmp nat_cmp) (codes_of ds) j i 0 distinct low long))
+    let apart = apart_from_distinct (eq_by_cmp nat_cmp) (codes_of ds) j i 0 distinct in
+    let flipped = equal_codes.symm (get_or (codes_of ds) i 0) (get_or (codes_of ds) j 0) in
+    grind (arith, common_steps, code_at ds i 0 d, code_at ds j 0 e, flipped, apart))
 
 -- so a declaration whose code comes next is found at it
-pub added_next : (falls : Bool) (ds : List Declaration) (d : Declaration)
-    → IsStrictlySortedBy (code_cmp falls) (codes_of ds)
-    → IsStrictlySortedBy (code_cmp falls) (codes_of (ds ++ d ∷ []))
+pub added_next : (falls : Bool) (ds : List Declaration) (d : Declaration) → AreSorted falls ds
+    → AreSorted falls (ds ++ d ∷ [])
     → Adds d (with_codes (in_order falls ds)) (with_codes (in_order falls (ds ++ d ∷ [])))
-added_next falls ds d sorted longer = record {
-  absent = found_in_order falls ds sorted d.code ∙ none;
-  added = λ q. found_in_order falls (ds ++ d ∷ []) longer q ∙ (added_push ds d none).added q
-      ∙ ap (cond (is_at (nat_cmp d.code) q) (Some d)) (sym (found_in_order falls ds sorted q));
-}
-  where
-    none : at_code d.code (with_codes ds) ≡ None
-    none = rw (get_or_push ds d d (length ds) refl, take_at ds (d ∷ []) (length ds) refl) at
-        (missing_before (ds ++ d ∷ []) (length ds) d (codes_distinct falls (codes_of (ds ++ d ∷ [])) longer)
-        (omega (arith, length_push ds d)))
+added_next falls ds d sorted longer =
+    let none : at_code d.code (with_codes ds) ≡ None =
+    rw (get_or_push ds d d (length ds) refl, take_at ds (d ∷ []) (length ds) refl) at
+    (missing_before (ds ++ d ∷ []) (length ds) d (codes_distinct falls (codes_of (ds ++ d ∷ [])) longer)
+    (omega (arith, length_push ds d))) in
+    record {
+      absent = found_in_order falls ds sorted d.code ∙ none;
+      added = λ q. found_in_order falls (ds ++ d ∷ []) longer q ∙ (added_push ds d none).added q
+          ∙ ap (cond (is_at (nat_cmp d.code) q) (Some d)) (sym (found_in_order falls ds sorted q));
+    }
 
 -- with the place of the next declaration, places find what the declarations up to it have
 pub places_more : (ds : List Declaration) (i : ℕ) (d : Declaration) (ps qs : List (ℕ × ℕ)) (code place : ℕ)
@@ -352,18 +278,14 @@ pub places_more : (ds : List Declaration) (i : ℕ) (d : Declaration) (ps qs : L
 places_more ds i d ps qs code place distinct within here next kept same put ordered more at =
     let last : place ≡ length (take i ds) = omega (arith, length-take-le i ds (omega arith)) in
     let missing = missing_before ds i d distinct within in
-    let none = go _ (sym (lookup-map_values (at_place (take i ds)) (is_at (nat_cmp code)) ps) ∙ same code
-    ∙ rw here missing) in
+    let none : lookup (is_at (nat_cmp code)) ps ≡ None = grind
+    (arith, lookup-map_values (at_place (take i ds)) (is_at (nat_cmp code)) ps, same code, missing) in
+    let added = added_by_place (take i ds) ps qs (get_or ds i d) code place kept here last none at in
+    let pushed = added_push (take i ds) (get_or ds i d) missing in
     rw (take_more ds i d within) (
       places_put (take i ds) ps qs (get_or ds i d) code place kept last put (more none) ordered,
-      λ q. (added_by_place (take i ds) ps qs (get_or ds i d) code place kept here last none at).added q
-          ∙ ap (cond (is_at (nat_cmp (get_or ds i d).code) q) (Some (get_or ds i d))) (same q)
-          ∙ sym ((added_push (take i ds) (get_or ds i d) missing).added q),
+      λ q. cc (added.added q, same q, pushed.added q),
     )
-  where
-    go : (o : Option ℕ) → option_map (at_place (take i ds)) o ≡ None → o ≡ None
-    go None e = refl
-    go (Some other) e = absurd (cc)
 
 -- entries in order that have the same at each code are the same
 same_entries : (es fs : List (ℕ × Declaration)) → IsStrictlySortedBy nat_cmp (keys_of es)
@@ -375,26 +297,26 @@ same_entries es fs sorted_es sorted_fs same =
     ∙ entries_kept fs sorted_fs
 
 -- so places that find what the declarations have make the same entries as their order
-pub entries_placed : (falls : Bool) (ds : List Declaration) (ps : List (ℕ × ℕ))
-    → IsStrictlySortedBy (code_cmp falls) (codes_of ds) → ArePlaces ds ps
+pub entries_placed : (falls : Bool) (ds : List Declaration) (ps : List (ℕ × ℕ)) → AreSorted falls ds → ArePlaces ds ps
     → ((q : ℕ) → at_code q (with_places ds ps) ≡ at_code q (with_codes ds))
     → with_places ds ps ≡ with_codes (in_order falls ds)
 entries_placed falls ds ps sorted kept same = same_entries (with_places ds ps) (with_codes (in_order falls ds))
-    (rw (keys_with_places ds ps) kept.ordered) (rw (keys_with_codes (in_order falls ds)) (codes_rise falls ds sorted))
+    (rw (keys_of-map_values (at_place ds) ps) kept.ordered)
+    (rw (keys_with_codes (in_order falls ds)) (codes_rise falls ds sorted))
     (λ q. same q ∙ sym (found_in_order falls ds sorted q))
 
 -- ---- the declarations in the order of their codes
 
 -- the values of declarations with their codes are the declarations
 pub values_with_codes : (ds : List Declaration) → values_of (with_codes ds) ≡ ds
-values_with_codes [] = refl
-values_with_codes (d ∷ ds) = ap (λ (es : List Declaration). d ∷ es) (values_with_codes ds)
+values_with_codes ds = map-map (λ (e : ℕ × Declaration). e.1) coded ds ∙ map-id ds
 
 -- the values of declarations at places are those at the places
 pub values_with_places : (ds : List Declaration) (ps : List (ℕ × ℕ))
     → values_of (with_places ds ps) ≡ map (at_place ds) (values_of ps)
-values_with_places ds [] = refl
-values_with_places ds (p ∷ ps) = ap (λ (es : List Declaration). at_place ds p.1 ∷ es) (values_with_places ds ps)
+values_with_places ds ps =
+    map-map (λ (e : ℕ × Declaration). e.1) (λ (p : ℕ × ℕ). (p.0, at_place ds p.1)) ps
+    ∙ sym (map-map (at_place ds) (λ (p : ℕ × ℕ). p.1) ps)
 
 -- what entries are, with places and without
 pub ruleset by_either = (entries_in_order, codes_in_order, entries_by_places, places_of_others, others_of_places)

@@ -1,12 +1,13 @@
 -- Reading the specifications up to the null one, as the loop does and as the grammar says.
-use Rattle.std.proofs.Common.{◌≡◌, ℕ, zero, suc, ◌+◌, ◌<◌, List, [], ◌∷◌, ◌++◌, length, Option, Some, None, Result, Ok, Err, refl, sym, ap, ◌∙◌, append_assoc, arith, append-nil}
-use Rattle.dwarf_base_core.specs.declared.error.Error.{Error}
-use Rattle.dwarf_read_core.specs.Grammar.{Specification, Declaration, Sequence, IsSpecification, IsNull, IsFront}
-use Rattle.dwarf_read_core.specs.Answer.{IsFaulty}
-use Rattle.dwarf_read_core.specs.Reading.{◌>>=◌, specification_at, and_others, attributes_at, attributes_in, declaration_of}
-use Rattle.dwarf_read_core.proofs.tables.Sequences.{Sequence-push}
-use Rattle.dwarf_read_core.proofs.ResultLemmas.{HasOutcome, returned, outcome-bind}
+use Rattle.dwarf_read_core.proofs.Common.{◌≡◌, ℕ, zero, suc, ◌+◌, ◌<◌, List, [], ◌∷◌, ◌++◌, length, Option, Some, None, Result, Ok, Err, refl, sym, ap, ◌∙◌, append_assoc, arith, append-nil, Error, Specification, Declaration, Sequence, IsSpecification, IsNull, IsFront, IsFaulty, ◌>>=◌, specification_at, and_others, attributes_at, attributes_in, declaration_of, HasOutcome, returned, outcome-bind, common_steps}
 use Rattle.dwarf_read_core.proofs.tables.ReadingSpecifications.{SpecificationFound, SomeFound, specification_behind, specification_again, null_again, found_shorter, specification_shorter}
+
+-- the bytes of items, with those of one more behind them, are the bytes of all of them
+pub Sequence-push : {A : Type 0} (Is : List ℕ → A → Type 0) (bytes : List ℕ) (xs : List A) (last : List ℕ) (x : A)
+    → Sequence Is bytes xs → Is last x → Sequence Is (bytes ++ last) (xs ++ x ∷ [])
+Sequence-push Is bytes [] last x e is = (last, [], rw e (sym (append-nil last)), is, refl)
+Sequence-push Is bytes (y ∷ ys) last x s is =
+    grind (arith, common_steps, append_assoc, (Sequence-push Is s.1 ys last x s.4 is))
 
 abbrev pub AttributesRead : Type 0
 AttributesRead = Result (List Specification × List ℕ) Error
@@ -61,18 +62,13 @@ pub front-goes_on : (front : List Specification) (end : ℕ) (bytes : List ℕ) 
     (total : AttributesRead) → specification_at end bytes ≡ Ok (Some s, after)
     → with_front front (attributes_in end bytes) ≡ total
     → with_front (front ++ s ∷ []) (attributes_in end after) ≡ total
-front-goes_on front end bytes s after total q so_far =
-    sym (front-regrouped front s (attributes_in end after))
-    ∙ ap (with_front front) (sym (next end bytes (Some s, after) q)) ∙ so_far
+front-goes_on front end bytes s after total q so_far = grind (arith, front-regrouped, next end bytes (Some s, after) q)
 
 -- reading behind a list of specifications ends with that list if the null one is next
 pub front-ends : (front : List Specification) (end : ℕ) (bytes : List ℕ) (o : Option Specification) (after : List ℕ)
     (total : AttributesRead) → specification_at end bytes ≡ Ok (o, after) → o ≡ None
     → with_front front (attributes_in end bytes) ≡ total → total ≡ Ok (front, after)
-front-ends front end bytes o after total q none so_far =
-    let r : specification_at end bytes ≡ Ok (None, after) = rw none at q in
-    sym so_far ∙ ap (with_front front) (next end bytes (None, after) r)
-    ∙ ap (λ (all : List Specification). Ok (all, after)) (append-nil front)
+front-ends front end bytes o after total q none so_far = grind (arith, append-nil, next end bytes (o, after) q)
 
 -- reading behind a list of specifications fails with the error of the next one
 pub front-fails : (front : List Specification) (end : ℕ) (bytes : List ℕ) (e : Error) (total : AttributesRead)
@@ -92,17 +88,6 @@ pub record AttributesFound (bytes : List ℕ) (ss : List Specification) (rest : 
   pub are : Sequence IsSpecification specifications ss
   pub is_null : IsNull null
 
--- a specification in front of a list that the grammar allows is a longer list that it allows
-more_found : (bytes : List ℕ) (s : Specification) (ss : List Specification) (behind rest : List ℕ)
-    → SpecificationFound bytes s behind → AttributesFound behind ss rest → AttributesFound bytes (s ∷ ss) rest
-more_found bytes s ss behind rest f g = record {
-  specifications = f.front ++ g.specifications;
-  null = g.null;
-  parts = f.parts ∙ rw g.parts (simp append_assoc);
-  are = (f.front, g.specifications, refl, f.is_specification, g.are);
-  is_null = g.is_null;
-}
-
 -- a declaration with more attributes behind its own
 abbrev pub with_attributes : Declaration → List Specification → Declaration
 with_attributes d more = declaration_of d.code d.tag d.children (d.attributes ++ more)
@@ -120,8 +105,7 @@ front_push front first d s is one = record {
 
 -- under a bound above the bytes, specifications are read behind a front, or an error of both together
 behind_by : (n end : ℕ) (front bytes whole : List ℕ) (d : Declaration) → whole ≡ front ++ bytes → length bytes < n
-    → IsFront front d
-    → HasOutcome (λ x. AttributesFound bytes x.0 x.1) (IsFaulty end whole) (attributes_at n end bytes)
+    → IsFront front d → HasOutcome (λ x. AttributesFound bytes x.0 x.1) (IsFaulty end whole) (attributes_at n end bytes)
 unfolding attributes_at
 behind_by zero end front bytes whole d parts short is = absurd (omega arith)
 behind_by (suc n) end front bytes whole d parts short is =
@@ -141,7 +125,13 @@ behind_by (suc n) end front bytes whole d parts short is =
         (rw (parts, f.parts) (simp append_assoc))
         (let h = found_shorter bytes (Some s) behind f in omega arith)
         (front_push front f.front d s is f.is_specification))
-        (λ y g. returned (s ∷ y.0, y.1) (more_found bytes s y.0 behind y.1 f g))
+        (λ y g. returned (s ∷ y.0, y.1) (record {
+          specifications = f.front ++ g.specifications;
+          null = g.null;
+          parts = f.parts ∙ rw g.parts (simp append_assoc);
+          are = (f.front, g.specifications, refl, f.is_specification, g.are);
+          is_null = g.is_null;
+        }))
 
 -- specifications are read behind a front, or an error of both together
 pub attributes_behind : (end : ℕ) (front bytes whole : List ℕ) (d : Declaration) → whole ≡ front ++ bytes
@@ -162,11 +152,10 @@ pub attributes_again : (end : ℕ) (bytes rest : List ℕ) (ss : List Specificat
     → Sequence IsSpecification bytes ss → attributes_in end (bytes ++ rest) ≡ with_front ss (attributes_in end rest)
 attributes_again end bytes rest [] e = rw e (sym (front-begins (attributes_in end rest)))
 attributes_again end bytes rest (s ∷ ss) q =
-    let regrouped : bytes ++ rest ≡ q.0 ++ (q.1 ++ rest) = rw q.2 (simp append_assoc) in
-    ap (attributes_in end) regrouped
-    ∙ next end (q.0 ++ (q.1 ++ rest)) (Some s, q.1 ++ rest) (specification_again end q.0 (q.1 ++ rest) s q.3)
+    rw (q.2, append_assoc) (next end (q.0 ++ (q.1 ++ rest)) (Some s, q.1 ++ rest)
+    (specification_again end q.0 (q.1 ++ rest) s q.3)
     ∙ ap (λ (read : AttributesRead). read >>= λ x. Ok (s ∷ x.0, x.1)) (attributes_again end q.1 rest ss q.4)
-    ∙ twice s ss (attributes_in end rest)
+    ∙ twice s ss (attributes_in end rest))
 
 -- the bytes of the null specification are read as an empty list, whatever follows
 pub attributes_end : (end : ℕ) (bytes rest : List ℕ) → IsNull bytes → attributes_in end (bytes ++ rest) ≡ Ok ([], rest)

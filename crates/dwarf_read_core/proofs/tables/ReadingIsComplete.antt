@@ -1,15 +1,6 @@
 -- What the grammar has at the front is read, and so is each of its errors.
-use Rattle.std.proofs.lemmas.Grind.{common_steps}
-use Rattle.std.proofs.Common.{◌≡◌, ◌≢◌, ℕ, ◌<◌, Bool, false, eqb, List, [], ◌∷◌, ◌++◌, length, Option, Some, None, Result, Ok, Err, refl, sym, ap, ◌∙◌, append_assoc, arith, ne_eqb}
-use Rattle.std.proofs.lemmas.List.{length-append, append-nil, nil_from_length}
-use Rattle.dwarf_base_core.specs.declared.error.Error.{Error}
-use Rattle.dwarf_base_core.specs.declared.error.Error.TheVariants.{AttributeNameZero, AttributeFormZero}
-use Rattle.dwarf_reader_core.specs.Leb128.{Kind, unsigned64, unsigned16, signed64, refusal, IsNumber}
-use Rattle.dwarf_reader_core.specs.Faults.{eof}
-use Rattle.dwarf_read_core.specs.Grammar.{Declaration, implicit_const, children_byte, IsCode, IsHead, IsFront, IsDeclaration}
-use Rattle.dwarf_read_core.specs.Answer.{IsBeginning, before_code, before_tag, before_name, before_form, before_value, IsFaulty, number_cut, number_bad, children_cut, tag_zero, children_bad, name_zero, form_zero}
-use Rattle.dwarf_read_core.specs.Reading.{◌>>=◌, number_at, value_at, specification_at, attributes_in, tag_at, children_at, declaration_of, declared_at, declaration_at}
-use Rattle.dwarf_read_core.proofs.tables.ReadingNumbers.{encoding-nonempty, number_at-string, number_at-cut, number_at-bad}
+use Rattle.dwarf_read_core.proofs.Common.{common_steps, ◌≡◌, ◌≢◌, ℕ, ◌<◌, Bool, eqb, List, [], ◌∷◌, ◌++◌, Option, Some, None, Result, Ok, Err, refl, sym, ap, ◌∙◌, append_assoc, arith, ne_eqb, append-nil, nil_from_length, Error, AttributeNameZero, AttributeFormZero, Kind, unsigned64, unsigned16, refusal, IsNumber, eof, Declaration, implicit_const, children_byte, IsCode, IsHead, IsFront, IsDeclaration, IsBeginning, before_code, before_tag, before_name, before_form, before_value, IsFaulty, number_cut, number_bad, children_cut, tag_zero, children_bad, name_zero, form_zero, ◌>>=◌, number_at, value_at, specification_at, attributes_in, tag_at, children_at, declaration_of, declared_at, declaration_at}
+use Rattle.dwarf_read_core.proofs.tables.ReadingNumbers.{encoding-begins, positive-nonzero, number_at-string, number_at-cut, number_at-bad}
 use Rattle.dwarf_read_core.proofs.tables.ReadingAttributes.{with_front, AttributesRead, attributes_fail, attributes_again, attributes_end}
 
 abbrev EntryRead : Type 0
@@ -27,10 +18,6 @@ abbrev after_attributes : ℕ → ℕ → Bool → AttributesRead → EntryRead
 after_attributes code tag children read =
     found (read >>= λ attributes. Ok (declaration_of code tag children attributes.0, attributes.1))
 
--- the test finds a number above 0 not equal to 0
-nonzero : (n : ℕ) → 0 < n → eqb n 0 ≡ false
-nonzero n lt = ne_eqb n 0 (λ e. omega arith)
-
 -- ---- field by field
 
 -- a declaration that begins with a code above 0 is read as that code and what follows it
@@ -38,26 +25,23 @@ code_again : (end : ℕ) (front rest : List ℕ) (code : ℕ) → IsCode front c
     → declaration_at end (front ++ rest) ≡ found (declared_at end code rest)
 unfolding declaration_at
 code_again end front rest code is =
-    let some : eqb (length (front ++ rest)) 0
-    ≡ false = nonzero (length (front ++ rest))
-    (omega (arith, length-append front rest, encoding-nonempty front is.is_code.encoding)) in
-    rw (some, number_at-string unsigned64 end front rest code is.is_code, nonzero code is.nonzero) refl
+    let some = encoding-begins front rest is.is_code.encoding in
+    rw (some, number_at-string unsigned64 end front rest code is.is_code, positive-nonzero code is.nonzero) refl
 
 -- a tag above 0 is read as that tag, and the rest remains
 tag_again : (end : ℕ) (front rest : List ℕ) (tag : ℕ) → IsNumber unsigned16 front tag → 0 < tag
     → tag_at end (front ++ rest) ≡ Ok (tag, rest)
 unfolding tag_at
-tag_again end front rest tag is lt = rw (number_at-string unsigned16 end front rest tag is, nonzero tag lt) refl
+tag_again end front rest tag is lt =
+    rw (number_at-string unsigned16 end front rest tag is, positive-nonzero tag lt) refl
 
 -- a declaration that begins with a code and a tag is read as these two and what follows the tag
 head_again : (end : ℕ) (front rest : List ℕ) (code tag : ℕ) → IsHead front code tag
     → declaration_at end (front ++ rest) ≡ after_tag end code tag rest
 unfolding declared_at
 head_again end front rest code tag is =
-    let same : front ++ rest ≡ is.first ++ (is.second ++ rest) = ap (λ (b : List ℕ). b ++ rest) is.parts
-    ∙ append_assoc is.first is.second rest in
-    ap (declaration_at end) same ∙ code_again end is.first (is.second ++ rest) code is.is_code
-    ∙ rw (tag_again end is.second rest tag is.is_tag is.tagged) refl
+    rw (is.parts, append_assoc, code_again end is.first (is.second ++ rest) code is.is_code)
+    (rw (tag_again end is.second rest tag is.is_tag is.tagged) refl)
 
 -- the byte for children is read as what it says, and the rest remains
 children_again : (end : ℕ) (children : Bool) (rest : List ℕ)
@@ -70,36 +54,24 @@ front_again : (end : ℕ) (front rest : List ℕ) (d : Declaration) → IsFront 
     → declaration_at end (front ++ rest)
     ≡ after_attributes d.code d.tag d.children (with_front d.attributes (attributes_in end rest))
 front_again end front rest d is =
-    let same : front ++ rest ≡ is.head ++ (children_byte d.children ∷ (is.specifications ++ rest)) = ap
-    (λ (b : List ℕ). b ++ rest) is.parts
-    ∙ append_assoc is.head (children_byte d.children ∷ is.specifications) rest in
-    ap (declaration_at end) same
-    ∙ head_again end is.head (children_byte d.children ∷ (is.specifications ++ rest)) d.code d.tag is.is_head
-    ∙ rw (
-      children_again end d.children (is.specifications
-          ++ rest),
-      attributes_again end is.specifications rest d.attributes is.are_attributes,
-    ) refl
+    let again = attributes_again end is.specifications rest d.attributes is.are_attributes in
+    let behind = children_byte d.children ∷ (is.specifications ++ rest) in
+    rw (is.parts, append_assoc, head_again end is.head behind d.code d.tag is.is_head)
+    (rw (children_again end d.children (is.specifications ++ rest), again) refl)
 
 -- the bytes of a declaration are read as that declaration, and the rest remains
 pub declaration_again : (end : ℕ) (bytes rest : List ℕ) (d : Declaration) → IsDeclaration bytes d
     → declaration_at end (bytes ++ rest) ≡ Ok (Some d, rest)
 declaration_again end bytes rest d is =
-    let same : bytes ++ rest ≡ is.front ++ (is.null ++ rest) = ap (λ (b : List ℕ). b ++ rest) is.parts
-    ∙ append_assoc is.front is.null rest in
-    ap (declaration_at end) same
-    ∙ front_again end is.front (is.null ++ rest) d is.is_front
-    ∙ rw (attributes_end end is.null rest is.is_null, append-nil d.attributes) refl
+    rw (is.parts, append_assoc, front_again end is.front (is.null ++ rest) d is.is_front)
+    (rw (attributes_end end is.null rest is.is_null, append-nil) refl)
 
 -- a code of value 0 is read as the end of the table, and the rest remains
 pub zero_again : (end : ℕ) (bytes rest : List ℕ) → IsNumber unsigned64 bytes 0
     → declaration_at end (bytes ++ rest) ≡ Ok (None, rest)
 unfolding declaration_at
 zero_again end bytes rest is =
-    let some : eqb (length (bytes ++ rest)) 0
-    ≡ false = nonzero (length (bytes ++ rest))
-    (omega (arith, length-append bytes rest, encoding-nonempty bytes is.encoding)) in
-    rw (some, number_at-string unsigned64 end bytes rest 0 is) refl
+    rw (encoding-begins bytes rest is.encoding, number_at-string unsigned64 end bytes rest 0 is) refl
 
 -- the end of the bytes is read as the end of the table
 pub end_again : (end : ℕ) → declaration_at end [] ≡ Ok (None, [])
@@ -113,36 +85,21 @@ front_fails : (end : ℕ) (front bytes : List ℕ) (d : Declaration) (e : Error)
     → specification_at end bytes ≡ Err e → declaration_at end (front ++ bytes) ≡ Err e
 front_fails end front bytes d e is q = front_again end front bytes d is ∙ rw (attributes_fail end bytes e q) refl
 
--- a specification fails with the error of its form behind the name
-form_fails : (end : ℕ) (name bytes : List ℕ) (n : ℕ) (e : Error) → IsNumber unsigned16 name n
-    → number_at unsigned16 end bytes ≡ Err e → specification_at end (name ++ bytes) ≡ Err e
-unfolding specification_at
-form_fails end name bytes n e is q = rw (number_at-string unsigned16 end name bytes n is, q) refl
-
--- a specification fails with the error of its value behind the name and a form that has one
-value_fails : (end : ℕ) (name form bytes : List ℕ) (n : ℕ) (e : Error) → IsNumber unsigned16 name n → 0 < n
-    → IsNumber unsigned16 form implicit_const → number_at signed64 end bytes ≡ Err e
-    → specification_at end (name ++ (form ++ bytes)) ≡ Err e
-unfolding specification_at value_at
-value_fails end name form bytes n e is_name named is_form q =
-    let read_name = number_at-string unsigned16 end name (form ++ bytes) n is_name in
-    let read_form = number_at-string unsigned16 end form bytes implicit_const is_form in
-    rw (read_name, read_form, nonzero n named, q) refl
-
 -- a declaration fails with the error of a number behind its beginning
 stops : {k : Kind} {front : List ℕ} (end : ℕ) (bytes : List ℕ) (e : Error) → IsBeginning front k
     → front ++ bytes ≢ [] → number_at k end bytes ≡ Err e → declaration_at end (front ++ bytes) ≡ Err e
-unfolding declaration_at declared_at tag_at specification_at
+unfolding declaration_at declared_at tag_at specification_at value_at
 stops end bytes e before_code some q = grind (arith, common_steps, eqb, ne_eqb, nil_from_length)
-stops end bytes e (before_tag front code is) some q = code_again end front bytes code is ∙ rw q refl
+stops end bytes e (before_tag front code is) some q = rw (code_again end front bytes code is, q) refl
 stops end bytes e (before_name front d is) some q = front_fails end front bytes d e is (rw q refl)
 stops end bytes e (before_form front name d n is is_name) some q =
-    ap (declaration_at end) (append_assoc front name bytes)
-    ∙ front_fails end front (name ++ bytes) d e is (form_fails end name bytes n e is_name q)
+    rw append_assoc (front_fails end front (name ++ bytes) d e is
+    (rw (number_at-string unsigned16 end name bytes n is_name, q) refl))
 stops end bytes e (before_value front name form d n is is_name named is_form) some q =
-    let same : front ++ name ++ form ++ bytes ≡ front ++ (name ++ (form ++ bytes)) = simp append_assoc in
-    ap (declaration_at end) same ∙ front_fails end front (name ++ (form ++ bytes)) d e is
-    (value_fails end name form bytes n e is_name named is_form q)
+    let read_name = number_at-string unsigned16 end name (form ++ bytes) n is_name in
+    let read_form = number_at-string unsigned16 end form bytes implicit_const is_form in
+    simp append_assoc (front_fails end front (name ++ (form ++ bytes)) d e is
+    (rw (read_name, read_form, positive-nonzero n named, q) refl))
 
 -- bytes that begin like a declaration and then have an error are read as that error, unless there are none
 pub error_again : {bytes : List ℕ} {e : Error} (end : ℕ) → IsFaulty end bytes e → bytes ≢ []
@@ -153,26 +110,18 @@ error_again end (number_bad front bytes k b c) some = stops end bytes (refusal k
 error_again end (children_cut front code tag is) some =
     ap (declaration_at end) (sym (append-nil front)) ∙ head_again end front [] code tag is
 error_again end (tag_zero front tag rest code is zero_tag) some =
-    ap (declaration_at end) (append_assoc front tag rest) ∙ code_again end front (tag ++ rest) code is
-    ∙ rw (number_at-string unsigned16 end tag rest 0 zero_tag) refl
+    rw (append_assoc, code_again end front (tag ++ rest) code is)
+    (rw (number_at-string unsigned16 end tag rest 0 zero_tag) refl)
 error_again end (children_bad front rest code tag byte is lt) some =
-    head_again end front (byte ∷ rest) code tag is
-    ∙ rw (nonzero byte (omega arith), ne_eqb byte 1 (λ e. omega arith)) refl
+    rw (head_again end front (byte ∷ rest) code tag is)
+    (rw (ne_eqb byte 0 (λ e. omega arith), ne_eqb byte 1 (λ e. omega arith)) refl)
 error_again end (name_zero front name form rest d f is is_name is_form formed) some =
-    let same : front ++ name ++ form ++ rest ≡ front ++ (name ++ (form ++ rest)) = simp append_assoc in
-    ap (declaration_at end) same ∙ front_fails end front (name ++ (form ++ rest)) d AttributeNameZero is
-    (rw (
-      number_at-string unsigned16 end name
-          (form ++ rest) 0 is_name,
-      number_at-string unsigned16 end form rest f is_form,
-      nonzero f formed,
-    ) refl)
+    let read_name = number_at-string unsigned16 end name (form ++ rest) 0 is_name in
+    let read_form = number_at-string unsigned16 end form rest f is_form in
+    simp append_assoc (front_fails end front (name ++ (form ++ rest)) d AttributeNameZero is
+    (rw (read_name, read_form, positive-nonzero f formed) refl))
 error_again end (form_zero front name form rest d n is is_name named is_form) some =
-    let same : front ++ name ++ form ++ rest ≡ front ++ (name ++ (form ++ rest)) = simp append_assoc in
-    ap (declaration_at end) same ∙ front_fails end front (name ++ (form ++ rest)) d AttributeFormZero is
-    (rw (
-      number_at-string unsigned16 end name
-          (form ++ rest) n is_name,
-      number_at-string unsigned16 end form rest 0 is_form,
-      nonzero n named,
-    ) refl)
+    let read_name = number_at-string unsigned16 end name (form ++ rest) n is_name in
+    let read_form = number_at-string unsigned16 end form rest 0 is_form in
+    simp append_assoc (front_fails end front (name ++ (form ++ rest)) d AttributeFormZero is
+    (rw (read_name, read_form, positive-nonzero n named) refl))

@@ -1,15 +1,5 @@
 -- A declaration that is read, or its error, is what the grammar says.
-use Rattle.std.proofs.lemmas.Grind.{common_steps}
-use Rattle.std.proofs.Common.{◌≡◌, ◌≢◌, ℕ, ◌<◌, ◌≤◌, Bool, true, false, cond, eqb, List, [], ◌∷◌, ◌++◌, length, Option, Some, None, Ok, Err, refl, sym, ap, subst, append_assoc, arith}
-use Rattle.std.proofs.lemmas.Bool.{eqb-true, eqb-false}
-use Rattle.std.proofs.lemmas.List.{length-append, append-nil, nil_from_length}
-use Rattle.dwarf_base_core.specs.declared.error.Error.TheVariants.{AbbreviationTagZero, InvalidAbbreviationChildren}
-use Rattle.dwarf_reader_core.specs.Leb128.{unsigned64, unsigned16, IsNumber}
-use Rattle.dwarf_reader_core.specs.Faults.{eof}
-use Rattle.dwarf_read_core.specs.Grammar.{Declaration, children_byte, IsCode, IsHead, IsFront, IsDeclaration}
-use Rattle.dwarf_read_core.specs.Answer.{before_code, before_tag, IsFaulty, children_cut, tag_zero, children_bad}
-use Rattle.dwarf_read_core.specs.Reading.{◌>>=◌, number_at, tag_at, children_at, declaration_of, declared_at, declaration_at}
-use Rattle.dwarf_read_core.proofs.ResultLemmas.{HasOutcome, returned, failed, outcome-bind, outcome-map, outcome-ok}
+use Rattle.dwarf_read_core.proofs.Common.{common_steps, ◌≡◌, ◌≢◌, ℕ, ◌<◌, Bool, true, false, eqb, List, [], ◌∷◌, ◌++◌, length, Option, Some, None, Ok, refl, sym, ap, subst, append_assoc, arith, eqb-true, eqb-false, length-append, append-nil, nil_from_length, AbbreviationTagZero, InvalidAbbreviationChildren, unsigned64, unsigned16, IsNumber, eof, Declaration, children_byte, IsCode, IsHead, IsFront, IsDeclaration, before_code, before_tag, IsFaulty, children_cut, tag_zero, children_bad, tag_at, children_at, declaration_of, declared_at, declaration_at, HasOutcome, returned, failed, outcome-bind, outcome-cond, outcome-map, outcome-ok}
 use Rattle.dwarf_read_core.proofs.tables.ReadingNumbers.{encoding-nonempty, number-positive, Found}
 use Rattle.dwarf_read_core.proofs.tables.ReadingSpecifications.{number_behind}
 use Rattle.dwarf_read_core.proofs.tables.ReadingAttributes.{attributes_behind}
@@ -24,34 +14,23 @@ tag_behind : (end : ℕ) (front bytes whole : List ℕ) (code : ℕ) → whole �
 unfolding tag_at
 tag_behind end front bytes whole code parts is =
     outcome-bind _ (number_behind unsigned16 end front bytes whole parts (before_tag front code is)) (λ x f.
-    go x f (eqb x.0 0) refl)
-  where
-    go : (x : ℕ × List ℕ) → Found unsigned16 bytes x.0 x.1 → (t : Bool) → eqb x.0 0 ≡ t
-        → HasOutcome (λ x. TagFound bytes x.0 x.1) (IsFaulty end whole) (cond t (Err AbbreviationTagZero) (Ok x))
-    go x f true t =
-        failed AbbreviationTagZero (rw (parts, f.parts, sym (append_assoc front f.front x.1))
-        (tag_zero front f.front x.1 code is (subst (IsNumber unsigned16 f.front) (eqb-true x.0 0 t) f.string)))
-    go x f false t = returned x (record { found = f; tagged = number-positive x.0 t })
+    outcome-cond (eqb x.0 0)
+    (λ t. failed AbbreviationTagZero (rw (parts, f.parts, sym (append_assoc front f.front x.1))
+    (tag_zero front f.front x.1 code is (subst (IsNumber unsigned16 f.front) (eqb-true x.0 0 t) f.string))))
+    (λ t. returned x (record { found = f; tagged = number-positive x.0 t })))
 
 -- a flag for children is read behind a code and a tag, or an error of all of them together
-children_behind : (end : ℕ) (front bytes whole : List ℕ) (code tag : ℕ) → whole ≡ front ++ bytes
-    → IsHead front code tag
+children_behind : (end : ℕ) (front bytes whole : List ℕ) (code tag : ℕ) → whole ≡ front ++ bytes → IsHead front code tag
     → HasOutcome (λ (x : Bool × List ℕ). bytes ≡ children_byte x.0 ∷ x.1) (IsFaulty end whole) (children_at end bytes)
 unfolding children_at
 children_behind end front [] whole code tag parts is =
     failed (eof end) (rw (parts, append-nil front) (children_cut front code tag is))
-children_behind end front (b ∷ bytes) whole code tag parts is = go (eqb b 0) refl (eqb b 1) refl
-  where
-    go : (s : Bool) → eqb b 0 ≡ s → (t : Bool) → eqb b 1 ≡ t
-        → HasOutcome (λ (x : Bool × List ℕ). b ∷ bytes ≡ children_byte x.0 ∷ x.1) (IsFaulty end whole)
-        (cond s (Ok (false, bytes)) (cond t (Ok (true, bytes)) (Err (InvalidAbbreviationChildren (record { 0 = b })))))
-    go true s t u = returned (false, bytes) (ap (λ (c : ℕ). c ∷ bytes) (eqb-true b 0 s))
-    go false s true u = returned (true, bytes) (ap (λ (c : ℕ). c ∷ bytes) (eqb-true b 1 u))
-    go false s false u =
-        let n = eqb-false b 0 s in
-        let m = eqb-false b 1 u in
-        failed (InvalidAbbreviationChildren (record { 0 = b }))
-        (rw parts (children_bad front bytes code tag b is (omega arith)))
+children_behind end front (b ∷ bytes) whole code tag parts is =
+    outcome-cond (eqb b 0) (λ s. returned (false, bytes) (ap (λ (c : ℕ). c ∷ bytes) (eqb-true b 0 s)))
+    (λ s. outcome-cond (eqb b 1) (λ t. returned (true, bytes) (ap (λ (c : ℕ). c ∷ bytes) (eqb-true b 1 t)))
+    (λ t. let n = eqb-false b 0 s in let m = eqb-false b 1 t in
+    failed (InvalidAbbreviationChildren (record { 0 = b }))
+    (rw parts (children_bad front bytes code tag b is (omega arith)))))
 
 pub record DeclarationFound (bytes : List ℕ) (d : Declaration) (rest : List ℕ) : Type 0 where
   pub front : List ℕ
@@ -66,35 +45,24 @@ declared_behind end code front bytes whole parts is =
     outcome-bind _ (tag_behind end front bytes whole code parts is) (λ tag t.
     let head = front ++ t.found.front in
     let behind_head : whole ≡ head ++ tag.1 = rw (parts, t.found.parts) (simp append_assoc) in
-    let is_head : IsHead head code tag.0 = record {
-      first = front;
-      second = t.found.front;
-      parts = refl;
-      is_code = is;
-      is_tag = t.found.string;
-      tagged = t.tagged;
-    } in
+    let f = t.found in
+    let is_head : IsHead head code tag.0 =
+    record { first = front; second = f.front; parts = refl; is_code = is; is_tag = f.string; tagged = t.tagged } in
     outcome-bind _ (children_behind end head tag.1 whole code tag.0 behind_head is_head) (λ children h.
     let byte = children_byte children.0 in
     let behind_byte : whole ≡ (head ++ byte ∷ []) ++ children.1 = rw (behind_head, h) (simp append_assoc) in
     outcome-bind _ (attributes_behind end (head ++ byte ∷ []) children.1 whole (declaration_of code tag.0 children.0 [])
     behind_byte (record { head = head; specifications = []; parts = refl; is_head = is_head; are_attributes = refl }))
-    (λ attributes s. returned (declaration_of code tag.0 children.0 attributes.0, attributes.1) (record {
-      front = (head ++ byte ∷ s.specifications) ++ s.null;
+    (λ attributes s.
+    let d = declaration_of code tag.0 children.0 attributes.0 in
+    let bytes = head ++ byte ∷ s.specifications in
+    let is_front : IsFront bytes d =
+    record { head = head; specifications = s.specifications; parts = refl; is_head = is_head; are_attributes = s.are }
+    in
+    returned (d, attributes.1) (record {
+      front = bytes ++ s.null;
       parts = rw (behind_byte, s.parts) (simp append_assoc);
-      is_declaration = record {
-        front = head ++ byte ∷ s.specifications;
-        null = s.null;
-        parts = refl;
-        is_front = record {
-          head = head;
-          specifications = s.specifications;
-          parts = refl;
-          is_head = is_head;
-          are_attributes = s.are;
-        };
-        is_null = s.is_null;
-      };
+      is_declaration = record { front = bytes; null = s.null; parts = refl; is_front = is_front; is_null = s.is_null };
     }))))
 
 pub record ZeroFound (bytes rest : List ℕ) : Type 0 where
@@ -116,45 +84,27 @@ pub declaration_outcome : (end : ℕ) (bytes : List ℕ)
     → HasOutcome (λ (x : Option Declaration × List ℕ). EntryFound bytes x.0 x.1)
     (λ e. (bytes ≢ []) × IsFaulty end bytes e) (declaration_at end bytes)
 unfolding declaration_at
-declaration_outcome end bytes = go (eqb (length bytes) 0) refl
-  where
-    coded : (code : ℕ) (behind : List ℕ) → Found unsigned64 bytes code behind → (t : Bool) → eqb code 0 ≡ t
-        → HasOutcome (λ (x : Option Declaration × List ℕ). EntryFound bytes x.0 x.1) (IsFaulty end bytes)
-        (cond t (Ok (None, behind)) (declared_at end code behind >>= λ d. Ok (Some d.0, d.1)))
-    coded code behind f true t =
-        returned (None, behind) (at_zero bytes behind (record {
-          front = f.front;
-          parts = f.parts;
-          is_zero = subst (IsNumber unsigned64 f.front) (eqb-true code 0 t) f.string;
-        }))
-    coded code behind f false t =
-        outcome-bind _ (declared_behind end code f.front behind bytes f.parts
-        (record { is_code = f.string; nonzero = number-positive code t })) (λ d h. returned (Some d.0, d.1) h)
-
-    go : (t : Bool) → eqb (length bytes) 0 ≡ t
-        → HasOutcome (λ (x : Option Declaration × List ℕ). EntryFound bytes x.0 x.1)
-        (λ e. (bytes ≢ []) × IsFaulty end bytes e)
-        (cond t (Ok (None, bytes)) (number_at unsigned64 end bytes >>= λ code. cond (eqb code.0 0) (Ok (None, code.1))
-        (declared_at end code.0 code.1 >>= λ d. Ok (Some d.0, d.1))))
-    go true t =
-        let none : bytes ≡ [] = nil_from_length bytes (eqb-true (length bytes) 0 t) in
-        returned (None, bytes) (subst (λ (b : List ℕ). EndFound b b) (sym none) at_end)
-    go false t =
-        let n = eqb-false (length bytes) 0 t in
-        outcome-map (λ x f. f) (λ e f. (λ h. n (ap length h), f))
-        (outcome-bind _ (number_behind unsigned64 end [] bytes bytes refl before_code) (λ code f.
-        coded code.0 code.1 f (eqb code.0 0) refl))
+declaration_outcome end bytes =
+    outcome-cond (eqb (length bytes) 0)
+    (λ t. let none : bytes ≡ [] = nil_from_length bytes (eqb-true (length bytes) 0 t) in
+    returned (None, bytes) (subst (λ (b : List ℕ). EndFound b b) (sym none) at_end))
+    (λ t. outcome-map (λ x f. f) (λ e f. ((λ h. eqb-false (length bytes) 0 t (ap length h)), f))
+    (outcome-bind _ (number_behind unsigned64 end [] bytes bytes refl before_code) (λ code f.
+    outcome-cond (eqb code.0 0)
+    (λ z. returned (None, code.1) (at_zero bytes code.1 (record {
+      front = f.front;
+      parts = f.parts;
+      is_zero = subst (IsNumber unsigned64 f.front) (eqb-true code.0 0 z) f.string;
+    })))
+    (λ z. outcome-bind _ (declared_behind end code.0 f.front code.1 bytes f.parts
+    (record { is_code = f.string; nonzero = number-positive code.0 z })) (λ d h. returned (Some d.0, d.1) h)))))
 
 -- ---- a declaration has at least five bytes
-
--- the front of a declaration has at least three bytes
-pub front_long : (bytes : List ℕ) (d : Declaration) → IsFront bytes d → 3 ≤ length bytes
-front_long bytes d is = grind (arith, common_steps, encoding-nonempty, length-append)
 
 -- fewer bytes remain behind a declaration that is found
 pub declaration_found_shorter : (bytes : List ℕ) (d : Declaration) (rest : List ℕ) → DeclarationFound bytes d rest
     → length rest < length bytes
-declaration_found_shorter bytes d rest f = grind (arith, common_steps, length-append, front_long)
+declaration_found_shorter bytes d rest f = grind (arith, common_steps, length-append, encoding-nonempty)
 
 -- fewer bytes remain behind a declaration that is read
 pub declaration_shorter : (end : ℕ) (bytes : List ℕ) (d : Declaration) (rest : List ℕ)

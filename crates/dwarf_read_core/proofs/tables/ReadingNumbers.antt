@@ -1,14 +1,6 @@
 -- The function that reads a LEB128 number returns what the definition says, and nothing else.
-use Rattle.std.proofs.lemmas.Grind.{common_steps}
-use Rattle.std.proofs.Common.{◌≡◌, ℕ, zero, suc, ◌<◌, ◌≤◌, Bool, true, false, cond, eqb, ltb, List, [], ◌∷◌, ◌++◌, length, drop, Option, Some, None, Result, Ok, Err, refl, sym, ap, ◌∙◌, arith, ◌⊎◌, inl, inr, length-append, length-drop, take-append-drop, take}
-use Rattle.std.proofs.lemmas.Bool.{eqb-false, ltb-true, ltb-false, lt-ltb, le-ltb}
+use Rattle.dwarf_read_core.proofs.Common.{common_steps, ◌≡◌, ℕ, zero, suc, ◌<◌, ◌≤◌, false, eqb, ltb, List, [], ◌∷◌, ◌++◌, length, drop, Option, Some, None, Result, Ok, Err, refl, sym, ap, ◌∙◌, arith, ◌⊎◌, inl, inr, length-append, length-drop, take-append-drop, take, ne_eqb, eqb-false, ltb-true, lt-ltb, le-ltb, Error, Kind, Number, limit, value, is_in_range, refusal, IsEncoding, NoneIsLast, IsNumber, HasNumber, IsCut, IsBad, ReadsNumber, RefusesNumber, Input, end_of, after, eof, encoding_at, number_from, number_at, HasOutcome, returned, failed, outcome-cond, IfOk, MatchOption, nat_tests}
 use Rattle.std.proofs.Math.Seq.{take-append_seam}
-use Rattle.dwarf_base_core.specs.declared.error.Error.{Error}
-use Rattle.dwarf_reader_core.specs.Leb128.{Kind, Number, unsigned64, unsigned16, signed64, limit, value, is_in_range, refusal, IsEncoding, NoneIsLast, IsNumber, HasNumber, IsCut, IsBad, ReadsNumber, RefusesNumber}
-use Rattle.dwarf_reader_core.specs.Input.{Input, end_of, after}
-use Rattle.dwarf_reader_core.specs.Faults.{eof}
-use Rattle.dwarf_read_core.specs.Reading.{with_byte, encoding_at, number_from, number_at}
-use Rattle.dwarf_read_core.proofs.ResultLemmas.{HasOutcome, returned, failed}
 
 -- an encoding of a number has at least one byte
 pub encoding-nonempty : (bytes : List ℕ) → IsEncoding bytes → 0 < length bytes
@@ -17,6 +9,15 @@ encoding-nonempty bytes h = grind (arith, common_steps)
 -- a number that the test finds not equal to 0 is above 0
 pub number-positive : (n : ℕ) → eqb n 0 ≡ false → 0 < n
 number-positive n e = let h = eqb-false n 0 e in omega arith
+
+-- the test finds a number above 0 not equal to 0
+pub positive-nonzero : (n : ℕ) → 0 < n → eqb n 0 ≡ false
+positive-nonzero n lt = ne_eqb n 0 (λ e. omega arith)
+
+-- bytes that begin with an encoding aren't empty
+pub encoding-begins : (front rest : List ℕ) → IsEncoding front → eqb (length (front ++ rest)) 0 ≡ false
+encoding-begins front rest is =
+    positive-nonzero (length (front ++ rest)) (omega (arith, length-append front rest, encoding-nonempty front is))
 
 -- ---- the encoding at the front
 
@@ -35,30 +36,13 @@ pub record IsSplit (n : ℕ) (bytes front rest : List ℕ) : Type 0 where
   pub encoding : IsEncoding front
   pub short : length front ≤ n
 
--- an encoding with one more byte in front of it is split from the front in one more step
-longer : (n b : ℕ) (bytes front rest : List ℕ) → 128 ≤ b → IsSplit n bytes front rest
-    → IsSplit (suc n) (b ∷ bytes) (b ∷ front) rest
-longer n b bytes front rest high s = grind arith
-
--- what is split from the front of bytes: an encoding of at most n bytes, or nothing, if none of them is a last byte
-data Split (n : ℕ) (bytes : List ℕ) : Option (List ℕ × List ℕ) → Type 0 where
-  split : (front rest : List ℕ) → IsSplit n bytes front rest → Split n bytes (Some (front, rest))
-  unsplit : (length bytes < n → NoneIsLast bytes) → Split n bytes None
-
--- an encoding is split from the front, or too few bytes have no last byte
-encoding_split : (n : ℕ) (bytes : List ℕ) → Split n bytes (encoding_at n bytes)
+-- an encoding of at most n bytes is split from the front, or too few bytes have no last byte
+encoding_split : (n : ℕ) (bytes : List ℕ)
+    → MatchOption (encoding_at n bytes) (length bytes < n → NoneIsLast bytes) (λ x. IsSplit n bytes x.0 x.1)
 unfolding encoding_at
-encoding_split zero bytes = unsplit (λ short. absurd (omega arith))
-encoding_split (suc n) [] = unsplit (λ _. tt)
-encoding_split (suc n) (b ∷ bytes) = go (ltb b 128) refl (encoding_split n bytes)
-  where
-    go : (t : Bool) → ltb b 128 ≡ t → {o : Option (List ℕ × List ℕ)} → Split n bytes o
-        → Split (suc n) (b ∷ bytes) (cond t (Some (b ∷ [], bytes)) (with_byte b o))
-    go true low s = split (b ∷ []) bytes
-        (record { parts = refl; encoding = ltb-true b 128 low; short = omega arith })
-    go false high (split front rest s) =
-        split (b ∷ front) rest (longer n b bytes front rest (ltb-false b 128 high) s)
-    go false high (unsplit none) = unsplit (λ short. (ltb-false b 128 high, none (omega arith)))
+encoding_split zero bytes = λ short. absurd (omega arith)
+encoding_split (suc n) [] = λ _. tt
+encoding_split (suc n) (b ∷ bytes) = grind (arith, nat_tests, (encoding_split n bytes))
 
 -- if none of the bytes is the last of an encoding, nothing is split from their front
 pub encoding_at-unended : (n : ℕ) (bytes : List ℕ) → NoneIsLast bytes → encoding_at n bytes ≡ None
@@ -92,52 +76,38 @@ number_at-has k end bytes number n h =
     ap (number_at k end) (sym (take-append-drop n bytes))
     ∙ number_at-string k end (take n bytes) (drop n bytes) number h.is_number
 
--- an `UnexpectedEof` is never the error of a bad number
-eof≢refusal : (k : Kind) (end : ℕ) → eof end ≡ refusal k → ⊥
-eof≢refusal unsigned64 end e = cc
-eof≢refusal unsigned16 end e = cc
-eof≢refusal signed64 end e = cc
-
 -- bytes that are read as the error of a bad number are bad
 is_bad : (k : Kind) (end : ℕ) (bytes : List ℕ) → number_at k end bytes ≡ Err (refusal k) → IsBad k bytes
 is_bad k end bytes e = record {
   no_number = λ number n h. let a = number_at-has k end bytes number n h in cc;
-  not_cut = λ c. eof≢refusal k end (let a = number_at-cut k end bytes c in cc);
+  not_cut = λ c. grind (arith, number_at-cut k end bytes c);
 }
 
--- what is read: a number that bytes at the front encode, an `UnexpectedEof` for cut bytes, or the error of bad ones
+-- an error in place of a number: an `UnexpectedEof` for cut bytes, or the error of bad ones
+abbrev pub IsNumberFault : Kind → ℕ → List ℕ → Error → Type 0
+IsNumberFault k end bytes e = (IsCut k bytes × (e ≡ eof end)) ⊎ (IsBad k bytes × (e ≡ refusal k))
+
+-- what is read: a number that bytes at the front encode, or the error in place of one
 pub number_outcome : (k : Kind) (end : ℕ) (bytes : List ℕ)
-    → HasOutcome (λ x. Found k bytes x.0 x.1)
-    (λ e. (IsCut k bytes × (e ≡ eof end)) ⊎ (IsBad k bytes × (e ≡ refusal k))) (number_at k end bytes)
+    → HasOutcome (λ x. Found k bytes x.0 x.1) (IsNumberFault k end bytes) (number_at k end bytes)
 unfolding number_at
-number_outcome k end bytes = go (encoding_split (limit k) bytes) refl
+number_outcome k end bytes = go (encoding_at (limit k) bytes) (encoding_split (limit k) bytes) refl
   where
-    Read : Result (Number k × List ℕ) Error → Type 0
-    Read = HasOutcome (λ x. Found k bytes x.0 x.1)
-        (λ e. (IsCut k bytes × (e ≡ eof end)) ⊎ (IsBad k bytes × (e ≡ refusal k)))
-
-    bad : number_at k end bytes ≡ Err (refusal k) → Read (Err (refusal k))
-    bad e = failed (refusal k) (inr (is_bad k end bytes e, refl))
-
-    go : {o : Option (List ℕ × List ℕ)} → Split (limit k) bytes o → number_at k end bytes ≡ number_from k end bytes o
-        → Read (number_from k end bytes o)
-    go (split front rest s) e = in_range (is_in_range k (value k front)) refl
-      where
-        in_range : (t : Bool) → is_in_range k (value k front) ≡ t
-            → Read (cond t (Ok (value k front, rest)) (Err (refusal k)))
-        in_range true fits = returned (value k front, rest) (record {
+    go : (o : Option (List ℕ × List ℕ))
+        → MatchOption o (length bytes < limit k → NoneIsLast bytes) (λ x. IsSplit (limit k) bytes x.0 x.1)
+        → number_at k end bytes ≡ number_from k end bytes o
+        → HasOutcome (λ x. Found k bytes x.0 x.1) (IsNumberFault k end bytes) (number_from k end bytes o)
+    go (Some (front, rest)) s e = outcome-cond (is_in_range k (value k front))
+        (λ fits. returned (value k front, rest) (record {
           front = front;
           parts = s.parts;
           string = record { encoding = s.encoding; within = s.short; means = refl; in_range = fits };
-        })
-        in_range false over = bad (e ∙ rw over refl)
-    go (unsplit none) e = short (ltb (length bytes) (limit k)) refl
-      where
-        short : (t : Bool) → ltb (length bytes) (limit k) ≡ t → Read (cond t (Err (eof end)) (Err (refusal k)))
-        short true lt =
-            let few = ltb-true (length bytes) (limit k) lt in
-            failed (eof end) (inl (record { short = few; unended = none few }, refl))
-        short false le = bad (e ∙ rw le refl)
+        }))
+        (λ over. failed (refusal k) (inr (is_bad k end bytes (e ∙ rw over refl), refl)))
+    go None none e = outcome-cond (ltb (length bytes) (limit k))
+        (λ lt. let few = ltb-true (length bytes) (limit k) lt in
+        failed (eof end) (inl (record { short = few; unended = none few }, refl)))
+        (λ le. failed (refusal k) (inr (is_bad k end bytes (e ∙ rw le refl), refl)))
 
 -- a number that is read is encoded by as many bytes as were consumed
 pub found_has : {k : Kind} {bytes : List ℕ} {number : Number k} {rest : List ℕ} → (f : Found k bytes number rest)
@@ -145,12 +115,21 @@ pub found_has : {k : Kind} {bytes : List ℕ} {number : Number k} {rest : List �
 found_has {k = k} {bytes = bytes} {number = number} {rest = rest} f =
     grind (arith, common_steps, length-append, take-append_seam)
 
+-- fewer bytes remain behind a number that is read; `grind` finds the lemma by the call that it states first
+pub number_shorter : (k : Kind) (end : ℕ) (bytes : List ℕ) → (number_at k end bytes ≡ number_at k end bytes)
+    × IfOk (number_at k end bytes) (λ x. length x.1 < length bytes)
+number_shorter k end bytes = (refl, go (number_outcome k end bytes))
+  where
+    go : {r : Result (Number k × List ℕ) Error} → HasOutcome (λ x. Found k bytes x.0 x.1) (IsNumberFault k end bytes) r
+        → IfOk r (λ x. length x.1 < length bytes)
+    go found = grind (arith, common_steps, encoding-nonempty, length-append)
+
 -- bad bytes are read as the error of a bad number
 pub number_at-bad : (k : Kind) (end : ℕ) (bytes : List ℕ) → IsBad k bytes → number_at k end bytes ≡ Err (refusal k)
 number_at-bad k end bytes b = go (number_outcome k end bytes)
   where
-    go : {r : Result (Number k × List ℕ) Error} → HasOutcome (λ x. Found k bytes x.0 x.1)
-        (λ e. (IsCut k bytes × (e ≡ eof end)) ⊎ (IsBad k bytes × (e ≡ refusal k))) r → r ≡ Err (refusal k)
+    go : {r : Result (Number k × List ℕ) Error} → HasOutcome (λ x. Found k bytes x.0 x.1) (IsNumberFault k end bytes) r
+        → r ≡ Err (refusal k)
     go (returned x f) = absurd (b.no_number x.0 (length f.front) (found_has f))
     go (failed e (inl c)) = absurd (b.not_cut c.0)
     go (failed e (inr c)) = ap (λ (x : Error). Err x) c.1
@@ -160,8 +139,7 @@ number_at-bad k end bytes b = go (number_outcome k end bytes)
 -- the error that a reader returns in place of a number is what the function reads
 pub number_not_read : {k : Kind} {old : Input} {e : Error} {new : Input} → RefusesNumber k old e new
     → number_at k (end_of old) old.bytes ≡ Err e
-number_not_read {k = k} {old = old} (inl r) = grind (arith, number_at-cut)
-number_not_read {k = k} {old = old} (inr r) = grind (arith, number_at-bad)
+number_not_read r = grind (arith, number_at-cut, number_at-bad)
 
 -- the number that a reader reads is what the function reads, and the same bytes remain
 pub number_read : {k : Kind} {old : Input} {number : Number k} {new : Input} (end : ℕ)

@@ -1,12 +1,5 @@
 -- How a table changes with the next entry that its parser reads.
-use Rattle.std.proofs.lemmas.Grind.{common_steps}
-use Rattle.std.proofs.Common.{◌≡◌, ◌≢◌, ℕ, zero, suc, ◌<◌, true, false, cond, eqb, List, [], length, Option, Some, None, Result, Ok, Err, refl, ap, arith, ne_eqb}
-use Rattle.std.specs.FinMap.{insert, contains_key}
-use Rattle.std.proofs.lemmas.List.{nil_from_length}
-use Rattle.dwarf_base_core.specs.declared.error.Error.{Error}
-use Rattle.dwarf_base_core.specs.declared.error.Error.TheVariants.{DuplicateAbbreviationCode}
-use Rattle.dwarf_read_core.specs.Grammar.{Declaration, ByCode, Table, closed, by_null}
-use Rattle.dwarf_read_core.specs.Reading.{◌>>=◌, declaration_at, close_of, and_declared, table_at, table_in}
+use Rattle.dwarf_read_core.proofs.Common.{common_steps, ◌≡◌, ◌≢◌, ℕ, zero, suc, ◌<◌, true, false, cond, eqb, List, [], length, Option, Some, None, Result, Ok, Err, refl, ap, arith, ne_eqb, insert, contains_key, nil_from_length, Error, DuplicateAbbreviationCode, Declaration, ByCode, Table, closed, by_null, ◌>>=◌, declaration_at, close_of, and_declared, table_at, table_in}
 use Rattle.dwarf_read_core.proofs.tables.ReadingIsSound.{declaration_shorter}
 
 abbrev pub TableRead : Type 0
@@ -64,4 +57,4 @@ unfolding table_in table_at
 table_goes_on end t bytes d rest q fresh = grind (arith, declaration_shorter, table_enough)
 
 -- how a table changes with the next entry
-pub ruleset table_steps = (table_fails, table_ends, table_repeats, table_goes_on, declaration_shorter)
+pub ruleset table_steps = (table_fails, table_ends, table_nulled, table_repeats, table_goes_on, declaration_shorter)

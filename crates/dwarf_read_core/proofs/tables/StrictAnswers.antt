@@ -1,13 +1,6 @@
 -- The strict result follows from the result.
-use Rattle.std.proofs.Common.{arith, ◌≡◌, ℕ, cond, List, Result, Ok, Err, refl, sym, ap, ◌∙◌}
-use Rattle.dwarf_base_core.specs.declared.error.Error.{Error}
-use Rattle.dwarf_base_core.specs.declared.error.Error.TheVariants.{UnterminatedAbbreviations}
+use Rattle.dwarf_read_core.proofs.Common.{arith, ℕ, List, Result, Err, refl, ap, ◌∙◌, Error, UnterminatedAbbreviations, Input, HasOne, Table, followed_by, strictly, StrictAnswer, AnswersStrictly, IsStrictlyFinal}
 use Rattle.dwarf_base_core.specs.declared.reader_offset.ReaderOffsetId.{ReaderOffsetId}
-use Rattle.dwarf_reader_core.specs.Input.{Input, end_of}
-use Rattle.dwarf_reader_core.specs.Once.{HasOne}
-use Rattle.dwarf_read_core.specs.Grammar.{Table, Close, by_null, by_end, is_by_null}
-use Rattle.dwarf_reader_core.specs.Appended.{followed_by}
-use Rattle.dwarf_read_core.specs.Answer.{Answer, Answers, unterminated, strictly, StrictAnswer, AnswersStrictly, IsStrictlyFinal}
 use Rattle.dwarf_read_core.proofs.tables.AppendedBytes.{answer_more}
 use Rattle.dwarf_read_core.proofs.tables.ExactlyOneAnswer.{answer_exactly_one}
 
@@ -16,25 +9,6 @@ pub strict_answer_exactly_one : (section : Input) (offset : ℕ) → HasOne (Str
 strict_answer_exactly_one section offset =
     let one = answer_exactly_one section offset in
     (strictly section one.0, (one.0, one.1, refl), λ other is. is.2 ∙ ap (strictly section) (one.2 is.0 is.1))
-
--- the strict result for a table, by what closes it
-abbrev strict_by : Input → Table → Close → Result Table Error
-strict_by section t close = cond (is_by_null close) (Ok t) (Err (unterminated (end_of section)))
-
--- a table that a code of value 0 closes is the strict result
-pub closed_strictly : (section : Input) (offset : ℕ) (t : Table) → Answer section offset (Ok t) → t.close ≡ by_null
-    → StrictAnswer section offset (Ok t)
-closed_strictly section offset t is e = (Ok t, is, sym (ap (strict_by section t) e))
-
--- the strict result for a table that the section's end closes is the error for it
-pub unclosed_strictly : (section : Input) (offset : ℕ) (t : Table) → Answer section offset (Ok t)
-    → t.close ≡ by_end → StrictAnswer section offset (Err (unterminated (end_of section)))
-unclosed_strictly section offset t is e = (Ok t, is, sym (ap (strict_by section t) e))
-
--- an error is also the strict result
-pub err_strictly : (section : Input) (offset : ℕ) (e : Error) → Answers (Err e) section offset
-    → AnswersStrictly (Err e) section offset
-err_strictly section offset e h = λ memory. (Err e, h memory, refl)
 
 -- a strict result that is final is still the strict result when bytes are appended
 pub strict_answer_more : (section : Input) (more : List ℕ) (offset : ℕ) (strict : Result Table Error)

@@ -1,16 +1,6 @@
 -- A table has no more declarations and attributes than fit its bytes.
-use Rattle.std.proofs.lemmas.Grind.{common_steps}
-use Rattle.std.proofs.Common.{◌≡◌, ℕ, ◌+◌, ◌*◌, ◌≤◌, false, List, [], ◌∷◌, length, map, Result, Ok, sym, ap, ◌∙◌, arith, IfOk, is_some, sum_by, nat_cmp}
-use Rattle.std.specs.Cmp.{nat_cmp_total}
-use Rattle.std.specs.FinMap.{find, empty, len, entries, entries-insert, len-insert, len-empty, len-entries, get-entries}
+use Rattle.dwarf_read_core.proofs.Common.{common_steps, ◌≡◌, ℕ, ◌+◌, ◌*◌, ◌≤◌, false, List, [], ◌∷◌, length, map, Result, Ok, sym, ap, ◌∙◌, arith, IfOk, is_some, sum_by, nat_cmp, nat_cmp_total, find, empty, len, entries, entries-insert, len-insert, len-empty, len-entries, get-entries, length-append, length-drop, nil_from_length, sum_by-cons, Error, Specification, Declaration, Sequence, IsSpecification, IsDeclaration, AreDistinct, Table, by_code_of, attribute_count, IsTable, Input, Takes, end_of, Gives, table_in, Answer, table}
 use Rattle.std.specs.FinMap.Entries.{put}
-use Rattle.std.proofs.lemmas.List.{length-append, length-drop, nil_from_length}
-use Rattle.std.proofs.lemmas.List.Sums.{sum_by-cons}
-use Rattle.dwarf_base_core.specs.declared.error.Error.{Error}
-use Rattle.dwarf_read_core.specs.Grammar.{Specification, Declaration, Sequence, IsSpecification, IsDeclaration, AreDistinct, Table, by_code_of, attribute_count, IsTable}
-use Rattle.dwarf_reader_core.specs.Input.{Input, Takes, end_of}
-use Rattle.dwarf_read_core.specs.Reading.{Gives, table_in}
-use Rattle.dwarf_read_core.specs.Answer.{Answer, table, Answers}
 use Rattle.dwarf_read_core.proofs.tables.ReadingNumbers.{encoding-nonempty}
 use Rattle.dwarf_read_core.proofs.tables.ReadingSpecifications.{specification_long, null_long}
 use Rattle.dwarf_read_core.proofs.tables.CodesOnce.{fresh_code}
@@ -84,13 +74,9 @@ answer_bound : {section : Input} {offset : ℕ} {t : Table} → Answer section o
     → 5 * len t.by_code + 2 * attribute_count t.by_code + offset ≤ length section.bytes
 answer_bound {section} {offset} (table t le is) = omega (arith, table_bound is, length-drop offset section.bytes)
 
--- a table that a call returned has no more declarations and attributes than fit the section there
-bounded : (r : Result Table Error) (section : Input) (offset : ℕ) → Answers r section offset
-    → IfOk r (λ t. 5 * len t.by_code + 2 * attribute_count t.by_code + offset ≤ length section.bytes)
-bounded r section offset h = grind (arith, answer_bound)
-
 -- a table that the parser returned has no more declarations and attributes than fit the section there
 pub bounded_read : (r : Result Table Error) (section : Input) (offset : ℕ) (rest : Input)
     → Takes offset section rest → Gives (λ t. t) r (table_in (end_of rest) empty rest.bytes)
     → IfOk r (λ t. 5 * len t.by_code + 2 * attribute_count t.by_code + offset ≤ length section.bytes)
-bounded_read r section offset rest takes given = grind (arith, bounded, answer_returned)
+bounded_read r section offset rest takes given =
+    grind (arith, answer_bound, answer_returned r section offset rest takes given)

@@ -102,7 +102,7 @@ impl<R: Reader> DebugAbbrev<R> {
     /// - `DuplicateAbbreviationCode` for a whole declaration with the code of an earlier one.
     ///
     /// `OutOfMemory` if memory for the table, or for a clone of the reader, runs out.
-    #[tactic(auto, using(crate::proofs::tables::ExactlyOneAnswer::answer_returned, crate::proofs::tables::AppendedBytes::returned_stays, crate::proofs::tables::TableBounds::bounded_read))]
+    #[tactic(auto, using(std::proofs::lemmas::Result::err_from_is_err_and, crate::proofs::tables::ExactlyOneAnswer::outside_of, crate::proofs::tables::ExactlyOneAnswer::answer_returned, crate::proofs::tables::AppendedBytes::returned_stays, crate::proofs::tables::TableBounds::bounded_read))]
     pub fn abbreviations(
         &self,
         mem: Global,
@@ -643,7 +643,7 @@ impl Abbreviation {
     }
 
     // Reads what follows the code of a declaration. The attributes are then in `scratch`.
-    #[tactic(auto, unfolding(crate::specs::Reading::declared_at))]
+    #[tactic(auto, using(crate::proofs::tables::ReadingNumbers::number_steps), unfolding(crate::specs::Reading::declared_at))]
     fn parse_declared<R: Reader>(
         code: u64,
         input: &mut R,

@@ -53,7 +53,6 @@ impl<R: Reader> DebugAddr<R> {
     /// - `UnexpectedEof` at the address if it ends past the section's end.
     ///
     /// `OutOfMemory` if a clone of the reader runs out of memory.
-    #[tactic(auto, using(crate::proofs::lookups::Words::address_steps))]
     pub fn get_address(
         &self,
         address_size: u8,

@@ -84,6 +84,7 @@ impl Model for AbbreviationsCache {
 
 impl AbbreviationsCache {
     /// Returns a cache that keeps nothing yet.
+    #[tactic(auto, using(crate::proofs::cache::NoMemoryError::no_memory_error_empty, crate::proofs::cache::EntriesAsMap::shown))]
     pub fn new(mem: Global) -> Self
         ensures { result ≡ finite.empty }
     {

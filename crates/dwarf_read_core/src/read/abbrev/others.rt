@@ -53,6 +53,7 @@ impl Others {
         }
     }
 
+    #[tactic(auto, using(crate::proofs::tables::OthersByCode::entries_sorted))]
     pub(super) fn len(&self) -> usize
         ensures len { result ≡ length self.now }
         ensures small { result < 2 ^ 63 }
@@ -79,6 +80,7 @@ impl Others {
     }
 
     // In the order of their codes.
+    #[tactic(auto, using(crate::proofs::tables::OthersByCode::entries_sorted, crate::proofs::tables::OthersByCode::entries_in_order, crate::proofs::tables::OthersByCode::values_with_codes))]
     pub(super) fn iter(&self) -> OthersIter<'_>
         ensures rest { others_rest result ≡ values_of self.now }
         ensures ordered { IsStrictlySortedBy nat_cmp (keys_of self.now) }

@@ -1,9 +1,19 @@
-use Rattle.std.proofs.Common.{rules, ◌≡◌, ◌≢◌, [], Ok, Err, None, ◌∙◌, sym}
-use Rattle.dwarf_reader_core.specs.Input.{end_of}
-use Rattle.dwarf_read_core.proofs.ResultLemmas.{gives_err}
+use Rattle.dwarf_read_core.proofs.Common.{arith, refl, rules, ◌≡◌, ◌≢◌, [], Ok, Err, None, ◌∙◌, sym, end_of, gives_err, ℕ, List, length, Some, ne_eqb, common_steps, nil_from_length, Error, unsigned64, ◌>>=◌, number_at, declared_at, declaration_at}
 use Rattle.dwarf_read_core.proofs.tables.ReadingNumbers.{number_not_read, number_read, end_stays}
-use Rattle.dwarf_read_core.proofs.tables.DeclarationSteps.{code_fails, declaration-coded, declaration-some, declared_fails}
 use Rattle.dwarf_read_core.proofs.read.abbrev.Abbreviation.parse.Goals as goal
+
+-- reading a declaration fails with the error of its code
+code_fails : (end : ℕ) (bytes : List ℕ) (e : Error) → bytes ≢ [] → number_at unsigned64 end bytes ≡ Err e
+    → declaration_at end bytes ≡ Err e
+unfolding declaration_at
+code_fails end bytes e some q = rw (ne_eqb (length bytes) 0 (λ h. some (nil_from_length bytes h)), q) refl
+
+-- if a code is read that isn't 0, reading the declaration is reading what follows the code
+declaration-coded : (end : ℕ) (bytes : List ℕ) (code : ℕ) (after : List ℕ) → bytes ≢ []
+    → number_at unsigned64 end bytes ≡ Ok (code, after) → code ≢ 0
+    → declaration_at end bytes ≡ (declared_at end code after >>= λ d. Ok (Some d.0, d.1))
+unfolding declaration_at
+declaration-coded end bytes code after some q nonzero = grind (arith, common_steps, ne_eqb, nil_from_length)
 
 pub returns-in_err-code-clause-ends : goal.returns-in_err-code-clause-ends
 returns-in_err-code-clause-ends g c =
@@ -21,15 +31,15 @@ pub returns-in_err-parse_declared-clause-ends : goal.returns-in_err-parse_declar
 returns-in_err-parse_declared-clause-ends g c =
     let some : (g.R.Reader.view c.args.input.now).bytes ≢ [] = search rules in
     let nonzero : c.in_ok-code.code ≢ 0 = search rules in
-    let h = declaration-coded _ _ _ _ some (number_read
-    (end_of (g.R.Reader.view c.args.input.now)) c.in_ok-code.ensures.ok) nonzero in
-    λ rest e. absurd (declaration-some h rest e)
+    let code = number_read (end_of (g.R.Reader.view c.args.input.now)) c.in_ok-code.ensures.ok in
+    let coded = declaration-coded _ _ _ _ some code nonzero in
+    λ rest e. grind arith
 
 pub returns-in_err-parse_declared-clause-read : goal.returns-in_err-parse_declared-clause-read
 returns-in_err-parse_declared-clause-read g c =
     let some : (g.R.Reader.view c.args.input.now).bytes ≢ [] = search rules in
     let nonzero : c.in_ok-code.code ≢ 0 = search rules in
     let code = c.in_ok-code.ensures.ok in
-    let h = declaration-coded _ _ _ _ some (number_read (end_of (g.R.Reader.view c.args.input.now)) code) nonzero in
     gives_err _ _ c.from_residual-in_err-parse_declared.ensures.1
-    (λ memory. declared_fails h (rw (end_stays code) at (c.in_err-parse_declared.ensures.read memory)))
+    (λ memory. declaration-coded _ _ _ _ some (number_read (end_of (g.R.Reader.view c.args.input.now)) code) nonzero
+    ∙ rw (rw (end_stays code) at (c.in_err-parse_declared.ensures.read memory)) refl)

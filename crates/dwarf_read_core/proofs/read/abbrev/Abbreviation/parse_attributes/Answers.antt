@@ -1,5 +1,4 @@
-use Rattle.std.proofs.Common.{◌≡◌, refl, ◌∙◌}
-use Rattle.dwarf_read_core.proofs.ResultLemmas.{gives_err}
+use Rattle.dwarf_read_core.proofs.Common.{◌≡◌, refl, ◌∙◌, gives_err}
 use Rattle.dwarf_read_core.proofs.tables.ReadingAttributes.{front-ends, front-fails, front-goes_on}
 use Rattle.dwarf_read_core.proofs.read.abbrev.Abbreviation.parse_attributes.Goals as goal
 use Rattle.dwarf_read_core.proofs.read.abbrev.Abbreviation.parse_attributes.Goals.{then-len-capacity+in_ok-reserve, else-len-capacity}

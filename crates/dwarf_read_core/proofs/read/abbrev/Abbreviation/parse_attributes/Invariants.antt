@@ -1,6 +1,4 @@
-use Rattle.std.proofs.Common.{◌≡◌, length}
-use Rattle.dwarf_reader_core.specs.Input.{end_of}
-use Rattle.dwarf_read_core.specs.Reading.{attributes_in}
+use Rattle.dwarf_read_core.proofs.Common.{◌≡◌, length, end_of, attributes_in}
 use Rattle.dwarf_read_core.proofs.tables.ReadingAttributes.{with_front}
 use Rattle.dwarf_read_core.proofs.read.abbrev.Abbreviation.parse_attributes.Given as goal
 

@@ -1,6 +1,4 @@
-use Rattle.std.proofs.Common.{refl}
-use Rattle.dwarf_read_core.specs.Reading.{tag_at}
-use Rattle.dwarf_read_core.proofs.ResultLemmas.{gives_err}
+use Rattle.dwarf_read_core.proofs.Common.{refl, tag_at, gives_err}
 use Rattle.dwarf_read_core.proofs.tables.ReadingNumbers.{number_not_read}
 use Rattle.dwarf_read_core.proofs.read.abbrev.Abbreviation.parse_tag.Goals as goal
 

@@ -1,8 +1,4 @@
-use Rattle.std.proofs.Common.{◌≡◌, ℕ, List, length, None, Ok}
-use Rattle.std.specs.FinMap.{empty}
-use Rattle.dwarf_reader_core.specs.Input.{end_of}
-use Rattle.dwarf_read_core.specs.Grammar.{by_end}
-use Rattle.dwarf_read_core.specs.Reading.{declaration_at, table_in}
+use Rattle.dwarf_read_core.proofs.Common.{◌≡◌, ℕ, List, length, None, Ok, empty, end_of, by_end, declaration_at, table_in}
 use Rattle.dwarf_read_core.proofs.read.abbrev.Abbreviations.parse.Given as goal
 
 -- the declarations so far and what is read behind them are the whole table

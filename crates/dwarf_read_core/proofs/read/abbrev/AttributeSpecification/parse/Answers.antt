@@ -1,7 +1,4 @@
-use Rattle.std.proofs.Common.{refl, rules, ◌≡◌, ◌==◌, true, false, ◌∙◌}
-use Rattle.dwarf_read_core.specs.Grammar.{implicit_const}
-use Rattle.dwarf_read_core.specs.Reading.{specification_at, value_at}
-use Rattle.dwarf_read_core.proofs.ResultLemmas.{gives_err}
+use Rattle.dwarf_read_core.proofs.Common.{refl, rules, ◌≡◌, ◌==◌, true, false, ◌∙◌, implicit_const, specification_at, value_at, gives_err}
 use Rattle.dwarf_read_core.proofs.tables.ReadingNumbers.{number_not_read, number_read, end_stays}
 use Rattle.dwarf_read_core.proofs.read.abbrev.AttributeSpecification.parse.Goals as goal
 
@@ -28,12 +25,5 @@ returns-in_err-value-in_default-DW_FORM_implicit_const-clause-read g c =
     let formed : (c.in_ok-read_uleb128_u16-2.field-0 == 0) ≡ false = search rules in
     let implicit : (c.in_ok-read_uleb128_u16-2.field-0 == implicit_const) ≡ true = search rules in
     gives_err _ _ c.from_residual-in_err-value-in_default-DW_FORM_implicit_const.ensures.1
-    (λ memory. rw (
-      number_read _ name,
-      number_read _ form,
-      named,
-      formed,
-      implicit,
-      rw
-          (end_stays form ∙ end_stays name) at h,
-    ) refl)
+    (λ memory. let again = rw (end_stays form ∙ end_stays name) at h in
+    rw (number_read _ name, number_read _ form, named, formed, implicit, again) refl)

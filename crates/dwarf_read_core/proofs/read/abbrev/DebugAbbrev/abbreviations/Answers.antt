@@ -1,15 +1,7 @@
-use Rattle.std.proofs.Common.{arith, ◌≡◌, drop, ap, ◌∙◌}
-use Rattle.std.proofs.lemmas.Result.{err_from_is_err_and}
-use Rattle.dwarf_base_core.specs.declared.error.Error.TheVariants.{OutOfMemory}
-use Rattle.dwarf_reader_core.specs.Input.{Input, end_of}
-use Rattle.dwarf_read_core.specs.Sections.{debug_abbrev_reader}
-use Rattle.dwarf_read_core.proofs.tables.ExactlyOneAnswer.{outside_of, nothing_declared}
-use Rattle.dwarf_read_core.proofs.ResultLemmas.{ok_is_no_error}
+use Rattle.dwarf_read_core.proofs.Common.{◌≡◌, drop, ap, ◌∙◌, OutOfMemory, Input, end_of, debug_abbrev_reader, ok_is_no_error}
+use Rattle.dwarf_read_core.proofs.tables.ExactlyOneAnswer.{nothing_declared}
 use Rattle.dwarf_read_core.proofs.tables.TableBounds.{bounded_read}
 use Rattle.dwarf_read_core.proofs.read.abbrev.DebugAbbrev.abbreviations.Goals as goal
-
-pub returns-in_err-skip-clause-answer : goal.returns-in_err-skip-clause-answer
-returns-in_err-skip-clause-answer g c = grind (arith, err_from_is_err_and, outside_of)
 
 pub returns-clause-bound : goal.returns-clause-bound
 returns-clause-bound g c =

@@ -1,12 +1,6 @@
-use Rattle.std.proofs.Common.{rules, ℕ, ◌≡◌, ◌≢◌, ◌≤◌, ◌+◌, ◌++◌, ◌∷◌, [], get_or, map, take, ap, sym, subst, ◌∙◌, arith, All}
-use Rattle.std.specs.List.Sorted.{IsNonDecreasingBy}
-use Rattle.std.proofs.lemmas.List.{take_all, get_or_default}
-use Rattle.std.proofs.lemmas.List.Elements.{All-push}
-use Rattle.std.proofs.lemmas.List.Sorted.{IsPermutation-map, IsNonDecreasingBy-from_sort_by_key}
+use Rattle.dwarf_read_core.proofs.Common.{refl, rules, ℕ, ◌≡◌, ◌≢◌, ◌≤◌, ◌+◌, ◌++◌, ◌∷◌, [], get_or, map, take, ap, sym, subst, ◌∙◌, arith, All, IsNonDecreasingBy, eq-eqb, take_all, get_or_default, All-push, IsPermutation-map, IsNonDecreasingBy-from_sort_by_key, occurrences, least_count, KeepsAnswers, kept_at, debug_abbrev_reader}
 use Rattle.dwarf_base_core.specs.declared.common.DebugAbbrevOffset.{DebugAbbrevOffset}
-use Rattle.dwarf_read_core.specs.Cache.{occurrences, least_count, KeepsAnswers, kept_at}
-use Rattle.dwarf_read_core.specs.Sections.{debug_abbrev_reader}
-use Rattle.dwarf_read_core.proofs.cache.CountingOffsets.{occurrences-push_here, occurrences_same, occurrences_above, seen_more, kept_none, kept_same, kept_more, kept_in_any_order}
+use Rattle.dwarf_read_core.proofs.cache.CountingOffsets.{occurrences-push, occurrences_above, seen_more, kept_none, kept_same, kept_more, kept_in_any_order}
 use Rattle.dwarf_read_core.proofs.cache.EntriesAsMap.{kept_at-push, push-in_order_if_absent}
 use Rattle.dwarf_read_core.proofs.read.abbrev.cache.entries_kept.Goals as goal
 use Rattle.dwarf_read_core.proofs.read.abbrev.cache.entries_kept.Goals.{then-number-last, else-number-last, then-count-least_count+in_ok-answer+in_ok-push, else-count-least_count}
@@ -30,7 +24,7 @@ loop-offset-preserved g c =
     (loop.invariant.left_from i item (omega arith) c.loop-offset-test.true)) in
     let count : c.if-number-last.count ≡ occurrences key seen + 1 = elim c.if-number-last.branch [
       | then-number-last w ↦ w.count-is ∙ ap (λ (n : ℕ). n + 1)
-          (occurrences_same key loop.last loop.count seen w.if-number-last.true loop.invariant.counted)
+          (rw w.if-number-last.true loop.invariant.counted)
       | else-number-last w ↦ w.count-is
           ∙ sym (ap (λ (n : ℕ). n + 1) (occurrences_above key loop.last seen loop.invariant.seen_upto (omega arith)))
     ] in
@@ -38,7 +32,7 @@ loop-offset-preserved g c =
     let upto : All (λ entry. entry.0 ≤ key) old =
     λ k d within. omega (arith, loop.invariant.kept_upto k d within) in
     record {
-      counted = count ∙ sym (ap (occurrences key) next ∙ occurrences-push_here key seen);
+      counted = count ∙ sym (ap (occurrences key) next ∙ occurrences-push key key seen ∙ rw (eq-eqb key key refl) refl);
       fits = elim c.if-number-last.branch [
         | then-number-last w ↦ omega (arith, w.count-is)
         | else-number-last w ↦ omega (arith, w.count-is)

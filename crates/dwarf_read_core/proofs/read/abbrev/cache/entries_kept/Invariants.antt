@@ -1,7 +1,4 @@
-use Rattle.std.proofs.Common.{◌≡◌, ◌≤◌, length, take, map}
-use Rattle.std.specs.List.{All, AllWithin}
-use Rattle.dwarf_read_core.specs.Cache.{IsInOrder, KeepsAnswers, kept_at, least_count, occurrences}
-use Rattle.dwarf_read_core.specs.Sections.{debug_abbrev_reader}
+use Rattle.dwarf_read_core.proofs.Common.{◌≡◌, ◌≤◌, length, take, map, All, AllWithin, IsInOrder, KeepsAnswers, kept_at, least_count, occurrences, debug_abbrev_reader}
 use Rattle.dwarf_read_core.proofs.read.abbrev.cache.entries_kept.Given as goal
 
 abbrev pub invariant-loop-offset : goal.invariant-loop-offset

@@ -1,6 +1,4 @@
-use Rattle.std.proofs.Common.{ℕ, ◌≡◌, ◌<◌, ◌≤◌, ◌/◌, ◌^◌, refl, subst, ap, arith, Less}
-use Rattle.std.proofs.lemmas.Cmp.{ranked}
-use Rattle.std.proofs.lemmas.List.{get_or_default}
+use Rattle.dwarf_read_core.proofs.Common.{ℕ, ◌≡◌, ◌<◌, ◌≤◌, ◌/◌, ◌^◌, refl, subst, ap, arith, Less, ranked, get_or_default}
 use Rattle.std.proofs.lemmas.Nat.{one_shl}
 use Rattle.dwarf_read_core.proofs.cache.SearchByHalving.{upto-at_end, upto-at_start, upto-back, upto-front, gap_behind}
 use Rattle.dwarf_read_core.proofs.read.abbrev.cache.place_of.Goals as goal

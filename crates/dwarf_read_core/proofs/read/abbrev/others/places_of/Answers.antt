@@ -1,5 +1,4 @@
-use Rattle.std.proofs.Common.{◌≡◌, ◌+◌, ◌<◌, ℕ, length, get_or, Option, is_some, if◌then◌else◌, refl, ap, ◌∙◌, rules}
-use Rattle.dwarf_read_core.specs.Grammar.{Declaration}
+use Rattle.dwarf_read_core.proofs.Common.{◌≡◌, ◌+◌, ◌<◌, ℕ, length, get_or, Option, is_some, if◌then◌else◌, refl, ap, ◌∙◌, rules, Declaration}
 use Rattle.dwarf_read_core.proofs.tables.OthersByCode.{places_more}
 use Rattle.dwarf_read_core.proofs.read.abbrev.others.places_of.Goals as goal
 

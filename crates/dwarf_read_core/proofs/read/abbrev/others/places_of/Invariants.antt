@@ -1,5 +1,4 @@
-use Rattle.std.proofs.Common.{◌≡◌, ℕ, take}
-use Rattle.dwarf_read_core.specs.Others.{ArePlaces, at_code, with_codes, with_places}
+use Rattle.dwarf_read_core.proofs.Common.{◌≡◌, ℕ, take, ArePlaces, at_code, with_codes, with_places}
 use Rattle.dwarf_read_core.proofs.read.abbrev.others.places_of.Given as goal
 
 -- the places so far find what the abbreviations so far have

@@ -1,5 +1,4 @@
-use Rattle.std.proofs.Common.{ap, inl, rules}
-use Rattle.dwarf_reader_core.specs.Input.{Input}
+use Rattle.dwarf_read_core.proofs.Common.{ap, inl, rules, Input}
 use Rattle.dwarf_read_core.proofs.sets.Entries.{address_error_first, address_first}
 use Rattle.dwarf_read_core.proofs.read.addr.AddrEntryIter.next.Goals as goal
 

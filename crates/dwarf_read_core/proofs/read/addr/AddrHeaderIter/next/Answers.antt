@@ -1,6 +1,4 @@
-use Rattle.std.proofs.Common.{rules, ap}
-use Rattle.dwarf_reader_core.specs.Input.{Input}
-use Rattle.dwarf_read_core.specs.Sets.{address_header}
+use Rattle.dwarf_read_core.proofs.Common.{rules, ap, Input, address_header}
 use Rattle.dwarf_read_core.proofs.sets.Sets.{address_header-four, set_first, set_error_first, set_error_stays, set_stays}
 use Rattle.dwarf_read_core.proofs.read.addr.AddrHeaderIter.next.Goals as goal
 

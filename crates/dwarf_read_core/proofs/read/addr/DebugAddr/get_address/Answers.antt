@@ -1,9 +1,11 @@
-use Rattle.dwarf_read_core.proofs.lookups.Words.{address-propagated, address-read, address-stays, address_misplaced}
+use Rattle.dwarf_read_core.specs.Words.{AddressAt}
+use Rattle.dwarf_read_core.proofs.ResultLemmas.{result-propagated}
+use Rattle.dwarf_read_core.proofs.lookups.Words.{address-read, address_misplaced, address-stays}
 use Rattle.dwarf_read_core.proofs.read.addr.DebugAddr.get_address.Goals as goal
 
 pub returns-in_err-skip_to_index-clause-answer : goal.returns-in_err-skip_to_index-clause-answer
 returns-in_err-skip_to_index-clause-answer g c =
-    address-propagated _ _ _ _ _ c.from_residual-in_err-skip_to_index.ensures.1
+    result-propagated (AddressAt _ _ _) _ _ _ c.from_residual-in_err-skip_to_index.ensures.1
     (address_misplaced _ _ _ _ (rw c.in_ok-input.ensures.ok at c.in_err-skip_to_index.ensures.err))
 
 pub returns-in_err-skip_to_index-clause-stable : goal.returns-in_err-skip_to_index-clause-stable
@@ -12,9 +14,9 @@ returns-in_err-skip_to_index-clause-stable g c =
 
 pub returns-clause-answer : goal.returns-clause-answer
 returns-clause-answer g c =
-    address-read _ _ _ _ _ _ _ (rw c.in_ok-input.ensures.ok at c.in_ok-skip_to_index.ensures.placed)
-    (rw c.in_ok-input.ensures.ok at c.in_ok-skip_to_index.ensures.ok)
-    c.read_address.ensures.ok c.read_address.ensures.err
+    address-read _ _ _ _ (rw c.in_ok-input.ensures.ok at c.in_ok-skip_to_index.ensures.placed)
+    (rw c.in_ok-input.ensures.ok at c.in_ok-skip_to_index.ensures.ok) _ _ _ c.read_address.ensures.ok
+    c.read_address.ensures.err
 
 pub returns-clause-stable : goal.returns-clause-stable
 returns-clause-stable g c = address-stays _ _ _ _ _ (returns-clause-answer g c)

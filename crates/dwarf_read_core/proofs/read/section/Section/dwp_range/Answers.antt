@@ -1,9 +1,11 @@
-use Rattle.dwarf_read_core.proofs.lookups.Ranges.{range_cut, range-propagated}
+use Rattle.dwarf_read_core.specs.Ranges.{RangeAt}
+use Rattle.dwarf_read_core.proofs.ResultLemmas.{result-propagated}
+use Rattle.dwarf_read_core.proofs.lookups.Ranges.{range_cut}
 use Rattle.dwarf_read_core.proofs.read.section.Section.dwp_range.Goals as goal
 
 pub returns-in_err-truncate : goal.returns-in_err-truncate
 returns-in_err-truncate g c =
-    range-propagated _ _ _ _ _ _ _ c.from_residual-in_err-truncate.ensures.1
+    result-propagated (RangeAt _ _ _) _ _ _ c.from_residual-in_err-truncate.ensures.1
     (range_cut _ _ _ _ _ _
     (rw (c.from_u32.ensures, c.in_ok-part.ensures.ok, c.reader.ensures) at c.in_ok-skip.ensures.ok)
     (rw c.from_u32-2.ensures at c.in_err-truncate.ensures.err))

@@ -1,6 +1,5 @@
 -- `borrow` is called once, with the section's data, and the new section holds what it returned.
-use Rattle.std.proofs.Common.{sym}
-use Rattle.std.proofs.lemmas.Fn.{called_at}
+use Rattle.dwarf_read_core.proofs.Common.{sym, called_at}
 use Rattle.dwarf_read_core.proofs.read.str.DebugStr.borrow.Goals as goal
 
 pub returns : goal.returns

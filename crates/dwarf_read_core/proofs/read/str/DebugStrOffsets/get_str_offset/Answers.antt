@@ -1,30 +1,28 @@
+use Rattle.dwarf_read_core.specs.Words.{WordAt}
 use Rattle.std.proofs.Common.{arith}
-use Rattle.dwarf_read_core.proofs.lookups.Words.{word-propagated, word-stays, word_misplaced, word_more, word_fails, word_taken}
+use Rattle.dwarf_read_core.proofs.ResultLemmas.{result-propagated}
+use Rattle.dwarf_read_core.proofs.lookups.Words.{word-stays, word_misplaced, word_more, word_fails, word_taken}
 use Rattle.dwarf_read_core.proofs.read.str.DebugStrOffsets.get_str_offset.Goals as goal
 
 pub returns-in_err-skip_to_word-clause-answer : goal.returns-in_err-skip_to_word-clause-answer
 returns-in_err-skip_to_word-clause-answer g c =
-    word-propagated _ _ _ _ _ _ c.from_residual-in_err-skip_to_word.ensures.1
-    (word_misplaced _ _ _ _
-    (rw c.in_ok-input.ensures.ok at c.in_err-skip_to_word.ensures.err))
+    result-propagated (WordAt _ _ _) _ _ _ c.from_residual-in_err-skip_to_word.ensures.1
+    (word_misplaced _ _ _ _ (rw c.in_ok-input.ensures.ok at c.in_err-skip_to_word.ensures.err))
 
 pub returns-in_err-skip_to_word-clause-stable : goal.returns-in_err-skip_to_word-clause-stable
-returns-in_err-skip_to_word-clause-stable g c =
-    word-stays _ _ _ _ _ _ (returns-in_err-skip_to_word-clause-answer g c)
+returns-in_err-skip_to_word-clause-stable g c = word-stays _ _ _ _ _ _ (returns-in_err-skip_to_word-clause-answer g c)
 
 pub returns-in_err-read_offset-clause-answer : goal.returns-in_err-read_offset-clause-answer
-returns-in_err-read_offset-clause-answer g c = grind (arith, word-propagated, word_fails)
+returns-in_err-read_offset-clause-answer g c = grind (arith, result-propagated, word_fails)
 
 pub returns-in_err-read_offset-clause-stable : goal.returns-in_err-read_offset-clause-stable
-returns-in_err-read_offset-clause-stable g c =
-    word-stays _ _ _ _ _ _ (returns-in_err-read_offset-clause-answer g c)
+returns-in_err-read_offset-clause-stable g c = word-stays _ _ _ _ _ _ (returns-in_err-read_offset-clause-answer g c)
 
 pub returns-clause-answer : goal.returns-clause-answer
 returns-clause-answer g c =
-    word_taken _ _ _ _ _ _
-    (rw c.in_ok-input.ensures.ok at c.in_ok-skip_to_word.ensures.placed)
-    (rw c.in_ok-input.ensures.ok at c.in_ok-skip_to_word.ensures.ok)
-    c.in_ok-read_offset.ensures.ok c.in_ok-read_offset.ensures.in_range
+    word_taken _ _ _ _ (rw c.in_ok-input.ensures.ok at c.in_ok-skip_to_word.ensures.placed)
+    (rw c.in_ok-input.ensures.ok at c.in_ok-skip_to_word.ensures.ok) c.in_ok-read_offset.ensures.ok
+    c.in_ok-read_offset.ensures.in_range
 
 pub returns-clause-stable : goal.returns-clause-stable
 returns-clause-stable g c = λ more. word_more _ _ _ _ more (returns-clause-answer g c) tt

@@ -1,5 +1,4 @@
-use Rattle.std.proofs.Common.{arith, Ok, Err}
-use Rattle.std.specs.FinMap as finite
+use Rattle.std.proofs.Common.{arith}
 use Rattle.dwarf_read_core.proofs.read.abbrev.cache.AbbreviationsCache.get.Goals as goal
 
 pub returns-in_ok-clone-in-Some-Ok-clause-faithful : goal.returns-in_ok-clone-in-Some-Ok-clause-faithful

@@ -1,5 +1,4 @@
-use Rattle.std.proofs.Common.{arith, get_or, option_map, sym, ap, ◌∙◌}
-use Rattle.dwarf_read_core.specs.Cache.{answer_of}
+use Rattle.dwarf_read_core.proofs.Common.{arith, get_or, option_map, sym, ap, ◌∙◌, answer_of}
 use Rattle.dwarf_read_core.proofs.cache.EntriesInOrder.{comparisons_rise, lookup_at_place, lookup_at_no_place}
 use Rattle.dwarf_read_core.proofs.cache.EntriesAsMap.{get-shown}
 use Rattle.dwarf_read_core.proofs.read.abbrev.cache.AbbreviationsCache.kept.Goals as goal

@@ -1,6 +1,4 @@
-use Rattle.std.proofs.Common.{arith, map, refl}
-use Rattle.dwarf_read_core.specs.Cache.{least_count}
-use Rattle.dwarf_read_core.specs.Sections.{debug_abbrev_reader}
+use Rattle.dwarf_read_core.proofs.Common.{arith, map, refl, least_count, debug_abbrev_reader}
 use Rattle.dwarf_read_core.proofs.cache.FaithfulToSection.{faithful_of_kept}
 use Rattle.dwarf_read_core.proofs.cache.FirstItem.{first_item-of_items}
 use Rattle.dwarf_read_core.proofs.cache.NoMemoryError.{no_memory_error_answers}
@@ -10,11 +8,7 @@ use Rattle.dwarf_read_core.proofs.read.abbrev.cache.AbbreviationsCache.populate.
 pub returns-clause-ok : goal.returns-clause-ok
 returns-clause-ok g c = (
   map (λ offset. g.R.Offset.ReaderOffset.value offset.0) c.in_ok-offsets.offsets.items,
-  record {
-    items = c.in_ok-offsets.offsets.items;
-    given = c.in_ok-offsets.ensures.ok;
-    numbers = refl;
-  },
+  record { items = c.in_ok-offsets.offsets.items; given = c.in_ok-offsets.ensures.ok; numbers = refl },
   λ key. rw (get-shown c.in_ok-entries.entries.items key) (c.in_ok-entries.ensures.ok key),
 )
 

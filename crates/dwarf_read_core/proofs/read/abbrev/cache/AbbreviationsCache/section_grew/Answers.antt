@@ -1,7 +1,4 @@
-use Rattle.std.proofs.Common.{ap, rules, ◌∙◌, subst, sym}
-use Rattle.std.specs.FinMap.{get}
-use Rattle.std.proofs.lemmas.Fn.{filter_same}
-use Rattle.dwarf_read_core.specs.Cache.{Cache, IsInOrder, answer_of, is_final, still_kept}
+use Rattle.dwarf_read_core.proofs.Common.{ap, rules, ◌∙◌, subst, sym, get, filter_same, Cache, IsInOrder, answer_of, is_final, still_kept}
 use Rattle.dwarf_read_core.proofs.cache.FaithfulToSection.{faithful_of_final}
 use Rattle.dwarf_read_core.proofs.cache.NoMemoryError.{no_memory_error_final}
 use Rattle.dwarf_read_core.proofs.cache.EntriesInOrder.{filter-in_order}

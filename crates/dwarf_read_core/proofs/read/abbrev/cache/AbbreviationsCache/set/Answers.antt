@@ -1,6 +1,5 @@
-use Rattle.std.proofs.lemmas.Grind.{common_steps}
-use Rattle.std.proofs.Common.{arith, set, Ok, subst, sym, insert}
-use Rattle.dwarf_read_core.specs.Cache.{KeepsNoWant}
+use Rattle.dwarf_read_core.proofs.Common.{common_steps, arith, set, Ok, subst, sym, KeepsNoWant}
+use Rattle.std.proofs.Common.{insert}
 use Rattle.dwarf_read_core.proofs.cache.NoMemoryError.{no_memory_error_insert}
 use Rattle.dwarf_read_core.proofs.cache.EntriesInOrder.{comparisons_rise}
 use Rattle.dwarf_read_core.proofs.cache.EntriesAsMap.{shown, Puts, puts_at_place, puts_at_gap}

@@ -1,6 +1,4 @@
-use Rattle.std.proofs.Common.{rules, ap}
-use Rattle.dwarf_reader_core.specs.Input.{Input}
-use Rattle.dwarf_read_core.specs.Sets.{string_offsets_header}
+use Rattle.dwarf_read_core.proofs.Common.{rules, ap, Input, string_offsets_header}
 use Rattle.dwarf_read_core.proofs.sets.Sets.{string_offsets_header-four, set_first, set_error_first, set_error_stays, set_stays}
 use Rattle.dwarf_read_core.proofs.read.str.offsets.StrOffsetsHeaderIter.next.Goals as goal
 
