@@ -1,13 +1,7 @@
 -- The digits of numbers in a base.
-use Rattle.std.proofs.Common.{◌≡◌, ◌≢◌, ℕ, zero, suc, ◌+◌, ◌-◌, ◌<◌, ◌≤◌, ◌/◌, ◌%◌, drop, set, Bool, true, false, List, [], ◌∷◌, ◌++◌, length, refl, sym, ap, ◌∙◌, arith, append_assoc, ◌==◌, if◌then◌else◌}
-use Rattle.std.proofs.lemmas.List.{drop-set}
-use Rattle.std.specs.Fmt.{digit_glyph, digits, digits_onto}
-
--- if two texts both end with a third one, so does the one that a test chooses
-either-append : (b : Bool) (one other longer others text : List ℕ) → longer ≡ one ++ text → others ≡ other ++ text
-    → (if b then longer else others) ≡ (if b then one else other) ++ text
-either-append true one other longer others text p q = p
-either-append false one other longer others text p q = q
+use Rattle.dwarf_listing_core.proofs.Common.{◌≡◌, ◌≢◌, ℕ, zero, suc, ◌-◌, ◌<◌, ◌≤◌, ◌/◌, ◌%◌, drop, false, List, [], ◌∷◌, ◌++◌, length, refl, arith, append_assoc, drop-set, digit_glyph, digits_onto}
+use Rattle.std.proofs.Common.{set}
+use Rattle.std.specs.Fmt.{digits}
 
 -- the digits of a number in front of a text are its digits, joined with the text
 digits_onto-append : (base k n : ℕ) (text : List ℕ)
@@ -15,11 +9,9 @@ digits_onto-append : (base k n : ℕ) (text : List ℕ)
 digits_onto-append base zero n text = refl
 digits_onto-append base (suc k) n text =
     let digit = digit_glyph false (n % base) in
-    either-append (n / base == 0) (digit ∷ []) (digits_onto k base false (n / base) (digit ∷ [])) (digit ∷ text)
-    (digits_onto k base false (n / base) (digit ∷ text)) text refl
-    (digits_onto-append base k (n / base) (digit ∷ text)
-    ∙ sym (append_assoc (digits_onto k base false (n / base) []) (digit ∷ []) text)
-    ∙ ap (λ t. t ++ text) (sym (digits_onto-append base k (n / base) (digit ∷ []))))
+    let more = digits_onto-append base k (n / base) (digit ∷ text) in
+    let alone = digits_onto-append base k (n / base) (digit ∷ []) in
+    grind (arith, append_assoc)
 
 -- the digits of a number with 64 places, in front of a text, are its digits, joined with the text
 pub digits_onto-digits : (base n : ℕ) (text : List ℕ) → digits_onto 64 base false n text ≡ digits base false n ++ text
@@ -48,15 +40,10 @@ module _ (base : ℕ) (bytes : List ℕ) (i n byte : ℕ) (some : 0 < i) (within
   -- the digit that is put is the whole number, if the number is below the base
   pub last_digit_put : n / base ≡ 0
       → drop (i - 1) (set bytes (i - 1) byte) ≡ digits_onto i base false n (drop i bytes)
-  last_digit_put last =
-      drop-put bytes i byte some within ∙ ap (λ d. d ∷ drop i bytes) digit
-      ∙ sym (digits_onto-last base i n (drop i bytes) some last)
+  last_digit_put last = grind (arith, drop-put, digits_onto-last)
 
   -- the digit that is put, with those of the rest in front, are the digits of the number
   pub next_digit_put : n / base ≢ 0
       → digits_onto (i - 1) base false (n / base) (drop (i - 1) (set bytes (i - 1) byte))
       ≡ digits_onto i base false n (drop i bytes)
-  next_digit_put more =
-      ap (digits_onto (i - 1) base false (n / base))
-      (drop-put bytes i byte some within ∙ ap (λ d. d ∷ drop i bytes) digit)
-      ∙ sym (digits_onto-more base i n (drop i bytes) some more)
+  next_digit_put more = grind (arith, drop-put, digits_onto-more)

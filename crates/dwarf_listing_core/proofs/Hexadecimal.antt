@@ -1,9 +1,5 @@
 -- Bytes in hexadecimal.
-use Rattle.std.proofs.lemmas.Grind.{common_steps}
-use Rattle.std.proofs.Common.{◌≡◌, ℕ, ◌+◌, ◌<◌, List, [], ◌∷◌, ◌++◌, length, take, get_or, map, refl, arith, append_assoc, length-take}
-use Rattle.std.proofs.lemmas.List.{take_more, map-append, length-map}
-use Rattle.std.specs.List.{join_with_byte}
-use Rattle.dwarf_listing_core.specs.Lines.{hex_byte, hex_text}
+use Rattle.dwarf_listing_core.proofs.Common.{common_steps, ◌≡◌, ℕ, ◌+◌, ◌<◌, List, [], ◌∷◌, ◌++◌, length, take, get_or, map, refl, arith, append_assoc, length-take, take_more, map-append, length-map, join_with_byte, hex_byte, hex_text}
 
 -- one more piece is joined to the others behind a separator
 joined_more : (c : ℕ) (pieces : List (List ℕ)) (piece : List ℕ) → 0 < length pieces
@@ -22,3 +18,6 @@ pub hex_text-next : (bytes : List ℕ) (i : ℕ) → 0 < i → i < length bytes
     → hex_text (take (i + 1) bytes) ≡ hex_text (take i bytes) ++ 32 ∷ hex_byte (get_or bytes i 0)
 hex_text-next bytes i positive within =
     grind (arith, common_steps, length-map, length-take, take_more, map-append, joined_more, get_or)
+
+-- the hexadecimal text of one byte after the other
+pub ruleset hex_steps = (common_steps, hex_text-first, hex_text-next)

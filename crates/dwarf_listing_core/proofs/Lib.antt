@@ -1,3 +1,4 @@
+mod Common
 pub mod Commands
 pub mod Digits
 pub mod Hexadecimal

@@ -1,15 +1,12 @@
 -- How `parse` reads digits.
-use Rattle.std.proofs.Common.{◌≡◌, ℕ, Bool, true, false, cond, ◌&&◌, ◌+◌, ◌<◌, ◌≤◌, List, length, get_or, ℤ, neg_ℤ, Option, Some, None, rules, refl, arith, Result, Ok, Err, All, option_map, IsUtf8}
+use Rattle.dwarf_listing_core.proofs.Common.{◌≡◌, ℕ, Bool, true, false, ◌+◌, ◌<◌, ◌≤◌, List, length, get_or, ℤ, neg_ℤ, None, rules, refl, arith, Result, Ok, Err, All, option_map, IsUtf8, nat_tests, common_steps, is_all_digits, number_below, signed_of, unsigned_of, without_minus}
 use Rattle.std.specs.Int.{w64}
-use Rattle.std.proofs.lemmas.Bool.Decides.{nat_tests}
-use Rattle.std.proofs.lemmas.Grind.{common_steps}
 use Rattle.std.proofs.lemmas.Str.{IsUtf8-from_ascii}
 use Rattle.std.proofs.lemmas.Str.Ascii.{IsAscii-from_all}
 use Rattle.std.proofs.lemmas.Str.Parse.{IsNumeralModel, numerals_by_value, parse_digits, parse_signed_digits, parse_signed_minus}
 use Rattle.std.specs.Char.{is_ascii_digit}
 use Rattle.std.specs.Result.{result_ok, OkIff}
 use Rattle.std.specs.Str.Parse.{digits_value, ParsesSigned, ParsesUnsigned, starts_with_minus}
-use Rattle.dwarf_listing_core.specs.Number.{is_all_digits, number_below, signed_of, unsigned_of, without_minus}
 
 -- the test for digits and their value are those of `parse`
 numerals : IsNumeralModel (λ text. is_all_digits text ≡ true) (digits_value 10)
@@ -22,15 +19,10 @@ below_by_cases : {T E : Type 0} → (sign : ℕ → T) (limit : ℕ) (text : Lis
 below_by_cases sign limit text (Ok n) digits told = grind (arith, common_steps, nat_tests)
 below_by_cases sign limit text (Err e) digits told = grind (arith, common_steps, nat_tests)
 
--- mapping an option's number to itself changes nothing
-same_option : (o : Option ℕ) → option_map (λ n. n) o ≡ o
-same_option None = refl
-same_option (Some n) = refl
-
 -- a text of digits is parsed as the number of its digits
 pub parsed_unsigned : {E : Type 0} → (text : List ℕ) (parsed : Result ℕ E) → ParsesUnsigned 64 10 text parsed
     → is_all_digits text ≡ true → result_ok parsed ≡ unsigned_of text
-parsed_unsigned text parsed told digits = grind (arith, below_by_cases, parse_digits, numerals, same_option)
+parsed_unsigned text parsed told digits = grind (arith, below_by_cases, parse_digits, numerals)
 
 -- a number that is at most a limit is below the next number
 below_next : {T E : Type 0} → (parsed : Result T E) (text : List ℕ) (limit : ℕ) (value : T)
@@ -62,16 +54,6 @@ below_by_test byte digit = grind (arith, common_steps, nat_tests)
 digits_are_ascii : (text : List ℕ) → is_all_digits text ≡ true → All (λ byte. byte < 128) text
 digits_are_ascii text digits k d within = grind (arith, common_steps, below_by_test, get_or)
 
--- there is no number if the test for digits fails
-none_by_test : (some digits below : Bool) (value : ℕ) → digits ≡ false
-    → None ≡ cond (some && digits && below) (Some value) None
-none_by_test true digits below value not = rw not refl
-none_by_test false digits below value not = refl
-
 -- bytes that aren't UTF-8 are no number
 pub not_text : (text : List ℕ) → (IsUtf8 text → ⊥) → None ≡ unsigned_of text
-not_text text no_text = by_test (is_all_digits text) refl
-  where
-    by_test : (digits : Bool) → is_all_digits text ≡ digits → None ≡ unsigned_of text
-    by_test true are = absurd (no_text (IsUtf8-from_ascii text (IsAscii-from_all text (digits_are_ascii text are))))
-    by_test false are = none_by_test _ (is_all_digits text) _ _ are
+not_text text no_text = grind (arith, common_steps, IsUtf8-from_ascii, IsAscii-from_all, digits_are_ascii)

@@ -1,14 +1,5 @@
 -- The offsets of an input, read one line after the other.
-use Rattle.std.proofs.Common.{arith, ◌≡◌, ◌<◌, ◌≤◌, ◌+◌, ◌-◌, ℕ, Bool, cond, List, [], ◌∷◌, ◌++◌, length, take, drop, map, nat_eq, nat_lt, Option, Some, None}
-use Rattle.std.proofs.lemmas.Bool.Decides.{nat_tests}
-use Rattle.std.proofs.lemmas.Grind.{common_steps}
-use Rattle.std.proofs.lemmas.List.{drop_all, length-drop, map-append, take_all}
-use Rattle.std.specs.List.{after_first, before_first, position}
-use Rattle.dwarf_listing_core.specs.Number.{unsigned_of}
-use Rattle.dwarf_listing_core.specs.Offsets.{AreOffsets, lines_of}
-
-abbrev Offset : Type 0
-Offset = Option ℕ
+use Rattle.dwarf_listing_core.proofs.Common.{arith, ◌≡◌, ◌<◌, ◌≤◌, ◌+◌, ◌-◌, ℕ, Bool, cond, List, [], ◌∷◌, ◌++◌, length, take, drop, nat_eq, nat_lt, Some, None, nat_tests, common_steps, drop_all, length-drop, map-append, take_all, after_first, before_first, position, unsigned_of, AreOffsets, lines_of}
 
 -- one more line that is an offset adds that offset to the offsets
 pub offsets_more : (lines : List (List ℕ)) (line : List ℕ) (offsets : List ℕ) (offset : ℕ)
@@ -47,3 +38,6 @@ lines-at bytes here found = grind (arith, first_is, behind, lines-first)
 -- bytes without a newline are one line
 pub lines-none : (bytes : List ℕ) → 0 < length bytes → None ≡ position is_end bytes → lines_of bytes ≡ bytes ∷ []
 lines-none bytes some found = grind (arith, none_is, take_all, drop_all, lines-first)
+
+-- where the first line ends
+pub ruleset first_lines = (lines-at, lines-none)

@@ -1,29 +1,44 @@
--- A section with exactly one result has exactly one text.
-use Rattle.std.proofs.Common.{◌≡◌, List, ℕ, Result, Ok, Err, refl, ap, ◌∙◌}
-use Rattle.dwarf_read_core.specs.declared.Error.{Error}
-use Rattle.dwarf_read_core.specs.Once.{HasOne}
-use Rattle.dwarf_listing_core.specs.Listing.{ListsBy}
+-- What has exactly one value has exactly one text.
+use Rattle.dwarf_listing_core.proofs.Common.{◌≡◌, List, ℕ, Result, Ok, Err, refl, ap, sym, ◌∙◌, Error, HasOne, Joins, in_front, ListsBy}
+
+-- all that have a property of which there is one are equal
+pub only_one : {A : Type 0} {Is : A → Type 0} → HasOne Is → (one other : A) → Is one → Is other → other ≡ one
+only_one has one other is is_other = has.2 other is_other ∙ sym (has.2 one is)
+
+-- there is exactly one image if there is exactly one value
+pub one_image : {A B : Type 0} {Is : A → Type 0} {Of : B → Type 0} (f : A → B) → HasOne Is → ((a : A) → Is a → Of (f a))
+    → ((b : B) → Of b → (a : A) × Is a × (b ≡ f a)) → HasOne Of
+one_image f has to from = (f has.0, to has.0 has.1, λ other of. let h = from other of in h.2 ∙ ap f (has.2 h.0 h.1))
+
+-- there is exactly one thing behind a value if there is exactly one value, and one thing behind each value
+pub one_behind : {A B : Type 0} {Is : A → Type 0} {Of : A → B → Type 0} → HasOne Is → ((a : A) → Is a → HasOne (Of a))
+    → HasOne (λ (b : B). (a : A) × Is a × Of a b)
+one_behind has behind =
+    let one = behind has.0 has.1 in
+    (one.0, (has.0, has.1, one.1), λ other h. one.2 other (rw (has.2 h.0 h.1) at h.2))
+
+-- a text has exactly one continuation if what is behind it is listed in exactly one way; an error has none
+pub one_joined : {Lists : Result (List ℕ) Error → Type 0} (own : Result (List ℕ) Error) → HasOne Lists
+    → HasOne (Joins own Lists)
+one_joined (Ok text) has = one_image (in_front text) has (λ rest is. (rest, is, refl)) (λ listed h. h)
+one_joined (Err e) has = (Err e, refl, λ other h. h)
+
+-- the text of a value, or the error
+text_of_result : {A : Type 0} → (A → List ℕ) → Result A Error → Result (List ℕ) Error
+text_of_result text_of (Ok value) = Ok (text_of value)
+text_of_result text_of (Err e) = Err e
 
 -- a section that has exactly one value or error has exactly one text or error
 pub one_text_by : {A : Type 0} (text_of : A → List ℕ) (Is : Result A Error → Type 0) → HasOne Is
     → HasOne (ListsBy text_of Is)
-one_text_by {A} text_of Is has = of has.0 has.1 has.2
+unfolding text_of_result
+one_text_by {A} text_of Is has = one_image (text_of_result text_of) has to from
   where
-    of : (one : Result A Error) → Is one → ((other : Result A Error) → Is other → other ≡ one)
-        → HasOne (ListsBy text_of Is)
-    of (Ok value) is others = (Ok (text_of value), (value, is, refl), only)
-      where
-        only : (other : Result (List ℕ) Error) → ListsBy text_of Is other → other ≡ Ok (text_of value)
-        only (Ok text) h =
-            let same = others (Ok h.0) h.1 in
-            let values : h.0 ≡ value = cc in
-            ap (λ (t : List ℕ). let r : Result (List ℕ) Error = Ok t in r) (h.2 ∙ ap text_of values)
-        only (Err e) h = absurd (let same = others (Err e) h in cc)
-    of (Err error) is others = (Err error, is, only)
-      where
-        only : (other : Result (List ℕ) Error) → ListsBy text_of Is other → other ≡ Err error
-        only (Ok text) h = absurd (let same = others (Ok h.0) h.1 in cc)
-        only (Err e) h =
-            let same = others (Err e) h in
-            let errors : e ≡ error = cc in
-            ap (λ (x : Error). let r : Result (List ℕ) Error = Err x in r) errors
+    to : (answer : Result A Error) → Is answer → ListsBy text_of Is (text_of_result text_of answer)
+    to (Ok value) is = (value, is, refl)
+    to (Err e) is = is
+
+    from : (listed : Result (List ℕ) Error) → ListsBy text_of Is listed
+        → (answer : Result A Error) × Is answer × (listed ≡ text_of_result text_of answer)
+    from (Ok text) h = (Ok h.0, h.1, λ i. Ok (h.2 i))
+    from (Err e) h = (Err e, h, refl)

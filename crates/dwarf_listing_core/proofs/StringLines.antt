@@ -1,14 +1,10 @@
 -- The string at an offset of a section is a part of the section's bytes, followed by a zero byte.
-use Rattle.std.proofs.Common.{◌≡◌, ◌≢◌, ℕ, ◌+◌, ◌<◌, ◌∷◌, ◌++◌, Ok, Err, length, take, drop, set, ap, arith, length-take}
+use Rattle.dwarf_listing_core.proofs.Common.{◌≡◌, ◌≢◌, ℕ, ◌+◌, ◌<◌, ◌∷◌, ◌++◌, Ok, Err, length, take, drop, ap, arith, length-take, drop-take, drop-append-le, length-append, length-drop, take_more_set, Error, OutOfMemory, Input, line}
+use Rattle.std.proofs.Common.{set}
 use Rattle.std.proofs.Math.Seq.{take-append_seam}
-use Rattle.std.proofs.lemmas.List.{drop-take, drop-append-le, length-append, length-drop, take_more_set}
-use Rattle.dwarf_read_core.specs.declared.Error.{Error}
-use Rattle.dwarf_read_core.specs.declared.Error.TheVariants.{OutOfMemory}
-use Rattle.dwarf_read_core.specs.Input.{Input}
 use Rattle.dwarf_read_core.specs.Strings.{StringAt, string_at}
 use Rattle.dwarf_read_core.proofs.LayoutErrors.{At_error_has}
 use Rattle.dwarf_read_core.proofs.lookups.Strings.{string-is_text}
-use Rattle.dwarf_listing_core.specs.Lines.{line}
 
 -- the bytes of a string are those of the section from its offset on, as many as it has
 pub string-is_part : (section : Input) (offset : ℕ) (found : Input) → StringAt section offset (Ok found)

@@ -26,6 +26,7 @@ pub enum Command {
 }
 
 /// Returns the command that the arguments name, if they name one.
+#[tactic(auto, using(crate::proofs::Commands::other_commands))]
 pub fn parse_command(words: &[String]) -> Option<Command>
     ensures { result ≡ command_of (map string_bytes words.now) }
 {

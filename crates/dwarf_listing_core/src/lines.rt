@@ -48,6 +48,7 @@ pub fn string_in_place(mut section: Vec<u8>, offset: u64) -> Result<Vec<u8>, Err
 /// # Errors
 ///
 /// An error is returned if memory runs out.
+#[tactic(auto, using(crate::proofs::Hexadecimal::hex_steps))]
 pub fn hex_line(mem: Global, bytes: &[u8]) -> Result<Vec<u8>, AllocError>
     ensures { IfOk result (λ text. text.items ≡ line (hex_text bytes.now)) }
 {

@@ -4,6 +4,7 @@ ghost use Rattle.std.specs.Prelude.{◌≡◌};
 ghost use Rattle.dwarf_listing_core.specs.Number.{is_all_digits, signed_of, unsigned_of, without_minus};
 
 /// Parses one or more ASCII digits as a number below 2^64. Leading zeros are allowed.
+#[tactic(auto, using(crate::proofs::Numbers::parsed_unsigned))]
 pub fn parse_unsigned(text: &str) -> Option<u64>
     ensures { result ≡ unsigned_of text.now }
 {
@@ -15,6 +16,7 @@ pub fn parse_unsigned(text: &str) -> Option<u64>
 }
 
 /// Parses ASCII digits, with or without a minus in front, as a number from -2^63 to 2^63 - 1.
+#[tactic(auto, using(crate::proofs::Numbers::parsed_signed))]
 pub fn parse_signed(text: &str) -> Option<i64>
     ensures { result ≡ signed_of text.now }
 {
@@ -26,6 +28,7 @@ pub fn parse_signed(text: &str) -> Option<i64>
 }
 
 /// Parses like [`parse_unsigned`], from bytes that may not be UTF-8.
+#[tactic(auto, using(crate::proofs::Numbers::not_text))]
 pub fn parse_digits(text: &[u8]) -> Option<u64>
     ensures { result ≡ unsigned_of text.now }
 {

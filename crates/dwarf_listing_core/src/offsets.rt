@@ -36,6 +36,7 @@ pub fn parse_offsets(mem: Global, input: &[u8]) -> Result<Vec<u64>, ManyFault>
 }
 
 // Returns the first line, and the bytes behind its newline.
+#[tactic(auto, using(crate::proofs::OffsetLemmas::first_lines))]
 fn split_line(input: &[u8]) -> (&[u8], &[u8])
     requires { 0 < length input.now }
     ensures lines { lines_of input.now ≡ result.0.now ∷ lines_of result.1.now }

@@ -1,7 +1,5 @@
 -- The bits of a byte of an encoding.
-use Rattle.std.proofs.lemmas.Grind.{common_steps}
-use Rattle.std.proofs.Common.{◌≡◌, ℕ, ◌+◌, ◌%◌, ◌<◌, bit_and, bit_or, arith}
-use Rattle.std.proofs.lemmas.Nat.{and_mask}
+use Rattle.dwarf_reader_core.proofs.Common.{common_steps, ◌≡◌, ℕ, ◌+◌, ◌%◌, ◌<◌, bit_and, bit_or, arith, and_mask}
 
 -- the low seven bits are the remainder by 128
 pub low_digit : (n : ℕ) → bit_and n 127 ≡ n % 128

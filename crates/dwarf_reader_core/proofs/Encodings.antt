@@ -1,13 +1,15 @@
 -- Lemmas on encodings of LEB128 numbers.
-use Rattle.std.proofs.Common.{◌≡◌, ℕ, zero, suc, ◌+◌, ◌-◌, ◌*◌, ◌%◌, ◌^◌, ◌<◌, ◌≤◌, List, [], ◌∷◌, ◌++◌, length, take, refl, arith, ℤ, IsTrue, nat_le, FitsSigned, w64, length-take-le}
-use Rattle.std.proofs.Math.Nat.{pow-suc, pow-le-pow_right}
+use Rattle.dwarf_reader_core.proofs.Common.{◌≡◌, ℕ, zero, suc, ◌+◌, ◌*◌, ◌%◌, ◌^◌, ◌<◌, ◌≤◌, List, [], ◌∷◌, ◌++◌, length, take, refl, arith, ℤ, IsTrue, nat_le, FitsSigned, w64, length-take-le, pow-suc, pow-le-pow_right, IsEncoding, NoneIsLast, unsigned_value, is_negative, is_in_range, signed64}
 use Rattle.dwarf_reader_core.proofs.Bits.{pow_digits}
-use Rattle.dwarf_reader_core.specs.Leb128.{IsEncoding, NoneIsLast, unsigned_value, is_negative, is_in_range, signed64}
 
 -- bytes of which none is the last of an encoding, and one more with a continuation bit, have no last one either
 pub NoneIsLast-push : (xs : List ℕ) (b : ℕ) → NoneIsLast xs → 128 ≤ b → NoneIsLast (xs ++ b ∷ [])
 NoneIsLast-push [] b none h = (h, tt)
 NoneIsLast-push (x ∷ xs) b none h = (none.0, NoneIsLast-push xs b none.1 h)
+
+-- a byte with a continuation bit and an encoding behind it are an encoding
+pub IsEncoding-cons : (b : ℕ) (s : List ℕ) → 128 ≤ b → IsEncoding s → IsEncoding (b ∷ s)
+IsEncoding-cons b s more encoding = grind arith
 
 -- bytes of which none is the last, and a byte below 128, are an encoding
 pub IsEncoding-push : (xs : List ℕ) (b : ℕ) → NoneIsLast xs → b < 128 → IsEncoding (xs ++ b ∷ [])
@@ -57,10 +59,6 @@ is_negative-push (x ∷ y ∷ xs) b = is_negative-push (y ∷ xs) b
 -- each i64 is in the range of signed numbers of 64 bits
 pub in_range_i64 : (v : ℤ) → FitsSigned w64 v → IsTrue (is_in_range signed64 v)
 in_range_i64 v fits = grind arith
-
--- each number in the range of signed numbers of 64 bits is an i64
-pub fits_i64 : (v : ℤ) → IsTrue (is_in_range signed64 v) → FitsSigned w64 v
-fits_i64 v has = grind arith
 
 -- no encoding is the beginning of another
 pub same_encoding : (a b x y : List ℕ) → IsEncoding a → IsEncoding b → a ++ x ≡ b ++ y → (a ≡ b) × (x ≡ y)

@@ -1,10 +1,6 @@
 -- Every error of a layout has a property if the errors that the layout contains have it.
-use Rattle.std.proofs.Common.{ℕ, Bool, true, false, cond, leb, List, length, Option, None, Some, Result, Ok, Err, ◌≡◌, sym, subst}
-use Rattle.std.specs.Prelude.{⊤, IfErr}
-use Rattle.dwarf_base_core.specs.declared.error.Error.{Error}
-use Rattle.dwarf_reader_core.specs.Faults.{eof}
-use Rattle.dwarf_reader_core.specs.Input.{Input}
-use Rattle.dwarf_reader_core.specs.Layout.{Layout, read, and_then, part, ended, pure, refuse, inside, ◌>>=◌, split_at, before_end, fixed, byte, when◌then◌else◌, check, At, alone}
+use Rattle.dwarf_reader_core.proofs.Common.{arith, ℕ, Bool, true, false, Result, Ok, Err, ◌≡◌, subst, ⊤, IfErr, Error, eof, Input, Layout, part, ended, pure, refuse, inside, ◌>>=◌, when◌then◌else◌, At}
+use Rattle.dwarf_reader_core.specs.Layout.{read, fixed, byte, check}
 use Rattle.dwarf_reader_core.proofs.Layouts.{Outcome}
 
 -- every error that the layout itself contains has the property
@@ -22,31 +18,15 @@ IfFails P (Ok x) = ⊤
 IfFails P (Err e) = P e
 
 module _ (P : Error → Type 0) (ends : (position : ℕ) → P (eof position)) where
-  -- if both outcomes have the property, so does the one that a test chooses
-  one_or_other : {A : Type 0} (t : Bool) (r s : Outcome A) → IfFails P r → IfFails P s → IfFails P (cond t r s)
-  one_or_other true r s h k = h
-  one_or_other false r s h k = k
-
-  -- two steps in a row fail with the property if each of them does
-  then-fails : {A B : Type 0} (r : Outcome A) (next : A × Input → Outcome B) → IfFails P r
-      → ((x : A × Input) → IfFails P (next x)) → IfFails P (and_then r next)
-  then-fails (Ok x) next h k = k x
-  then-fails (Err e) next h k = h
-
-  -- reading bytes up to an end fails with the property
-  ended-fails : (old : Input) (r : Option (List ℕ × List ℕ)) → IfFails P (before_end old r)
-  ended-fails old (Some x) = tt
-  ended-fails old None = ends old.position
-
   -- every error that a layout returns has the property if the errors that it contains have it
   pub errors : {A : Type 0} (f : Layout A) → Names P f → (old : Input) → IfFails P (read f old)
   unfolding read
-  errors (part n) h old = one_or_other (leb n (length old.bytes)) _ _ tt (ends old.position)
-  errors (ended end) h old = ended-fails old (split_at end old.bytes)
+  errors (part n) h old = grind (arith, ends)
+  errors (ended end) h old = grind (arith, ends)
   errors (pure a) h old = tt
   errors (refuse e) h old = h
-  errors (inside unit f) h old = then-fails (read f unit) _ (errors f h unit) (λ x. tt)
-  errors (p >>= f) h old = then-fails (read p old) _ (errors p h.0 old) (λ x. errors (f x.0) (h.1 x.0) x.1)
+  errors (inside unit f) h old = grind (arith, (errors f h unit))
+  errors (p >>= f) h old = grind (arith, (errors p h.0 old), (λ (x : _ × Input). errors (f x.0) (h.1 x.0) x.1))
 
   -- an error that was read with a layout has the property
   pub error_has : {A : Type 0} (f : Layout A) → Names P f → (old : Input) {e : Error} → read f old ≡ Err e → P e
@@ -55,12 +35,7 @@ module _ (P : Error → Type 0) (ends : (position : ℕ) → P (eof position)) w
   -- the error at the front of a section has the property
   pub At_error_has : {A : Type 0} (f : Layout A) → Names P f → (section : Input) {answer : Result A Error}
       → At f section answer → IfErr answer P
-  At_error_has {A} f h section is =
-      subst (λ (a : Result A Error). IfErr a P) (sym is) (go (read f section) (errors f h section))
-    where
-      go : (r : Outcome A) → IfFails P r → IfErr (alone r) P
-      go (Ok x) h = tt
-      go (Err e) h = h
+  At_error_has {A} f h section {answer} is = grind (arith, errors)
 
 module _ (P : Error → Type 0) where
   -- a number contains no error

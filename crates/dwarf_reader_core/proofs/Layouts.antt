@@ -1,18 +1,9 @@
 -- Laws of layouts: steps of reading, exactly one outcome, appended bytes, the front of the bytes, and how many are
 -- consumed.
-use Rattle.std.proofs.lemmas.Grind.{common_steps}
-use Rattle.std.proofs.Common.{◌≡◌, ℕ, zero, suc, ◌+◌, ◌-◌, ◌≤◌, take, drop, Bool, true, false, cond, leb, List, [], ◌∷◌, ◌++◌, length, Option, None, Some, Result, Ok, Err, refl, sym, ap, subst, ◌∙◌, arith}
-use Rattle.std.proofs.lemmas.Bool.{lt-leb, eq-eqb}
-use Rattle.std.proofs.lemmas.List.{length-append, length-drop, length-take-le, take-append-le, drop-append-le}
-use Rattle.std.proofs.lemmas.List.Elements.{All-head, All-tail}
+use Rattle.dwarf_reader_core.proofs.Common.{common_steps, ◌≡◌, ℕ, zero, suc, ◌+◌, ◌-◌, ◌≤◌, take, drop, Bool, true, false, List, [], ◌∷◌, ◌++◌, length, Option, None, Some, Result, Ok, Err, refl, sym, ap, subst, ◌∙◌, arith, lt-leb, length-append, length-drop, length-take-le, take-append-le, drop-append-le, All-head, All-tail, IfErr, ⊤, ◌≢◌, All, Error, EndsBefore, Lacks, Input, first, Takes, TakesNumber, TakesString, IsFirst, Layout, and_then, split_at, part, ended, pure, refuse, when◌then◌else◌, ◌>>=◌, inside, At, alone, HasOne}
 use Rattle.std.proofs.Math.Seq.{drop-append-add}
-use Rattle.std.specs.Prelude.{IfErr, ⊤, ◌==◌, ◌≢◌, All}
-use Rattle.dwarf_base_core.specs.declared.error.Error.{Error}
 use Rattle.dwarf_reader_core.specs.Appended.{followed_by, IsNoEof}
-use Rattle.dwarf_reader_core.specs.Faults.{EndsBefore, Lacks, end_fault}
-use Rattle.dwarf_reader_core.specs.Input.{Input, after, first, Takes, TakesByte, TakesNumber, TakesString, IsFirst}
-use Rattle.dwarf_reader_core.specs.Layout.{Layout, read, remains, remains_behind, or_unread, FailsAt, and_then, split_at, before_end, fixed, byte, part, ended, pure, refuse, when◌then◌else◌, check, ◌>>=◌, inside, At, alone}
-use Rattle.dwarf_reader_core.specs.Once.{HasOne}
+use Rattle.dwarf_reader_core.specs.Layout.{read, fixed, byte, check}
 
 -- ---- steps of reading
 
@@ -40,11 +31,6 @@ pub pure_reads : {A : Type 0} (a : A) (old : Input) → read (pure a) old ≡ Ok
 unfolding read
 pure_reads a old = refl
 
--- an error without bytes is returned
-pub refuse_fails : {A : Type 0} (e : Error) (old : Input) → read (refuse {A = A} e) old ≡ Err e
-unfolding read
-refuse_fails e old = refl
-
 -- a part is read if the input has as many bytes
 pub part_reads : {n : ℕ} {old new unit : Input} → unit ≡ first n old → Takes n old new
     → read (part n) old ≡ Ok (unit, new)
@@ -66,52 +52,35 @@ pub number_fails : {n : ℕ} {old new : Input} {e : Error} → EndsBefore n old 
 unfolding fixed
 number_fails short = then_fails _ _ _ (part_fails short)
 
--- a byte that a reader reads is read by its layout
-pub byte_reads : {old new : Input} {x : ℕ} → TakesByte old x new → read byte old ≡ Ok (x, new)
-unfolding read byte
-byte_reads {old} takes = grind arith
-
--- a byte fails with `UnexpectedEof` if the input has none
-pub byte_fails : {old new : Input} {e : Error} → EndsBefore 1 old e new → read byte old ≡ Err e
-unfolding byte
-byte_fails short = then_fails _ _ _ (part_fails short)
-
--- the test finds two numbers that differ not equal
-differs : (a b : ℕ) → a ≢ b → (a == b) ≡ false
-differs a b other = grind arith
-
 -- bytes are split at the first byte with the sought value
 split-first : (end : ℕ) (bytes : List ℕ) (len : ℕ) → IsFirst end bytes len
     → split_at end bytes ≡ Some (take len bytes, drop (suc len) bytes)
 split-first end [] len is = absurd (omega (arith, is.within))
-split-first end (b ∷ bytes) zero is = rw (eq-eqb b end is.here) refl
+split-first end (b ∷ bytes) zero is = grind arith
 split-first end (b ∷ bytes) (suc len) is =
     let later : IsFirst end bytes len = record {
       within = omega (arith, is.within);
       here = is.here;
       before = All-tail (λ x. x ≢ end) b (take len bytes) is.before;
     } in
-    rw (differs b end (All-head (λ x. x ≢ end) b (take len bytes) is.before), split-first end bytes len later) refl
+    grind (arith, (All-head (λ x. x ≢ end) b (take len bytes) is.before), (split-first end bytes len later))
 
 -- bytes without the sought value aren't split
 split-none : (end : ℕ) (bytes : List ℕ) → All (λ b. b ≢ end) bytes → split_at end bytes ≡ None
 split-none end [] none = refl
 split-none end (b ∷ bytes) none =
-    rw (differs b end (All-head (λ x. x ≢ end) b bytes none), split-none end bytes (All-tail (λ x. x ≢ end) b bytes none))
-    refl
+    let rest = split-none end bytes (All-tail (λ x. x ≢ end) b bytes none) in
+    grind (arith, (All-head (λ x. x ≢ end) b bytes none))
 
 -- a string that a reader reads is read by its layout
 pub string_reads : {old string new : Input} → TakesString old string new → read (ended 0) old ≡ Ok (string, new)
 unfolding read
-string_reads {old} {string} {new} t =
-    let len : length (take t.len old.bytes) ≡ t.len = length-take-le t.len old.bytes (omega (arith, t.ends.within)) in
-    let one : suc t.len ≡ t.len + 1 = omega arith in
-    rw (split-first 0 old.bytes t.len t.ends, len, one) (λ i. Ok ((sym t.is) i, (sym t.left) i))
+string_reads {old} {string} {new} t = rw (split-first 0 old.bytes t.len t.ends) (grind (arith, length-take-le))
 
 -- a string fails with `UnexpectedEof` if no byte is zero
 pub string_fails : {old : Input} {e : Error} → Lacks 0 old e → read (ended 0) old ≡ Err e
 unfolding read
-string_fails {old} none = rw (split-none 0 old.bytes none.none) (λ i. Err ((sym none.fault) i))
+string_fails {old} none = grind (arith, split-none)
 
 module _ {B : Type 0} where
   -- what follows a number is read behind that number
@@ -123,16 +92,6 @@ module _ {B : Type 0} where
   pub no_number : {n : ℕ} {old new : Input} {e : Error} (f : ℕ → Layout B) → EndsBefore n old e new
       → read (fixed n >>= f) old ≡ Err e
   no_number f short = then_fails _ f _ (number_fails short)
-
-  -- what follows a byte is read behind that byte
-  pub after_byte : {old mid : Input} {x : ℕ} (f : ℕ → Layout B) {r : Outcome B} → TakesByte old x mid
-      → read (f x) mid ≡ r → read (byte >>= f) old ≡ r
-  after_byte f takes rest = then_reads _ f _ (byte_reads takes) ∙ rest
-
-  -- a byte and what follows it fail with the error of the byte
-  pub no_byte : {old new : Input} {e : Error} (f : ℕ → Layout B) → EndsBefore 1 old e new
-      → read (byte >>= f) old ≡ Err e
-  no_byte f short = then_fails _ f _ (byte_fails short)
 
   -- what follows a part is read behind that part
   pub after_part : {n : ℕ} {old mid unit : Input} (f : Input → Layout B) {r : Outcome B} → unit ≡ first n old
@@ -162,52 +121,6 @@ module _ {B : Type 0} where
         → read (f (x, left)) old ≡ r → read (inside unit g >>= f) old ≡ r
     unfolding read
     after_inside {x} {left} is rest = rw is rest
-
-    -- a layout inside a part and what follows it fail with the error inside the part
-    pub no_inside : {e : Error} → read g unit ≡ Err e → read (inside unit g >>= f) old ≡ Err e
-    unfolding read
-    no_inside is = rw is refl
-
--- ---- errors, and what remains then
-
-module _ {A B : Type 0} {p : Layout A} {f : A → Layout B} {old : Input} where
-  -- an error behind a value that is read is the error of both
-  pub fails_behind : {mid new : Input} {x : A} {e : Error} → read p old ≡ Ok (x, mid) → FailsAt (f x) mid e new
-      → FailsAt (p >>= f) old e new
-  unfolding remains
-  fails_behind is h = record {
-    fault = then_reads p f old is ∙ h.fault;
-    left = h.left ∙ sym (ap (λ (s : Outcome A). remains_behind s (remains p old) (λ x. remains (f x.0) x.1)) is);
-  }
-
-  -- an error of the first is the error of both
-  pub fails_first : {new : Input} {e : Error} → FailsAt p old e new → FailsAt (p >>= f) old e new
-  unfolding remains
-  fails_first h = record {
-    fault = then_fails p f old h.fault;
-    left = h.left
-        ∙ sym (ap (λ (s : Outcome A). remains_behind s (remains p old) (λ x. remains (f x.0) x.1)) h.fault);
-  }
-
--- a number whose bytes are missing is an error, and nothing is consumed
-pub number_fails_at : {n : ℕ} {old new : Input} {e : Error} → EndsBefore n old e new → FailsAt (fixed n) old e new
-unfolding fixed remains
-number_fails_at {n} {old} short =
-    fails_first (record {
-      fault = part_fails short;
-      left = short.left ∙ sym (ap (λ (s : Outcome Input). or_unread s old) (part_fails short));
-    })
-
--- an error without bytes consumes none
-pub refuse_fails_at : {A : Type 0} (e : Error) (old : Input) → FailsAt (refuse {A = A} e) old e old
-unfolding remains
-refuse_fails_at e old = record { fault = refuse_fails e old; left = refl }
-
--- a test that doesn't hold is its error, and consumes no bytes
-pub check_fails_at : {b : Bool} {error e : Error} (old : Input) → b ≡ false → e ≡ error
-    → FailsAt (check b error) old e old
-unfolding check
-check_fails_at {error = error} old fails same = rw (fails, same) (refuse_fails_at error old)
 
 -- ---- what was read
 
@@ -276,24 +189,12 @@ abbrev Stays : {A : Type 0} → List ℕ → Outcome A → Outcome A → Type 0
 Stays more (Ok x) longer = longer ≡ Ok (x.0, followed_by x.1 more)
 Stays more (Err e) longer = IsNoEof e → longer ≡ Err e
 
--- a part that is read stays the same with more bytes behind, which remain behind it
-part-stays : (n : ℕ) (more : List ℕ) (old : Input) (enough : Bool) → leb n (length old.bytes) ≡ enough
-    → Stays more (cond enough (Ok (first n old, after n old)) (Err (end_fault old)))
-    (read (part n) (followed_by old more))
-unfolding read
-part-stays n more old enough e = grind (arith, length-append, take-append-le, drop-append-le)
-
 -- the outcome of two layouts in a row stays if the outcome of each does
 then-stays : {A B : Type 0} (more : List ℕ) (f : A → Layout B)
     → ((x : A × Input) → Stays more (read (f x.0) x.1) (read (f x.0) (followed_by x.1 more)))
     → (r s : Outcome A) → Stays more r s
     → Stays more (and_then r (λ x. read (f x.0) x.1)) (and_then s (λ x. read (f x.0) x.1))
 then-stays more f behind r s h = grind arith
-
--- what is read inside a part stays, as the part has an end of its own
-inside-stays : {A : Type 0} (more : List ℕ) (old : Input) (r : Outcome A)
-    → Stays more (and_then r (λ x. Ok (x, old))) (and_then r (λ x. Ok (x, followed_by old more)))
-inside-stays more old r = grind arith
 
 -- bytes that are split at an end are split there with more bytes behind
 abbrev EndStays : List ℕ → Option (List ℕ × List ℕ) → Option (List ℕ × List ℕ) → Type 0
@@ -305,19 +206,14 @@ split-stays : (end : ℕ) (bytes more : List ℕ) → EndStays more (split_at en
 split-stays end [] more = tt
 split-stays end (b ∷ bytes) more = grind (arith, (split-stays end bytes more))
 
--- bytes up to an end stay the same with more bytes behind
-ended-stays : (more : List ℕ) (old : Input) (r s : Option (List ℕ × List ℕ)) → EndStays more r s
-    → Stays more (before_end old r) (before_end (followed_by old more) s)
-ended-stays more old r s h = grind arith
-
 -- the outcome of every layout stays with more bytes behind
 stays : {A : Type 0} (f : Layout A) (more : List ℕ) (old : Input) → Stays more (read f old) (read f (followed_by old more))
 unfolding read
-stays (part n) more old = part-stays n more old (leb n (length old.bytes)) refl
-stays (ended end) more old = ended-stays more old _ _ (split-stays end old.bytes more)
+stays (part n) more old = grind (arith, length-append, take-append-le, drop-append-le)
+stays (ended end) more old = grind (arith, (split-stays end old.bytes more))
 stays (pure a) more old = refl
 stays (refuse e) more old = λ settled. refl
-stays (inside unit f) more old = inside-stays more old (read f unit)
+stays (inside unit f) more old = grind arith
 stays (p >>= f) more old =
     then-stays more f (λ x. stays (f x.0) more x.1) (read p old) (read p (followed_by old more)) (stays p more old)
 
@@ -367,27 +263,13 @@ split-parts : (end : ℕ) (bytes : List ℕ) → AreSplit end bytes (split_at en
 split-parts end [] = tt
 split-parts end (b ∷ bytes) = grind (arith, (split-parts end bytes))
 
--- the bytes behind an end are those behind the bytes before it and the end
-behind-takes : (end : ℕ) (old : Input) (x : List ℕ × List ℕ) → old.bytes ≡ x.0 ++ end ∷ x.1
-    → Takes (length x.0 + 1) old (record old { bytes = x.1; position = old.position + (length x.0 + 1) })
-behind-takes end old x is = grind (arith, length-append, drop-append-add)
-
 -- a value that is read is at the front of the bytes, and the rest remains
 pub read_front : {A : Type 0} (f : Layout A) (old : Input) {new : Input} {x : A} → read f old ≡ Ok (x, new)
     → (n : ℕ) × Takes n old new
 unfolding read
 read_front (part n) old is = (n, (part_read n old is).1)
-read_front (ended end) old {new} {x} is = go (split_at end old.bytes) (split-parts end old.bytes) is
-  where
-    go : (r : Option (List ℕ × List ℕ)) → AreSplit end old.bytes r → before_end old r ≡ Ok (x, new)
-        → (n : ℕ) × Takes n old new
-    go (Some y) parts h =
-        let taken = behind-takes end old y parts in
-        let same : ◌≡◌ {A = Input × Input}
-        (record old { bytes = y.0 }, record old { bytes = y.1; position = old.position + (length y.0 + 1) })
-        (x, new) = cc in
-        (length y.0 + 1, record { enough = taken.enough; left = (λ i. ((sym same) i).1) ∙ taken.left })
-    go None parts h = absurd cc
+read_front (ended end) old {new} {x} is =
+    (length x.bytes + 1, grind (arith, split-parts, length-append, drop-append-add))
 read_front (pure a) old is = (0, subst (Takes 0 old) (sym (pure_read a old is).1) (takes-nothing old))
 read_front (refuse e) old is = absurd cc
 read_front (inside unit f) old is = (0, subst (Takes 0 old) (sym (inside_read unit f old is).1) (takes-nothing old))
@@ -413,9 +295,9 @@ pub spanned : {A : Type 0} {size : A → ℕ} {f : Layout A} → Spans 0 size f 
     → read f old ≡ Ok (x, new) → Takes (size x) old new
 spanned {size = size} {f = f} law old {new} {x} is =
     let taken = read_front f old is in
-    let same : taken.0 ≡ size x = omega
-    (arith, law.by old new x is, taken.1.enough, rest-length taken.0 old new taken.1) in
-    subst (λ (n : ℕ). Takes n old new) same taken.1
+    let rest = rest-length taken.0 old new taken.1 in
+    let same : taken.0 ≡ size x = omega (arith, law.by old new x is, taken.1.enough) in
+    rw same at taken.1
 
 -- a layout whose values all have at least so many bytes consumes at least so many
 pub spans_least : {A : Type 0} {n : ℕ} {size : A → ℕ} {f : Layout A} → ((x : A) → n ≤ size x) → Spans 0 size f

@@ -1,14 +1,13 @@
+mod Common
 pub mod Encodings
 pub mod Bits
 pub mod Reading
 pub mod Outcomes
 pub mod Numbers
 pub mod Shortest
-pub mod ShortestUnsigned
-pub mod ShortestSigned
 pub mod ShortestExists
 pub mod SignedBits
-pub mod Buffers
+pub mod Writing
 pub mod Bytes
 pub mod Once
 pub mod Results

@@ -1,7 +1,6 @@
 -- Numbers of a fixed width, read from a buffer that was filled.
-use Rattle.std.proofs.Common.{arith, ◌≡◌, ℕ, Bool, List, take, take-take}
+use Rattle.dwarf_reader_core.proofs.Common.{arith, ◌≡◌, ℕ, Bool, List, take, take-take, Input, Takes, TakesNumber}
 use Rattle.dwarf_base_core.specs.Number.{number_of}
-use Rattle.dwarf_reader_core.specs.Input.{Input, Takes, TakesNumber}
 
 -- a number whose bytes were copied into a buffer is the number at the front of the input
 pub number_taken : (n : ℕ) (old new : Input) (buf : List ℕ) (is_big : Bool) (x : ℕ)

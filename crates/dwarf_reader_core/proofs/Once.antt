@@ -1,10 +1,6 @@
 -- Bytes have exactly one outcome as a string.
-use Rattle.std.proofs.Common.{◌≡◌, ◌≢◌, ℕ, zero, suc, ◌+◌, take, refl, sym, subst, ◌∙◌, arith, ◌⊎◌, inl, inr, Ok, List, [], ◌∷◌, All}
-use Rattle.std.proofs.lemmas.List.Elements.{All-nil, All-cons}
-use Rattle.dwarf_base_core.specs.declared.error.Error.{Error}
-use Rattle.dwarf_reader_core.specs.Input.{Input, after, first, IsFirst, TakesString}
-use Rattle.dwarf_reader_core.specs.Faults.{Lacks, end_fault}
-use Rattle.dwarf_reader_core.specs.Layout.{read, ended}
+use Rattle.dwarf_reader_core.proofs.Common.{◌≡◌, ◌≢◌, ℕ, zero, suc, ◌+◌, take, refl, sym, subst, ◌∙◌, arith, ◌⊎◌, inl, inr, Ok, List, [], ◌∷◌, All, All-nil, All-cons, Error, Input, after, first, IsFirst, TakesString, Lacks, end_fault, ended}
+use Rattle.dwarf_reader_core.specs.Layout.{read}
 use Rattle.dwarf_reader_core.proofs.Layouts.{string_reads, string_fails}
 
 -- the bytes before the first zero byte are one string

@@ -1,13 +1,6 @@
 -- Every list of bytes has exactly one outcome.
-use Rattle.std.proofs.Common.{◌≡◌, ℕ, zero, suc, ◌<◌, ◌≤◌, List, [], ◌∷◌, length, take, drop, refl, sym, ap, ◌∙◌, arith, inl, inr, ◌⊎◌, ⊎_elim, Bool, true, false, take_all, length-take-le, take-append-drop}
-use Rattle.std.proofs.lemmas.Bool.{cases_lt}
-use Rattle.dwarf_reader_core.specs.Leb128.{IsEncoding, NoneIsLast, Kind, Number, value, limit, is_in_range, Outcome, Value, End, Bad, IsNumber, HasNumber, IsCut, HasOutcome}
-use Rattle.dwarf_reader_core.specs.Once.{HasOne}
-use Rattle.dwarf_reader_core.proofs.Encodings.{past_none, same_encoding}
-
--- a byte with a continuation bit and an encoding behind it are an encoding
-IsEncoding-cons : (b : ℕ) (s : List ℕ) → 128 ≤ b → IsEncoding s → IsEncoding (b ∷ s)
-IsEncoding-cons b s more encoding = grind arith
+use Rattle.dwarf_reader_core.proofs.Common.{◌≡◌, ℕ, zero, suc, ◌<◌, ◌≤◌, List, [], ◌∷◌, length, take, drop, refl, sym, ap, ◌∙◌, arith, inl, inr, ◌⊎◌, Bool, true, false, take_all, length-take-le, take-append-drop, cases_lt, IsEncoding, NoneIsLast, Kind, Number, value, limit, is_in_range, Outcome, Value, End, Bad, HasNumber, IsCut, HasOutcome, HasOne}
+use Rattle.dwarf_reader_core.proofs.Encodings.{IsEncoding-cons, past_none, same_encoding}
 
 -- an encoding at the front ends within the bound
 record Ends (bound : ℕ) (bytes : List ℕ) : Type 0 where
@@ -16,10 +9,12 @@ record Ends (bound : ℕ) (bytes : List ℕ) : Type 0 where
   short : len ≤ bound
   encoding : IsEncoding (take len bytes)
 
+-- none of the bytes up to the bound is the last of an encoding
 record IsLong (bound : ℕ) (bytes : List ℕ) : Type 0 where
   enough : bound ≤ length bytes
   none : NoneIsLast (take bound bytes)
 
+-- the bytes end before the bound, and none of them is the last of an encoding
 abbrev AreShort : ℕ → List ℕ → Type 0
 AreShort bound bytes = (length bytes < bound) × NoneIsLast bytes
 
@@ -28,23 +23,20 @@ three_ways : (bound : ℕ) (bytes : List ℕ) → Ends bound bytes ⊎ (AreShort
 three_ways zero bytes = inr (inr (record { enough = omega arith; none = tt }))
 three_ways (suc bound) [] = inr (inl (omega arith, tt))
 three_ways (suc bound) (b ∷ bs) =
-    ⊎_elim
-    (λ last. inl (record { len = 1; enough = omega arith; short = omega arith; encoding = last }))
-    (λ more.
-    ⊎_elim
-    (λ e. inl (record {
-      len = suc e.len;
-      enough = omega (arith, e.enough);
-      short = omega (arith, e.short);
-      encoding = IsEncoding-cons b _ more e.encoding;
-    }))
-    (λ r.
-    ⊎_elim
-    (λ cut. inr (inl (omega (arith, cut.0), (more, cut.1))))
-    (λ long. inr (inr (record { enough = omega (arith, long.enough); none = (more, long.none) })))
-    r)
-    (three_ways bound bs))
-    (cases_lt b 128)
+    elim (cases_lt b 128) [
+      | inl last ↦ inl (record { len = 1; enough = omega arith; short = omega arith; encoding = last })
+      | inr more ↦
+          elim (three_ways bound bs) [
+            | inl e ↦ inl (record {
+              len = suc e.len;
+              enough = omega (arith, e.enough);
+              short = omega (arith, e.short);
+              encoding = IsEncoding-cons b _ more e.encoding;
+            })
+            | inr (inl cut) ↦ inr (inl (omega (arith, cut.0), (more, cut.1)))
+            | inr (inr long) ↦ inr (inr (record { enough = omega (arith, long.enough); none = (more, long.none) }))
+          ]
+    ]
 
 -- two encodings at the front of the same bytes have the same length
 same_length : (bytes : List ℕ) (m n : ℕ) → m ≤ length bytes → n ≤ length bytes → IsEncoding (take m bytes)
@@ -55,11 +47,12 @@ same_length bytes m n p q s t =
     omega (arith, length-take-le m bytes p, length-take-le n bytes q, ap length same.0)
 
 module _ (k : Kind) (bytes : List ℕ) where
-  cut_apart : (v : Number k) (n : ℕ) → HasNumber k bytes v n → IsCut k bytes → ⊥
-  cut_apart v n found cut =
-      let none : NoneIsLast (take (length bytes) bytes) = rw
-      (take_all (length bytes) bytes (omega arith)) cut.unended in
-      omega (arith, past_none bytes (length bytes) n (omega arith) none found.is_number.encoding, found.enough)
+  -- bytes that begin with an encoding aren't cut
+  cut_apart : (n : ℕ) → n ≤ length bytes → IsEncoding (take n bytes) → IsCut k bytes → ⊥
+  cut_apart n enough encoding cut =
+      let none : NoneIsLast (take (length bytes) bytes) =
+      rw (take_all (length bytes) bytes (omega arith)) cut.unended in
+      omega (arith, past_none bytes (length bytes) n (omega arith) none encoding)
 
   -- two numbers at the front of the same bytes have the same value and the same length
   same_number : (v w : Number k) (m n : ℕ) → HasNumber k bytes v m → HasNumber k bytes w n → (v ≡ w) × (m ≡ n)
@@ -67,68 +60,27 @@ module _ (k : Kind) (bytes : List ℕ) where
       let e = same_length bytes m n f.enough g.enough f.is_number.encoding g.is_number.encoding in
       (sym f.is_number.means ∙ ap (λ i. value k (take i bytes)) e ∙ g.is_number.means, e)
 
+  -- bytes have at most one outcome
   unique : (o p : Outcome k) → HasOutcome k bytes o → HasOutcome k bytes p → o ≡ p
-  unique (Value v m) (Value w n) f g = let s = same_number v w m n f g in cc (s.0, s.1)
-  unique (Value v m) End f g = absurd (cut_apart v m f g)
-  unique (Value v m) Bad f g = absurd (g.no_number v m f)
-  unique End (Value w n) f g = absurd (cut_apart w n g f)
-  unique End End f g = refl
-  unique End Bad f g = absurd (g.not_cut f)
-  unique Bad (Value w n) f g = absurd (f.no_number w n g)
-  unique Bad End f g = absurd (f.not_cut g)
-  unique Bad Bad f g = refl
+  unique o p f g = grind (arith, cut_apart, same_number)
 
   -- bytes with an encoding at the front have an outcome, whether its value is in the range of the kind or not
   judged : (e : Ends (limit k) bytes) (b : Bool) → is_in_range k (value k (take e.len bytes)) ≡ b
       → (o : Outcome k) × HasOutcome k bytes o
-  judged e true h =
-      let within : length (take e.len bytes) ≤ limit k = omega (arith, e.short, length-take-le e.len bytes e.enough) in
-      let is : IsNumber k (take e.len bytes) (value k (take e.len bytes)) = record {
-        encoding = e.encoding;
-        within = within;
-        means = refl;
-        in_range = h;
-      } in
-      (Value (value k (take e.len bytes)) e.len, record { enough = e.enough; is_number = is })
+  judged e true h = (Value (value k (take e.len bytes)) e.len, grind (arith, length-take-le))
   judged e false h =
-      let other : (v : Number k) (n : ℕ) → HasNumber k bytes v n → ⊥ = λ v n f.
-      let same = same_length bytes e.len n e.enough f.enough e.encoding f.is_number.encoding in
-      let has : is_in_range k (value k (take e.len bytes)) ≡ true =
-      ap (λ i. is_in_range k (value k (take i bytes))) same ∙ ap (is_in_range k) f.is_number.means
-      ∙ f.is_number.in_range
-      in
-      let clash : false ≡ true = sym h ∙ has in
-      cc clash
-      in
-      let none : NoneIsLast (take (length bytes) bytes)
-      → ⊥ = λ none. omega (
-        arith,
-        past_none bytes (length bytes) e.len
-            (omega arith) none e.encoding,
-        e.enough,
-      ) in (
-        Bad,
-        record {
-          no_number = other;
-          not_cut = λ cut. none
-              (rw (take_all (length bytes) bytes (omega arith)) cut.unended);
-        },
-      )
+      let none : (v : Number k) (n : ℕ) → HasNumber k bytes v n → ⊥ = λ v n found.
+      let same = same_length bytes e.len n e.enough found.enough e.encoding found.is_number.encoding in cc in
+      (Bad, record { no_number = none; not_cut = cut_apart e.len e.enough e.encoding })
 
+  -- bytes have an outcome
   some : (o : Outcome k) × HasOutcome k bytes o
   some =
-      ⊎_elim
-      (λ e. judged e _ refl)
-      (λ r.
-      ⊎_elim
-      (λ cut. (End, record { short = cut.0; unended = cut.1 }))
-      (λ long.
-      let none : (v : Number k) (n : ℕ) → HasNumber k bytes v n → ⊥ = λ v n f.
-      omega (arith, past_none bytes (limit k) n long.enough long.none f.is_number.encoding, f.is_number.within, length-take-le n bytes f.enough)
-      in
-      (Bad, record { no_number = none; not_cut = λ cut. omega (arith, long.enough, cut.short) }))
-      r)
-      (three_ways (limit k) bytes)
+      elim (three_ways (limit k) bytes) [
+        | inl e ↦ judged e _ refl
+        | inr (inl cut) ↦ (End, record { short = cut.0; unended = cut.1 })
+        | inr (inr long) ↦ (Bad, grind (arith, past_none, length-take-le))
+      ]
 
   pub exactly_one_outcome_of : HasOne (HasOutcome k bytes)
   exactly_one_outcome_of = (some.0, some.1, λ p h. unique p some.0 h some.1)

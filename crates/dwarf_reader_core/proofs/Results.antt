@@ -1,6 +1,5 @@
 -- What follows from a result that `?` propagates.
-use Rattle.std.proofs.Common.{arith, ◌≡◌, Result, IfErr, IsErrAnd}
-use Rattle.dwarf_base_core.specs.declared.error.Error.{Error}
+use Rattle.dwarf_reader_core.proofs.Common.{arith, ◌≡◌, Result, IfErr, IsErrAnd, Error}
 
 -- the error that `?` propagates has each property that it had before
 pub propagated-err : {X : Type 0} (P : Error → Type 0) {e : Error} (result : Result X Error)

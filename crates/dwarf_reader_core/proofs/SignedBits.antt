@@ -1,8 +1,7 @@
 -- The lowest seven bits of a signed number, and the bits above them.
-use Rattle.std.proofs.Common.{◌≡◌, ℕ, ◌%◌, ◌^◌, ◌<◌, ◌≤◌, ⊎_elim, bit_and, arith, to_z, of_z, w64, ℤ, pos, ◌+ℤ◌, ◌*ℤ◌}
+use Rattle.dwarf_reader_core.proofs.Common.{◌≡◌, ℕ, ◌%◌, ◌^◌, ◌<◌, ◌≤◌, ⊎_elim, bit_and, arith, to_z, of_z, w64, ℤ, pos, ◌+ℤ◌, ◌*ℤ◌, cases_lt}
 use Rattle.std.proofs.Math.IntN.{nat_abs}
 use Rattle.std.specs.Int.{int_shr}
-use Rattle.std.proofs.lemmas.Bool.{cases_lt}
 use Rattle.dwarf_reader_core.proofs.Bytes.{low_digit}
 
 -- `rest & 0x7f`, as a byte, is the remainder of the bits by 128

@@ -22,6 +22,7 @@ pub fn exactly_one_outcome()
 {}
 
 /// No encoding begins another.
+#[tactic(auto, using(crate::proofs::Encodings::same_encoding))]
 pub fn no_encoding_begins_another()
     ensures { (a b x y : List ℕ) → IsEncoding a → IsEncoding b → a ++ x ≡ b ++ y
         → (a ≡ b) × (x ≡ y) }
@@ -34,6 +35,7 @@ pub fn exactly_one_shortest()
 {}
 
 /// Bytes that encode a number, within the limit of its kind, are read as the number, whatever follows.
+#[tactic(auto, using(crate::proofs::Shortest::HasNumber_append))]
 pub fn written_is_read()
     ensures { (k : Kind) (number : Number k) (bytes rest : List ℕ) → Encodes k bytes number
         → length bytes ≤ limit k → IsTrue (is_in_range k number)
@@ -50,6 +52,7 @@ pub fn one_string()
 {}
 
 /// Bytes begin with exactly one initial length, or one error.
+#[tactic(auto, using(crate::proofs::Layouts::At_one))]
 pub fn one_length()
     ensures { (greatest : ℕ) (old : Input) → HasOne (At (initial_length greatest) old) }
 {}

@@ -550,6 +550,7 @@ pub trait Reader: Debug + Drop + Sized {
     /// - [`Error::UnsupportedOffset`] if the length doesn't fit the offset type. All twelve bytes
     ///   are consumed.
     #[inline]
+    #[tactic(auto, unfolding(crate::specs::InitialLength::initial_length, crate::specs::InitialLength::long_length, crate::specs::Layout::read, crate::specs::Layout::remains, crate::specs::Layout::fixed, crate::specs::Layout::check))]
     fn read_initial_length(&mut self) -> Result<(Self::Offset, Format)>
         ensures ok { let f = initial_length Self.Offset.GREATEST in IfOk result (λ found.
             read f (view self.old) ≡ Ok ((found.1, Self.Offset.value found.0), view self.new)) }

@@ -1,4 +1,4 @@
-use Rattle.std.specs.Io.KnownBytes.{Consumes}
+use Rattle.dwarf_listing_core.proofs.Common.{Consumes}
 use Rattle.dwarf_listing_core.proofs.input.read_input.Given as goal
 
 -- the bytes so far and those that the input still has are those that it had

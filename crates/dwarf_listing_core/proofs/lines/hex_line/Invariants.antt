@@ -1,5 +1,4 @@
-use Rattle.std.proofs.Common.{◌≡◌, string_bytes, take}
-use Rattle.dwarf_listing_core.specs.Lines.{hex_text}
+use Rattle.dwarf_listing_core.proofs.Common.{◌≡◌, string_bytes, take, hex_text}
 use Rattle.dwarf_listing_core.proofs.lines.hex_line.Given as goal
 
 abbrev pub invariant-loop-i : goal.invariant-loop-i

@@ -1,4 +1,4 @@
-use Rattle.std.proofs.Common.{rules, arith, false}
+use Rattle.dwarf_listing_core.proofs.Common.{rules, arith, false}
 use Rattle.std.proofs.lemmas.Fmt.{hex_byte}
 use Rattle.dwarf_listing_core.proofs.lines.push_hex.Goals as goal
 

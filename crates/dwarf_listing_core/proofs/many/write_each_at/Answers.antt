@@ -1,10 +1,7 @@
-use Rattle.std.proofs.Common.{◌≡◌, ◌<◌, ℕ, suc, List, [], ◌++◌, length, take, drop, get_or, Err, sym, ap, ◌∙◌, drop-cons}
-use Rattle.std.proofs.lemmas.List.{take-append-drop, take_more}
-use Rattle.std.proofs.lemmas.Result.{err_from_is_err_and}
+use Rattle.dwarf_listing_core.proofs.Common.{arith, ◌≡◌, ◌<◌, ℕ, suc, List, [], length, take, drop, get_or, Err, drop-cons, take-append-drop, take_more, err_from_is_err_and, Error, EndsAt, ListsAll, ListsOne, one_more}
 use Rattle.std.proofs.KnownBytes.{Appends-nil, Appends-trans}
-use Rattle.dwarf_read_core.specs.declared.Error.{Error}
 use Rattle.dwarf_listing_core.specs.declared.arguments.Kind.{Kind}
-use Rattle.dwarf_listing_core.specs.Many.{EndsAt, ListsAll, ListsOne, nothing, one_more}
+use Rattle.dwarf_listing_core.specs.Many.{nothing}
 use Rattle.dwarf_listing_core.proofs.many.write_each_at.Goals as goal
 
 -- if the next offset has an error, that is the first error
@@ -14,8 +11,7 @@ first_error : {kind : Kind} {section : List ℕ} {offset : ℕ} {error : Error} 
 first_error {kind} {section} {offset} {error} offsets i within listed same fails = record {
   before = take i offsets;
   after = drop (suc i) offsets;
-  place = rw same (sym (take-append-drop i offsets)
-      ∙ ap (λ rest. take i offsets ++ rest) (drop-cons offsets i 0 within));
+  place = grind (arith, take-append-drop, drop-cons);
   listed = listed;
   fails = rw same fails;
 }
@@ -38,9 +34,7 @@ pub returns-in_err-write_at-clause-first : goal.returns-in_err-write_at-clause-f
 returns-in_err-write_at-clause-first g c offset error failed =
     let p = err_from_is_err_and c.from_residual.result c.from_residual.ensures.1 in
     let before = c.loop-offset.invariant in
-    let returned = p.1 in
-    let same = p.2 in
-    let at = c.in_err-write_at.ensures.at offset error cc in
+    let at = c.in_err-write_at.ensures.at offset error (cc (p.1, p.2)) in
     let i = c.loop-offset.offset-index in (
       before.0,
       first_error c.args.offsets.now i c.loop-offset-test.true before.1 at.0 at.2,

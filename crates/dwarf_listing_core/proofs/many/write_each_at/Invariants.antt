@@ -1,6 +1,4 @@
-use Rattle.std.proofs.Common.{List, ℕ, take}
-use Rattle.std.specs.Io.KnownBytes.{Appends}
-use Rattle.dwarf_listing_core.specs.Many.{ListsAll}
+use Rattle.dwarf_listing_core.proofs.Common.{List, ℕ, take, Appends, ListsAll}
 use Rattle.dwarf_listing_core.proofs.many.write_each_at.Given as goal
 
 -- what was written so far is what the offsets so far list

@@ -1,5 +1,4 @@
-use Rattle.std.proofs.Common.{◌≡◌, ◌++◌, ℕ, List, length}
-use Rattle.dwarf_listing_core.specs.Offsets.{AreOffsets, lines_of}
+use Rattle.dwarf_listing_core.proofs.Common.{◌≡◌, ◌++◌, ℕ, List, length, AreOffsets, lines_of}
 use Rattle.dwarf_listing_core.proofs.offsets.parse_offsets.Given as goal
 
 -- the offsets so far are those of the lines before the rest

@@ -1,4 +1,4 @@
-use Rattle.dwarf_listing_core.specs.Items.{ListsRun}
+use Rattle.dwarf_listing_core.proofs.Common.{ListsRun}
 use Rattle.dwarf_listing_core.proofs.ItemLines.{AreListed}
 use Rattle.dwarf_listing_core.proofs.sets.push_items.Given as goal
 

@@ -1,4 +1,4 @@
-use Rattle.std.proofs.Common.{◌-◌, ◌∙◌, arith, drop, length-set}
+use Rattle.dwarf_listing_core.proofs.Common.{◌-◌, ◌∙◌, arith, drop, length-set}
 use Rattle.dwarf_listing_core.proofs.Digits.{digits_onto-digits, last_digit_put, next_digit_put}
 use Rattle.dwarf_listing_core.proofs.sets.put_digits.Goals as goal
 

@@ -1,5 +1,5 @@
-use Rattle.std.proofs.Common.{◌≡◌, ◌≤◌, ◌++◌, drop, false, length}
-use Rattle.std.specs.Fmt.{digits, digits_onto}
+use Rattle.dwarf_listing_core.proofs.Common.{◌≡◌, ◌≤◌, ◌++◌, drop, false, length, digits_onto}
+use Rattle.std.specs.Fmt.{digits}
 use Rattle.dwarf_listing_core.proofs.sets.put_digits.Given as goal
 
 -- the digits of the rest, in front of those that were put, are the digits of the number

@@ -1,5 +1,4 @@
-use Rattle.std.proofs.Common.{◌≡◌, ◌++◌, string_bytes, take, flat_map}
-use Rattle.dwarf_listing_core.specs.Tables.{attribute_line}
+use Rattle.dwarf_listing_core.proofs.Common.{◌≡◌, ◌++◌, string_bytes, take, flat_map, attribute_line}
 use Rattle.dwarf_listing_core.proofs.tables.push_declaration.Given as goal
 
 abbrev pub invariant-loop-attribute : goal.invariant-loop-attribute

@@ -1,5 +1,4 @@
-use Rattle.std.proofs.Common.{◌≡◌, map, string_bytes, flat_map}
-use Rattle.dwarf_listing_core.specs.Tables.{declaration_lines}
+use Rattle.dwarf_listing_core.proofs.Common.{◌≡◌, map, string_bytes, flat_map, declaration_lines}
 use Rattle.dwarf_listing_core.proofs.tables.table_text.Given as goal
 
 abbrev pub invariant-loop-abbreviation : goal.invariant-loop-abbreviation

@@ -1,4 +1,4 @@
-use Rattle.dwarf_reader_core.specs.Leb128.{unsigned64, unsigned16, signed64}
+use Rattle.dwarf_reader_core.proofs.Common.{unsigned64, unsigned16, signed64}
 use Rattle.dwarf_reader_core.proofs.Outcomes.{exactly_one_outcome_of}
 use Rattle.dwarf_reader_core.proofs.laws.exactly_one_outcome.Goals as goal
 

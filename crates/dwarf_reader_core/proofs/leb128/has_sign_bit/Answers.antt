@@ -1,7 +1,5 @@
-use Rattle.std.proofs.Common.{◌≡◌, ◌%◌, ◌*◌, ◌/◌, arith}
-use Rattle.std.specs.Int.Bits.{bit_and}
+use Rattle.dwarf_reader_core.proofs.Common.{◌≡◌, ◌%◌, ◌*◌, ◌/◌, arith, bit_and, and_pow}
 use Rattle.std.proofs.lemmas.Bool.Decides.{nat_tests}
-use Rattle.std.proofs.lemmas.Nat.Bits.{and_pow}
 use Rattle.dwarf_reader_core.proofs.leb128.has_sign_bit.Goals as goal
 
 pub returns : goal.returns

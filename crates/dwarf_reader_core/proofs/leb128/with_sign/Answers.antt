@@ -1,6 +1,5 @@
-use Rattle.std.proofs.Common.{◌≡◌, ◌≤◌, ◌<◌, ◌^◌, arith, rules, ap, ◌∙◌, to_z, w64, FitsSigned, pos, ◌-ℤ◌}
+use Rattle.dwarf_reader_core.proofs.Common.{◌≡◌, ◌≤◌, ◌<◌, ◌^◌, arith, rules, ap, ◌∙◌, to_z, w64, FitsSigned, pos, ◌-ℤ◌, ints, to_z-of_z, to_z_pos}
 use Rattle.std.proofs.Math.Pow.{pow_mono}
-use Rattle.std.proofs.lemmas.Int.{ints, to_z-of_z, to_z_pos}
 use lib.Bits.{or_zero_r}
 use Rattle.dwarf_reader_core.proofs.Bits.{or_ones, to_z_low}
 use Rattle.dwarf_reader_core.proofs.leb128.with_sign.Goals as goal

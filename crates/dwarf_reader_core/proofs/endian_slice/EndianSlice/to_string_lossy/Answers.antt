@@ -1,4 +1,4 @@
-use Rattle.std.proofs.Common.{◌∙◌}
+use Rattle.dwarf_reader_core.proofs.Common.{◌∙◌}
 use Rattle.bstr.proofs.lemmas.LossyLemmas.{lossy_chars-utf8_lossy}
 use Rattle.dwarf_reader_core.proofs.endian_slice.EndianSlice.to_string_lossy.Goals as goal
 

@@ -1,5 +1,4 @@
-use Rattle.std.proofs.Common.{rules, ◌≡◌, ◌<◌, get_or}
-use Rattle.dwarf_reader_core.specs.Input.{Input}
+use Rattle.dwarf_reader_core.proofs.Common.{rules, ◌≡◌, ◌<◌, get_or, Input}
 use Rattle.dwarf_reader_core.proofs.Reading.{encoding_found}
 use Rattle.dwarf_reader_core.proofs.endian_slice.EndianSliceReader.skip_leb128.Goals as goal
 

@@ -1,4 +1,4 @@
-use Rattle.std.proofs.Common.{◌≡◌}
+use Rattle.dwarf_reader_core.proofs.Common.{◌≡◌}
 use Rattle.dwarf_reader_core.proofs.Reading.{Begun}
 use Rattle.dwarf_reader_core.proofs.reader.Reader.read_sleb128.Given as goal
 

@@ -1,4 +1,4 @@
-use Rattle.std.proofs.Common.{◌≡◌, ℕ, length}
+use Rattle.dwarf_reader_core.proofs.Common.{◌≡◌, ℕ, length}
 use Rattle.dwarf_reader_core.proofs.Reading.{Begun}
 use Rattle.dwarf_reader_core.proofs.reader.Reader.skip_leb128.Given as goal
 

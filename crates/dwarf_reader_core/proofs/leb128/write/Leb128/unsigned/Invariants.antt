@@ -1,16 +1,12 @@
-use Rattle.std.proofs.Common.{ℕ, ◌-◌, ◌^◌, ◌<◌, List, ◌++◌, take}
-use Rattle.dwarf_reader_core.specs.Leb128.{unsigned_value}
-use Rattle.dwarf_reader_core.proofs.Shortest.{IsLeast}
-use Rattle.dwarf_reader_core.proofs.Buffers.{HasRoom}
+use Rattle.dwarf_reader_core.proofs.Common.{◌-◌, pos, unsigned64}
+use Rattle.dwarf_reader_core.proofs.Writing.{FitsBytes, IsBegun}
 use Rattle.dwarf_reader_core.proofs.leb128.write.Leb128.unsigned.Given as goal
 
 -- the bytes so far, with the shortest encoding of the rest behind them, are the shortest of the number
 abbrev pub invariant-digits : goal.invariant-digits
 invariant-digits l = record {
-  completes : (tail : List ℕ) → IsLeast unsigned_value l.rest tail
-      → IsLeast unsigned_value l.value (take l.len l.bytes ++ tail);
-  fits : l.rest < 128 ^ (10 - l.len);
-  has_room : HasRoom l.bytes l.len;
+  begun : IsBegun unsigned64 l.value l.rest l.bytes l.len;
+  fits : FitsBytes (9 - l.len) (pos l.rest);
 }
 
 abbrev pub decreases-digits : goal.decreases-digits

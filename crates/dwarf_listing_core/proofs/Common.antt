@@ -1,0 +1,27 @@
+-- The names that many of the proofs use.
+pub use Rattle.std.proofs.Common.{◌≡◌, List, ℕ, Result, Ok, Err, refl, ap, sym, ◌∙◌, ◌≢◌, zero, suc, ◌+◌, ◌-◌, ◌<◌, ◌≤◌, ◌/◌, ◌%◌, drop, Bool, true, false, [], ◌∷◌, ◌++◌, length, arith, append_assoc, cond, get_or, ℤ, neg_ℤ, Option, Some, None, rules, All, option_map, IsUtf8, inl, inr, append-nil, take, map, length-take, ◌^◌, IsTrue, nat_eq, nat_lt, string_bytes, flat_map, drop-cons, length-set}
+pub use Rattle.dwarf_listing_core.specs.Sets.{SetListing, ListsLine, ListsSet, address_listing, offset_listing, HasSets, ListsSection, sets_section}
+pub use Rattle.dwarf_read_core.specs.declared.Error.{Error}
+pub use Rattle.std.proofs.lemmas.List.{drop-set, take_more, map-append, length-map, drop_all, length-drop, take_all, drop-take, drop-append-le, length-append, take_more_set, take-append-drop}
+pub use Rattle.dwarf_listing_core.specs.Items.{Joins, in_front, AppendsText, ListsItemsOf, ListsRun, nothing, bad_item, bad_text, item, ListsItems}
+pub use Rattle.dwarf_read_core.specs.Sets.{Set, Headers, addresses_of, string_offsets_of, seen_by}
+pub use Rattle.dwarf_listing_core.specs.Lines.{hex_byte, hex_text, line, string_line}
+pub use Rattle.std.proofs.lemmas.Result.{err_from_is_err_and}
+pub use Rattle.dwarf_read_core.specs.Once.{HasOne}
+pub use Rattle.std.proofs.lemmas.Grind.{common_steps}
+pub use Rattle.dwarf_listing_core.specs.Offsets.{AreOffsets, lines_of}
+pub use Rattle.dwarf_listing_core.specs.Tables.{table_text, attribute_line, declaration_lines}
+pub use Rattle.dwarf_listing_core.specs.Listing.{ListsBy, section_of}
+pub use Rattle.std.specs.Fmt.{digit_glyph, digits_onto}
+pub use Rattle.std.proofs.lemmas.Bool.Decides.{nat_tests}
+pub use Rattle.dwarf_listing_core.specs.Number.{is_all_digits, number_below, signed_of, unsigned_of, without_minus}
+pub use Rattle.dwarf_read_core.specs.declared.Error.TheVariants.{OutOfMemory}
+pub use Rattle.dwarf_read_core.specs.Entries.{StandsForEntries}
+pub use Rattle.std.specs.List.{join_with_byte, after_first, before_first, position}
+pub use Rattle.dwarf_read_core.specs.Input.{Input}
+pub use Rattle.dwarf_listing_core.specs.Command.{command_of}
+pub use Rattle.dwarf_read_core.specs.Leb128.{Kind, Number, unsigned64, signed64}
+pub use Rattle.dwarf_listing_core.specs.Text.{IsTextOf, Lists, ListsNumber}
+pub use Rattle.dwarf_listing_core.specs.declared.command.Command.{Command}
+pub use Rattle.std.specs.Io.KnownBytes.{Consumes, Appends}
+pub use Rattle.dwarf_listing_core.specs.Many.{ListsAll, EndsAt, ListsOne, one_more}
