@@ -1,3 +1,3 @@
+pub mod Common
 pub mod ItemLemmas
 pub mod SumLemmas
-pub mod TagLemmas

@@ -10,6 +10,7 @@ use dwarf_read_core::{EndianSlice, LittleEndian, Reader};
 /// Reads the unsigned numbers that `bytes` are one after the other, and returns their sum modulo
 /// 2^64, or 0 if one of them is none.
 #[unsafe(no_mangle)]
+#[tactic(auto, using(crate::proofs::SumLemmas::read_steps))]
 pub extern "C" fn beside_unsigned_sum(bytes: &[u8]) -> u64
     ensures { AddsOrRefuses (ReadsNumber unsigned64) (RefusesNumber unsigned64) bytes.now result }
 {
@@ -26,6 +27,7 @@ pub extern "C" fn beside_unsigned_sum(bytes: &[u8]) -> u64
 
 /// The same of signed numbers.
 #[unsafe(no_mangle)]
+#[tactic(auto, using(crate::proofs::SumLemmas::read_steps))]
 pub extern "C" fn beside_signed_sum(bytes: &[u8]) -> u64
     ensures { AddsOrRefuses ReadsSigned (RefusesNumber signed64) bytes.now result }
 {
@@ -42,6 +44,7 @@ pub extern "C" fn beside_signed_sum(bytes: &[u8]) -> u64
 
 /// The same of numbers of at most 16 bits.
 #[unsafe(no_mangle)]
+#[tactic(auto, using(crate::proofs::SumLemmas::read_steps))]
 pub extern "C" fn beside_short_sum(bytes: &[u8]) -> u64
     ensures { AddsOrRefuses (ReadsNumber unsigned16) (RefusesNumber unsigned16) bytes.now result }
 {
@@ -59,6 +62,7 @@ pub extern "C" fn beside_short_sum(bytes: &[u8]) -> u64
 /// Skips the numbers that `bytes` are one after the other, and returns how many there are, or 0 if
 /// the last one is cut.
 #[unsafe(no_mangle)]
+#[tactic(auto, using(crate::proofs::SumLemmas::read_steps))]
 pub extern "C" fn beside_skipped_count(bytes: &[u8]) -> u64
     ensures { AddsOrRefuses Counts LacksEncoding bytes.now result }
 {
@@ -75,6 +79,7 @@ pub extern "C" fn beside_skipped_count(bytes: &[u8]) -> u64
 
 /// Writes each number, and returns how many bytes they have together, modulo 2^64.
 #[unsafe(no_mangle)]
+#[tactic(auto, using(crate::proofs::SumLemmas::sum_steps))]
 pub extern "C" fn beside_written_sum(values: &[u64]) -> usize
     ensures { Adds (IsShortestLength unsigned64) values.now result }
 {

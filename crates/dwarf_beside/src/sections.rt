@@ -11,6 +11,7 @@ use dwarf_read_core::{
 /// Returns the sum of the addresses of eight bytes at these indexes, modulo 2^64, or 0 for an
 /// error.
 #[unsafe(no_mangle)]
+#[tactic(auto, using(crate::proofs::SumLemmas::sum_steps))]
 pub extern "C" fn beside_address_lookups(section: &[u8], base: usize, indices: &[usize]) -> u64
     ensures { OrZero (AddsOrFails (HasAddress (section_of section.now) base) indices.now) result }
 {
@@ -27,6 +28,7 @@ pub extern "C" fn beside_address_lookups(section: &[u8], base: usize, indices: &
 
 /// Returns how long the strings at these offsets are together, modulo 2^64, or 0 for an error.
 #[unsafe(no_mangle)]
+#[tactic(auto, using(crate::proofs::SumLemmas::sum_steps))]
 pub extern "C" fn beside_strings(section: &[u8], offsets: &[usize]) -> usize
     ensures { OrZero (AddsOrFails (HasTextOf (section_of section.now)) offsets.now) result }
 {
@@ -44,6 +46,7 @@ pub extern "C" fn beside_strings(section: &[u8], offsets: &[usize]) -> usize
 /// Returns the sum of the string offsets of four bytes at these indexes, modulo 2^64, or 0 for an
 /// error.
 #[unsafe(no_mangle)]
+#[tactic(auto, using(crate::proofs::SumLemmas::sum_steps))]
 pub extern "C" fn beside_str_offset_lookups(section: &[u8], base: usize, indices: &[usize]) -> usize
     ensures { OrZero (AddsOrFails (HasWord (section_of section.now) base) indices.now) result }
 {

@@ -9,6 +9,7 @@ ghost use Rattle.dwarf_beside.specs.Sums.{OrZero};
 use dwarf_read_core::{AddrHeader, DebugAddr, EndianSlice, LittleEndian, Reader, Result};
 
 // The sum of the addresses of a set.
+#[tactic(auto, using(crate::proofs::ItemLemmas::none_added))]
 fn sum_of_set<R: Reader>(header: &AddrHeader<R>) -> Result<u64>
     ensures { AnswersBy (AddsAddresses (seen_by R.view header.now)) (λ sum. sum)
         R.clone_is_free result }
@@ -21,6 +22,7 @@ fn sum_of_set<R: Reader>(header: &AddrHeader<R>) -> Result<u64>
 }
 
 // The sum of all addresses of all sets.
+#[tactic(auto, using(crate::proofs::ItemLemmas::none_added))]
 fn sum_of_sets(section: &[u8]) -> Result<u64>
     ensures { AddsSets AddsAddresses (section_of section.now) result }
 {
@@ -42,6 +44,7 @@ pub extern "C" fn beside_addresses(section: &[u8]) -> u64
 }
 
 // A sum of what each header has.
+#[tactic(auto, using(crate::proofs::ItemLemmas::none_added))]
 fn sum_of_headers(section: &[u8]) -> Result<u64>
     ensures { AddsSets AddsMeasures (section_of section.now) result }
 {

@@ -18,6 +18,7 @@ pub const FAILED: usize = 1 << 32;
 /// Reads the table at each offset, and returns how many abbreviations they have together. A table
 /// with an error counts as 2^32.
 #[unsafe(no_mangle)]
+#[tactic(auto, using(crate::proofs::SumLemmas::sum_steps))]
 pub extern "C" fn beside_tables(mem: Global, section: &[u8], offsets: &[usize]) -> usize
     ensures { Adds (CountsAs (section_of section.now)) offsets.now result }
 {
@@ -29,6 +30,7 @@ pub extern "C" fn beside_tables(mem: Global, section: &[u8], offsets: &[usize]) 
 }
 
 // How many abbreviations the table at an offset has, or what an error counts as.
+#[tactic(auto, using(crate::proofs::SumLemmas::table_length))]
 fn counted(mem: Global, section: &[u8], offset: usize) -> usize
     ensures { CountsAs (section_of section.now) offset result }
 {
@@ -106,6 +108,7 @@ pub extern "C" fn beside_populate(mem: Global, section: &[u8], offsets: &[usize]
 }
 
 // How many abbreviations the table has that a cache returns, or what an error counts as.
+#[tactic(auto, using(crate::proofs::SumLemmas::table_length))]
 fn count_cached(cache: &AbbreviationsCache, section: &[u8], offset: usize) -> usize
     requires { IsFaithful cache.now (section_of section.now) }
     ensures { CountsAs (section_of section.now) offset result }
@@ -118,6 +121,7 @@ fn count_cached(cache: &AbbreviationsCache, section: &[u8], offset: usize) -> us
 }
 
 // The sum of the lengths that a cache returns.
+#[tactic(auto, using(crate::proofs::SumLemmas::sum_steps))]
 fn get_cached(cache: &AbbreviationsCache, section: &[u8], offsets: &[usize]) -> usize
     requires { IsFaithful cache.now (section_of section.now) }
     ensures { Adds (CountsAs (section_of section.now)) offsets.now result }
@@ -130,6 +134,7 @@ fn get_cached(cache: &AbbreviationsCache, section: &[u8], offsets: &[usize]) -> 
 }
 
 // The same, so many times.
+#[tactic(auto, using(crate::proofs::SumLemmas::sum_steps))]
 fn get_cached_rounds(
     cache: &AbbreviationsCache,
     section: &[u8],

@@ -1,3 +1,4 @@
+pub mod Common
 pub mod NumberLemmas
 pub mod StringLemmas
 pub mod TableLemmas

@@ -1,18 +1,18 @@
 -- Bytes that are read as an error, in place of a number, begin with no number.
-use Rattle.std.proofs.Common.{◌≡◌, ℕ, ◌+◌, List, length, sym, ap, subst, ◌∙◌, arith, inl, inr, false}
-use Rattle.dwarf_read_core.specs.declared.Error.{Error}
-use Rattle.dwarf_read_core.specs.Faults.{eof}
-use Rattle.dwarf_read_core.specs.Input.{Input}
-use Rattle.dwarf_read_core.specs.Leb128.{Kind, RefusesNumber}
-use Rattle.dwarf_read_c.specs.Numbers.{LacksNumber, cut, bad}
-use Rattle.dwarf_read_c.specs.Sections.{section_of}
+use Rattle.dwarf_read_c.proofs.Common.{◌≡◌, ℕ, List, length, arith, inl, inr, false, Error, eof, Input, Kind, RefusesNumber, DwarfFault, Refuses, fault_of, kind_of, LacksNumber, cut, bad, section_of}
+use Rattle.dwarf_read_c.proofs.KnownErrors.{known_number}
 
 -- the error of reading a number is the one that the bytes have in its place
-pub lacks_number :
-    (k : Kind) (bytes : List ℕ) (e : Error) (new : Input) → RefusesNumber k (section_of bytes false) e new →
-    LacksNumber k bytes e
-lacks_number k bytes e new (inl ends) =
-    let counted : 0 + length bytes ≡ length bytes = omega arith in
-    let place = ap (λ (i : Input). i.position) ends.left ∙ counted in
-    subst (LacksNumber k bytes) (sym (ends.fault ∙ ap eof place)) (cut ends.cut)
-lacks_number k bytes e new (inr no_number) = subst (LacksNumber k bytes) (sym no_number.fault) (bad no_number.bad)
+lacks_number : {k : Kind} {bytes : List ℕ} {e : Error} {new : Input} → RefusesNumber k (section_of bytes false) e new
+    → LacksNumber k bytes e
+lacks_number {bytes = bytes} {e} (inl ends) =
+    let same : e ≡ eof (length bytes) = grind arith in rw same (cut ends.cut)
+lacks_number (inr no_number) = rw no_number.fault (bad no_number.bad)
+
+-- a call that writes the error of reading a number refuses the bytes
+pub number_refused : {k : Kind} {bytes : List ℕ} {e : Error} {new : Input} {status : ℕ} {fault : DwarfFault}
+    → RefusesNumber k (section_of bytes false) e new → status ≡ kind_of e → fault ≡ fault_of e
+    → Refuses (LacksNumber k bytes) status fault
+number_refused {e = e} refuses numbered told =
+    let is = lacks_number refuses in
+    record { error = e; is = is; known = known_number is; numbered = numbered; told = told }

@@ -22,7 +22,7 @@ use dwarf_read_core::{
 /// 1 (`UnexpectedEof`) at 0 if `offset` is past the end, and at `offset` if no zero byte ends the
 /// string.
 #[unsafe(no_mangle)]
-#[tactic(auto, using(crate::proofs::KnownErrors::known_string))]
+#[tactic(auto, using(crate::proofs::StringLemmas::string_steps))]
 pub extern "C" fn dwarf_string(
     section: &[u8],
     offset: usize,
@@ -57,7 +57,6 @@ pub extern "C" fn dwarf_string(
 /// - 1 at `base` if the entry begins past the end;
 /// - 1 at the entry if it ends past the end.
 #[unsafe(no_mangle)]
-#[tactic(auto, using(crate::proofs::KnownErrors::known_word))]
 pub extern "C" fn dwarf_str_offset(
     section: &[u8],
     is_big: bool,
@@ -105,7 +104,6 @@ pub extern "C" fn dwarf_str_offset(
 /// - 12 (`UnsupportedAddressSize`) if `size` isn't 1, 2, 4 or 8;
 /// - 1 at the address if it ends past the end.
 #[unsafe(no_mangle)]
-#[tactic(auto, using(crate::proofs::KnownErrors::known_address))]
 pub extern "C" fn dwarf_address(
     section: &[u8],
     is_big: bool,

@@ -125,6 +125,7 @@ pub extern "C" fn dwarf_str_offset_set(
 }
 
 // Returns the set of addresses at an offset, or `None` at the section's end.
+#[tactic(auto, using(crate::proofs::SetLemmas::set_outside))]
 fn address_set_at(section: &[u8], is_big: bool, offset: usize) -> Result<Option<DwarfSet>, Error>
     ensures found { let s = section_of section.now is_big in
         IfOk result (λ found. IfSome found (TellsSet address_header addresses_of s offset)) }
@@ -142,6 +143,7 @@ fn address_set_at(section: &[u8], is_big: bool, offset: usize) -> Result<Option<
 }
 
 // Returns the set of string offsets at an offset, or `None` at the section's end.
+#[tactic(auto, using(crate::proofs::SetLemmas::set_outside))]
 fn str_offset_set_at(section: &[u8], is_big: bool, offset: usize) -> Result<Option<DwarfSet>, Error>
     ensures found { let s = section_of section.now is_big in IfOk result
         (λ found. IfSome found (TellsSet string_offsets_header string_offsets_of s offset)) }

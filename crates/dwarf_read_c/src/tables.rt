@@ -169,6 +169,7 @@ fn measure_of(table: &Abbreviations) -> DwarfMeasure
 }
 
 // Writes the abbreviations, in the order of their codes, to the front of the places.
+#[tactic(auto, using(crate::proofs::TableLemmas::table_steps))]
 fn fill_abbreviations(table: &Abbreviations, places: &mut [DwarfAbbreviation])
     requires room { finite.len table.now.by_code ≤ length places.old }
     requires counted { attribute_count table.now.by_code < 2 ^ 64 }

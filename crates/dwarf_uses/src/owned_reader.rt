@@ -147,6 +147,7 @@ impl<Endian: Endianity> Reader for OwnedReader<Endian> {
         self.bytes.truncate(self.start);
     }
 
+    #[tactic(auto, using(crate::proofs::Shared::part_steps))]
     fn truncate(&mut self, len: u32) -> Result<()> {
         if self.rest().len() < len as usize {
             return Err(Error::UnexpectedEof(self.offset_id()));

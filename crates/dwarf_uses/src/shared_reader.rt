@@ -169,6 +169,7 @@ impl<Endian: Endianity> Reader for SharedReader<Endian> {
         }
     }
 
+    #[tactic(auto, using(crate::proofs::Shared::part_steps))]
     fn skip(&mut self, len: usize) -> Result<()> {
         if self.end - self.start < len {
             return Err(Error::UnexpectedEof(self.offset_id()));
@@ -177,6 +178,7 @@ impl<Endian: Endianity> Reader for SharedReader<Endian> {
         Ok(())
     }
 
+    #[tactic(auto, using(crate::proofs::Shared::part_steps))]
     fn split(&mut self, len: usize) -> Result<Self> {
         if self.end - self.start < len {
             return Err(Error::UnexpectedEof(self.offset_id()));
@@ -201,6 +203,7 @@ impl<Endian: Endianity> Reader for SharedReader<Endian> {
         Ok(CowStr::Owned(String::from_utf8_lossy(mem, self.rest())?))
     }
 
+    #[tactic(auto, using(crate::proofs::Shared::part_steps))]
     fn read_slice(&mut self, buf: &mut [u8]) -> Result<()> {
         let len = buf.len();
         if self.end - self.start < len {

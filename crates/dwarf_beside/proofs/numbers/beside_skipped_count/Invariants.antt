@@ -1,15 +1,9 @@
-use Rattle.std.proofs.Common.{◌-◌, length, false}
-use Rattle.dwarf_read_core.specs.Input.{Input}
-use Rattle.dwarf_beside.specs.Sections.{section_of}
-use Rattle.dwarf_beside.specs.Sums.{AddsRead, Counts}
+use Rattle.dwarf_beside.proofs.Common.{Counts, HasRead, length}
 use Rattle.dwarf_beside.proofs.numbers.beside_skipped_count.Given as goal
 
 -- the numbers so far have this sum
 abbrev pub invariant-loop-input : goal.invariant-loop-input
-invariant-loop-input l =
-    let bytes = l.input.slice.now in
-    let left : Input = record { bytes = bytes; position = l.input.end - length bytes; is_big = false } in
-    AddsRead Counts (section_of l.fn.bytes) left l.count
+invariant-loop-input l = HasRead Counts l.fn.bytes l.input.slice.now l.input.end l.count
 
 abbrev pub decreases-loop-input : goal.decreases-loop-input
 decreases-loop-input l = length l.input.slice.now

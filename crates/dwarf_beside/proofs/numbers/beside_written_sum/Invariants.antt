@@ -1,7 +1,4 @@
-use Rattle.std.proofs.Common.{take}
-use Rattle.dwarf_read_core.specs.Leb128.{unsigned64}
-use Rattle.dwarf_read_core.specs.Shortest.{IsShortestLength}
-use Rattle.dwarf_beside.specs.Sums.{Adds}
+use Rattle.dwarf_beside.proofs.Common.{Adds, IsShortestLength, take, unsigned64}
 use Rattle.dwarf_beside.proofs.numbers.beside_written_sum.Given as goal
 
 -- the items so far have this sum

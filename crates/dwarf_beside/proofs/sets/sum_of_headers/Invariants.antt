@@ -1,7 +1,4 @@
-use Rattle.std.proofs.Common.{◌-◌, ◌^◌}
-use Rattle.dwarf_read_core.specs.Sets.{StandsForAddressSets}
-use Rattle.dwarf_beside.specs.Sections.{section_of}
-use Rattle.dwarf_beside.specs.Sets.{AddsMeasures}
+use Rattle.dwarf_beside.proofs.Common.{◌-◌, ◌^◌, AddsMeasures, StandsForAddressSets, section_of}
 use Rattle.dwarf_beside.proofs.ItemLemmas.{HasAdded}
 use Rattle.dwarf_beside.proofs.sets.sum_of_headers.Given as goal
 

@@ -1,11 +1,7 @@
-use Rattle.std.proofs.Common.{inl, refl, ◌∙◌}
+use Rattle.std.proofs.Common.{inl, refl}
 use Rattle.std.proofs.lemmas.Result.{err_from_is_err_and}
-use Rattle.dwarf_beside.proofs.ItemLemmas.{all_added, item_fails, none_added, one_added}
+use Rattle.dwarf_beside.proofs.ItemLemmas.{all_added, item_fails, one_added}
 use Rattle.dwarf_beside.proofs.sets.sum_of_set.Goals as goal
-
-pub loop-address-init : goal.loop-address-init
-loop-address-init g c =
-    none_added _ _ (c.into_iter-address-iterator.ensures.into_iter_gives ∙ c.in_ok-address-items.ensures.ok)
 
 pub loop-address-preserved : goal.loop-address-preserved
 loop-address-preserved g c =

@@ -1,6 +1,4 @@
-use Rattle.std.proofs.Common.{take}
-use Rattle.dwarf_beside.specs.Sections.{section_of}
-use Rattle.dwarf_beside.specs.Sums.{Adds, CountsAs}
+use Rattle.dwarf_beside.proofs.Common.{Adds, CountsAs, section_of, take}
 use Rattle.dwarf_beside.proofs.tables.get_cached.Given as goal
 
 -- the tables so far have this sum

@@ -1,5 +1,4 @@
-use Rattle.dwarf_beside.specs.Sections.{section_of}
-use Rattle.dwarf_beside.specs.Sums.{Adds, AddsTimes, CountsAs}
+use Rattle.dwarf_beside.proofs.Common.{Adds, AddsTimes, CountsAs, section_of}
 use Rattle.dwarf_beside.proofs.tables.get_cached_rounds.Given as goal
 
 -- the rounds so far have this sum

@@ -1,5 +1,4 @@
-use Rattle.std.proofs.Common.{◌≡◌, ◌*◌, ◌%◌, ◌^◌}
-use Rattle.dwarf_beside.specs.Sums.{tags_to}
+use Rattle.dwarf_beside.proofs.Common.{◌≡◌, ◌*◌, ◌%◌, ◌^◌, tags_to}
 use Rattle.dwarf_beside.proofs.tables.get_rounds.Given as goal
 
 -- the rounds so far have this sum

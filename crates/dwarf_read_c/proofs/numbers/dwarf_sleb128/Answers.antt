@@ -1,15 +1,7 @@
-use Rattle.dwarf_read_core.specs.Leb128.{signed64}
-use Rattle.dwarf_read_c.proofs.KnownErrors.{known_number}
-use Rattle.dwarf_read_c.proofs.NumberLemmas.{lacks_number}
+use Rattle.dwarf_read_c.proofs.NumberLemmas.{number_refused}
 use Rattle.dwarf_read_c.proofs.numbers.dwarf_sleb128.Goals as goal
 
 pub returns-in-Err-clause-refused : goal.returns-in-Err-clause-refused
 returns-in-Err-clause-refused c =
-    let lacks = lacks_number signed64 _ _ _ (rw c.new-input.ensures.view at c.in-Err.ensures.err) in
-    λ _. record {
-      error = c.in-Err.error;
-      is = lacks;
-      known = known_number lacks;
-      numbered = c.refuse.ensures.status;
-      told = c.refuse.ensures.told;
-    }
+    λ _. number_refused (rw c.new-input.ensures.view at c.in-Err.ensures.err) c.refuse.ensures.status
+    c.refuse.ensures.told

@@ -1,6 +1,4 @@
-use Rattle.std.proofs.Common.{◌≡◌, ◌++◌, drop, length, map, sum_by}
-use Rattle.std.specs.FinMap.{values}
-use Rattle.dwarf_read_c.specs.Tables.{attributes_in}
+use Rattle.dwarf_read_c.proofs.Common.{◌≡◌, ◌++◌, drop, length, map, sum_by, values, attributes_in}
 use Rattle.dwarf_read_c.proofs.tables.fill_attributes.Given as goal
 
 -- the attributes of the abbreviations so far are at the front of the places

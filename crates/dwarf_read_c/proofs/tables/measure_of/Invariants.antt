@@ -1,5 +1,4 @@
-use Rattle.std.proofs.Common.{◌≡◌, ◌++◌, length, map, sum_by}
-use Rattle.std.specs.FinMap.{values}
+use Rattle.dwarf_read_c.proofs.Common.{◌≡◌, ◌++◌, length, map, sum_by, values}
 use Rattle.dwarf_read_c.proofs.tables.measure_of.Given as goal
 
 -- the attributes of the abbreviations so far are counted

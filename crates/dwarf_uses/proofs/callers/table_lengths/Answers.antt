@@ -1,8 +1,6 @@
-use Rattle.std.proofs.Common.{rules, suc, ◌∙◌, ap, drop, map, take}
+use Rattle.std.proofs.Common.{arith, drop, map, rules, suc, take}
 use Rattle.std.proofs.lemmas.Result.{err_from_is_err_and}
-use Rattle.std.specs.FinMap.{len}
-use Rattle.dwarf_read_core.specs.Grammar.{Table}
-use Rattle.dwarf_uses.proofs.Lengths.{lengths_more, numbers_around, numbers_more}
+use Rattle.dwarf_uses.proofs.Lengths.{lengths_next, numbers_around}
 use Rattle.dwarf_uses.proofs.callers.table_lengths.Goals as goal
 
 pub returns-in_err-get-clause-err : goal.returns-in_err-get-clause-err
@@ -23,9 +21,7 @@ returns-in_err-get-clause-err g c =
 
 pub loop-offset-preserved : goal.loop-offset-preserved
 loop-offset-preserved g c =
-    let next = numbers_more (λ unit. g.R.Offset.ReaderOffset.value unit.0) c.args.units.now c.loop-offset.offset-index
-    c.offset-item.result (search rules) (search rules) in
     let answer = c.in_ok-get.ensures.faithful c.in_ok-populate.ensures.faithful in
-    let size = c.len.ensures ∙ ap (λ (t : Table). len t.by_code) c.deref.ensures in
-    rw (next, c.in_ok-push.ensures.items)
-    (lengths_more _ _ _ _ _ c.loop-offset.invariant (c.in_ok-get.field-0.value, answer, size))
+    rw c.in_ok-push.ensures.items (lengths_next (λ unit. g.R.Offset.ReaderOffset.value unit.0) c.args.units.now
+    c.loop-offset.offset-index c.offset-item.result (search rules) (search rules) _ _ _ c.loop-offset.invariant
+    (c.in_ok-get.field-0.value, answer, grind arith))

@@ -1,0 +1,20 @@
+-- Names that many proofs of this crate cite, passed on from one place.
+pub use Rattle.std.proofs.Common.{◌≡◌, ◌≢◌, Bool, true, ℕ, ◌+◌, ◌-◌, ◌<◌, ◌≤◌, ◌^◌, List, [], ◌∷◌, length, drop, Result, Ok, Err, subst, arith, ◌⊎◌, inl, inr, length-drop, take, suc, ◌++◌, refl, sym, ap, ◌∙◌, sum_by, false, map, length-append, rules}
+pub use Rattle.std.proofs.lemmas.Grind.{common_steps}
+pub use Rattle.std.proofs.lemmas.Result.{err_from_is_err_and}
+pub use Rattle.std.specs.FinMap.{entries, len, values, len-entries}
+pub use Rattle.dwarf_read_core.proofs.sets.Sets.{HasFour, set-parts, set-spans, address_header-four, string_offsets_header-four}
+pub use Rattle.dwarf_read_core.specs.Faults.{EndsBefore, WantsMemory, eof}
+pub use Rattle.dwarf_read_core.specs.Grammar.{Declaration, ByCode}
+pub use Rattle.dwarf_read_core.specs.Input.{Input, after}
+pub use Rattle.dwarf_read_core.specs.Leb128.{Kind, RefusesNumber}
+pub use Rattle.dwarf_read_core.specs.Sets.{Headers, Set, StandsForSets, addresses_of, string_offsets_of}
+unfoldable pub use Rattle.dwarf_read_core.specs.Sets.{address_header, set, string_offsets_header}
+unfoldable pub use Rattle.dwarf_read_core.specs.Strings.{StringAt, string_at}
+pub use Rattle.dwarf_read_core.specs.declared.Error.{Error}
+pub use Rattle.dwarf_read_c.specs.Fault.{Refuses, fault_of, kind_of, IsKnown}
+pub use Rattle.dwarf_read_c.specs.Numbers.{LacksNumber, cut, bad}
+pub use Rattle.dwarf_read_c.specs.Sections.{section_of, part_of}
+pub use Rattle.dwarf_read_c.specs.Sets.{HasSet, LacksSet, TellsSet, set_at, set_from, outside, faulty}
+pub use Rattle.dwarf_read_c.specs.Tables.{abbreviation_of, laid_from, attribute_of, attributes_in}
+pub use Rattle.dwarf_read_c.specs.declared.fault.DwarfFault.{DwarfFault}
