@@ -1,9 +1,16 @@
 -- The names that many of the proofs use.
-pub use Rattle.std.proofs.Common.{◌≡◌, List, ℕ, Result, Ok, Err, refl, ap, sym, ◌∙◌, ◌≢◌, zero, suc, ◌+◌, ◌-◌, ◌<◌, ◌≤◌, ◌/◌, ◌%◌, drop, Bool, true, false, [], ◌∷◌, ◌++◌, length, arith, append_assoc, cond, get_or, ℤ, neg_ℤ, Option, Some, None, rules, All, option_map, IsUtf8, inl, inr, append-nil, take, map, length-take, ◌^◌, IsTrue, nat_eq, nat_lt, string_bytes, flat_map, drop-cons, length-set}
-pub use Rattle.dwarf_listing_core.specs.Sets.{SetListing, ListsLine, ListsSet, address_listing, offset_listing, HasSets, ListsSection, sets_section}
+pub use Rattle.std.proofs.Common.{◌≡◌, List, ℕ, Result, Ok, Err, refl, ap, sym, ◌∙◌, ◌≢◌, zero, suc, ◌+◌, ◌-◌, ◌<◌}
+pub use Rattle.std.proofs.Common.{◌≤◌, ◌/◌, ◌%◌, drop, Bool, true, false, [], ◌∷◌, ◌++◌, length, arith, append_assoc}
+pub use Rattle.std.proofs.Common.{cond, get_or, ℤ, neg_ℤ, Option, Some, None, rules, All, option_map, IsUtf8, inl}
+pub use Rattle.std.proofs.Common.{inr, append-nil, take, map, length-take, ◌^◌, IsTrue, nat_eq, nat_lt, string_bytes}
+pub use Rattle.std.proofs.Common.{flat_map, drop-cons, length-set}
+pub use Rattle.dwarf_listing_core.specs.Sets.{SetListing, ListsLine, ListsSet, address_listing, offset_listing}
+pub use Rattle.dwarf_listing_core.specs.Sets.{HasSets, ListsSection, sets_section}
 pub use Rattle.dwarf_read_core.specs.declared.Error.{Error}
-pub use Rattle.std.proofs.lemmas.List.{drop-set, take_more, map-append, length-map, drop_all, length-drop, take_all, drop-take, drop-append-le, length-append, take_more_set, take-append-drop}
-pub use Rattle.dwarf_listing_core.specs.Items.{Joins, in_front, AppendsText, ListsItemsOf, ListsRun, nothing, bad_item, bad_text, item, ListsItems}
+pub use Rattle.std.proofs.lemmas.List.{drop-set, take_more, map-append, length-map, drop_all, length-drop, take_all}
+pub use Rattle.std.proofs.lemmas.List.{drop-take, drop-append-le, length-append, take_more_set, take-append-drop}
+pub use Rattle.dwarf_listing_core.specs.Items.{Joins, in_front, AppendsText, ListsItemsOf, ListsRun, nothing}
+pub use Rattle.dwarf_listing_core.specs.Items.{bad_item, bad_text, item, ListsItems}
 pub use Rattle.dwarf_read_core.specs.Sets.{Set, Headers, addresses_of, string_offsets_of, seen_by}
 pub use Rattle.dwarf_listing_core.specs.Lines.{hex_byte, hex_text, line, string_line}
 pub use Rattle.std.proofs.lemmas.Result.{err_from_is_err_and}

@@ -1,9 +1,12 @@
 -- Names that many proofs of this crate cite, passed on from one place.
-pub use Rattle.std.proofs.Common.{◌≡◌, ◌≢◌, Bool, true, ℕ, ◌+◌, ◌-◌, ◌<◌, ◌≤◌, ◌^◌, List, [], ◌∷◌, length, drop, Result, Ok, Err, subst, arith, ◌⊎◌, inl, inr, length-drop, take, suc, ◌++◌, refl, sym, ap, ◌∙◌, sum_by, false, map, length-append, rules}
+pub use Rattle.std.proofs.Common.{◌≡◌, ◌≢◌, Bool, true, ℕ, ◌+◌, ◌-◌, ◌<◌, ◌≤◌, ◌^◌, List, [], ◌∷◌, length, drop}
+pub use Rattle.std.proofs.Common.{Result, Ok, Err, subst, arith, ◌⊎◌, inl, inr, length-drop, take, suc, ◌++◌, refl}
+pub use Rattle.std.proofs.Common.{sym, ap, ◌∙◌, sum_by, false, map, length-append, rules}
 pub use Rattle.std.proofs.lemmas.Grind.{common_steps}
 pub use Rattle.std.proofs.lemmas.Result.{err_from_is_err_and}
 pub use Rattle.std.specs.FinMap.{entries, len, values, len-entries}
-pub use Rattle.dwarf_read_core.proofs.sets.Sets.{HasFour, set-parts, set-spans, address_header-four, string_offsets_header-four}
+pub use Rattle.dwarf_read_core.proofs.sets.Sets.{HasFour, set-parts, set-spans, address_header-four}
+pub use Rattle.dwarf_read_core.proofs.sets.Sets.{string_offsets_header-four}
 pub use Rattle.dwarf_read_core.specs.Faults.{EndsBefore, WantsMemory, eof}
 pub use Rattle.dwarf_read_core.specs.Grammar.{Declaration, ByCode}
 pub use Rattle.dwarf_read_core.specs.Input.{Input, after}

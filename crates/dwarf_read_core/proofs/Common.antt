@@ -1,10 +1,20 @@
 -- The names that many proofs of this crate cite, passed on from one place. Declares nothing.
-pub use Rattle.std.proofs.Common.{set, Bool, true, false, cond, refl, ◌≡◌, ◌≢◌, ◌∙◌, Result, Ok, Err, subst, ℕ, ◌+◌, ◌<◌, ◌≤◌, eqb, List, [], ◌∷◌, ◌++◌, length, take, get_or, map, Option, Some, None, MatchOption, sym, arith, All, IsPermutation, option_map, ap, filter, HoldsAt, nat_cmp, Less, Equal, Greater, suc, zero, ◌-◌, inl, inr, IfSome, OnErr, ◌*◌, ◌/◌, ◌^◌, IfErr, leb, leb-true, leb-false, drop, ◌⊎◌, slice_index, IfOk, IsTrue, rules, ◌==◌, ltb-true, IsSome, is_some, if◌then◌else◌, sum_by, append_assoc, nat_lt, length-append, length-take-le, take-append-drop, ne_eqb, ◌↔◌, ltb, lt-ltb, le-ltb, reverse, Bor, option_copied, MatchResult, append-nil, length-drop, ℤ, OnOk}
+pub use Rattle.std.proofs.Common.{set, Bool, true, false, cond, refl, ◌≡◌, ◌≢◌, ◌∙◌, Result, Ok, Err, subst, ℕ, ◌+◌}
+pub use Rattle.std.proofs.Common.{◌<◌, ◌≤◌, eqb, List, [], ◌∷◌, ◌++◌, length, take, get_or, map, Option, Some, None}
+pub use Rattle.std.proofs.Common.{MatchOption, sym, arith, All, IsPermutation, option_map, ap, filter, HoldsAt}
+pub use Rattle.std.proofs.Common.{nat_cmp, Less, Equal, Greater, suc, zero, ◌-◌, inl, inr, IfSome, OnErr, ◌*◌, ◌/◌}
+pub use Rattle.std.proofs.Common.{◌^◌, IfErr, leb, leb-true, leb-false, drop, ◌⊎◌, slice_index, IfOk, IsTrue, rules}
+pub use Rattle.std.proofs.Common.{◌==◌, ltb-true, IsSome, is_some, if◌then◌else◌, sum_by, append_assoc, nat_lt}
+pub use Rattle.std.proofs.Common.{length-append, length-take-le, take-append-drop, ne_eqb, ◌↔◌, ltb, lt-ltb, le-ltb}
+pub use Rattle.std.proofs.Common.{reverse, Bor, option_copied, MatchResult, append-nil, length-drop, ℤ, OnOk}
 pub use Rattle.std.specs.BTreeMap.{is_at, insert_entry}
 pub use Rattle.std.specs.Cmp.{nat_cmp_total, eq_by_cmp_equiv, booleans_Decides, IsEquivalence, IsTotalOrder}
-pub use Rattle.std.specs.FinMap.{get, insert, from_entries, contains_key, empty, empty_of_len, find, from_entries_push, get-from_entries, nat_cmp-IsAntisymmetric, same_map, entries, len, entries-insert, len-insert, len-empty, len-entries, get-entries, values, get-insert}
+pub use Rattle.std.specs.FinMap.{get, insert, from_entries, contains_key, empty, empty_of_len, find}
+pub use Rattle.std.specs.FinMap.{from_entries_push, get-from_entries, nat_cmp-IsAntisymmetric, same_map, entries, len}
+pub use Rattle.std.specs.FinMap.{entries-insert, len-insert, len-empty, len-entries, get-entries, values, get-insert}
 pub use Rattle.std.specs.List.{AllWithin, IsDistinct, AllByRecursion}
-pub use Rattle.std.specs.List.Sorted.{IsPartitionPoint, IsNonDecreasingBy, IsSortedBy, IsBinarySearchResult, IsSearchInRange}
+pub use Rattle.std.specs.List.Sorted.{IsPartitionPoint, IsNonDecreasingBy, IsSortedBy, IsBinarySearchResult}
+pub use Rattle.std.specs.List.Sorted.{IsSearchInRange}
 unfoldable pub use Rattle.std.specs.List.Sorted.{IsStrictlySortedBy}
 pub use Rattle.std.specs.Map.{lookup, keys_of, set_value, values_of}
 pub use Rattle.std.specs.Ordering.{ordering_index, ordering_reverse, eq_by_cmp, is_eq, is_lt}
@@ -13,34 +23,71 @@ pub use Rattle.std.proofs.lemmas.Bool.Decides.{nat_tests}
 pub use Rattle.std.proofs.lemmas.Cmp.{ranked, back_total}
 pub use Rattle.std.proofs.lemmas.Fn.{called_at, filter_same, always_returns_same}
 pub use Rattle.std.proofs.lemmas.Grind.{common_steps}
-pub use Rattle.std.proofs.lemmas.List.{take_more, map_push, get_or-map, get_or_default, take_all, length-map, drop-append-le, take-append-le, nil_from_length, map-id, get_or_push, take_at, get_or-reverse, length-reverse, length_push, reverse-append}
-pub use Rattle.std.proofs.lemmas.List.Elements.{All-head, All-tail, All-from_recursion, same_from_all_zip, All-push, recursion_from_All, All-map}
-pub use Rattle.std.proofs.lemmas.List.Sorted.{sum_by-IsPermutation, searchable_from_sorted, IsPermutation-map, IsNonDecreasingBy-from_sort_by_key}
+pub use Rattle.std.proofs.lemmas.List.{take_more, map_push, get_or-map, get_or_default, take_all, length-map}
+pub use Rattle.std.proofs.lemmas.List.{drop-append-le, take-append-le, nil_from_length, map-id, get_or_push, take_at}
+pub use Rattle.std.proofs.lemmas.List.{get_or-reverse, length-reverse, length_push, reverse-append}
+pub use Rattle.std.proofs.lemmas.List.Elements.{All-head, All-tail, All-from_recursion, same_from_all_zip, All-push}
+pub use Rattle.std.proofs.lemmas.List.Elements.{recursion_from_All, All-map}
+pub use Rattle.std.proofs.lemmas.List.Sorted.{sum_by-IsPermutation, searchable_from_sorted, IsPermutation-map}
+pub use Rattle.std.proofs.lemmas.List.Sorted.{IsNonDecreasingBy-from_sort_by_key}
 pub use Rattle.std.proofs.lemmas.List.Sums.{sum_by_push, sum_by-cons}
-pub use Rattle.std.proofs.lemmas.Map.Entries.{option_filter, lookup-filter-values, length-keys_of, lookup_from_place, lookup_at_gap, none_past_head}
-pub use Rattle.std.proofs.lemmas.Map.Keys.{IsDistinct-from_sorted, sorted_from_strictly_increasing, sorted_from_all_adjacent, IsDistinct-from_apart, IsDistinct-tail, Less-from_sorted, apart_from_distinct}
+pub use Rattle.std.proofs.lemmas.Map.Entries.{option_filter, lookup-filter-values, length-keys_of, lookup_from_place}
+pub use Rattle.std.proofs.lemmas.Map.Entries.{lookup_at_gap, none_past_head}
+pub use Rattle.std.proofs.lemmas.Map.Keys.{IsDistinct-from_sorted, sorted_from_strictly_increasing}
+pub use Rattle.std.proofs.lemmas.Map.Keys.{sorted_from_all_adjacent, IsDistinct-from_apart, IsDistinct-tail}
+pub use Rattle.std.proofs.lemmas.Map.Keys.{Less-from_sorted, apart_from_distinct}
 pub use Rattle.std.proofs.lemmas.Map.Made.{lookup-map_values, keys_of-map_values}
 pub use Rattle.dwarf_base_core.specs.declared.error.Error.{Error}
-pub use Rattle.dwarf_base_core.specs.declared.error.Error.TheVariants.{OutOfMemory, UnsupportedOffset, UnsupportedAddressSize, DuplicateAbbreviationCode, AttributeNameZero, AttributeFormZero, AbbreviationTagZero, InvalidAbbreviationChildren, UnterminatedAbbreviations}
+pub use Rattle.dwarf_base_core.specs.declared.error.Error.TheVariants.{OutOfMemory, UnsupportedOffset}
+pub use Rattle.dwarf_base_core.specs.declared.error.Error.TheVariants.{UnsupportedAddressSize}
+pub use Rattle.dwarf_base_core.specs.declared.error.Error.TheVariants.{DuplicateAbbreviationCode, AttributeNameZero}
+pub use Rattle.dwarf_base_core.specs.declared.error.Error.TheVariants.{AttributeFormZero, AbbreviationTagZero}
+pub use Rattle.dwarf_base_core.specs.declared.error.Error.TheVariants.{InvalidAbbreviationChildren}
+pub use Rattle.dwarf_base_core.specs.declared.error.Error.TheVariants.{UnterminatedAbbreviations}
 pub use Rattle.dwarf_reader_core.specs.Appended.{followed_by, IsNoEof}
-pub use Rattle.dwarf_reader_core.specs.Faults.{EndsBefore, end_fault, is_number_size, Lacks, WantsMemory, IsNoOffset, RefusesAddress, eof}
+pub use Rattle.dwarf_reader_core.specs.Faults.{EndsBefore, end_fault, is_number_size, Lacks, WantsMemory, IsNoOffset}
+pub use Rattle.dwarf_reader_core.specs.Faults.{RefusesAddress, eof}
 pub use Rattle.dwarf_reader_core.specs.Input.{Input, first, Takes, after, TakesNumber, TakesString, end_of}
 pub use Rattle.dwarf_reader_core.specs.Layout.{Layout, part, fixed, pure, alone, AreItems, none, more}
 unfoldable pub use Rattle.dwarf_reader_core.specs.Layout.{read, check}
-pub use Rattle.dwarf_reader_core.specs.Leb128.{Kind, Number, IsEncoding, NoneIsLast, IsNumber, IsBad, unsigned64, unsigned16, signed64, refusal, limit, value, is_in_range, HasNumber, IsCut, ReadsNumber, RefusesNumber}
+pub use Rattle.dwarf_reader_core.specs.Leb128.{Kind, Number, IsEncoding, NoneIsLast, IsNumber, IsBad, unsigned64}
+pub use Rattle.dwarf_reader_core.specs.Leb128.{unsigned16, signed64, refusal, limit, value, is_in_range, HasNumber}
+pub use Rattle.dwarf_reader_core.specs.Leb128.{IsCut, ReadsNumber, RefusesNumber}
 pub use Rattle.dwarf_reader_core.specs.Once.{HasOne}
-pub use Rattle.dwarf_reader_core.proofs.Layouts.{At_one, At_value, At_error, after_part, no_part, part_reads, part_fails, Outcome, number_reads, number_fails, rest-length, takes-both, At_more, At_read, string_reads, string_fails, then_read, part_read, then_reads, then_fails, error_is, after_check, no_check, TakesLeast, spans_least, number_spans, pure_spans, check_spans, then_spans, pure_reads, after_number, no_number, read_more, error_more, after_inside, Spans, spanned, byte_spans, refuse_spans, when_spans, part_spans, inside_spans, inside_read, pure_read}
-pub use Rattle.dwarf_read_core.specs.Answer.{Answer, IsFinal, IsFault, IsFaulty, number_cut, number_bad, children_cut, tag_zero, children_bad, name_zero, form_zero, in_declaration, repeated, outside, table, fault, Answers, TakesNoMemory, IsBeginning, before_code, before_tag, before_name, before_form, before_value, strictly, StrictAnswer, AnswersStrictly, IsStrictlyFinal}
-pub use Rattle.dwarf_read_core.specs.Cache.{KeepsAnswers, occurrences, Cache, IsInOrder, answer_of, kept_at, shown_entries, is_final, still_kept, IsFaithful, GivesSome, KeepsNoWant, least_count}
+pub use Rattle.dwarf_reader_core.proofs.Layouts.{At_one, At_value, At_error, after_part, no_part, part_reads}
+pub use Rattle.dwarf_reader_core.proofs.Layouts.{part_fails, Outcome, number_reads, number_fails, rest-length}
+pub use Rattle.dwarf_reader_core.proofs.Layouts.{takes-both, At_more, At_read, string_reads, string_fails, then_read}
+pub use Rattle.dwarf_reader_core.proofs.Layouts.{part_read, then_reads, then_fails, error_is, after_check, no_check}
+pub use Rattle.dwarf_reader_core.proofs.Layouts.{TakesLeast, spans_least, number_spans, pure_spans, check_spans}
+pub use Rattle.dwarf_reader_core.proofs.Layouts.{then_spans, pure_reads, after_number, no_number, read_more}
+pub use Rattle.dwarf_reader_core.proofs.Layouts.{error_more, after_inside, Spans, spanned, byte_spans, refuse_spans}
+pub use Rattle.dwarf_reader_core.proofs.Layouts.{when_spans, part_spans, inside_spans, inside_read, pure_read}
+pub use Rattle.dwarf_read_core.specs.Answer.{Answer, IsFinal, IsFault, IsFaulty, number_cut, number_bad, children_cut}
+pub use Rattle.dwarf_read_core.specs.Answer.{tag_zero, children_bad, name_zero, form_zero, in_declaration, repeated}
+pub use Rattle.dwarf_read_core.specs.Answer.{outside, table, fault, Answers, TakesNoMemory, IsBeginning, before_code}
+pub use Rattle.dwarf_read_core.specs.Answer.{before_tag, before_name, before_form, before_value, strictly}
+pub use Rattle.dwarf_read_core.specs.Answer.{StrictAnswer, AnswersStrictly, IsStrictlyFinal}
+pub use Rattle.dwarf_read_core.specs.Cache.{KeepsAnswers, occurrences, Cache, IsInOrder, answer_of, kept_at}
+pub use Rattle.dwarf_read_core.specs.Cache.{shown_entries, is_final, still_kept, IsFaithful, GivesSome, KeepsNoWant}
+pub use Rattle.dwarf_read_core.specs.Cache.{least_count}
 pub use Rattle.dwarf_read_core.specs.Entries.{Entries, StandsForAddresses, StandsForEntries, StandsForStringOffsets}
 unfoldable pub use Rattle.dwarf_read_core.specs.Entries.{string_offset}
-pub use Rattle.dwarf_read_core.specs.Grammar.{Table, by_null, by_end, Declaration, closed, close_from, implicit_const, IsTable, closed_by_null, closed_by_end, Declares, AreDistinct, by_code_of, Specification, Sequence, IsSpecification, IsNull, IsFront, children_byte, IsCode, IsHead, IsDeclaration, IsImplicit, ByCode, attribute_count, AreDeclarations}
+pub use Rattle.dwarf_read_core.specs.Grammar.{Table, by_null, by_end, Declaration, closed, close_from, implicit_const}
+pub use Rattle.dwarf_read_core.specs.Grammar.{IsTable, closed_by_null, closed_by_end, Declares, AreDistinct}
+pub use Rattle.dwarf_read_core.specs.Grammar.{by_code_of, Specification, Sequence, IsSpecification, IsNull, IsFront}
+pub use Rattle.dwarf_read_core.specs.Grammar.{children_byte, IsCode, IsHead, IsDeclaration, IsImplicit, ByCode}
+pub use Rattle.dwarf_read_core.specs.Grammar.{attribute_count, AreDeclarations}
 pub use Rattle.dwarf_read_core.specs.Items.{ComesFirst, least_taken}
 pub use Rattle.dwarf_read_core.specs.Lookups.{AnswersBy, StaysBy}
-pub use Rattle.dwarf_read_core.specs.Others.{ArePlaces, at_place, in_order, codes_of, at_code, with_places, code_cmp, with_codes, others_entries, AreOthers, Adds}
-pub use Rattle.dwarf_read_core.specs.Reading.{◌>>=◌, Gives, and_others, declaration_of, number_from, specification_of, close_of, and_declared}
-unfoldable pub use Rattle.dwarf_read_core.specs.Reading.{attributes_in, declared_at, tag_at, declaration_at, table_in, specification_at, value_at, number_at, attributes_at, children_at, encoding_at, table_at}
+pub use Rattle.dwarf_read_core.specs.Others.{ArePlaces, at_place, in_order, codes_of, at_code, with_places, code_cmp}
+pub use Rattle.dwarf_read_core.specs.Others.{with_codes, others_entries, AreOthers, Adds}
+pub use Rattle.dwarf_read_core.specs.Reading.{◌>>=◌, Gives, and_others, declaration_of, number_from, specification_of}
+pub use Rattle.dwarf_read_core.specs.Reading.{close_of, and_declared}
+unfoldable pub use Rattle.dwarf_read_core.specs.Reading.{attributes_in, declared_at, tag_at, declaration_at, table_in}
+unfoldable pub use Rattle.dwarf_read_core.specs.Reading.{specification_at, value_at, number_at, attributes_at}
+unfoldable pub use Rattle.dwarf_read_core.specs.Reading.{children_at, encoding_at, table_at}
 pub use Rattle.dwarf_read_core.specs.Sections.{debug_abbrev_reader}
 pub use Rattle.dwarf_read_core.specs.Sets.{Headers, Set, IsJoined, StandsForSets, followed_headers}
 unfoldable pub use Rattle.dwarf_read_core.specs.Sets.{address_header, string_offsets_header}
-pub use Rattle.dwarf_read_core.proofs.ResultLemmas.{HasOutcome, returned, failed, outcome-bind, outcome-map, gives_err, ok_is_no_error, outcome-cond, outcome-ok}
+pub use Rattle.dwarf_read_core.proofs.ResultLemmas.{HasOutcome, returned, failed, outcome-bind, outcome-map}
+pub use Rattle.dwarf_read_core.proofs.ResultLemmas.{gives_err, ok_is_no_error, outcome-cond, outcome-ok}
