@@ -4,8 +4,8 @@
 use super::worked::{CUT_SET, FOUR_ADDRESSES, TWO_SETS, twenty_words};
 use super::{Four, eof, reader_at, same};
 use dwarf_read_core::{
-    AddrHeader, AddrHeaderIter, DebugAddr, DebugAddrBase, DebugAddrIndex, EndianSlice, Error,
-    Format, Reader, ReaderOffset, Result, RunTimeEndian,
+    AddrEntryIter, AddrHeader, AddrHeaderIter, DebugAddr, DebugAddrBase, DebugAddrIndex,
+    EndianSlice, Error, Format, LittleEndian, Reader, ReaderOffset, Result, RunTimeEndian,
 };
 use std::alloc::Global;
 use std::process::Abort;
@@ -209,8 +209,8 @@ static LENGTHS: &[(u8, &[u8], Four)] = &[
 ];
 
 // Appends the addresses of a set, up to the first error.
-fn append<R: Reader>(header: &AddrHeader<R>, addresses: &mut Vec<u64>) -> Result<()> {
-    for address in header.entries()? {
+fn append<R: Reader>(entries: AddrEntryIter<R>, addresses: &mut Vec<u64>) -> Result<()> {
+    for address in entries {
         push(address, addresses)?;
     }
     Ok(())
@@ -221,7 +221,7 @@ fn push(address: Result<u64>, addresses: &mut Vec<u64>) -> Result<()> {
 }
 
 fn append_set<R: Reader>(header: Result<AddrHeader<R>>, addresses: &mut Vec<u64>) -> Result<()> {
-    append(&header?, addresses)
+    append(header?.entries()?, addresses)
 }
 
 // Appends the addresses of a section's sets, up to the first error.
@@ -232,57 +232,62 @@ pub(super) fn walk<R: Reader>(section: &DebugAddr<R>, addresses: &mut Vec<u64>) 
     Ok(())
 }
 
-// The lengths of four sets, and the outcome of a walk over all addresses.
-type Walked = (Result<Four>, Result<()>);
-
-fn walked<R: Reader>(section: &DebugAddr<R>, addresses: &mut Vec<u64>) -> Walked {
-    (lengths_of(section), walk(section, addresses))
-}
-
-// The same of these bytes.
-fn walked_at(bytes: &[u8], first: u8, addresses: &mut Vec<u64>) -> Walked {
-    walked(&reader_at(bytes, LITTLE, first).into(), addresses)
+fn lengths_at(bytes: &[u8], first: u8) -> Result<Four> {
+    lengths_of(&reader_at(bytes, LittleEndian, first).into())
 }
 
 #[test]
 fn sets_have_lengths_up_to_the_first_error(rt: HostRuntime) {
-    let mut found = Vec::new(rt.alloc());
     for (first, bytes, wanted) in LENGTHS {
-        let (lengths, _) = walked_at(bytes, *first, &mut found);
-        same(&rt, lengths, Ok(*wanted), bytes);
+        same(&rt, lengths_at(bytes, *first), Ok(*wanted), bytes);
     }
 }
 
-// The addresses of the sets of these bytes, and the first error.
-fn addresses_in(mem: Global, bytes: &[u8], first: u8) -> (Vec<u64>, Result<()>) {
+// Ends the test where a section's sets have other addresses up to the first error, or another error.
+fn check_walk<R: Reader>(
+    rt: &impl Abort,
+    mem: Global,
+    section: &DebugAddr<R>,
+    wanted: &[u64],
+    outcome: Result<()>,
+) {
     let mut found = Vec::new(mem);
-    let (_, outcome) = walked_at(bytes, first, &mut found);
-    (found, outcome)
+    same(rt, walk(section, &mut found), outcome, wanted);
+    same(rt, found.as_slice(), wanted, outcome);
+}
+
+// How many addresses the first bytes of two sets have, and their first error.
+fn cut(len: usize) -> (usize, Result<()>) {
+    match len {
+        0 => (0, Ok(())),
+        1..=3 => (0, Err(eof(0))),
+        4..=15 => (0, Err(eof(4))),
+        16 => (2, Ok(())),
+        17..=19 => (2, Err(eof(16))),
+        20..=27 => (2, Err(eof(20))),
+        28..=47 => (2, Err(eof(28))),
+        _ => (4, Ok(())),
+    }
+}
+
+// Ends the test where these bytes don't have so many of the four addresses, or have another error.
+fn check_cut(
+    rt: &impl Abort,
+    mem: Global,
+    bytes: &[u8],
+    first: u8,
+    count: usize,
+    outcome: Result<()>,
+) {
+    let section = reader_at(bytes, LittleEndian, first).into();
+    check_walk(rt, mem, &section, &FOUR_ADDRESSES[..count.min(4)], outcome);
 }
 
 #[test]
 fn cut_sets_end_early(rt: HostRuntime) {
     for len in 0..49usize {
-        let (count, outcome) = match len {
-            0 => (0, Ok(())),
-            1..=3 => (0, Err(eof(0))),
-            4..=15 => (0, Err(eof(4))),
-            16 => (2, Ok(())),
-            17..=19 => (2, Err(eof(16))),
-            20..=27 => (2, Err(eof(20))),
-            28..=47 => (2, Err(eof(28))),
-            _ => (4, Ok(())),
-        };
-        let (found, error) = addresses_in(rt.alloc(), &TWO_SETS[..len], 0);
-        same(&rt, error, outcome, len);
-        same(&rt, found.as_slice(), &FOUR_ADDRESSES[..count], len);
+        let (count, outcome) = cut(len);
+        check_cut(&rt, rt.alloc(), &TWO_SETS[..len], 0, count, outcome);
     }
-    let (found, error) = addresses_in(rt.alloc(), CUT_SET, 100);
-    same(&rt, error, Err(eof(112)), "a cut set at 100");
-    same(
-        &rt,
-        found.as_slice(),
-        &FOUR_ADDRESSES[..1],
-        "a cut set at 100",
-    );
+    check_cut(&rt, rt.alloc(), CUT_SET, 100, 1, Err(eof(112)));
 }

@@ -1,7 +1,7 @@
 //! The small callers, on worked sections.
 
-use super::same;
 use super::worked::{FOUR_ADDRESSES, STRINGS, THREE, TWO_SETS, UNIT};
+use super::{little, same};
 use dwarf_read_core::constants::{DW_TAG_compile_unit, DwTag};
 use dwarf_read_core::{
     Abbreviations, AddrHeader, DebugAbbrev, DebugAbbrevOffset, DebugAddr, DebugStr,
@@ -24,10 +24,13 @@ fn check_tags(rt: &impl Abort, table: &Abbreviations) {
 fn check_unit<R: Reader>(rt: &impl Abort, mem: Global, section: &DebugAbbrev<R>) -> Result<()> {
     let offset = DebugAbbrevOffset(R::Offset::from_u8(0));
     check_tags(rt, &section.abbreviations(mem, offset)?);
-    let text = table_text(mem, section, offset)?;
-    let wanted = "1 DW_TAG_compile_unit\n  DW_AT_name DW_FORM_string\n";
-    same(rt, text.as_str(), wanted, "text");
+    check_text(rt, &table_text(mem, section, offset)?);
     Ok(())
+}
+
+fn check_text(rt: &impl Abort, text: &str) {
+    let wanted = "1 DW_TAG_compile_unit\n  DW_AT_name DW_FORM_string\n";
+    same(rt, text, wanted, "text");
 }
 
 // The lengths of the tables at 0, at 5, and at 0 again.
@@ -68,19 +71,17 @@ fn append_all<R: Reader>(mem: Global, sets: &DebugAddr<R>, found: &mut Vec<u64>)
     Ok(())
 }
 
+fn check_sets<R: Reader>(rt: &impl Abort, mem: Global, sets: &DebugAddr<R>) {
+    let mut found = Vec::new(mem);
+    same(rt, append_all(mem, sets, &mut found), Ok(()), "addresses");
+    let wanted = FOUR_ADDRESSES.as_slice();
+    same(rt, found.as_slice(), wanted, "addresses");
+}
+
 #[test]
-fn sections_are_looked_up(rt: HostRuntime) -> std::result::Result<(), Fail> {
+fn sections_are_looked_up(rt: HostRuntime) {
     same(&rt, string_at(1), Ok(b"two".as_slice()), "string 1");
-    let sets = DebugAddr::from(EndianSlice::new(TWO_SETS, LittleEndian));
-    let mut found = Vec::new(rt.alloc());
-    append_all(rt.alloc(), &sets, &mut found)?;
-    same(
-        &rt,
-        found.as_slice(),
-        FOUR_ADDRESSES.as_slice(),
-        "addresses",
-    );
-    Ok(())
+    check_sets(&rt, rt.alloc(), &little(TWO_SETS).into());
 }
 
 #[test]

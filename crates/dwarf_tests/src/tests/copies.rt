@@ -8,6 +8,7 @@ use dwarf_read_core::{
     AddrEntryIter, AddrHeader, AddrHeaderIter, DebugAddr, DebugStrOffsets, Error, Reader,
     ReaderOffset, Result, StrOffsetsEntryIter, StrOffsetsHeader, StrOffsetsHeaderIter,
 };
+use std::process::Abort;
 
 // The first set of addresses, by a copied iterator.
 fn first_addresses<R: Reader + Clone>(headers: &AddrHeaderIter<R>) -> Result<AddrHeader<R>> {
@@ -26,15 +27,18 @@ fn is_set_copied<R: Reader + Clone + PartialEq>(header: &AddrHeader<R>) -> Resul
     Ok(header.clone()? == *header)
 }
 
-// Whether a copy of the set equals it, and the first address.
-type Answer = (Result<bool>, Result<Option<u64>>);
-
-fn set_answer<R: Reader + Clone + PartialEq>(header: &AddrHeader<R>) -> Result<Answer> {
-    Ok((is_set_copied(header), first_address(&header.entries()?)))
+fn check_set<R: Reader + Clone + PartialEq>(rt: &impl Abort, header: &AddrHeader<R>) -> Result<()> {
+    same(rt, is_set_copied(header), Ok(true), "a set");
+    let first = first_address(&header.entries()?);
+    same(rt, first, Ok(Some(FOUR_ADDRESSES[0])), "an address");
+    Ok(())
 }
 
-fn sets_answer<R: Reader + Clone + PartialEq>(section: &DebugAddr<R>) -> Result<Answer> {
-    set_answer(&first_addresses(&section.headers()?)?)
+fn check_sets<R: Reader + Clone + PartialEq>(
+    rt: &impl Abort,
+    section: &DebugAddr<R>,
+) -> Result<()> {
+    check_set(rt, &first_addresses(&section.headers()?)?)
 }
 
 // The same of string offsets.
@@ -58,34 +62,40 @@ fn is_offset_set_copied<R: Reader + Clone + PartialEq>(
     Ok(header.clone()? == *header)
 }
 
-fn offset_set_answer<R: Reader + Clone + PartialEq>(
+fn check_offset_set<R: Reader + Clone + PartialEq>(
+    rt: &impl Abort,
     header: &StrOffsetsHeader<R>,
-) -> Result<Answer> {
-    Ok((
-        is_offset_set_copied(header),
-        first_offset(&header.entries()?),
-    ))
+) -> Result<()> {
+    same(rt, is_offset_set_copied(header), Ok(true), "a set");
+    let first = first_offset(&header.entries()?);
+    same(rt, first, Ok(Some(1000)), "an offset");
+    Ok(())
 }
 
-fn offset_sets_answer<R: Reader + Clone + PartialEq>(
+fn check_offset_sets<R: Reader + Clone + PartialEq>(
+    rt: &impl Abort,
     section: &DebugStrOffsets<R>,
-) -> Result<Answer> {
-    offset_set_answer(&first_offsets(&section.headers()?)?)
+) -> Result<()> {
+    check_offset_set(rt, &first_offsets(&section.headers()?)?)
 }
 
-// The results of both kinds of sets.
-fn answers<R: Reader + Clone + PartialEq>(
+// Ends the test where copies of either kind of sets are read otherwise.
+fn check_copies<R: Reader + Clone + PartialEq>(
+    rt: &impl Abort,
     addresses: &DebugAddr<R>,
     offsets: &DebugStrOffsets<R>,
-) -> [Result<Answer>; 2] {
-    [sets_answer(addresses), offset_sets_answer(offsets)]
+) -> Result<()> {
+    check_sets(rt, addresses)?;
+    check_offset_sets(rt, offsets)
 }
 
 #[test]
 fn copies_are_read_alike(rt: HostRuntime) {
-    let (addresses, offsets) = (little(TWO_SETS), little(TWO_OFFSET_SETS));
-    let found = answers(&DebugAddr::from(addresses), &DebugStrOffsets::from(offsets));
-    let first = Ok(Some(FOUR_ADDRESSES[0]));
-    let wanted = [Ok((Ok(true), first)), Ok((Ok(true), Ok(Some(1000))))];
-    same(&rt, found, wanted, "copies");
+    let (addresses, offsets) = (little(TWO_SETS).into(), little(TWO_OFFSET_SETS).into());
+    same(
+        &rt,
+        check_copies(&rt, &addresses, &offsets),
+        Ok(()),
+        "copies",
+    );
 }

@@ -2,7 +2,7 @@
 
 use super::addresses::{lengths_of, walk};
 use super::worked::{FOUR_ADDRESSES, STRINGS, TWO_SETS, UNIT};
-use super::{Four, end_requests, eof, same};
+use super::{Four, end_requests, same};
 use dwarf_read_core::{
     Abbreviations, AbbreviationsCache, AbbreviationsCacheStrategy, AddrHeaderIter, DebugAbbrev,
     DebugAbbrevOffset, DebugAddr, DebugAddrBase, DebugAddrIndex, DebugStr, DebugStrOffset,
@@ -37,14 +37,23 @@ fn constants_tell_of_clones(rt: HostRuntime) {
 }
 
 // Ends the test where the strings one and two aren't there, or one has a clone.
-fn check_parts<R: Reader>(rt: &impl Abort, mem: Global, strings: &mut R) -> Result<()> {
-    check_one(rt, mem, &mut strings.read_null_terminated_slice()?)?;
+fn check_parts<R: Reader>(rt: &impl Abort, mem: Global, mut strings: R) -> Result<()> {
+    check_first(rt, mem, &mut strings)?;
     same(rt, strings.offset_id().0, 4, "behind one");
     check_two(rt, &mut strings.split(R::Offset::from_u8(3))?)
 }
 
+fn check_first<R: Reader>(rt: &impl Abort, mem: Global, strings: &mut R) -> Result<()> {
+    check_one(rt, mem, &mut strings.read_null_terminated_slice()?)
+}
+
+fn check_bytes<R: Reader>(rt: &impl Abort, part: &R, wanted: &[u8]) -> Result<()> {
+    same(rt, part.to_slice()?.as_slice(), wanted, wanted);
+    Ok(())
+}
+
 fn check_two<R: Reader>(rt: &impl Abort, two: &mut R) -> Result<()> {
-    same(rt, two.to_slice()?.as_slice(), b"two".as_slice(), "two");
+    check_bytes(rt, two, b"two")?;
     same(rt, two.read_sleb128()?, -12, "t");
     two.skip_leb128()?;
     same(rt, two.offset_id().0, 6, "behind w");
@@ -59,28 +68,39 @@ fn check_refused<R: Reader>(rt: &impl Abort, one: &mut R) {
     same(rt, one.offset_id().0, 0, "one");
 }
 
-fn check_one<R: Reader>(rt: &impl Abort, mem: Global, one: &mut R) -> Result<()> {
-    check_refused(rt, one);
+fn check_text<R: Reader>(rt: &impl Abort, mem: Global, one: &R) -> Result<()> {
     same(rt, one.to_string()?.as_str(), "one", "one");
     same(rt, one.to_string_lossy(mem)?.as_str(), "one", "one");
+    Ok(())
+}
+
+fn check_one<R: Reader>(rt: &impl Abort, mem: Global, one: &mut R) -> Result<()> {
+    check_refused(rt, one);
+    check_text(rt, mem, one)?;
     same(rt, read_u8_array::<_, 3>(one)?, *b"one", "one");
     Ok(())
 }
 
 #[test]
 fn parts_have_one_clone_fewer(rt: HostRuntime) -> std::result::Result<(), Fail> {
-    let mut strings = owned(rt.alloc(), b"one\0two\0", 1)?;
-    check_parts(&rt, rt.alloc(), &mut strings)?;
+    let strings = owned(rt.alloc(), b"one\0two\0", 1)?;
+    check_parts(&rt, rt.alloc(), strings)?;
     Ok(())
 }
 
 // A length of 2^32 in the 64-bit format.
 const LONG: &[u8] = &[0xff, 0xff, 0xff, 0xff, 0, 0, 0, 0, 1, 0, 0, 0];
 
-// What the reading of an initial length returns, and how many bytes it consumes.
-fn initial_length(mem: Global) -> Result<(Result<(u32, Format)>, u64)> {
-    let mut input = owned(mem, LONG, 0)?;
-    Ok((input.read_initial_length(), input.offset_id().0))
+// The error of the reading of an initial length, and how many bytes it consumes.
+fn fault_of_length<R: Reader>(mut input: R) -> (Option<Error>, u64) {
+    (input.read_initial_length().err(), input.offset_id().0)
+}
+
+fn check_length(rt: &impl Abort, mem: Global, wanted: Error) -> Result<()> {
+    let (fault, position) = fault_of_length(owned(mem, LONG, 0)?);
+    same(rt, fault, Some(wanted), "a length");
+    same(rt, position, 12, "a length");
+    Ok(())
 }
 
 // The offset that an index names.
@@ -102,18 +122,19 @@ fn offset_at(mem: Global, format: Format, index: u32) -> Result<u32> {
     offset_of(&owned(mem, &LONG[4..], 1)?.into(), format, index)
 }
 
+static FAULTS: &[(Format, u32, Error)] = &[
+    (Format::Dwarf64, 0, Error::UnsupportedOffset),
+    (Format::Dwarf32, 1 << 30, Error::UnsupportedOffset),
+    (Format::Dwarf32, (1 << 30) - 1, eof!(0)),
+];
+
 #[test]
 fn offsets_have_32_bits(rt: HostRuntime) {
     let (mem, fault) = (rt.alloc(), Error::UnsupportedOffset);
-    same(&rt, initial_length(mem), Ok((Err(fault), 12)), "a length");
-    let sets = [Err(fault), Ok(None), Ok(None), Ok(None)];
-    same(&rt, lengths(mem, LONG, 2), Ok(sets), "a set");
-    for (format, index, fault) in [
-        (Format::Dwarf64, 0, fault),
-        (Format::Dwarf32, 1 << 30, fault),
-        (Format::Dwarf32, (1 << 30) - 1, eof(0)),
-    ] {
-        same(&rt, offset_at(mem, format, index), Err(fault), index);
+    same(&rt, check_length(&rt, mem, fault), Ok(()), "a length");
+    same(&rt, lengths(mem, LONG, 2), Ok(ended!(Err(fault))), "a set");
+    for (format, index, fault) in FAULTS {
+        same(&rt, offset_at(mem, *format, *index), Err(*fault), index);
     }
 }
 
@@ -212,9 +233,14 @@ fn count_of_addresses<R: Reader>(mem: Global, section: &DebugAddr<R>) -> Result<
 type Answers = [Result<Answer>; 8];
 
 // The results of these readers' sections.
-fn answers_of<R: Reader>(mem: Global, tables: R, strings: R, addresses: R) -> Answers {
-    let (tables, strings) = (DebugAbbrev::from(tables), DebugStr::from(strings));
-    answers_in(mem, &tables, &strings, &DebugAddr::from(addresses))
+fn answers_of<R: Reader>(
+    mem: Global,
+    tables: Result<R>,
+    strings: Result<R>,
+    addresses: Result<R>,
+) -> Result<Answers> {
+    let (tables, strings) = (DebugAbbrev::from(tables?), DebugStr::from(strings?));
+    Ok(answers_in(mem, &tables, &strings, &DebugAddr::from(addresses?)))
 }
 
 fn answers_in<R: Reader>(
@@ -238,10 +264,9 @@ fn answers_in<R: Reader>(
 
 // The results where clones may go so deep.
 fn answers_at(mem: Global, depth: u8) -> Result<Answers> {
-    let tables = owned(mem, UNIT, depth)?;
-    let strings = owned(mem, STRINGS, depth)?;
-    let addresses = owned(mem, TWO_SETS, depth)?;
-    Ok(answers_of(mem, tables, strings, addresses))
+    let tables = owned(mem, UNIT, depth);
+    let strings = owned(mem, STRINGS, depth);
+    answers_of(mem, tables, strings, owned(mem, TWO_SETS, depth))
 }
 
 #[test]

@@ -25,24 +25,33 @@ fn check_range<R: Reader, S: Section<R> + Drop>(
     section: &S,
     (offset, size, wanted): (u32, u32, Result<(&[u8], u64)>),
 ) -> Result<()> {
-    match section.dwp_range(offset, size) {
-        Ok(part) => {
-            let (bytes, position) = (part.reader().to_slice()?, part.reader().offset_id().0);
-            same(rt, Ok((bytes.as_slice(), position)), wanted, offset);
+    match (section.dwp_range(offset, size), wanted) {
+        (Ok(part), Ok((bytes, position))) => check_part(rt, part.reader(), bytes, position),
+        (found, wanted) => {
+            same(rt, found.err(), wanted.err(), offset);
+            Ok(())
         }
-        Err(error) => same(rt, Err(error), wanted, offset),
     }
+}
+
+// Ends the test where a reader has other bytes or another position.
+fn check_part<R: Reader>(rt: &impl Abort, part: &R, bytes: &[u8], position: u64) -> Result<()> {
+    same(rt, part.to_slice()?.as_slice(), bytes, position);
+    same(rt, part.offset_id().0, position, bytes);
     Ok(())
+}
+
+fn check_ranges<R: Reader, S: Section<R> + Drop>(rt: &impl Abort, section: &S, id: SectionId) {
+    for row in RANGES {
+        let checked = check_range::<R, S>(rt, section, *row);
+        same(rt, checked, Ok(()), id);
+    }
 }
 
 fn check_section<R: Reader, S: Section<R> + Drop>(rt: &impl Abort, reader: R, id: SectionId) {
     same(rt, S::id(), id, id);
     same(rt, S::section_name(), id.name(), id);
-    let section = S::from(reader);
-    for row in RANGES {
-        let checked = check_range::<R, S>(rt, &section, *row);
-        same(rt, checked, Ok(()), id);
-    }
+    check_ranges::<R, S>(rt, &S::from(reader), id);
 }
 
 fn check_sections<R: Reader + Copy>(rt: &impl Abort, reader: R) {
@@ -90,37 +99,50 @@ fn load(id: SectionId) -> std::result::Result<Slice<'static>, SectionId> {
     }
 }
 
+// The bytes of a section that is loaded.
+fn loaded<S: Section<Slice<'static>> + Drop>() -> std::result::Result<&'static [u8], SectionId> {
+    Ok(S::load(load)?.reader().slice())
+}
+
 #[test]
 fn sections_are_loaded(rt: HostRuntime) {
-    match DebugStr::load(load) {
-        Ok(section) => same(
-            &rt,
-            section.reader().slice(),
-            b"abc\0".as_slice(),
-            "strings",
-        ),
-        Err(id) => assert!(rt; false, "{id:?}"),
-    }
-    let section: std::result::Result<DebugAddr<Slice<'_>>, SectionId> = DebugAddr::load(load);
-    same(&rt, section.err(), Some(SectionId::DebugAddr), "addresses");
+    let (strings, addresses) = (loaded::<DebugStr<_>>(), loaded::<DebugAddr<_>>());
+    same(&rt, strings, Ok(b"abc\0".as_slice()), "strings");
+    same(&rt, addresses, Err(SectionId::DebugAddr), "addresses");
 }
 
 fn borrowed<'a>(bytes: &'a [u8; 4]) -> Slice<'a> {
     EndianSlice::new(bytes, LittleEndian)
 }
 
+const ABC: [u8; 4] = *b"abc\0";
+
+// Whether the section over the borrowed bytes has a reader of them; below, the same of the other sections.
+fn strings_are_borrowed() -> bool {
+    *DebugStr::from(ABC).borrow(borrowed).reader() == little(&ABC)
+}
+
+fn lines_are_borrowed() -> bool {
+    *DebugLineStr::from(ABC).borrow(borrowed).reader() == little(&ABC)
+}
+
+fn offsets_are_borrowed() -> bool {
+    *DebugStrOffsets::from(ABC).borrow(borrowed).reader() == little(&ABC)
+}
+
+fn addresses_are_borrowed() -> bool {
+    *DebugAddr::from(ABC).borrow(borrowed).reader() == little(&ABC)
+}
+
+fn tables_are_borrowed() -> bool {
+    *DebugAbbrev::from(ABC).borrow(borrowed).reader() == little(&ABC)
+}
+
 #[test]
 fn sections_are_borrowed(rt: HostRuntime) {
-    let bytes = *b"abc\0";
-    let (strings, lines) = (DebugStr::from(bytes), DebugLineStr::from(bytes));
-    let (offsets, addresses) = (DebugStrOffsets::from(bytes), DebugAddr::from(bytes));
-    let tables = DebugAbbrev::from(bytes);
-    let readers = [
-        *strings.borrow(borrowed).reader(),
-        *lines.borrow(borrowed).reader(),
-        *offsets.borrow(borrowed).reader(),
-        *addresses.borrow(borrowed).reader(),
-        *tables.borrow(borrowed).reader(),
-    ];
-    same(&rt, readers, [little(&bytes); 5], "readers");
+    same(&rt, strings_are_borrowed(), true, "strings");
+    same(&rt, lines_are_borrowed(), true, "lines");
+    same(&rt, offsets_are_borrowed(), true, "offsets");
+    same(&rt, addresses_are_borrowed(), true, "addresses");
+    same(&rt, tables_are_borrowed(), true, "tables");
 }

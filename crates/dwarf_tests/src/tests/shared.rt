@@ -3,22 +3,35 @@
 use super::{eof, same};
 use dwarf_read_core::{LittleEndian, Reader, ReaderOffset, Result, read_u8_array};
 use dwarf_uses::SharedReader;
+use std::process::Abort;
 use std::test::Fail;
 
-// The second string of a clone whose reader is dropped, the position behind it, and a read behind all bytes.
-fn second_string<R: Reader>(reader: R) -> Result<([u8; 3], u64, Result<u8>)> {
-    let mut clone = reader.try_clone()?;
-    drop(reader);
-    clone.skip(R::Offset::from_u8(4))?;
-    let mut two = clone.read_null_terminated_slice()?;
-    let bytes = read_u8_array(&mut two)?;
-    Ok((bytes, two.offset_id().0, clone.read_u8()))
+// A clone of a reader that is dropped.
+fn clone_of<R: Reader>(reader: R) -> Result<R> {
+    reader.try_clone()
+}
+
+// Ends the test where the second string isn't there, or isn't the last.
+fn check_second<R: Reader>(rt: &impl Abort, reader: &mut R) -> Result<()> {
+    reader.skip(R::Offset::from_u8(4))?;
+    check_two(rt, &mut reader.read_null_terminated_slice()?)?;
+    same(rt, reader.read_u8().err(), Some(eof(8)), "behind two");
+    Ok(())
+}
+
+fn check_two<R: Reader>(rt: &impl Abort, two: &mut R) -> Result<()> {
+    same(rt, read_u8_array::<_, 3>(two)?, *b"two", "two");
+    same(rt, two.offset_id().0, 7, "behind o");
+    Ok(())
+}
+
+fn check_clone<R: Reader>(rt: &impl Abort, reader: R) -> Result<()> {
+    check_second(rt, &mut clone_of(reader)?)
 }
 
 #[test]
 fn clones_outlive_their_reader(rt: HostRuntime) -> std::result::Result<(), Fail> {
     let bytes = b"one\0two\0".to_vec(rt.alloc())?;
-    let found = second_string(SharedReader::new(bytes, LittleEndian)?);
-    same(&rt, found, Ok((*b"two", 7, Err(eof(8)))), "two");
+    check_clone(&rt, SharedReader::new(bytes, LittleEndian)?)?;
     Ok(())
 }

@@ -1,7 +1,7 @@
 //! Strings, and their offsets by index.
 
+use super::same;
 use super::worked::{STRINGS, twenty_words};
-use super::{eof, same};
 use dwarf_read_core::{
     DebugLineStr, DebugLineStrOffset, DebugStr, DebugStrOffset, DebugStrOffsets,
     DebugStrOffsetsBase, DebugStrOffsetsIndex, EndianSlice, Error, Format, LittleEndian, Reader,
@@ -60,17 +60,20 @@ fn strings_end_at_a_zero_byte(rt: HostRuntime) {
     }
 }
 
+// Places in a section that begins at position 100. Each is an error in a section without bytes.
+static FAR_PLACES: &[(usize, Place<'static>, Error)] = &[
+    (0, Ok((b"one", 100)), eof!(0)),
+    (4, Err(eof!(104)), eof!(0)),
+    (8, Err(eof!(100)), eof!(0)),
+];
+
 #[test]
 fn positions_begin_at_the_first(rt: HostRuntime) {
     let reader = EndianSlice::with_first_id(b"one\0two", LittleEndian, ReaderOffsetId(100));
     let (strings, no_lines) = (DebugStr::from(reader), DebugLineStr::default());
-    for (offset, wanted, fault) in [
-        (0, Ok((b"one".as_slice(), 100)), eof(0)),
-        (4, Err(eof(104)), eof(0)),
-        (8, Err(eof(100)), eof(0)),
-    ] {
-        let found = places_in(&strings, &no_lines, offset);
-        same(&rt, found, (wanted, Err(fault)), offset);
+    for (offset, wanted, fault) in FAR_PLACES {
+        let found = places_in(&strings, &no_lines, *offset);
+        same(&rt, found, (*wanted, Err(*fault)), offset);
     }
 }
 

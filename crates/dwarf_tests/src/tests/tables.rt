@@ -51,21 +51,34 @@ fn table_at(mem: Global, bytes: &[u8], offset: u8) -> Result<Abbreviations> {
     table_in(mem, &section, offset, Mode::Lenient)
 }
 
+// Appends an attribute's name, its form, and the value that the table itself has of it.
+fn append_attribute(
+    attribute: &AttributeSpecification,
+    text: &mut String,
+) -> std::result::Result<(), AllocError> {
+    let (name, form) = (attribute.name(), attribute.form());
+    write!(text, ", {name} {form}")?;
+    if let Some(value) = attribute.implicit_const_value() {
+        write!(text, " {value}")?;
+    }
+    Ok(())
+}
+
+fn append(abbreviation: &Abbreviation, text: &mut String) -> std::result::Result<(), AllocError> {
+    let (code, tag) = (abbreviation.code(), abbreviation.tag());
+    let yes = abbreviation.has_children();
+    write!(text, "{code} {tag} {yes}")?;
+    for attribute in abbreviation.attributes() {
+        append_attribute(attribute, text)?;
+    }
+    text.push(';')
+}
+
 // A table by rising code, and a `.` where a code of value 0 closes it.
 fn shown(mem: Global, table: &Abbreviations) -> std::result::Result<String, AllocError> {
     let mut text = String::new(mem);
     for abbreviation in table.iter() {
-        let (code, tag) = (abbreviation.code(), abbreviation.tag());
-        let yes = abbreviation.has_children();
-        write!(text, "{code} {tag} {yes}")?;
-        for attribute in abbreviation.attributes() {
-            let (name, form) = (attribute.name(), attribute.form());
-            write!(text, ", {name} {form}")?;
-            if let Some(value) = attribute.implicit_const_value() {
-                write!(text, " {value}")?;
-            }
-        }
-        text.push(';')?;
+        append(abbreviation, &mut text)?;
     }
     if table.closed_by_null() {
         text.push('.')?;
@@ -291,10 +304,14 @@ fn check_attributes(
 ) -> Result<()> {
     for abbreviation in table_at(mem, bytes, 0)?.iter() {
         same(rt, abbreviation.attributes(), wanted, bytes);
-        let copy = abbreviation.try_clone()?;
-        same(rt, &copy, abbreviation, bytes);
+        same(rt, is_one_copied(abbreviation), Ok(true), bytes);
     }
     Ok(())
+}
+
+// Whether a copy of an abbreviation equals it.
+fn is_one_copied(abbreviation: &Abbreviation) -> Result<bool> {
+    Ok(abbreviation.try_clone()? == *abbreviation)
 }
 
 #[test]
@@ -320,14 +337,20 @@ fn attributes_are_in_their_order(rt: HostRuntime) -> std::result::Result<(), Fai
     Ok(())
 }
 
+// Whether a copy of a table has the same abbreviations.
+fn is_copied(table: &Abbreviations) -> Result<bool> {
+    Ok(table.try_clone()?.iter().eq(table.iter()))
+}
+
+fn is_copied_at(mem: Global, bytes: &[u8]) -> Result<bool> {
+    is_copied(&table_at(mem, bytes, 0)?)
+}
+
 #[test]
-fn copies_are_equal(rt: HostRuntime) -> std::result::Result<(), Fail> {
+fn copies_are_equal(rt: HostRuntime) {
     for bytes in [UNIT, THREE, FIVE, SIX] {
-        let table = table_at(rt.alloc(), bytes, 0)?;
-        let copy = table.try_clone()?;
-        assert!(rt; copy.iter().eq(table.iter()), "{bytes:?}");
+        same(&rt, is_copied_at(rt.alloc(), bytes), Ok(true), bytes);
     }
-    Ok(())
 }
 
 // If an allocation fails, a call returns the whole table or OutOfMemory, and the table alone if it allocates nothing.
@@ -358,8 +381,8 @@ fn refused_memory_for_a_table(rt: HostRuntime) {
 
 // A copy of the table and of each of its abbreviations is whole, or memory for it ran out.
 fn copied_or_refused(rt: &impl Abort, table: &Abbreviations) {
-    match table.try_clone() {
-        Ok(copy) => assert!(rt; copy.iter().eq(table.iter())),
+    match is_copied(table) {
+        Ok(is_equal) => assert!(rt; is_equal),
         Err(error) => {
             same(rt, error, Error::OutOfMemory, "a table");
             assert!(rt; !table.is_empty());
@@ -371,8 +394,8 @@ fn copied_or_refused(rt: &impl Abort, table: &Abbreviations) {
 }
 
 fn one_copied_or_refused(rt: &impl Abort, abbreviation: &Abbreviation) {
-    match abbreviation.try_clone() {
-        Ok(copy) => assert!(rt; copy == *abbreviation),
+    match is_one_copied(abbreviation) {
+        Ok(is_equal) => assert!(rt; is_equal),
         Err(error) => {
             same(rt, error, Error::OutOfMemory, "an abbreviation");
             assert!(rt; abbreviation.attributes().len() > 5);
