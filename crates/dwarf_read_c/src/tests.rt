@@ -11,6 +11,9 @@ mod sets;
 mod tables;
 mod texts;
 
+// The kind and the value of an error.
+type Fault = (u32, u64);
+
 const SEVEN: DwarfFault = DwarfFault { kind: 7, value: 7 };
 
 // Asserts equality; `what` names the case if the assertion fails.

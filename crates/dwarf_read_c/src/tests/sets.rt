@@ -1,6 +1,6 @@
 //! Sets of addresses and of string offsets.
 
-use super::{SEVEN, same};
+use super::{Fault, SEVEN, same};
 use crate::sets::{DwarfSet, dwarf_address_set, dwarf_str_offset_set};
 
 const NO_SET: DwarfSet = DwarfSet {
@@ -18,32 +18,32 @@ const SETS: &[u8] = b"\x0c\x00\x00\x00\x05\x00\x04\x00\x78\x56\x34\x12\xef\xbe\x
     \xf0\xde\xbc\x9a\x78\x56\x34\x12\xef\xbe\xad\xde\xef\xbe\xad\xde\
     \x04\x00\x00\x00\x05\x00\x03\x00";
 
+// The fields of a set.
+type Set = (usize, usize, usize, u8, u8);
+
+// Whether the set is one of addresses, and its offset; the status, the set and the error.
+static ROWS: &[(bool, usize, (u32, Set, Fault))] = &[
+    (true, 0, (0, (16, 12, 8, 4, 4), (7, 7))),
+    (true, 16, (0, (48, 20, 32, 8, 2), (7, 7))),
+    (true, 48, (12, (7, 7, 7, 7, 7), (12, 3))),
+    (true, 56, (102, (7, 7, 7, 7, 7), (7, 7))),
+    (true, 57, (1, (7, 7, 7, 7, 7), (1, 0))),
+    (true, 54, (1, (7, 7, 7, 7, 7), (1, 54))),
+    (false, 0, (0, (16, 12, 8, 4, 4), (7, 7))),
+    (false, 16, (0, (48, 20, 32, 8, 8), (7, 7))),
+    (false, 48, (0, (56, 4, 56, 4, 4), (7, 7))),
+    (false, 56, (102, (7, 7, 7, 7, 7), (7, 7))),
+    (false, 1, (1, (7, 7, 7, 7, 7), (1, 5))),
+];
+
 #[test]
 fn sets_are_found(rt: HostRuntime) {
-    // Whether the set is one of addresses, and its offset; the status, the set and the error.
-    let rows: [(
-        bool,
-        usize,
-        (u32, (usize, usize, usize, u8, u8), (u32, u64)),
-    ); 11] = [
-        (true, 0, (0, (16, 12, 8, 4, 4), (7, 7))),
-        (true, 16, (0, (48, 20, 32, 8, 2), (7, 7))),
-        (true, 48, (12, (7, 7, 7, 7, 7), (12, 3))),
-        (true, 56, (102, (7, 7, 7, 7, 7), (7, 7))),
-        (true, 57, (1, (7, 7, 7, 7, 7), (1, 0))),
-        (true, 54, (1, (7, 7, 7, 7, 7), (1, 54))),
-        (false, 0, (0, (16, 12, 8, 4, 4), (7, 7))),
-        (false, 16, (0, (48, 20, 32, 8, 8), (7, 7))),
-        (false, 48, (0, (56, 4, 56, 4, 4), (7, 7))),
-        (false, 56, (102, (7, 7, 7, 7, 7), (7, 7))),
-        (false, 1, (1, (7, 7, 7, 7, 7), (1, 5))),
-    ];
-    for (has_addresses, offset, wanted) in rows {
+    for (has_addresses, offset, wanted) in ROWS {
         let (mut s, mut fault) = (NO_SET, SEVEN);
-        let status = if has_addresses {
-            dwarf_address_set(SETS, false, offset, &mut s, &mut fault)
+        let status = if *has_addresses {
+            dwarf_address_set(SETS, false, *offset, &mut s, &mut fault)
         } else {
-            dwarf_str_offset_set(SETS, false, offset, &mut s, &mut fault)
+            dwarf_str_offset_set(SETS, false, *offset, &mut s, &mut fault)
         };
         let set = (
             s.next,
@@ -55,8 +55,8 @@ fn sets_are_found(rt: HostRuntime) {
         same(
             &rt,
             (status, set, (fault.kind, fault.value)),
-            wanted,
-            (has_addresses, offset),
+            *wanted,
+            (*has_addresses, *offset),
         );
     }
 }

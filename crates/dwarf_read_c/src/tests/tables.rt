@@ -1,10 +1,13 @@
 //! Abbreviation tables.
 
-use super::{SEVEN, same};
+use super::{Fault, SEVEN, same};
+use crate::fault::DwarfFault;
 use crate::status::DWARF_NO_ROOM;
 use crate::tables::{
     DwarfAbbreviation, DwarfAttribute, DwarfMeasure, dwarf_table_measure, dwarf_table_read,
 };
+use std::alloc::Global;
+use std::process::Abort;
 
 // A subprogram with a constant name, and then a unit with a string and a language.
 const TABLE: &[u8] = b"\x02\x2e\x00\x03\x21\x56\x00\x00\x01\x11\x01\x03\x08\x13\x05\x00\x00\x00";
@@ -29,28 +32,59 @@ const NO_ATTRIBUTE: DwarfAttribute = DwarfAttribute {
     implicit_const: 7,
 };
 
+// A status, the fields of a measure, and an error.
+type Outcome = (u32, (usize, usize, u8), Fault);
+
+// Offsets, and what measuring the table there returns and writes.
+static MEASURES: &[(usize, Outcome)] = &[
+    (0, (0, (2, 3, 1), (7, 7))),
+    (8, (0, (1, 2, 1), (7, 7))),
+    (18, (0, (0, 0, 0), (7, 7))),
+    (19, (1, (7, 7, 7), (1, 0))),
+    (1, (4, (7, 7, 7), (4, 0))),
+    (3, (5, (7, 7, 7), (5, 0x56))),
+];
+
+fn outcome(status: u32, m: &DwarfMeasure, fault: &DwarfFault) -> Outcome {
+    let measure = (m.abbreviations, m.attributes, m.closed_by_null);
+    (status, measure, (fault.kind, fault.value))
+}
+
+fn measured(mem: Global, offset: usize) -> Outcome {
+    let (mut m, mut fault) = (NOTHING, SEVEN);
+    let status = dwarf_table_measure(mem, TABLE, offset, &mut m, &mut fault);
+    outcome(status, &m, &fault)
+}
+
 #[test]
 fn tables_are_measured(rt: HostRuntime) {
-    // The offset; the status, the measure and the error.
-    let rows: [(usize, (u32, (usize, usize, u8), (u32, u64))); 6] = [
-        (0, (0, (2, 3, 1), (7, 7))),
-        (8, (0, (1, 2, 1), (7, 7))),
-        (18, (0, (0, 0, 0), (7, 7))),
-        (19, (1, (7, 7, 7), (1, 0))),
-        (1, (4, (7, 7, 7), (4, 0))),
-        (3, (5, (7, 7, 7), (5, 0x56))),
-    ];
-    for (offset, wanted) in rows {
-        let (mut m, mut fault) = (NOTHING, SEVEN);
-        let status = dwarf_table_measure(rt.alloc(), TABLE, offset, &mut m, &mut fault);
-        let measure = (m.abbreviations, m.attributes, m.closed_by_null);
-        same(
-            &rt,
-            (status, measure, (fault.kind, fault.value)),
-            wanted,
-            offset,
-        );
+    for (offset, wanted) in MEASURES {
+        same(&rt, measured(rt.alloc(), *offset), *wanted, offset);
     }
+}
+
+fn check_abbreviation(
+    rt: &impl Abort,
+    it: &DwarfAbbreviation,
+    wanted: (u64, u16, u8, usize, usize),
+) {
+    let got = (
+        it.code,
+        it.tag,
+        it.has_children,
+        it.first_attribute,
+        it.attribute_count,
+    );
+    same(rt, got, wanted, "abbreviation");
+}
+
+fn check_attribute(rt: &impl Abort, it: &DwarfAttribute, wanted: (u16, u16, i64)) {
+    same(
+        rt,
+        (it.name, it.form, it.implicit_const),
+        wanted,
+        "attribute",
+    );
 }
 
 #[test]
@@ -68,26 +102,15 @@ fn tables_are_read(rt: HostRuntime) {
         &mut fault,
     );
     same(&rt, status, 0, "status");
-    let wanted = [(1, 0x11, 1, 0, 2), (2, 0x2e, 0, 2, 1), (7, 7, 7, 7, 7)];
-    for (it, wanted) in abbreviations.iter().zip(&wanted) {
-        let got = (
-            it.code,
-            it.tag,
-            it.has_children,
-            it.first_attribute,
-            it.attribute_count,
-        );
-        same(&rt, got, *wanted, "abbreviation");
-    }
-    let wanted = [(3, 8, 0), (0x13, 5, 0), (3, 0x21, -42), (7, 7, 7)];
-    for (it, wanted) in attributes.iter().zip(&wanted) {
-        same(
-            &rt,
-            (it.name, it.form, it.implicit_const),
-            *wanted,
-            "attribute",
-        );
-    }
+    let [first, second, third] = &abbreviations;
+    check_abbreviation(&rt, first, (1, 0x11, 1, 0, 2));
+    check_abbreviation(&rt, second, (2, 0x2e, 0, 2, 1));
+    check_abbreviation(&rt, third, (7, 7, 7, 7, 7));
+    let [first, second, third, fourth] = &attributes;
+    check_attribute(&rt, first, (3, 8, 0));
+    check_attribute(&rt, second, (0x13, 5, 0));
+    check_attribute(&rt, third, (3, 0x21, -42));
+    check_attribute(&rt, fourth, (7, 7, 7));
 }
 
 #[test]
@@ -104,18 +127,10 @@ fn few_places_are_left_alone(rt: HostRuntime) {
         &mut m,
         &mut fault,
     );
-    same(
-        &rt,
-        (status, m.abbreviations, m.attributes),
-        (DWARF_NO_ROOM, 2, 3),
-        "measure",
-    );
-    same(
-        &rt,
-        (abbreviations[0].code, attributes[0].name, fault.kind),
-        (7, 7, 7),
-        "places",
-    );
+    let wanted = (DWARF_NO_ROOM, (2, 3, 1), (7, 7));
+    same(&rt, outcome(status, &m, &fault), wanted, "measure");
+    check_abbreviation(&rt, &abbreviations[0], (7, 7, 7, 7, 7));
+    check_attribute(&rt, &attributes[0], (7, 7, 7));
 }
 
 // Meant for runs in which an allocation fails. The other tests need all their memory.
