@@ -108,11 +108,8 @@ fn check(rt: &impl Abort, mem: Global, run: &Run) -> Result<(), Fail> {
     let mut output = BufWriter::with_capacity(mem, 16, Vec::new(mem))?;
     let outcome = run_many(mem, *kind, &mut &**section, &mut &**offsets, &mut output);
     let (written, left) = output.into_parts();
-    assert_eq!(rt;
-        (written.as_slice(), outcome),
-        (*text, *wanted),
-        "{offsets:?}"
-    );
+    assert_eq!(rt; outcome, *wanted, "{offsets:?}");
+    assert_eq!(rt; written.as_slice(), *text, "{offsets:?}");
     assert_eq!(rt; left.len(), 0, "{offsets:?}");
     Ok(())
 }
@@ -207,6 +204,14 @@ fn outputs_fail_at_each_call(rt: HostRuntime) -> Result<(), Fail> {
     Ok(())
 }
 
+// The last allocation. If it fails, each one before it failed in an earlier run.
+fn check_last(rt: &impl Print, mem: Global) -> Result<(), Fail> {
+    if Vec::from_slice(mem, &[0u8]).is_err() {
+        println!(rt; "every request was refused")?;
+    }
+    Ok(())
+}
+
 // A run writes the whole text, or it returns that memory ran out and has written a front of the
 // text. `tools/fail-alloc` makes each allocation fail.
 fn check_refused<R: Abort + Print>(rt: &R, mem: Global, run: Run) -> Result<(), Fail> {
@@ -222,16 +227,11 @@ fn check_refused<R: Abort + Print>(rt: &R, mem: Global, run: Run) -> Result<(), 
     if outcome == Err(ManyFault::Other(Fault::out_of_memory())) {
         assert!(rt; text.starts_with(written.as_slice()), "{offsets:?}");
     } else {
-        assert_eq!(rt;
-            (written.as_slice(), left.len(), outcome),
-            (text, 0, wanted)
-        );
+        assert_eq!(rt; outcome, wanted, "{offsets:?}");
+        assert_eq!(rt; written.as_slice(), text, "{offsets:?}");
+        assert_eq!(rt; left.len(), 0, "{offsets:?}");
     }
-    // The last allocation. If it fails, each one before it failed in an earlier run.
-    if Vec::from_slice(mem, &[0u8]).is_err() {
-        println!(rt; "every request was refused")?;
-    }
-    Ok(())
+    check_last(rt, mem)
 }
 
 #[test]
@@ -244,40 +244,53 @@ fn refused_memory_for_many_tables(rt: HostRuntime) -> Result<(), Fail> {
     check_refused(&rt, rt.alloc(), TABLES)
 }
 
+// Errors, each with its line and its status.
+static SAID: &[(ManyFault, &str, u8)] = &[
+    (
+        ManyFault::At(31, Error::AbbreviationTagZero),
+        "error at 0x1f: invalid abbreviation tag: zero",
+        1,
+    ),
+    (
+        ManyFault::Line(12),
+        "error: line 12 of the offsets is no offset",
+        1,
+    ),
+    (
+        ManyFault::Other(Fault::Section(Error::OutOfMemory)),
+        "error: out of memory",
+        1,
+    ),
+    (
+        ManyFault::Other(Fault::Usage),
+        "usage: dwarf_list_many abbrev|str SECTION [OFFSETS]",
+        2,
+    ),
+    (ManyFault::ReadSection, "error: cannot read the section", 3),
+    (ManyFault::ReadOffsets, "error: cannot read the offsets", 3),
+    (
+        ManyFault::Other(Fault::Write),
+        "error: cannot write output",
+        3,
+    ),
+];
+
+fn check_said(
+    rt: &impl Abort,
+    mem: Global,
+    fault: ManyFault,
+    line: &str,
+    status: u8,
+) -> Result<(), Fail> {
+    assert_eq!(rt; fault.to_string(mem)?.as_str(), line);
+    assert_eq!(rt; fault.status(), status, "{line}");
+    Ok(())
+}
+
 #[test]
 fn says_what_failed(rt: HostRuntime) -> Result<(), Fail> {
-    let mem = rt.alloc();
-    for (fault, line, status) in [
-        (
-            ManyFault::At(31, Error::AbbreviationTagZero),
-            "error at 0x1f: invalid abbreviation tag: zero",
-            1,
-        ),
-        (
-            ManyFault::Line(12),
-            "error: line 12 of the offsets is no offset",
-            1,
-        ),
-        (
-            ManyFault::Other(Fault::out_of_memory()),
-            "error: out of memory",
-            1,
-        ),
-        (
-            ManyFault::Other(Fault::Usage),
-            "usage: dwarf_list_many abbrev|str SECTION [OFFSETS]",
-            2,
-        ),
-        (ManyFault::ReadSection, "error: cannot read the section", 3),
-        (ManyFault::ReadOffsets, "error: cannot read the offsets", 3),
-        (
-            ManyFault::Other(Fault::Write),
-            "error: cannot write output",
-            3,
-        ),
-    ] {
-        assert_eq!(rt; fault.to_string(mem)?.as_str(), line);
-        assert_eq!(rt; fault.status(), status, "{line}");
+    for (fault, line, status) in SAID {
+        check_said(&rt, rt.alloc(), *fault, line, *status)?;
     }
     Ok(())
 }

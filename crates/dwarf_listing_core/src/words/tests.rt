@@ -2,6 +2,7 @@ use super::command_line;
 use crate::fault::Fault;
 use std::alloc::Global;
 use std::env::{Env, FillError};
+use std::process::Abort;
 use std::test::Fail;
 
 // A system with these arguments, the program's name first.
@@ -37,15 +38,18 @@ fn taken(mem: Global, given: &[&[u8]]) -> Result<String, Fault> {
     Ok(text)
 }
 
+fn check_taken(rt: &impl Abort, mem: Global, given: &[&[u8]], wanted: &str) -> Result<(), Fail> {
+    assert_eq!(rt; taken(mem, given)?.as_str(), wanted);
+    Ok(())
+}
+
 #[test]
 fn words_of_the_system(rt: HostRuntime) -> Result<(), Fail> {
     let mem = rt.alloc();
-    assert_eq!(rt; taken(mem, &[])?.as_str(), "");
-    assert_eq!(rt; taken(mem, &[b"dwarf_list"])?.as_str(), "");
-    let table = taken(mem, &[b"dwarf_list", b"abbrev", b"0"])?;
-    assert_eq!(rt; table.as_str(), "abbrev;0;");
-    let renamed = taken(mem, &[b"caf\xe9/dwarf_list", b"str", b"5"])?;
-    assert_eq!(rt; renamed.as_str(), "str;5;");
+    check_taken(&rt, mem, &[], "")?;
+    check_taken(&rt, mem, &[b"dwarf_list"], "")?;
+    check_taken(&rt, mem, &[b"dwarf_list", b"abbrev", b"0"], "abbrev;0;")?;
+    check_taken(&rt, mem, &[b"caf\xe9/dwarf_list", b"str", b"5"], "str;5;")?;
     let unreadable = taken(mem, &[b"dwarf_list", b"abbrev", b"\xe9"]);
     assert_eq!(rt; unreadable.err(), Some(Fault::Usage));
     Ok(())
