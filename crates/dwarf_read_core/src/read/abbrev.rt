@@ -11,7 +11,6 @@ ghost use Rattle.std.specs.Fn.{CalledAt, TakesAt};
 ghost use Rattle.std.specs.Iterator.{YieldsFirstRef, item_count};
 ghost use Rattle.dwarf_base_core.specs.declared.common.SectionId.TheVariants.{DebugAbbrev as debug_abbrev};
 ghost use Rattle.dwarf_reader_core.specs.Input.{end_of};
-ghost use Rattle.dwarf_reader_core.specs.Leb128.{signed64, ReadsNumber, RefusesNumber};
 ghost use Rattle.dwarf_read_core.specs.Equality.{same_declaration, same_declaration_equiv};
 ghost use Rattle.dwarf_read_core.specs.Forms.{form_size};
 ghost use Rattle.dwarf_read_core.specs.Grammar.{implicit_const, by_end, is_by_null, attribute_count};
@@ -128,7 +127,7 @@ impl<R: Reader> DebugAbbrev<R> {
     {
         let mut input = self.debug_abbrev_section.try_clone()?;
         input.skip(offset.0)?;
-        Abbreviations::parse(mem, &mut input)
+        Abbreviations::parse_from(mem, input)
     }
 
     /// Returns the table of abbreviations at `offset`, which a code of value 0 has to close.
@@ -371,6 +370,19 @@ impl Abbreviations {
             vec: self.vec.iter(),
             others: self.others.iter(),
         }
+    }
+
+    // Reads the table where the reader is. The reader is moved into a call out of line, since the
+    // compiler then keeps it in registers.
+    #[inline(never)]
+    fn parse_from<R: Reader>(mem: Global, mut input: R) -> Result<Abbreviations>
+        ensures ends { (rest : List ℕ)
+            → declaration_at (end_of (R.view input)) (R.view input).bytes ≡ Ok (None, rest)
+            → IsOk result }
+        ensures read { Gives (λ t. t) result
+            (table_in (end_of (R.view input)) finite.empty (R.view input).bytes) }
+    {
+        Abbreviations::parse(mem, &mut input)
     }
 
     // Reads a table, and the code of value 0 that closes it, if there is one.
@@ -801,23 +813,12 @@ impl AttributeSpecification {
             (DW_AT_null, _) => Err(Error::AttributeNameZero),
             (_, DW_FORM_null) => Err(Error::AttributeFormZero),
             (_, DW_FORM_implicit_const) => {
-                let value = read_implicit_const(input)?;
+                let value = input.read_sleb128()?;
                 Ok(Some(AttributeSpecification::new(name, form, Some(value))))
             }
             (_, _) => Ok(Some(AttributeSpecification::new(name, form, None))),
         }
     }
-}
-
-// Reads the value of an attribute in the form `DW_FORM_implicit_const`. It is out of line, since
-// the form is rare and reading a whole table is faster without it.
-#[inline(never)]
-fn read_implicit_const<R: Reader>(input: &mut R) -> Result<i64>
-    ensures ok { IfOk result (λ v. ReadsNumber signed64 (R.view input.old) v (R.view input.new)) }
-    ensures err { IfErr result
-        (λ e. RefusesNumber signed64 (R.view input.old) e (R.view input.new)) }
-{
-    input.read_sleb128()
 }
 
 #[inline]

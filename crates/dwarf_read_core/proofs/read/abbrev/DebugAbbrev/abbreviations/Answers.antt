@@ -7,8 +7,8 @@ pub returns-clause-bound : goal.returns-clause-bound
 returns-clause-bound g c =
     let view = g.R.Reader.view in
     let same : view c.in_ok-input.input ≡ view (debug_abbrev_reader c.args.self.now) = c.in_ok-input.ensures.ok in
-    bounded_read c.parse.result (view (debug_abbrev_reader c.args.self.now))
-    (g.R.Offset.ReaderOffset.value c.args.offset.0) _ (rw same at c.in_ok-skip.ensures.ok) c.parse.ensures.read
+    bounded_read c.parse_from.result (view (debug_abbrev_reader c.args.self.now))
+    (g.R.Offset.ReaderOffset.value c.args.offset.0) _ (rw same at c.in_ok-skip.ensures.ok) c.parse_from.ensures.read
 
 pub returns-clause-memory : goal.returns-clause-memory
 returns-clause-memory g c =
@@ -21,4 +21,4 @@ returns-clause-memory g c =
     λ free nothing failed.
     let none = nothing_declared (end_of rest)
     (view (debug_abbrev_reader c.args.self.now)) offset rest.bytes nothing behind in
-    ok_is_no_error c.parse.result OutOfMemory (c.parse.ensures.ends none.0 none.1) failed
+    ok_is_no_error c.parse_from.result OutOfMemory (c.parse_from.ensures.ends none.0 none.1) failed
