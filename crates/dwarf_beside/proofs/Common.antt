@@ -1,4 +1,4 @@
--- What the proofs of this crate share: names that many of them cite, and what the loops over numbers know.
+-- Names that the proofs of this crate cite from elsewhere, passed on from one place, and what loops over numbers know.
 pub use Rattle.std.proofs.Common.{◌≡◌, ℕ, suc, ◌+◌, ◌-◌, ◌*◌, ◌%◌, ◌^◌, ◌<◌, ◌≤◌, ◌⊎◌, inl, inr, true, false, List}
 pub use Rattle.std.proofs.Common.{[], ◌∷◌, ◌++◌, length, get_or, take, drop, map, Result, Ok, Err, refl, arith}
 pub use Rattle.std.proofs.Common.{append_assoc, append-nil}

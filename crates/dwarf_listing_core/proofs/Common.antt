@@ -1,4 +1,4 @@
--- The names that many of the proofs use.
+-- Names that the proofs of this crate cite from elsewhere, passed on from one place.
 pub use Rattle.std.proofs.Common.{◌≡◌, List, ℕ, Result, Ok, Err, refl, ap, sym, ◌∙◌, ◌≢◌, zero, suc, ◌+◌, ◌-◌, ◌<◌}
 pub use Rattle.std.proofs.Common.{◌≤◌, ◌/◌, ◌%◌, drop, Bool, true, false, [], ◌∷◌, ◌++◌, length, arith, append_assoc}
 pub use Rattle.std.proofs.Common.{cond, get_or, ℤ, neg_ℤ, Option, Some, None, rules, All, option_map, IsUtf8, inl}

@@ -1,4 +1,4 @@
--- The names that many proofs of this crate cite, passed on from one place. Declares nothing.
+-- Names that the proofs of this crate cite from elsewhere, passed on from one place.
 pub use Rattle.std.proofs.Common.{set, Bool, true, false, cond, refl, ◌≡◌, ◌≢◌, ◌∙◌, Result, Ok, Err, subst, ℕ, ◌+◌}
 pub use Rattle.std.proofs.Common.{◌<◌, ◌≤◌, eqb, List, [], ◌∷◌, ◌++◌, length, take, get_or, map, Option, Some, None}
 pub use Rattle.std.proofs.Common.{MatchOption, sym, arith, All, IsPermutation, option_map, ap, filter, HoldsAt}
@@ -72,7 +72,7 @@ pub use Rattle.dwarf_read_core.specs.Cache.{shown_entries, is_final, still_kept,
 pub use Rattle.dwarf_read_core.specs.Cache.{least_count}
 pub use Rattle.dwarf_read_core.specs.Entries.{Entries, StandsForAddresses, StandsForEntries, StandsForStringOffsets}
 unfoldable pub use Rattle.dwarf_read_core.specs.Entries.{string_offset}
-pub use Rattle.dwarf_read_core.specs.Grammar.{Table, by_null, by_end, Declaration, closed, close_from, implicit_const}
+pub use Rattle.dwarf_read_core.specs.Grammar.{Table, by_null, by_end, Declaration, closed, implicit_const}
 pub use Rattle.dwarf_read_core.specs.Grammar.{IsTable, closed_by_null, closed_by_end, Declares, AreDistinct}
 pub use Rattle.dwarf_read_core.specs.Grammar.{by_code_of, Specification, Sequence, IsSpecification, IsNull, IsFront}
 pub use Rattle.dwarf_read_core.specs.Grammar.{children_byte, IsCode, IsHead, IsDeclaration, IsImplicit, ByCode}

@@ -1,4 +1,4 @@
--- The names that many of the proofs use.
+-- Names that the proofs of this crate cite from elsewhere, passed on from one place.
 pub use Rattle.std.proofs.Common.{◌≡◌, ◌≢◌, ℕ, zero, suc, ◌+◌, take, refl, sym, subst, ◌∙◌, arith, ◌⊎◌, inl, inr, Ok}
 pub use Rattle.std.proofs.Common.{List, [], ◌∷◌, All, ◌-◌, ◌*◌, ◌^◌, ◌<◌, ◌++◌, length, drop, set, replicate, ap, ℤ}
 pub use Rattle.std.proofs.Common.{pos, negsuc, ◌+ℤ◌, ◌*ℤ◌, ◌≤ℤ◌, ◌<ℤ◌, Bool, take-take, ◌%◌, ◌≤◌, get_or, IsTrue, ◌↔◌}

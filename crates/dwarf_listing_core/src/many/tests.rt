@@ -275,6 +275,7 @@ static SAID: &[(ManyFault, &str, u8)] = &[
     ),
 ];
 
+// Ends the test where an error has another line or another status.
 fn check_said(
     rt: &impl Abort,
     mem: Global,

@@ -20,6 +20,7 @@ abbrev pub SharedEntries : Type 0 → Type 0
 SharedEntries Z = List (ℕ × Result (Rc Table Z) Error)
 
 module _ {Z : Type 0} where
+  -- the cache that entries are
   abbrev pub shown : SharedEntries Z → Cache
   shown entries = from_entries (shown_entries entries)
 

@@ -2,9 +2,11 @@
 use Rattle.dwarf_read_core.proofs.Common.{◌≡◌, ℕ, ◌<◌, ◌≤◌, List, Option, Some, None, Result, MatchOption, arith, inl, inr, cases_lt, Error, Input, Answer, KeepsAnswers, occurrences, Table}
 use Rattle.dwarf_read_core.proofs.tables.ExactlyOneAnswer.{answer_exactly_one}
 
+-- what a cache has at an offset: nothing, or the result that is kept there
 abbrev Kept : Type 0
 Kept = Option (Result Table Error)
 
+-- nothing is kept at an offset that occurs too seldom, and else the section's result there
 abbrev IsKept : ℕ → Input → List ℕ → ℕ → Kept → Type 0
 IsKept least section offsets key kept =
     MatchOption kept (occurrences key offsets < least)

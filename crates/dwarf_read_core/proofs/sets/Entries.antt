@@ -13,6 +13,7 @@ module _ {f : Layout ℕ} {width : ℕ} (least : TakesLeast width f) (positive :
       let found = items-exactly_one (λ _. least) positive 0 new in
       ((found.0, found.1), λ others k. more some h (items-anywhere _ k))
 
+-- the entries of a width that an input has
 abbrev entries_in : ℕ → Input → Entries
 entries_in width rest = record { width = width; rest = rest }
 

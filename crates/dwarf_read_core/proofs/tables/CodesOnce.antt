@@ -1,6 +1,7 @@
 -- The map of a table has the codes of its declarations, and each code occurs once.
 use Rattle.dwarf_read_core.proofs.Common.{◌≡◌, ℕ, true, false, List, [], ◌∷◌, ◌++◌, map, None, refl, sym, ap, ◌∙◌, arith, ◌⊎◌, inl, inr, is_some, nat_cmp, nat_cmp_total, find, insert, contains_key, from_entries, from_entries_push, get-from_entries, nat_cmp-IsAntisymmetric, true≢false, map_push, Declaration, Declares, AreDistinct, by_code_of, nat_tests}
 
+-- declarations with their codes, as entries of a map
 abbrev pub entries_by_code : List Declaration → List (ℕ × Declaration)
 entries_by_code ds = map (λ d. (d.code, d)) ds
 

@@ -9,6 +9,7 @@ Sequence-push Is bytes [] last x e is = (last, [], rw e (sym (append-nil last)),
 Sequence-push Is bytes (y ∷ ys) last x s is =
     grind (arith, common_steps, append_assoc, (Sequence-push Is s.1 ys last x s.4 is))
 
+-- what reading the attributes of a declaration returns: these and what remains, or an error
 abbrev pub AttributesRead : Type 0
 AttributesRead = Result (List Specification × List ℕ) Error
 
@@ -81,6 +82,7 @@ front-begins read = grind arith
 
 -- ---- what is read is in the grammar
 
+-- specifications and the null one behind them are at the front of bytes, and this remains
 pub record AttributesFound (bytes : List ℕ) (ss : List Specification) (rest : List ℕ) : Type 0 where
   pub specifications : List ℕ
   pub null : List ℕ

@@ -3,17 +3,21 @@ use Rattle.dwarf_read_core.proofs.Common.{common_steps, ◌≡◌, ◌≢◌, �
 use Rattle.dwarf_read_core.proofs.tables.ReadingNumbers.{encoding-begins, positive-nonzero, number_at-string, number_at-cut, number_at-bad}
 use Rattle.dwarf_read_core.proofs.tables.ReadingAttributes.{with_front, AttributesRead, attributes_fail, attributes_again, attributes_end}
 
+-- what reading a declaration or the end of a table returns
 abbrev EntryRead : Type 0
 EntryRead = Result (Option Declaration × List ℕ) Error
 
+-- what it returns where a declaration, or its error, was read
 abbrev found : Result (Declaration × List ℕ) Error → EntryRead
 found read = read >>= λ d. Ok (Some d.0, d.1)
 
+-- what it returns behind a code and a tag that were read
 abbrev after_tag : ℕ → ℕ → ℕ → List ℕ → EntryRead
 after_tag end code tag bytes =
     found (children_at end bytes >>= λ children. attributes_in end children.1 >>= λ attributes. Ok
     (declaration_of code tag children.0 attributes.0, attributes.1))
 
+-- what it returns behind the attributes that were read
 abbrev after_attributes : ℕ → ℕ → Bool → AttributesRead → EntryRead
 after_attributes code tag children read =
     found (read >>= λ attributes. Ok (declaration_of code tag children attributes.0, attributes.1))

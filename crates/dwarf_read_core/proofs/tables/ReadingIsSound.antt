@@ -4,6 +4,7 @@ use Rattle.dwarf_read_core.proofs.tables.ReadingNumbers.{encoding-nonempty, numb
 use Rattle.dwarf_read_core.proofs.tables.ReadingSpecifications.{number_behind}
 use Rattle.dwarf_read_core.proofs.tables.ReadingAttributes.{attributes_behind}
 
+-- a tag above 0 is at the front of bytes, and this remains
 pub record TagFound (bytes : List ℕ) (tag : ℕ) (rest : List ℕ) : Type 0 where
   pub found : Found unsigned16 bytes tag rest
   pub tagged : 0 < tag
@@ -32,6 +33,7 @@ children_behind end front (b ∷ bytes) whole code tag parts is =
     failed (InvalidAbbreviationChildren (record { 0 = b }))
     (rw parts (children_bad front bytes code tag b is (omega arith)))))
 
+-- a declaration is at the front of bytes, and this remains
 pub record DeclarationFound (bytes : List ℕ) (d : Declaration) (rest : List ℕ) : Type 0 where
   pub front : List ℕ
   pub parts : bytes ≡ front ++ rest
@@ -65,6 +67,7 @@ declared_behind end code front bytes whole parts is =
       is_declaration = record { front = bytes; null = s.null; parts = refl; is_front = is_front; is_null = s.is_null };
     }))))
 
+-- a code of value 0 is at the front of bytes, and this remains
 pub record ZeroFound (bytes rest : List ℕ) : Type 0 where
   pub front : List ℕ
   pub parts : bytes ≡ front ++ rest
@@ -75,6 +78,7 @@ pub data EndFound : List ℕ → List ℕ → Type 0 where
   at_end : EndFound [] []
   at_zero : (bytes rest : List ℕ) → ZeroFound bytes rest → EndFound bytes rest
 
+-- a declaration, or the end of the table, is at the front of bytes, and this remains
 abbrev pub EntryFound : List ℕ → Option Declaration → List ℕ → Type 0
 EntryFound bytes None rest = EndFound bytes rest
 EntryFound bytes (Some d) rest = DeclarationFound bytes d rest

@@ -31,6 +31,7 @@ encoding_at-string (b ∷ []) rest (suc n) encoding short = rw (lt-ltb b 128 enc
 encoding_at-string (b ∷ c ∷ s) rest (suc n) encoding short =
     grind (arith, (encoding_at-string (c ∷ s) rest n encoding.1 (omega arith)))
 
+-- an encoding of at most n bytes is at the front of bytes, and this remains
 pub record IsSplit (n : ℕ) (bytes front rest : List ℕ) : Type 0 where
   pub parts : bytes ≡ front ++ rest
   pub encoding : IsEncoding front
@@ -64,6 +65,7 @@ pub number_at-cut : (k : Kind) (end : ℕ) (bytes : List ℕ) → IsCut k bytes 
 unfolding number_at
 number_at-cut k end bytes c = grind (arith, encoding_at-unended)
 
+-- a number is at the front of bytes, and this remains
 pub record Found (k : Kind) (bytes : List ℕ) (number : Number k) (rest : List ℕ) : Type 0 where
   pub front : List ℕ
   pub parts : bytes ≡ front ++ rest

@@ -10,6 +10,7 @@ pub number_behind : (k : Kind) (end : ℕ) (front bytes whole : List ℕ) → wh
 number_behind k end front bytes whole parts begins =
     outcome-map (λ x f. f) (λ e f. grind (arith, number_cut, number_bad)) (number_outcome k end bytes)
 
+-- the value of an attribute of this form, if it has one, is at the front of bytes, and this remains
 pub record ValueFound (form : ℕ) (bytes : List ℕ) (value : Option ℤ) (rest : List ℕ) : Type 0 where
   pub front : List ℕ
   pub parts : bytes ≡ front ++ rest
@@ -29,16 +30,19 @@ value_behind end form front bytes whole parts begins =
     (λ t. returned (None, bytes)
     (record { front = []; parts = refl; is_value = (eqb-false form implicit_const t, refl) }))
 
+-- a specification is at the front of bytes, and this remains
 pub record SpecificationFound (bytes : List ℕ) (s : Specification) (rest : List ℕ) : Type 0 where
   pub front : List ℕ
   pub parts : bytes ≡ front ++ rest
   pub is_specification : IsSpecification front s
 
+-- the null specification is at the front of bytes, and this remains
 pub record NullFound (bytes rest : List ℕ) : Type 0 where
   pub front : List ℕ
   pub parts : bytes ≡ front ++ rest
   pub is_null : IsNull front
 
+-- a specification, or the null one, is at the front of bytes, and this remains
 abbrev pub SomeFound : List ℕ → Option Specification → List ℕ → Type 0
 SomeFound bytes None rest = NullFound bytes rest
 SomeFound bytes (Some s) rest = SpecificationFound bytes s rest

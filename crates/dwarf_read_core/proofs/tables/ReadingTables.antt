@@ -2,6 +2,7 @@
 use Rattle.dwarf_read_core.proofs.Common.{common_steps, ◌≡◌, ◌≢◌, ℕ, zero, suc, ◌<◌, true, false, cond, eqb, List, [], length, Option, Some, None, Result, Ok, Err, refl, ap, arith, ne_eqb, insert, contains_key, nil_from_length, Error, DuplicateAbbreviationCode, Declaration, ByCode, Table, closed, by_null, ◌>>=◌, declaration_at, close_of, and_declared, table_at, table_in}
 use Rattle.dwarf_read_core.proofs.tables.ReadingIsSound.{declaration_shorter}
 
+-- what reading a table returns
 abbrev pub TableRead : Type 0
 TableRead = Result Table Error
 

@@ -34,6 +34,7 @@ declarations_long bytes (d ∷ ds) q =
 
 -- ---- tables
 
+-- how many attributes the declarations of entries have together
 abbrev total : List (ℕ × Declaration) → ℕ
 total es = sum_by (λ d. length d.attributes) (map (λ e. e.1) es)
 

@@ -24,9 +24,11 @@ module _ {X : Type 0} where
       ∙ sym (get-insert nat_cmp_total (from_entries es) k d q
       ∙ ap (cond (is_at (nat_cmp q) k) (Some d)) (get_is_lookup es q)))
 
+-- declarations by their codes
 abbrev Entries : Type 0
 Entries = List (ℕ × Declaration)
 
+-- the declaration that entries have at a code
 abbrev at : ℕ → Entries → Option Declaration
 at q es = lookup (is_at (nat_cmp q)) es
 

@@ -117,7 +117,7 @@ fn borrowed<'a>(bytes: &'a [u8; 4]) -> Slice<'a> {
 
 const ABC: [u8; 4] = *b"abc\0";
 
-// Whether the section over the borrowed bytes has a reader of them; below, the same of the other sections.
+// Whether a section of owned bytes lends a reader of them, for each kind of section.
 fn strings_are_borrowed() -> bool {
     *DebugStr::from(ABC).borrow(borrowed).reader() == little(&ABC)
 }

@@ -124,6 +124,12 @@ fn strict_text(mem: Global, bytes: &[u8], offset: u8) -> Result<String> {
     Ok(shown(mem, &table)?)
 }
 
+// The error of a table without its end in a section that begins at position 100.
+fn far_strict_error(mem: Global) -> Option<Error> {
+    let reader = EndianSlice::with_first_id(ENDED, LittleEndian, ReaderOffsetId(100));
+    table_in(mem, &DebugAbbrev::from(reader), 0, Mode::Strict).err()
+}
+
 #[test]
 fn strict_tables_are_closed(rt: HostRuntime) {
     for (bytes, offset, wanted) in STRICT {
@@ -134,12 +140,6 @@ fn strict_tables_are_closed(rt: HostRuntime) {
     }
     let error = far_strict_error(rt.alloc());
     same(&rt, error, Some(unterminated(105)), "at 100");
-}
-
-// The error of a table without its end in a section that begins at position 100.
-fn far_strict_error(mem: Global) -> Option<Error> {
-    let reader = EndianSlice::with_first_id(ENDED, LittleEndian, ReaderOffsetId(100));
-    table_in(mem, &DebugAbbrev::from(reader), 0, Mode::Strict).err()
 }
 
 // Bytes, an offset, and the first error there, which has a position. The worked cases of `dwarf_list` have
@@ -240,7 +240,7 @@ fn cut_tables_end_early(rt: HostRuntime) {
                 Ok(table) => Ok((table.len(), table.closed_by_null())),
                 Err(error) => Err(error),
             };
-            same(&rt, found, wanted, len);
+            same(&rt, found, wanted, &bytes[..len]);
         }
     }
 }
