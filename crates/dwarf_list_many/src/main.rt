@@ -16,14 +16,12 @@ use dwarf_listing_core::arguments::{STANDARD_INPUT, parse_arguments};
 use dwarf_listing_core::fault::Fault;
 use dwarf_listing_core::many::fault::ManyFault;
 use dwarf_listing_core::many::run_many;
+use dwarf_listing_core::output::buffered;
 use dwarf_listing_core::words::command_line;
 use std::fs::File;
 use std::io;
-use std::io::{BufWriter, Read, Stdin};
+use std::io::{Read, Stdin};
 use std::process::ExitCode;
-
-// How many bytes are written at once.
-const BUFFER: usize = 65536;
 
 // Where the section or the offsets are read from.
 #[derive(Drop)]
@@ -57,9 +55,7 @@ fn list(rt: &HostRuntime) -> Result<(), ManyFault> {
     let named = parse_arguments(&words).ok_or(Fault::Usage)?;
     let mut section = open(rt, named.section, ManyFault::ReadSection)?;
     let mut offsets = open(rt, named.offsets, ManyFault::ReadOffsets)?;
-    let Ok(mut output) = BufWriter::with_capacity(mem, BUFFER, rt.stdout()) else {
-        return Err(ManyFault::Other(Fault::out_of_memory()));
-    };
+    let mut output = buffered(mem, rt.stdout())?;
     run_many(mem, named.kind, &mut section, &mut offsets, &mut output)
 }
 

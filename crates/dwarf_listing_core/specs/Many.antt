@@ -1,9 +1,5 @@
 -- What the program that takes many offsets writes.
 use Rattle.std.specs.Prelude.{◌≡◌, ℕ, List, [], ◌∷◌, ◌++◌, Option, IfSome, Result, Ok, Err, codes}
-use Rattle.std.specs.Io.Buffered.{writer_buffer, writer_contents}
-use Rattle.std.specs.Io.KnownBytes.{Appends}
-use Rattle.std.specs.declared.alloc.Global.{Global}
-use Rattle.std.specs.declared.io.buffered.BufWriter.{BufWriter}
 use Rattle.dwarf_read_core.specs.declared.Error.{Error}
 use Rattle.dwarf_read_core.specs.ErrorText.{hexadecimal}
 use Rattle.dwarf_listing_core.specs.Lines.{ListsString, line}
@@ -50,8 +46,3 @@ EndsManyAt kind section lines offset error text =
 -- the bytes of a section and of its offsets have this property, if both are known
 abbrev pub IfKnown : Option (List ℕ) → Option (List ℕ) → (List ℕ → List ℕ → Type 0) → Type 0
 IfKnown section offsets Holds = IfSome section (λ bytes. IfSome offsets (λ lines. Holds bytes lines))
-
--- the text was written behind what was there, and the buffer is empty
-abbrev pub WritesOut : {W : Type 0} → (W → Option (List ℕ)) → BufWriter W Global → BufWriter W Global → List ℕ → Type 0
-WritesOut contents old new text =
-    Appends (writer_contents contents old) (writer_contents contents new) text × (writer_buffer new ≡ [])

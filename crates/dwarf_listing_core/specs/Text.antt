@@ -1,16 +1,33 @@
 -- What the program writes.
-use Rattle.std.specs.Prelude.{◌≡◌, ℕ, List, Option, Result, Ok, Err, None, IsSomeAnd}
+use Rattle.std.specs.Prelude.{◌≡◌, ◌≢◌, ℕ, List, [], Option, Result, Ok, Err, None, IsSomeAnd}
+use Rattle.std.specs.Io.Buffered.{writer_buffer, writer_contents}
+use Rattle.std.specs.Io.KnownBytes.{Appends}
+use Rattle.std.specs.declared.alloc.Global.{Global}
+use Rattle.std.specs.declared.io.buffered.BufWriter.{BufWriter}
 use Rattle.dwarf_read_core.specs.declared.Error.{Error}
+use Rattle.dwarf_read_core.specs.declared.Error.TheVariants.{OutOfMemory}
 use Rattle.dwarf_read_core.specs.Leb128.{Kind, Number, unsigned64, signed64}
 use Rattle.dwarf_read_core.specs.Shortest.{IsShortest}
 use Rattle.dwarf_listing_core.specs.Lines.{ListsString, hex_text, line}
 use Rattle.dwarf_listing_core.specs.Sets.{ListsAddresses, ListsStringOffsets}
-use Rattle.dwarf_listing_core.specs.Tables.{ListsStrictTable, ListsTable}
+use Rattle.dwarf_listing_core.specs.Tables.{ListsStrictTable, ListsTable, table_text}
 use Rattle.dwarf_listing_core.specs.Command.{command_of}
 use Rattle.dwarf_listing_core.specs.declared.command.Command.{Command}
 use Rattle.dwarf_listing_core.specs.declared.command.Command.TheVariants.{Abbrev, Str, Addr, Uleb, Sleb, AbbrevStrict, StrOffsets}
 use Rattle.dwarf_listing_core.specs.declared.fault.Fault.{Fault}
 use Rattle.dwarf_listing_core.specs.declared.fault.Fault.TheVariants.{Section, Usage, Read, Write}
+use Rattle.dwarf_listing_core.specs.declared.text.Text.{Text}
+use Rattle.dwarf_listing_core.specs.declared.text.Text.TheVariants.{Table, Bytes}
+
+-- the bytes of a text
+abbrev pub text_bytes : Text → List ℕ
+text_bytes (Table t) = table_text t
+text_bytes (Bytes bytes) = bytes.items
+
+-- what a call returned is a text with these bytes, or the error that is listed, unless memory ran out
+abbrev pub ReturnsListing : (Result (List ℕ) Error → Type 0) → Result Text Error → Type 0
+ReturnsListing Lists (Ok text) = Lists (Ok (text_bytes text))
+ReturnsListing Lists (Err error) = error ≢ OutOfMemory → Lists (Err error)
 
 -- the shortest encoding of a number, in hexadecimal, and never an error
 abbrev pub ListsNumber : (k : Kind) → Number k → Result (List ℕ) Error → Type 0
@@ -38,3 +55,8 @@ IsTextOf named input (Err Write) = ⊥
 -- the text that the arguments request of an input, or the error
 abbrev pub IsText : List (List ℕ) → List ℕ → Result (List ℕ) Fault → Type 0
 IsText words input result = IsTextOf (command_of words) input result
+
+-- the text was written behind what was there, and the buffer is empty
+abbrev pub WritesOut : {W : Type 0} → (W → Option (List ℕ)) → BufWriter W Global → BufWriter W Global → List ℕ → Type 0
+WritesOut contents old new text =
+    Appends (writer_contents contents old) (writer_contents contents new) text × (writer_buffer new ≡ [])

@@ -2,8 +2,8 @@
 //! `main`.
 //!
 //! The functions at the root take the bytes of a whole section of abbreviation tables, strings,
-//! addresses or string offsets. They return the lines, or the section's first error. The whole text
-//! is built before it is returned.
+//! addresses or string offsets. They return the text, or the section's first error. The lines of a
+//! table are made as they are written; any other text is built before it is returned.
 //!
 //! [`run::run`] is a whole run of `dwarf_list`, and [`many::run_many`] one of `dwarf_list_many`.
 //! Both take the arguments that [`words::command_line`] returns.
@@ -20,9 +20,11 @@ pub mod listing;
 pub mod many;
 pub mod number;
 pub mod offsets;
+pub mod output;
 pub mod run;
 mod sets;
 mod tables;
+pub mod text;
 pub mod words;
 
 pub use lines::{hex_line, string, string_in_place};

@@ -3,10 +3,10 @@
 ghost use Rattle.std.specs.Prelude.{◌≡◌, ◌⊎◌, ◌++◌, ℕ, List, Ok, Err, IfErr, IfSome, OnOk};
 ghost use Rattle.std.specs.Io.KnownBytes.{Appends, IsAtEnd};
 ghost use Rattle.dwarf_listing_core.specs.Fault.{IsMemoryFault};
-ghost use Rattle.dwarf_listing_core.specs.Listing.{ReturnsText};
-ghost use Rattle.dwarf_listing_core.specs.Many.{EndsAt, EndsManyAt, IfKnown, IsManyText, ListsAll, ListsOne, WritesOut, title};
+ghost use Rattle.dwarf_listing_core.specs.Many.{EndsAt, EndsManyAt, IfKnown, IsManyText, ListsAll, ListsOne, title};
 ghost use Rattle.dwarf_listing_core.specs.ManyFault.{IsListingFault};
 ghost use Rattle.dwarf_listing_core.specs.Offsets.{IsBadLine, lines_of};
+ghost use Rattle.dwarf_listing_core.specs.Text.{ReturnsListing, WritesOut};
 
 use crate::arguments::Kind;
 use crate::fault::Fault;
@@ -14,6 +14,7 @@ use crate::input::read_input;
 use crate::lines::string;
 use crate::offsets::parse_offsets;
 use crate::tables::abbreviations;
+use crate::text::Text;
 use dwarf_read_core::Error;
 use fault::ManyFault;
 use std::alloc::Global;
@@ -27,8 +28,8 @@ mod tests;
 /// Writes what is listed at each offset of a section, below its title.
 ///
 /// Both inputs are read to their ends, and all offsets are parsed: decimal numbers, one a line.
-/// Then each listing is written as soon as it is built. The output is flushed at the end, also
-/// before an error at an offset is returned.
+/// Then what each offset names is read whole, and its lines are written. The output is flushed at
+/// the end, also before an error at an offset is returned.
 ///
 /// # Errors
 ///
@@ -142,23 +143,23 @@ fn write_at<O: Write>(
         × ListsOne kind section.now offset (Err error) }
     ensures err { IfErr result IsListingFault }
 {
-    let lines = match lines_at(mem, kind, section, offset) {
-        Ok(lines) => lines,
+    let text = match text_at(mem, kind, section, offset) {
+        Ok(text) => text,
         Err(Error::OutOfMemory) => return Err(ManyFault::Other(Fault::out_of_memory())),
         Err(error) => return Err(ManyFault::At(offset, error)),
     };
-    if write_title(output, kind, offset).is_err() || output.write_all(&lines).is_err() {
+    if write_title(output, kind, offset).is_err() || text.write_to(output).is_err() {
         return Err(ManyFault::Other(Fault::Write));
     }
     Ok(())
 }
 
-fn lines_at(mem: Global, kind: Kind, section: &[u8], offset: u64) -> Result<Vec<u8>, Error>
-    ensures { ReturnsText (ListsOne kind section.now offset) result }
+fn text_at(mem: Global, kind: Kind, section: &[u8], offset: u64) -> Result<Text, Error>
+    ensures { ReturnsListing (ListsOne kind section.now offset) result }
 {
     match kind {
         Kind::Tables => abbreviations(mem, section, offset),
-        Kind::Strings => string(mem, section, offset),
+        Kind::Strings => string(mem, section, offset).map(Text::Bytes),
     }
 }
 

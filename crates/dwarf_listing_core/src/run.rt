@@ -1,10 +1,10 @@
 //! A whole run: arguments, input, result, output.
 
 ghost use Rattle.std.specs.Prelude.{◌≡◌, ◌≢◌, List, ℕ, ◌↔◌, Ok, Err, IfErr, OnOk, IfSome, map, string_bytes};
-ghost use Rattle.std.specs.Io.KnownBytes.{Appends, IsAtEnd};
+ghost use Rattle.std.specs.Io.KnownBytes.{IsAtEnd};
 ghost use Rattle.dwarf_read_core.specs.declared.Error.TheVariants.{OutOfMemory};
 ghost use Rattle.dwarf_listing_core.specs.Command.{IsUsage, ReadsInput};
-ghost use Rattle.dwarf_listing_core.specs.Text.{IsText};
+ghost use Rattle.dwarf_listing_core.specs.Text.{IsText, WritesOut, text_bytes};
 
 #[cfg(test)]
 pub(crate) mod tests;
@@ -13,13 +13,14 @@ use crate::command::{parse_command, reads_input};
 use crate::fault::Fault;
 use crate::input::read_input;
 use crate::listing::listing;
+use crate::text::Text;
 use std::alloc::Global;
-use std::io::{Read, Write};
+use std::io::{BufWriter, Read, Write};
 
 /// Does what the arguments request.
 ///
 /// The arguments are parsed first. Then the input is read to its end, if the command lists a part of
-/// it, and the whole text is built, written and flushed.
+/// it. Once it is known that there is a text, this is written and flushed.
 ///
 /// # Errors
 ///
@@ -28,16 +29,16 @@ use std::io::{Read, Write};
 /// - `Section` if what the command lists is malformed, with the first error, or if memory runs out.
 /// - `Write` if the output can't be written. A part of the text may be written then; after any
 ///   other error nothing is.
-pub fn run<I: Read, O: Write>(
+pub fn run<I: Read, O: Write + Drop>(
     mem: Global,
     words: &[String],
     input: &mut I,
-    output: &mut O,
+    output: &mut BufWriter<O>,
 ) -> Result<(), Fault>
     // What was written, and nothing else.
     ensures written { OnOk result (IfSome (I.remaining input.old) (λ bytes. (text : List ℕ)
         × IsText (map string_bytes words.now) bytes (Ok text)
-        × Appends (O.contents output.old) (O.contents output.new) text)) }
+        × WritesOut O.contents output.old output.new text)) }
     ensures unwritten { IfErr result (λ fault. fault ≢ Fault.Write → output.new ≡ output.old) }
     ensures unread { ¬ ReadsInput (map string_bytes words.now) → input.new ≡ input.old }
     ensures end { OnOk result
@@ -62,12 +63,12 @@ pub fn run<I: Read, O: Write>(
     write_output(output, &text)
 }
 
-fn write_output<O: Write>(output: &mut O, text: &[u8]) -> Result<(), Fault>
+fn write_output<O: Write + Drop>(output: &mut BufWriter<O>, text: &Text) -> Result<(), Fault>
     ensures written { OnOk result
-        (Appends (O.contents output.old) (O.contents output.new) text.now) }
+        (WritesOut O.contents output.old output.new (text_bytes text.now)) }
     ensures fault { IfErr result (λ fault. fault ≡ Fault.Write) }
 {
-    if output.write_all(text).is_err() || output.flush().is_err() {
+    if text.write_to(output).is_err() || output.flush().is_err() {
         return Err(Fault::Write);
     }
     Ok(())

@@ -1,15 +1,20 @@
 //! The lines of abbreviation tables.
 
-ghost use Rattle.std.specs.Prelude.{◌≡◌, ◌++◌, IfOk, OnOk, codes, string_bytes};
+ghost use Rattle.std.specs.Prelude.{◌++◌, OnOk, codes, decimal};
+ghost use Rattle.std.specs.Io.KnownBytes.{Appends};
+ghost use Rattle.dwarf_read_core.specs.DwTag.{tag_text};
 ghost use Rattle.dwarf_listing_core.specs.Lines.{line};
-ghost use Rattle.dwarf_listing_core.specs.Listing.{ReturnsText};
-ghost use Rattle.dwarf_listing_core.specs.Tables.{ListsStrictTable, ListsTable, attribute_line, declaration_lines, table_text};
+ghost use Rattle.dwarf_listing_core.specs.Tables.{ListsStrictTable, ListsTable, attribute_line, declaration_lines, table_text, yes_or_no};
+ghost use Rattle.dwarf_listing_core.specs.Text.{ReturnsListing};
 
+use crate::text::Text;
 use dwarf_read_core::{
     Abbreviation, Abbreviations, AttributeSpecification, DebugAbbrev, DebugAbbrevOffset, Error,
     LittleEndian,
 };
-use std::alloc::{AllocError, Global};
+use std::alloc::Global;
+use std::io;
+use std::io::Write;
 
 /// Returns the declarations of the table at an offset of `.debug_abbrev`, in the order of their
 /// codes: a line with the code, the tag and whether there are children, and a line for each
@@ -17,41 +22,54 @@ use std::alloc::{AllocError, Global};
 ///
 /// # Errors
 ///
-/// That of [`DebugAbbrev::abbreviations`], or `OutOfMemory` if memory runs out.
-pub fn abbreviations(mem: Global, section: &[u8], offset: u64) -> Result<Vec<u8>, Error>
-    ensures { ReturnsText (ListsTable section.now offset) result }
+/// That of [`DebugAbbrev::abbreviations`].
+pub fn abbreviations(mem: Global, section: &[u8], offset: u64) -> Result<Text, Error>
+    ensures { ReturnsListing (ListsTable section.now offset) result }
 {
     let debug_abbrev = DebugAbbrev::new(section, LittleEndian);
     let table = debug_abbrev.abbreviations(mem, DebugAbbrevOffset(offset as usize))?;
-    Ok(table_text(mem, &table)?.into_bytes())
+    Ok(Text::Table(table))
 }
 
 /// Returns the lines of [`abbreviations`], if a code of value 0 closes the table.
 ///
 /// # Errors
 ///
-/// That of [`DebugAbbrev::abbreviations_strict`], or `OutOfMemory` if memory runs out.
-pub fn abbreviations_strict(mem: Global, section: &[u8], offset: u64) -> Result<Vec<u8>, Error>
-    ensures { ReturnsText (ListsStrictTable section.now offset) result }
+/// That of [`DebugAbbrev::abbreviations_strict`].
+pub fn abbreviations_strict(mem: Global, section: &[u8], offset: u64) -> Result<Text, Error>
+    ensures { ReturnsListing (ListsStrictTable section.now offset) result }
 {
     let debug_abbrev = DebugAbbrev::new(section, LittleEndian);
     let table = debug_abbrev.abbreviations_strict(mem, DebugAbbrevOffset(offset as usize))?;
-    Ok(table_text(mem, &table)?.into_bytes())
+    Ok(Text::Table(table))
 }
 
-fn table_text(mem: Global, table: &Abbreviations) -> Result<String, AllocError>
-    ensures { IfOk result (λ text. string_bytes text ≡ table_text table.now) }
-{
-    let mut text = String::new(mem);
-    for abbreviation in table.iter() {
-        push_declaration(&mut text, abbreviation)?;
-    }
-    Ok(text)
-}
-
-fn push_declaration(text: &mut String, abbreviation: &Abbreviation) -> Result<(), AllocError>
+// Writes the lines of a table, each as soon as it is made.
+pub(crate) fn write_table<O: Write>(output: &mut O, table: &Abbreviations) -> io::Result<()>
     ensures { OnOk result
-        (string_bytes text.new ≡ string_bytes text.old ++ declaration_lines abbreviation.now) }
+        (Appends (O.contents output.old) (O.contents output.new) (table_text table.now)) }
+{
+    for abbreviation in table.iter() {
+        write_declaration(output, abbreviation)?;
+    }
+    Ok(())
+}
+
+fn write_declaration<O: Write>(output: &mut O, abbreviation: &Abbreviation) -> io::Result<()>
+    ensures { OnOk result (Appends (O.contents output.old) (O.contents output.new)
+        (declaration_lines abbreviation.now)) }
+{
+    write_head(output, abbreviation)?;
+    for attribute in abbreviation.attributes() {
+        write_attribute(output, attribute)?;
+    }
+    Ok(())
+}
+
+fn write_head<O: Write>(output: &mut O, abbreviation: &Abbreviation) -> io::Result<()>
+    ensures { OnOk result (Appends (O.contents output.old) (O.contents output.new)
+        (line (decimal abbreviation.now.code ++ codes " " ++ tag_text abbreviation.now.tag
+        ++ codes " " ++ yes_or_no abbreviation.now.children))) }
 {
     let (code, tag) = (abbreviation.code(), abbreviation.tag());
     let children = if abbreviation.has_children() {
@@ -59,37 +77,32 @@ fn push_declaration(text: &mut String, abbreviation: &Abbreviation) -> Result<()
     } else {
         "no"
     };
-    writeln!(text, "{code} {tag} {children}")?;
-    for attribute in abbreviation.attributes() {
-        push_attribute(text, attribute)?;
-    }
-    Ok(())
+    writeln!(output, "{code} {tag} {children}")
 }
 
-fn push_attribute(text: &mut String, attribute: &AttributeSpecification) -> Result<(), AllocError>
-    ensures { OnOk result
-        (string_bytes text.new ≡ string_bytes text.old ++ attribute_line attribute.now) }
+fn write_attribute<O: Write>(output: &mut O, attribute: &AttributeSpecification) -> io::Result<()>
+    ensures { OnOk result (Appends (O.contents output.old) (O.contents output.new)
+        (attribute_line attribute.now)) }
 {
     let (name, form) = (attribute.name(), attribute.form());
     match attribute.implicit_const_value() {
-        Some(value) => writeln!(text, "  {name} {form} {value}"),
+        Some(value) => writeln!(output, "  {name} {form} {value}"),
         None => match (name.static_string(), form.static_string()) {
-            (Some(name), Some(form)) => push_names(text, name, form),
-            _ => writeln!(text, "  {name} {form}"),
+            (Some(name), Some(form)) => write_names(output, name, form),
+            _ => writeln!(output, "  {name} {form}"),
         },
     }
 }
 
 // The line of an attribute whose numbers have names and that has no value, as nearly all do.
 // Copying the names is faster than formatting them.
-fn push_names(text: &mut String, name: &str, form: &str) -> Result<(), AllocError>
-    ensures { OnOk result
-        (string_bytes text.new
-        ≡ string_bytes text.old ++ line (codes "  " ++ name.now ++ codes " " ++ form.now)) }
+fn write_names<O: Write>(output: &mut O, name: &str, form: &str) -> io::Result<()>
+    ensures { OnOk result (Appends (O.contents output.old) (O.contents output.new)
+        (line (codes "  " ++ name.now ++ codes " " ++ form.now))) }
 {
-    text.push_str("  ")?;
-    text.push_str(name)?;
-    text.push(' ')?;
-    text.push_str(form)?;
-    text.push('\n')
+    output.write_all(b"  ")?;
+    output.write_all(name.as_bytes())?;
+    output.write_all(b" ")?;
+    output.write_all(form.as_bytes())?;
+    output.write_all(b"\n")
 }

@@ -4,7 +4,7 @@ use super::run;
 use crate::fault::Fault;
 use ends::InterruptedReader;
 use std::alloc::{AllocError, Global};
-use std::io::Read;
+use std::io::{BufWriter, Read};
 use std::process::Abort;
 use std::test::Fail;
 
@@ -31,7 +31,8 @@ fn words(mem: Global, texts: &[&str]) -> Result<Vec<String>, AllocError> {
     Ok(words)
 }
 
-// Ends the test if a run has another outcome, or if it has an error and writes something.
+// Ends the test if a run has another outcome, or if it has an error and writes something. The buffer
+// is shorter than most texts, and nothing is left in it.
 fn check<I: Read>(
     rt: &impl Abort,
     mem: Global,
@@ -39,9 +40,11 @@ fn check<I: Read>(
     input: &mut I,
     wanted: Outcome<'_>,
 ) -> Result<(), Fail> {
-    let mut output = Vec::new(mem);
+    let mut output = BufWriter::with_capacity(mem, 16, Vec::new(mem))?;
     let outcome = run(mem, &words(mem, texts)?, input, &mut output);
-    check_outcome(rt, mem, outcome, &output, wanted)
+    let (written, left) = output.into_parts();
+    assert_eq!(rt; left.len(), 0);
+    check_outcome(rt, mem, outcome, &written, wanted)
 }
 
 fn check_outcome(

@@ -1,9 +1,11 @@
 //! Inputs and outputs that read or write one byte a call, are interrupted, and fail.
 
-use super::{UNIT, UNIT_TEXT, check, check_outcome, words};
+use super::{TEXTS, UNIT, UNIT_TEXT, check, check_outcome, words};
 use crate::run::run;
+use std::alloc::Global;
 use std::io;
-use std::io::{ErrorKind, Read, Write};
+use std::io::{BufWriter, ErrorKind, Read, Write};
+use std::process::Abort;
 use std::test::Fail;
 
 // A call may fail with any kind of error, also with one for memory.
@@ -125,22 +127,34 @@ impl Write for FailingWriter {
     }
 }
 
-// Four bytes are written, and then flushed.
+// Each byte of the text is written by a call of its own, and then the output is flushed.
+fn check_failing(
+    rt: &impl Abort,
+    mem: Global,
+    (texts, mut bytes, text): (&[&str], &[u8], &[u8]),
+    good_calls: usize,
+    kind: ErrorKind,
+) -> Result<(), Fail> {
+    let writer = FailingWriter::new(good_calls, kind);
+    let mut output = BufWriter::with_capacity(mem, 16, writer)?;
+    let outcome = run(mem, &words(mem, texts)?, &mut bytes, &mut output);
+    let wanted = if good_calls > text.len() {
+        Ok(b"".as_slice())
+    } else {
+        Err(("error: cannot write output", 3))
+    };
+    let calls = (text.len() + 1).min(good_calls.saturating_add(1));
+    assert_eq!(rt; output.get_ref().calls, calls, "{texts:?}");
+    check_outcome(rt, mem, outcome, b"", wanted)
+}
+
 #[test]
 fn outputs_fail_at_each_call(rt: HostRuntime) -> Result<(), Fail> {
-    let mem = rt.alloc();
-    let words = words(mem, &["str", "0"])?;
-    for kind in KINDS {
-        for good_calls in 0..6usize {
-            let mut output = FailingWriter::new(good_calls, *kind);
-            let outcome = run(mem, &words, &mut b"one\0".as_slice(), &mut output);
-            let wanted = if good_calls < 5 {
-                Err(("error: cannot write output", 3))
-            } else {
-                Ok(b"".as_slice())
-            };
-            check_outcome(&rt, mem, outcome, b"", wanted)?;
-            assert_eq!(rt; output.calls, 5.min(good_calls + 1));
+    for row in TEXTS {
+        for kind in KINDS {
+            for good_calls in 0..row.2.len() + 2 {
+                check_failing(&rt, rt.alloc(), *row, good_calls, *kind)?;
+            }
         }
     }
     Ok(())

@@ -6,6 +6,7 @@
 ghost use Rattle.std.specs.Prelude.{◌≤◌};
 
 use super::{UNIT, UNIT_TEXT, check_outcome, words};
+use crate::output::buffered;
 use crate::run::run;
 use std::alloc::Global;
 use std::io;
@@ -42,11 +43,14 @@ fn check_refused<R: Abort + Print>(
     mut input: &[u8],
     text: &[u8],
 ) -> Result<(), Fail> {
-    let mut output = ArrayWriter {
+    let Ok(words) = words(mem, texts) else {
+        return Ok(());
+    };
+    let writer = ArrayWriter {
         bytes: [0; 256],
         length: 0,
     };
-    let Ok(words) = words(mem, texts) else {
+    let Ok(mut output) = buffered(mem, writer) else {
         return Ok(());
     };
     let outcome = run(mem, &words, &mut input, &mut output);
@@ -54,7 +58,9 @@ fn check_refused<R: Abort + Print>(
         Ok(()) => Ok(text),
         Err(_) => Err(("error: out of memory", 1)),
     };
-    let written = &output.bytes[..output.length];
+    let (writer, left) = output.into_parts();
+    assert_eq!(rt; left.len(), 0);
+    let written = &writer.bytes[..writer.length];
     check_outcome(rt, mem, outcome, written, wanted)?;
     // The last allocation. If it fails, each one before it failed in an earlier run.
     if Vec::from_slice(mem, &[0u8]).is_err() {

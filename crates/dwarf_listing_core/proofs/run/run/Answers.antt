@@ -1,0 +1,31 @@
+use Rattle.dwarf_listing_core.proofs.Common.{common_steps, arith, ◌≡◌, ℕ, List, Option, Some, None, Ok, IsTrue, map, string_bytes, refl, command_of, Lists, Command}
+use Rattle.std.specs.Prelude.{IfSome, IsSomeAnd}
+use Rattle.dwarf_listing_core.specs.Command.{reads_input}
+use Rattle.dwarf_listing_core.specs.declared.command.Command.TheVariants.{Abbrev, Str, Addr, Uleb, Sleb, AbbrevStrict, StrOffsets}
+use Rattle.dwarf_listing_core.proofs.run.run.Goals as goal
+
+-- what the named command lists of the bytes that were read is a text of the arguments and the input
+has_text : (words : List (List ℕ)) (input : Option (List ℕ)) (command : Command) (bytes text : List ℕ)
+    → command_of words ≡ Some command
+    → (IsTrue (reads_input command) → IfSome input (λ left. bytes ≡ left)) → Lists command bytes (Ok text)
+    → IfSome input (λ left. (x : List ℕ) × IsSomeAnd (command_of words) (λ c. Lists c left (Ok x)))
+has_text words None command bytes text named read listed = tt
+has_text words (Some left) (Abbrev offset) bytes text named read listed = (text, rw named (rw (read refl) at listed))
+has_text words (Some left) (Str offset) bytes text named read listed = (text, rw named (rw (read refl) at listed))
+has_text words (Some left) (Addr endian) bytes text named read listed = (text, rw named (rw (read refl) at listed))
+has_text words (Some left) (Uleb value) bytes text named read listed = (text, rw named listed)
+has_text words (Some left) (Sleb value) bytes text named read listed = (text, rw named listed)
+has_text words (Some left) (AbbrevStrict offset) bytes text named read listed =
+    (text, rw named (rw (read refl) at listed))
+has_text words (Some left) (StrOffsets endian) bytes text named read listed =
+    (text, rw named (rw (read refl) at listed))
+
+pub returns-clause-write : goal.returns-clause-write
+returns-clause-write g c failed =
+    let words = map string_bytes c.args.words.now in
+    let command = c.in_ok-command.command in
+    let named : command_of words ≡ Some command = grind (arith, common_steps) in
+    let read : IsTrue (reads_input command)
+    → IfSome (g.I.Read.remaining c.args.input.now) (λ left. c.if-reads_input.bytes.items ≡ left) =
+    grind (arith, common_steps) in
+    has_text words _ command _ _ named read c.in_ok-text.ensures
