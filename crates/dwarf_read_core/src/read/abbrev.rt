@@ -4,7 +4,7 @@
 //! attributes. The unit's table of abbreviations says what a code means: the tag of the entry,
 //! whether it has children, and which attributes follow in which forms.
 
-ghost use Rattle.std.specs.Prelude.{◌≡◌, ◌≢◌, ◌↔◌, ◌==◌, ◌+◌, ◌*◌, ◌≤◌, ◌<◌, length, true, false, IsTrue, IsSome, IsOk, IsErrOf, IfOk, IfSome, OnOk, OnErr, IfErr, option_copied, ⊤, ℕ, List};
+ghost use Rattle.std.specs.Prelude.{◌≡◌, ◌≢◌, ◌↔◌, ◌==◌, ◌+◌, ◌*◌, ◌≤◌, ◌<◌, ◌∷◌, ◌++◌, [], length, true, false, IsTrue, IsSome, IsOk, IsErrOf, IfOk, IfSome, OnOk, OnErr, IfErr, option_copied, ⊤, ℕ, List};
 ghost use Rattle.std.specs.Cmp.{partial_equiv_from_equiv};
 ghost use Rattle.std.specs.FinMap as finite;
 ghost use Rattle.std.specs.Fn.{CalledAt, TakesAt};
@@ -316,7 +316,7 @@ impl Abbreviations {
             if !self.others.is_empty() && self.others.get(code).is_some() {
                 return Err(Error::DuplicateAbbreviationCode(code));
             }
-            self.vec.push(abbreviation)?;
+            push(&mut self.vec, abbreviation)?;
             return Ok(());
         }
         self.others.insert(abbreviation)
@@ -412,6 +412,23 @@ impl Abbreviations {
             }
         }
     }
+}
+
+// Adds an abbreviation at the back. A vector begins with room for sixteen, so that a small table
+// allocates it once.
+#[inline]
+fn push(
+    items: &mut Vec<Abbreviation>,
+    abbreviation: Abbreviation,
+) -> std::result::Result<(), AllocError>
+    ensures ok { OnOk result (items.new.items ≡ items.old.items ++ abbreviation ∷ []) }
+    ensures err { OnErr result (items.new.items ≡ items.old.items) }
+{
+    if items.len() == items.capacity() {
+        items.reserve(16)?;
+    }
+    items.push_reserved(abbreviation);
+    Ok(())
 }
 
 // What is at a place where a declaration may begin.

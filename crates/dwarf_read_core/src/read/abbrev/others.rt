@@ -10,7 +10,7 @@ ghost use Rattle.dwarf_read_core.specs.Others.{others_entries, AreOthers, ArePla
 ghost use Rattle.dwarf_read_core.specs.Views.{others_rest};
 
 use super::super::key::Key;
-use super::Abbreviation;
+use super::{Abbreviation, push};
 use dwarf_base_core::{Error, Result};
 use std::alloc::{AllocError, Global};
 use std::cmp::Ordering;
@@ -210,7 +210,7 @@ fn insert_in_order(
     let code = abbreviation.code();
     *falls = falls_with(items, *falls, code);
     if is_next(items, *falls, code) {
-        items.push(abbreviation)?;
+        push(items, abbreviation)?;
         return Ok(());
     }
     *places = places_of(items)?;

@@ -11,7 +11,7 @@ returns-then-is_next-clause-ok c =
     let longer : IsStrictlySortedBy (code_cmp falls) (codes_of (ds ++ d ∷ [])) =
     rw (map_push (λ (x : Declaration). x.code) ds d, ← c.code-code.ensures, ← c.deref-2.ensures.value)
     (c.is_next.ensures c.if-is_next.true) in
-    rw (c.in_ok-push.ensures.items, c.requires.no_places, ← before.same)
+    rw (c.in_ok-push.ensures.ok, c.requires.no_places, ← before.same)
     (added_next falls ds d before.in_order longer)
 
 pub places_of-requires : goal.places_of-requires
