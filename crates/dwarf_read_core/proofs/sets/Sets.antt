@@ -1,5 +1,5 @@
 -- Sets as layouts: what a reader reads of one, and what `next` returns.
-use Rattle.dwarf_read_core.proofs.Common.{common_steps, ◌≡◌, ◌≢◌, ℕ, ◌+◌, ◌-◌, ◌≤◌, List, [], ◌∷◌, ◌++◌, length, take, Result, Ok, Err, refl, sym, ap, subst, arith, Bool, ◌⊎◌, inl, inr, ◌∙◌, append_assoc, sum_by, nat_lt, length-append, length-take-le, take-append-drop, Error, WantsMemory, Input, first, Takes, HasOne, IsNoEof, followed_by, ComesFirst, least_taken, Layout, read, none, Set, IsJoined, address_header, string_offsets_header, Headers, StandsForSets, followed_headers, then_reads, pure_reads, after_part, after_inside, read_more, error_more, Spans, TakesLeast, spanned, number_spans, byte_spans, check_spans, pure_spans, refuse_spans, when_spans, then_spans, part_spans, inside_spans, then_read, part_read, inside_read, pure_read}
+use Rattle.dwarf_read_core.proofs.Common.{common_steps, ◌≡◌, ◌≢◌, ℕ, ◌+◌, ◌-◌, ◌≤◌, ◌<◌, List, [], ◌∷◌, ◌++◌, length, take, Result, Ok, Err, refl, sym, ap, subst, arith, Bool, ◌⊎◌, inl, inr, ◌∙◌, append_assoc, sum_by, nat_lt, length-append, length-take-le, take-append-drop, Error, WantsMemory, Input, first, Takes, HasOne, IsNoEof, followed_by, ComesFirst, least_taken, Layout, read, none, Set, IsJoined, address_header, string_offsets_header, Headers, StandsForSets, followed_headers, then_reads, pure_reads, after_part, after_inside, read_more, error_more, Spans, TakesLeast, spanned, number_spans, byte_spans, check_spans, pure_spans, refuse_spans, when_spans, then_spans, part_spans, inside_spans, then_read, part_read, inside_read, pure_read}
 use Rattle.dwarf_base_core.specs.declared.common.Format.{Format}
 use Rattle.dwarf_base_core.specs.Format.{initial_length_size}
 use Rattle.dwarf_reader_core.specs.InitialLength.{initial_length, long_length}
@@ -132,25 +132,28 @@ module _ {H : Type 0} (header : Layout H) (greatest : ℕ) where
       → StandsForSets header greatest (followed_headers more headers) (Err e ∷ [])
   set_error_more headers e more are_items settled = error-stays are_items settled more
 
-  -- an error in place of a set is the first item, or memory ran out; nothing remains behind either
-  pub set_error_first : (offset place : ℕ) (rest left : Input) {e : Error} (is_free : Bool) → rest.bytes ≢ []
-      → ((read (set header greatest offset) rest ≡ Err e) ⊎ WantsMemory is_free e) → left.bytes ≡ []
+  -- an error in place of a set is the first item, or memory ran out; nothing remains behind either. The code has the
+  -- offset as `at`
+  pub set_error_first : (offset place : ℕ) (rest left : Input) {at : ℕ} {e : Error} (is_free : Bool) → rest.bytes ≢ []
+      → ((read (set header greatest at) rest ≡ Err e) ⊎ WantsMemory is_free e) → at ≡ offset → left.bytes ≡ []
       → ComesFirst (StandsForSets header greatest) (headers_at offset rest) (Err e) (headers_at place left)
       ⊎ (WantsMemory is_free e × StandsForSets header greatest (headers_at place left) [])
-  set_error_first offset place rest left {e} is_free some (inl fails) empty =
-      inl (error-first offset place rest left e some fails empty)
-  set_error_first offset place rest left is_free some (inr want) empty = inr (want, none empty)
+  set_error_first offset place rest left {e = e} is_free some (inl fails) same empty =
+      inl (error-first offset place rest left e some
+      (subst (λ n. read (set header greatest n) rest ≡ Err e) same fails) empty)
+  set_error_first offset place rest left is_free some (inr want) same empty = inr (want, none empty)
 
   -- an error in place of a set, unless it is an `UnexpectedEof`, stays the only item when bytes are appended
-  pub set_error_stays : (offset : ℕ) (rest : Input) {e : Error} (is_free : Bool) → rest.bytes ≢ []
-      → ((read (set header greatest offset) rest ≡ Err e) ⊎ WantsMemory is_free e) → IsNoEof e
+  pub set_error_stays : (offset : ℕ) (rest : Input) {at : ℕ} {e : Error} (is_free : Bool) → rest.bytes ≢ []
+      → ((read (set header greatest at) rest ≡ Err e) ⊎ WantsMemory is_free e) → at ≡ offset → IsNoEof e
       → (more : List ℕ)
       → StandsForSets header greatest (followed_headers more (headers_at offset rest)) (Err e ∷ [])
       ⊎ WantsMemory is_free e
-  set_error_stays offset rest is_free some (inl fails) settled more =
+  set_error_stays offset rest {e = e} is_free some (inl fails) same settled more =
       inl (fault (bytes-still_some rest.bytes more some)
-      (error_more (set header greatest offset) more rest settled fails))
-  set_error_stays offset rest is_free some (inr want) settled more = inr want
+      (error_more (set header greatest offset) more rest settled
+      (subst (λ n. read (set header greatest n) rest ≡ Err e) same fails)))
+  set_error_stays offset rest is_free some (inr want) same settled more = inr want
 
 -- an initial length has at least four bytes
 initial_length_size-least : (format : Format) → 4 ≤ initial_length_size format
@@ -174,9 +177,13 @@ module _ {H : Type 0} {header : Layout H} (four : HasFour header) (greatest : �
       → StandsForSets header greatest headers items → sum_by (least_taken 8) items ≤ length headers.rest.bytes
   sets_bounded headers items are_items = items-bounded set_least are_items
 
-  module _ (offset place : ℕ) (rest left : Input) {s : Set H} (some : rest.bytes ≢ [])
-      (is_read : read (set header greatest offset) rest ≡ Ok (s, left))
+  module _ (offset place : ℕ) (rest left : Input) {at : ℕ} {s : Set H} (some : rest.bytes ≢ [])
+      (is_read_at : read (set header greatest at) rest ≡ Ok (s, left)) (same : at ≡ offset)
       (behind : place ≡ offset + (length rest.bytes - length left.bytes)) where
+    -- the code has the offset as `at`
+    is_read : read (set header greatest offset) rest ≡ Ok (s, left)
+    is_read = subst (λ n. read (set header greatest n) rest ≡ Ok (s, left)) same is_read_at
+
     -- a set that is read is the first item
     pub set_first : ComesFirst (StandsForSets header greatest) (headers_at offset rest) (Ok s) (headers_at place left)
     set_first = item-first set_least (omega arith) offset place rest left s some is_read behind
@@ -200,8 +207,13 @@ set_bound greatest old new measured is taken said four =
     (set_least four greatest 0).by old new _
     (then_reads _ _ _ measured ∙ after_part _ is taken (after_inside _ _ _ _ said (pure_reads _ _)))
 
--- how many bytes a set of each kind has
-pub ruleset set_bounds = (set_bound, address_header-four, string_offsets_header-four)
+-- a header of four bytes is never read from fewer
+pub cut_header : {H : Type 0} {header : Layout H} {h : H} (old new : Input) → read header old ≡ Ok (h, new)
+    → HasFour header → length old.bytes < 4 → ⊥
+cut_header old new is four short = omega (arith, short, (spanned four old is).enough)
+
+-- how many bytes a set of each kind has, and its header
+pub ruleset set_bounds = (set_bound, cut_header, address_header-four, string_offsets_header-four)
 
 -- the parts of a set of each kind
 pub ruleset parts_of_sets = (set-joined, address_header-four, string_offsets_header-four)

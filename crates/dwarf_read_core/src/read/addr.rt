@@ -27,6 +27,9 @@ use std::marker::Model;
 // The version of every set. Earlier standards have no sets.
 const VERSION: u16 = 5;
 
+// How many bytes are between the length of a set and its addresses.
+const HEADER_BYTES: u64 = 4;
+
 /// The `.debug_addr` section (DWARF 5, 7.27): sets of addresses, each with a header.
 #[derive(Debug, Default, Clone, Copy, Drop)]
 pub struct DebugAddr<R> {
@@ -87,7 +90,7 @@ impl<R: Reader> DebugAddr<R> {
     {
         Ok(AddrHeaderIter {
             input: self.section.try_clone()?,
-            offset: DebugAddrOffset(R::Offset::from_u8(0)),
+            end: self.section.len(),
         })
     }
 }
@@ -151,18 +154,19 @@ impl<R> From<R> for DebugAddr<R> {
 #[derive(Debug, Drop)]
 pub struct AddrHeaderIter<R: Reader> {
     input: R,
-    offset: DebugAddrOffset<R::Offset>,
+    // The offset behind the last byte. The bytes that remain say where the next set begins.
+    end: R::Offset,
 }
 
 impl<R: Reader> Model for AddrHeaderIter<R> {
-    ghost use Rattle.std.specs.Prelude.{◌+◌, ◌≤◌, length};
+    ghost use Rattle.std.specs.Prelude.{◌-◌, ◌≤◌, length};
     ghost use Rattle.dwarf_read_core.specs.Sets.{Headers};
 
     ghost Value = { Headers };
 
-    ghost view = { λ headers. record { offset = R.Offset.value headers.offset.0; rest = R.view headers.input } };
+    ghost view = { λ headers. record { offset = R.Offset.value headers.end - length (R.view headers.input).bytes; rest = R.view headers.input } };
 
-    ghost invariant = { λ headers. R.Offset.value headers.offset.0 + length (R.view headers.input).bytes ≤ R.Offset.GREATEST };
+    ghost invariant = { λ headers. length (R.view headers.input).bytes ≤ R.Offset.value headers.end };
 }
 
 impl<R: Reader> AddrHeaderIter<R> {
@@ -208,16 +212,13 @@ impl<R: Reader> AddrHeaderIter<R> {
         if self.input.is_empty() {
             return Ok(None);
         }
-        let before = self.input.len();
-        match AddrHeader::parse(&mut self.input, self.offset) {
+        let offset = DebugAddrOffset(self.end - self.input.len());
+        match AddrHeader::parse(&mut self.input, offset) {
+            Ok(header) => Ok(Some(header)),
             Err(error) => {
                 // Nothing says where the next set would begin.
                 self.input.empty();
                 Err(error)
-            }
-            Ok(header) => {
-                self.offset.0 += before - self.input.len();
-                Ok(Some(header))
             }
         }
     }
@@ -250,7 +251,7 @@ impl<R: Reader + Clone> Clone for AddrHeaderIter<R> {
         match self.input.try_clone() {
             Ok(input) => Ok(AddrHeaderIter {
                 input,
-                offset: self.offset,
+                end: self.end,
             }),
             Err(_) => Err(AllocError),
         }
@@ -339,6 +340,12 @@ impl<R: Reader> AddrHeader<R> {
     {
         let (length, format) = input.read_initial_length()?;
         let mut unit = input.split(length)?;
+        // A set without room for a header is an error, which the call returns. Once that is excluded,
+        // the same call below doesn't test any more where the set ends.
+        if unit.len().into_u64() < HEADER_BYTES {
+            Self::parse_address_size(&mut unit)?;
+            unreachable!();
+        }
         let encoding = SetEncoding {
             encoding: Encoding {
                 address_size: Self::parse_address_size(&mut unit)?,

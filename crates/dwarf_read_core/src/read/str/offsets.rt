@@ -17,6 +17,9 @@ use std::marker::Model;
 // The version of every set. Earlier standards have no sets.
 const VERSION: u16 = 5;
 
+// How many bytes are between the length of a set and its offsets.
+const HEADER_BYTES: u64 = 4;
+
 /// The sets of string offsets that remain of a section, each by its header.
 ///
 /// ```
@@ -29,18 +32,19 @@ const VERSION: u16 = 5;
 #[derive(Debug, Drop)]
 pub struct StrOffsetsHeaderIter<R: Reader> {
     input: R,
-    offset: R::Offset,
+    // The offset behind the last byte. The bytes that remain say where the next set begins.
+    end: R::Offset,
 }
 
 impl<R: Reader> Model for StrOffsetsHeaderIter<R> {
-    ghost use Rattle.std.specs.Prelude.{◌+◌, ◌≤◌, length};
+    ghost use Rattle.std.specs.Prelude.{◌-◌, ◌≤◌, length};
     ghost use Rattle.dwarf_read_core.specs.Sets.{Headers};
 
     ghost Value = { Headers };
 
-    ghost view = { λ headers. record { offset = R.Offset.value headers.offset; rest = R.view headers.input } };
+    ghost view = { λ headers. record { offset = R.Offset.value headers.end - length (R.view headers.input).bytes; rest = R.view headers.input } };
 
-    ghost invariant = { λ headers. R.Offset.value headers.offset + length (R.view headers.input).bytes ≤ R.Offset.GREATEST };
+    ghost invariant = { λ headers. length (R.view headers.input).bytes ≤ R.Offset.value headers.end };
 }
 
 impl<R: Reader> StrOffsetsHeaderIter<R> {
@@ -48,10 +52,8 @@ impl<R: Reader> StrOffsetsHeaderIter<R> {
     pub(super) fn new(input: R) -> Self
         ensures { result ≡ record { offset = 0; rest = R.view input } }
     {
-        StrOffsetsHeaderIter {
-            input,
-            offset: R::Offset::from_u8(0),
-        }
+        let end = input.len();
+        StrOffsetsHeaderIter { input, end }
     }
 
     /// Returns the header of the next set, or `None` if no bytes remain.
@@ -95,16 +97,13 @@ impl<R: Reader> StrOffsetsHeaderIter<R> {
         if self.input.is_empty() {
             return Ok(None);
         }
-        let before = self.input.len();
-        match StrOffsetsHeader::parse(&mut self.input, self.offset) {
+        let offset = self.end - self.input.len();
+        match StrOffsetsHeader::parse(&mut self.input, offset) {
+            Ok(header) => Ok(Some(header)),
             Err(error) => {
                 // Nothing says where the next set would begin.
                 self.input.empty();
                 Err(error)
-            }
-            Ok(header) => {
-                self.offset += before - self.input.len();
-                Ok(Some(header))
             }
         }
     }
@@ -137,7 +136,7 @@ impl<R: Reader + Clone> Clone for StrOffsetsHeaderIter<R> {
         match self.input.try_clone() {
             Ok(input) => Ok(StrOffsetsHeaderIter {
                 input,
-                offset: self.offset,
+                end: self.end,
             }),
             Err(_) => Err(AllocError),
         }
@@ -217,6 +216,12 @@ impl<R: Reader> StrOffsetsHeader<R> {
     {
         let (length, format) = input.read_initial_length()?;
         let mut unit = input.split(length)?;
+        // A set without room for a header is an error, which the call returns. Once that is excluded,
+        // the same call below doesn't test any more where the set ends.
+        if unit.len().into_u64() < HEADER_BYTES {
+            Self::skip_version(&mut unit)?;
+            unreachable!();
+        }
         Self::skip_version(&mut unit)?;
         Ok(StrOffsetsHeader {
             offset,

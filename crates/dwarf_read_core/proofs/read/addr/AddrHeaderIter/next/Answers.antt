@@ -4,17 +4,19 @@ use Rattle.dwarf_read_core.proofs.read.addr.AddrHeaderIter.next.Goals as goal
 
 pub returns-in-Ok-clause-first : goal.returns-in-Ok-clause-first
 returns-in-Ok-clause-first g c =
-    rw (← c.self.view_is) (set_first address_header-four _ _ _ _ _ (search rules) c.in-Ok.ensures.ok (search rules))
+    rw (← c.self.view_is) (set_first address_header-four _ _ _ _ _ (search rules) c.in-Ok.ensures.ok (search rules)
+    (search rules))
 
 pub returns-in-Ok-clause-stable : goal.returns-in-Ok-clause-stable
 returns-in-Ok-clause-stable g c =
-    rw (← c.self.view_is) (set_stays address_header-four _ _ _ _ _ (search rules) c.in-Ok.ensures.ok (search rules))
+    rw (← c.self.view_is) (set_stays address_header-four _ _ _ _ _ (search rules) c.in-Ok.ensures.ok (search rules)
+    (search rules))
 
 pub returns-in-Err-clause-first : goal.returns-in-Err-clause-first
 returns-in-Err-clause-first g c =
     rw (← c.self.view_is) (set_error_first address_header _ _ _ _ _ _ (search rules) c.in-Err.ensures.err
-    (ap (λ (i : Input). i.bytes) c.empty.ensures.left))
+    (search rules) (ap (λ (i : Input). i.bytes) c.empty.ensures.left))
 
 pub returns-in-Err-clause-stable : goal.returns-in-Err-clause-stable
 returns-in-Err-clause-stable g c =
-    rw (← c.self.view_is) (set_error_stays address_header _ _ _ _ (search rules) c.in-Err.ensures.err)
+    rw (← c.self.view_is) (set_error_stays address_header _ _ _ _ (search rules) c.in-Err.ensures.err (search rules))
