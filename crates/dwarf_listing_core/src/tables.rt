@@ -1,10 +1,10 @@
 //! The lines of abbreviation tables.
 
-ghost use Rattle.std.specs.Prelude.{◌++◌, OnOk, codes, decimal};
+ghost use Rattle.std.specs.Prelude.{◌≡◌, ◌++◌, IfSome, OnOk, codes, decimal};
 ghost use Rattle.std.specs.Io.KnownBytes.{Appends};
 ghost use Rattle.dwarf_read_core.specs.DwTag.{tag_text};
 ghost use Rattle.dwarf_listing_core.specs.Lines.{line};
-ghost use Rattle.dwarf_listing_core.specs.Tables.{ListsStrictTable, ListsTable, attribute_line, declaration_lines, table_text, yes_or_no};
+ghost use Rattle.dwarf_listing_core.specs.Tables.{ListsStrictTable, ListsTable, attribute_line, declaration_lines, table_text, value_text, yes_or_no};
 ghost use Rattle.dwarf_listing_core.specs.Text.{ReturnsListing};
 
 use crate::text::Text;
@@ -12,7 +12,9 @@ use dwarf_read_core::{
     Abbreviation, Abbreviations, AttributeSpecification, DebugAbbrev, DebugAbbrevOffset, Error,
     LittleEndian,
 };
+use itoa::Buffer;
 use std::alloc::Global;
+use std::fmt::Display;
 use std::io;
 use std::io::Write;
 
@@ -72,12 +74,14 @@ fn write_head<O: Write>(output: &mut O, abbreviation: &Abbreviation) -> io::Resu
         ++ codes " " ++ yes_or_no abbreviation.now.children))) }
 {
     let (code, tag) = (abbreviation.code(), abbreviation.tag());
-    let children = if abbreviation.has_children() {
-        "yes"
+    output.write_all(Buffer::new().format(code).as_bytes())?;
+    output.write_all(b" ")?;
+    write_name(output, tag.static_string(), tag)?;
+    if abbreviation.has_children() {
+        output.write_all(b" yes\n")
     } else {
-        "no"
-    };
-    writeln!(output, "{code} {tag} {children}")
+        output.write_all(b" no\n")
+    }
 }
 
 fn write_attribute<O: Write>(output: &mut O, attribute: &AttributeSpecification) -> io::Result<()>
@@ -85,24 +89,38 @@ fn write_attribute<O: Write>(output: &mut O, attribute: &AttributeSpecification)
         (attribute_line attribute.now)) }
 {
     let (name, form) = (attribute.name(), attribute.form());
-    match attribute.implicit_const_value() {
-        Some(value) => writeln!(output, "  {name} {form} {value}"),
-        None => match (name.static_string(), form.static_string()) {
-            (Some(name), Some(form)) => write_names(output, name, form),
-            _ => writeln!(output, "  {name} {form}"),
-        },
-    }
+    output.write_all(b"  ")?;
+    write_name(output, name.static_string(), name)?;
+    output.write_all(b" ")?;
+    write_name(output, form.static_string(), form)?;
+    write_value(output, attribute.implicit_const_value())?;
+    output.write_all(b"\n")
 }
 
-// The line of an attribute whose numbers have names and that has no value, as nearly all do.
-// Copying the names is faster than formatting them.
-fn write_names<O: Write>(output: &mut O, name: &str, form: &str) -> io::Result<()>
-    ensures { OnOk result (Appends (O.contents output.old) (O.contents output.new)
-        (line (codes "  " ++ name.now ++ codes " " ++ form.now))) }
+fn write_value<O: Write>(output: &mut O, value: Option<i64>) -> io::Result<()>
+    ensures { OnOk result
+        (Appends (O.contents output.old) (O.contents output.new) (value_text value)) }
 {
-    output.write_all(b"  ")?;
-    output.write_all(name.as_bytes())?;
+    let Some(value) = value else {
+        return Ok(());
+    };
     output.write_all(b" ")?;
-    output.write_all(form.as_bytes())?;
-    output.write_all(b"\n")
+    output.write_all(Buffer::new().format(value).as_bytes())
+}
+
+// Writes the name of a constant, or the text of one that has no name. Copying a name is faster than
+// formatting it.
+fn write_name<O: Write, C: Display + Drop>(
+    output: &mut O,
+    name: Option<&'static str>,
+    constant: C,
+) -> io::Result<()>
+    requires { IfSome name (λ s. IfSome (C.output constant) (λ text. s.now ≡ text)) }
+    ensures { OnOk result (IfSome (C.output constant)
+        (Appends (O.contents output.old) (O.contents output.new))) }
+{
+    match name {
+        Some(name) => output.write_all(name.as_bytes()),
+        None => write!(output, "{constant}"),
+    }
 }
