@@ -2,9 +2,9 @@
 use Rattle.dwarf_read_core.specs.Entries.{Entries}
 use Rattle.dwarf_read_core.specs.Format.{initial_length_size}
 use Rattle.dwarf_read_core.specs.Items.{ComesFirst}
-use Rattle.dwarf_read_core.specs.Layout.{AreItems, Layout, and_then, fault, more, read}
+use Rattle.dwarf_read_core.specs.Layout.{AreItems, Layout, and_then, fault, more, none, read}
 use Rattle.dwarf_read_c.specs.declared.sets.DwarfSet.{DwarfSet}
-use Rattle.dwarf_read_c.proofs.Common.{◌≡◌, ◌≢◌, Bool, true, ℕ, ◌+◌, ◌-◌, ◌<◌, ◌≤◌, ◌^◌, List, [], ◌∷◌, length, drop, Result, Ok, Err, subst, arith, ◌⊎◌, inl, inr, length-drop, common_steps, Error, EndsBefore, WantsMemory, Input, after, Headers, Set, StandsForSets, set, HasFour, set-parts, set-spans, section_of, HasSet, LacksSet, TellsSet, set_at, set_from, outside, faulty}
+use Rattle.dwarf_read_c.proofs.Common.{◌≡◌, ◌≢◌, Bool, true, ℕ, ◌+◌, ◌-◌, ◌<◌, ◌≤◌, ◌^◌, List, [], ◌∷◌, length, drop, Result, Ok, Err, ap, subst, arith, ◌⊎◌, inl, inr, length-drop, common_steps, Error, EndsBefore, WantsMemory, Input, after, Headers, Set, StandsForSets, set, HasFour, set-parts, set-spans, section_of, HasSet, LacksSet, TellsSet, set_at, set_from, outside, faulty}
 
 -- what is known of a set that was found at an offset
 pub record FoundSet {H : Type 0} (header : Layout H) (section : Input) (offset : ℕ) (s : Set H) : Type 0 where
@@ -44,6 +44,18 @@ first_reads (more {new = new} some reads others) = (some, new, reads)
 first_fails : {A : Type 0} {item : ℕ → Layout A} {offset : ℕ} {old : Input} {e : Error} {items : List (Result A Error)}
     → AreItems item offset old (Err e ∷ items) → (old.bytes ≢ []) × (read (item offset) old ≡ Err e)
 first_fails (fault some fails) = (some, fails)
+
+-- without a first item no bytes are there
+none_first : {A : Type 0} {item : ℕ → Layout A} {offset : ℕ} {old : Input} → AreItems item offset old [] → old.bytes ≡ []
+none_first (none empty) = empty
+
+-- if there is no item from an offset on, that is the length of the section
+pub set_ended : {H : Type 0} (header : Layout H) (bytes : List ℕ) (is_big : Bool) {offset : ℕ} {old : Headers}
+    → offset ≤ length bytes → old ≡ sets_from offset (section_of bytes is_big)
+    → StandsForSets header (2 ^ 64 - 1) old [] → offset ≡ length bytes
+set_ended header bytes is_big {offset} {old} within start ended =
+    let empty = none_first (subst (λ (h : Headers). StandsForSets header (2 ^ 64 - 1) h []) start ended) in
+    omega (arith, within, length-drop offset bytes, ap length empty)
 
 -- if the first item from an offset on is a set, the section has this set there
 pub set_found : {H : Type 0} {header : Layout H} {bytes : List ℕ} {is_big : Bool} {offset : ℕ} {old new : Headers}
