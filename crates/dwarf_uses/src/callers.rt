@@ -12,11 +12,11 @@ ghost use Rattle.dwarf_read_core.specs.Words.{WordAt, slot};
 ghost use Rattle.dwarf_uses.specs.Callers.{HaveLengths, IsFirstError};
 
 use dwarf_read_core::{
-    Abbreviations, AbbreviationsCache, AbbreviationsCacheStrategy, AddrHeader, DebugAbbrev,
-    DebugAbbrevOffset, DebugStr, DebugStrOffsets, DebugStrOffsetsBase, DebugStrOffsetsIndex, DwTag,
-    Error, Format, Reader, Result,
+    Abbreviation, Abbreviations, AbbreviationsCache, AbbreviationsCacheStrategy, AddrHeader,
+    DebugAbbrev, DebugAbbrevOffset, DebugStr, DebugStrOffsets, DebugStrOffsetsBase,
+    DebugStrOffsetsIndex, DwTag, Error, Format, Reader, Result,
 };
-use std::alloc::Global;
+use std::alloc::{AllocError, Global};
 
 /// Returns the tag of the abbreviation with this code.
 pub fn tag_of(table: &Abbreviations, code: u64) -> Option<DwTag>
@@ -45,14 +45,20 @@ pub fn table_text<R: Reader>(
     let table = section.abbreviations(mem, offset)?;
     let mut text = String::new(mem);
     for abbreviation in table.iter() {
-        let (code, tag) = (abbreviation.code(), abbreviation.tag());
-        writeln!(text, "{code} {tag}")?;
-        for attribute in abbreviation.attributes() {
-            let (name, form) = (attribute.name(), attribute.form());
-            writeln!(text, "  {name} {form}")?;
-        }
+        append(abbreviation, &mut text)?;
     }
     Ok(text)
+}
+
+// Appends the line of a declaration, and those of its attributes.
+fn append(abbreviation: &Abbreviation, text: &mut String) -> std::result::Result<(), AllocError> {
+    let (code, tag) = (abbreviation.code(), abbreviation.tag());
+    writeln!(text, "{code} {tag}")?;
+    for attribute in abbreviation.attributes() {
+        let (name, form) = (attribute.name(), attribute.form());
+        writeln!(text, "  {name} {form}")?;
+    }
+    Ok(())
 }
 
 /// Returns how many abbreviations the table of each unit has. A table that two units share is read

@@ -14,9 +14,11 @@
 ghost use Rattle.std.specs.Prelude.{◌≡◌, ◌+◌, ◌-◌, ◌≤◌, ◌<◌, ◌^◌, length, take, drop, All, false, IfOk, IfErr};
 ghost use Rattle.std.proofs.Common.{arith, length-drop};
 ghost use Rattle.std.proofs.lemmas.List.Elements.{All-drop};
+ghost use Rattle.dwarf_read_core.specs.Endian.{is_big_at_run_time};
+ghost use Rattle.dwarf_read_core.specs.Input.{Takes};
 ghost use Rattle.dwarf_read_core.specs.declared.Error.TheVariants.{OutOfMemory};
 
-use dwarf_read_core::{EndianSlice, Endianity, Error, Reader, ReaderOffsetId, Result};
+use dwarf_read_core::{EndianSlice, Error, Reader, ReaderOffsetId, Result, RunTimeEndian};
 use std::alloc::Global;
 use std::borrow::{CowSlice, CowStr};
 
@@ -27,10 +29,10 @@ use std::borrow::{CowSlice, CowStr};
 /// [`Error::OutOfMemory`]. The reader that they return has one fewer, and the number of the reader
 /// itself doesn't change. So a test can make each clone of a call fail, one after the other.
 #[derive(Debug, Drop)]
-pub struct OwnedReader<Endian: Endianity> {
+pub struct OwnedReader {
     alloc: Global,
     bytes: Vec<u8>,
-    endian: Endian,
+    endian: RunTimeEndian,
     // The bytes in front of this index were consumed.
     start: usize,
     position: u64,
@@ -42,14 +44,14 @@ pub struct OwnedReader<Endian: Endianity> {
     ghost are_bytes: { All (λ b. b < 256) bytes.items },
 }
 
-impl<Endian: Endianity> OwnedReader<Endian> {
+impl OwnedReader {
     /// Returns a reader of these bytes at position 0, whose clones may go `depth` deep.
     ///
     /// There are fewer than 2^32 bytes.
-    pub fn new(alloc: Global, bytes: Vec<u8>, endian: Endian, depth: u8) -> OwnedReader<Endian>
+    pub fn new(alloc: Global, bytes: Vec<u8>, endian: RunTimeEndian, depth: u8) -> OwnedReader
         requires { length bytes.items < 2 ^ 32 }
-        ensures { ⟦<OwnedReader<Endian> as Reader>⟧.view result
-            ≡ record { bytes = bytes.items; position = 0; is_big = Endian.is_big endian } }
+        ensures { ⟦<OwnedReader as Reader>⟧.view result
+            ≡ record { bytes = bytes.items; position = 0; is_big = is_big_at_run_time endian } }
     {
         OwnedReader {
             alloc,
@@ -70,10 +72,9 @@ impl<Endian: Endianity> OwnedReader<Endian> {
 
     // Consumes bytes that remain.
     fn advance(&mut self, len: usize)
-        requires { len ≤ length self.old.bytes.items - self.old.start }
-        ensures start { self.new.start ≡ self.old.start + len }
-        ensures position { self.new.position ≡ self.old.position + len }
-        ensures bytes { self.new.bytes ≡ self.old.bytes }
+        requires { len ≤ length (drop self.old.start self.old.bytes.items) }
+        ensures taken { Takes len (⟦<OwnedReader as Reader>⟧.view self.old)
+            (⟦<OwnedReader as Reader>⟧.view self.new) }
         ensures endian { self.new.endian ≡ self.old.endian }
     {
         self.start += len;
@@ -81,8 +82,8 @@ impl<Endian: Endianity> OwnedReader<Endian> {
     }
 
     // A reader of the first bytes that remain.
-    fn part(&self, len: usize) -> Result<OwnedReader<Endian>>
-        requires { len ≤ length self.now.bytes.items - self.now.start }
+    fn part(&self, len: usize) -> Result<OwnedReader>
+        requires { len ≤ length (drop self.now.start self.now.bytes.items) }
         ensures bytes { IfOk result (λ part. drop part.start part.bytes.items
             ≡ take len (drop self.now.start self.now.bytes.items)) }
         ensures position { IfOk result (λ part. part.position ≡ self.now.position) }
@@ -104,8 +105,8 @@ impl<Endian: Endianity> OwnedReader<Endian> {
     }
 }
 
-impl<Endian: Endianity> Reader for OwnedReader<Endian> {
-    type Endian = Endian;
+impl Reader for OwnedReader {
+    type Endian = RunTimeEndian;
 
     type Offset = u32;
 
@@ -116,7 +117,7 @@ impl<Endian: Endianity> Reader for OwnedReader<Endian> {
     ghost view = { λ r. record {
       bytes = drop r.start r.bytes.items;
       position = r.position;
-      is_big = Endian.is_big r.endian;
+      is_big = is_big_at_run_time r.endian;
     } };
 
     ghost order = { λ r. r.endian };
@@ -135,7 +136,7 @@ impl<Endian: Endianity> Reader for OwnedReader<Endian> {
         self.part(self.rest().len())
     }
 
-    fn endian(&self) -> Endian {
+    fn endian(&self) -> RunTimeEndian {
         self.endian
     }
 

@@ -16,18 +16,20 @@ ghost use Rattle.std.specs.Prelude.{◌≡◌, ◌+◌, ◌-◌, ◌≤◌, ◌<
 ghost use Rattle.std.specs.Rc.{rc_slice_items};
 ghost use Rattle.std.proofs.Common.{arith, length-take};
 ghost use Rattle.std.proofs.lemmas.List.Elements.{All-drop, All-take};
+ghost use Rattle.dwarf_read_core.specs.Endian.{is_big_at_run_time};
+ghost use Rattle.dwarf_read_core.specs.Input.{Takes};
 ghost use Rattle.dwarf_read_core.specs.declared.Error.TheVariants.{OutOfMemory};
 
-use dwarf_read_core::{EndianSlice, Endianity, Error, Reader, ReaderOffsetId, Result};
+use dwarf_read_core::{EndianSlice, Error, Reader, ReaderOffsetId, Result, RunTimeEndian};
 use std::alloc::Global;
 use std::borrow::{CowSlice, CowStr};
 use std::rc::RcSlice;
 
 /// A [`Reader`] of bytes that it shares with its clones.
 #[derive(Debug, Drop)]
-pub struct SharedReader<Endian: Endianity> {
+pub struct SharedReader {
     bytes: RcSlice<u8>,
-    endian: Endian,
+    endian: RunTimeEndian,
     // The bytes between these bounds remain.
     start: usize,
     end: usize,
@@ -37,15 +39,15 @@ pub struct SharedReader<Endian: Endianity> {
     ghost are_bytes: { All (λ b. b < 256) (rc_slice_items bytes) },
 }
 
-impl<Endian: Endianity> SharedReader<Endian> {
+impl SharedReader {
     /// Returns a reader of these bytes at position 0.
     ///
     /// # Errors
     ///
     /// [`Error::OutOfMemory`] if memory for the count of the references runs out.
-    pub fn new(bytes: Vec<u8>, endian: Endian) -> Result<SharedReader<Endian>>
-        ensures ok { IfOk result (λ reader. ⟦<SharedReader<Endian> as Reader>⟧.view reader
-            ≡ record { bytes = bytes.items; position = 0; is_big = Endian.is_big endian }) }
+    pub fn new(bytes: Vec<u8>, endian: RunTimeEndian) -> Result<SharedReader>
+        ensures ok { IfOk result (λ reader. ⟦<SharedReader as Reader>⟧.view reader
+            ≡ record { bytes = bytes.items; position = 0; is_big = is_big_at_run_time endian }) }
         ensures err { IfErr result (λ e. e ≡ OutOfMemory) }
     {
         let end = bytes.len();
@@ -65,8 +67,19 @@ impl<Endian: Endianity> SharedReader<Endian> {
         &self.bytes.as_slice()[self.start..self.end]
     }
 
+    // Consumes bytes that remain.
+    #[tactic(auto, using(crate::proofs::Shared::part_steps))]
+    fn advance(&mut self, len: usize)
+        requires { len ≤ self.old.end - self.old.start }
+        ensures taken { Takes len (⟦<SharedReader as Reader>⟧.view self.old)
+            (⟦<SharedReader as Reader>⟧.view self.new) }
+        ensures endian { self.new.endian ≡ self.old.endian }
+    {
+        self.start += len;
+    }
+
     // A reader of the first bytes that remain.
-    fn part(&self, len: usize) -> Result<SharedReader<Endian>>
+    fn part(&self, len: usize) -> Result<SharedReader>
         requires { len ≤ self.now.end - self.now.start }
         ensures bytes { IfOk result
             (λ part. rc_slice_items part.bytes ≡ rc_slice_items self.now.bytes) }
@@ -84,8 +97,8 @@ impl<Endian: Endianity> SharedReader<Endian> {
     }
 }
 
-impl<Endian: Endianity> Reader for SharedReader<Endian> {
-    type Endian = Endian;
+impl Reader for SharedReader {
+    type Endian = RunTimeEndian;
 
     type Offset = usize;
 
@@ -96,7 +109,7 @@ impl<Endian: Endianity> Reader for SharedReader<Endian> {
     ghost view = { λ r. record {
       bytes = take (r.end - r.start) (drop r.start (rc_slice_items r.bytes));
       position = r.start;
-      is_big = Endian.is_big r.endian;
+      is_big = is_big_at_run_time r.endian;
     } };
 
     ghost order = { λ r. r.endian };
@@ -125,7 +138,7 @@ impl<Endian: Endianity> Reader for SharedReader<Endian> {
         self.part(self.end - self.start)
     }
 
-    fn endian(&self) -> Endian {
+    fn endian(&self) -> RunTimeEndian {
         self.endian
     }
 
@@ -174,7 +187,7 @@ impl<Endian: Endianity> Reader for SharedReader<Endian> {
         if self.end - self.start < len {
             return Err(Error::UnexpectedEof(self.offset_id()));
         }
-        self.start += len;
+        self.advance(len);
         Ok(())
     }
 
@@ -184,7 +197,7 @@ impl<Endian: Endianity> Reader for SharedReader<Endian> {
             return Err(Error::UnexpectedEof(self.offset_id()));
         }
         let part = self.part(len)?;
-        self.start += len;
+        self.advance(len);
         Ok(part)
     }
 
@@ -210,7 +223,7 @@ impl<Endian: Endianity> Reader for SharedReader<Endian> {
             return Err(Error::UnexpectedEof(self.offset_id()));
         }
         buf.copy_from_slice(&self.rest()[..len]);
-        self.start += len;
+        self.advance(len);
         Ok(())
     }
 }

@@ -7,7 +7,7 @@ use dwarf_read_core::{
     Abbreviations, AbbreviationsCache, AbbreviationsCacheStrategy, AddrHeaderIter, DebugAbbrev,
     DebugAbbrevOffset, DebugAddr, DebugAddrBase, DebugAddrIndex, DebugStr, DebugStrOffset,
     DebugStrOffsets, DebugStrOffsetsBase, DebugStrOffsetsIndex, EndianSlice, Error, Format,
-    LittleEndian, Reader, ReaderOffset, Result, Section, read_u8_array,
+    LittleEndian, Reader, ReaderOffset, Result, RunTimeEndian, Section, read_u8_array,
 };
 use dwarf_uses::{OwnedReader, SharedReader};
 use std::alloc::Global;
@@ -15,19 +15,17 @@ use std::process::Abort;
 use std::rc::Rc;
 use std::test::Fail;
 
-type Owned = OwnedReader<LittleEndian>;
-
 // A reader of at most a hundred bytes, whose clones may go so deep.
-fn owned(mem: Global, bytes: &[u8], depth: u8) -> Result<Owned> {
+fn owned(mem: Global, bytes: &[u8], depth: u8) -> Result<OwnedReader> {
     let bytes = bytes[..bytes.len().min(100)].to_vec(mem)?;
-    Ok(OwnedReader::new(mem, bytes, LittleEndian, depth))
+    Ok(OwnedReader::new(mem, bytes, RunTimeEndian::Little, depth))
 }
 
 #[test]
 fn constants_tell_of_clones(rt: HostRuntime) {
     let of_slices = <EndianSlice<'_, LittleEndian> as Reader>::CLONE_IS_FREE;
-    let of_shared = <SharedReader<LittleEndian> as Reader>::CLONE_IS_FREE;
-    let constants = (of_slices, <Owned as Reader>::CLONE_IS_FREE, of_shared);
+    let of_shared = <SharedReader as Reader>::CLONE_IS_FREE;
+    let constants = (of_slices, <OwnedReader as Reader>::CLONE_IS_FREE, of_shared);
     same(
         &rt,
         constants,

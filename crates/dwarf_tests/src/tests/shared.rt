@@ -1,7 +1,7 @@
 //! The shared reader: a clone goes on over the bytes when the reader itself is dropped.
 
 use super::{eof, same};
-use dwarf_read_core::{LittleEndian, Reader, ReaderOffset, Result, read_u8_array};
+use dwarf_read_core::{Reader, ReaderOffset, Result, RunTimeEndian, read_u8_array};
 use dwarf_uses::SharedReader;
 use std::process::Abort;
 use std::test::Fail;
@@ -32,6 +32,6 @@ fn check_clone<R: Reader>(rt: &impl Abort, reader: R) -> Result<()> {
 #[test]
 fn clones_outlive_their_reader(rt: HostRuntime) -> std::result::Result<(), Fail> {
     let bytes = b"one\0two\0".to_vec(rt.alloc())?;
-    check_clone(&rt, SharedReader::new(bytes, LittleEndian)?)?;
+    check_clone(&rt, SharedReader::new(bytes, RunTimeEndian::Little)?)?;
     Ok(())
 }

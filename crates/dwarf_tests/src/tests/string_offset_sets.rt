@@ -4,8 +4,8 @@
 use super::strings::offset_at;
 use super::{Four, reader_at, same};
 use dwarf_read_core::{
-    DebugStrOffsets, EndianSlice, Error, Format, LittleEndian, Reader, ReaderOffset, Result,
-    RunTimeEndian, StrOffsetsEntryIter, StrOffsetsHeader, StrOffsetsHeaderIter,
+    DebugStrOffsets, Error, Format, Reader, ReaderOffset, Result, RunTimeEndian,
+    StrOffsetsEntryIter, StrOffsetsHeader, StrOffsetsHeaderIter,
 };
 use dwarf_uses::OwnedReader;
 use std::alloc::Global;
@@ -136,7 +136,7 @@ fn entries_are_found_by_their_index(rt: HostRuntime) {
 // The results of a section with the offset 2^32, whose reader counts in 32 bits and whose clones may go so deep.
 fn large_answers(mem: Global, depth: u8) -> Result<Answers> {
     let bytes = LARGE_OFFSET.to_vec(mem)?;
-    let reader = OwnedReader::new(mem, bytes, LittleEndian, depth);
+    let reader = OwnedReader::new(mem, bytes, RunTimeEndian::Little, depth);
     Ok(answers_of(&reader.into()))
 }
 
