@@ -1,6 +1,8 @@
 //! The public calls of dwarf_read_core and dwarf_uses, each by worked results.
 
-use dwarf_read_core::{EndianSlice, Endianity, Error, LittleEndian, ReaderOffsetId, Result};
+use dwarf_read_core::{
+    EndianSlice, Endianity, Error, LittleEndian, Reader, ReaderOffsetId, Result,
+};
 use std::alloc::Global;
 use std::fmt::Debug;
 use std::process::Abort;
@@ -26,6 +28,7 @@ mod copies;
 mod examples;
 mod names;
 mod owned;
+mod readings;
 mod sections;
 mod shared;
 mod string_offset_sets;
@@ -36,6 +39,12 @@ mod worked;
 // Ends the test if a result isn't the one that is wanted, and tells what it is the result of.
 fn same<T: PartialEq + Debug + Drop, W: Debug + Copy>(rt: &impl Abort, got: T, wanted: T, what: W) {
     assert_eq!(rt; got, wanted, "{what:?}");
+}
+
+// Ends the test if a reader has other bytes.
+fn check_bytes<R: Reader>(rt: &impl Abort, part: &R, wanted: &[u8]) -> Result<()> {
+    same(rt, part.to_slice()?.as_slice(), wanted, wanted);
+    Ok(())
 }
 
 // A reader of at most a thousand bytes whose first position is this one. The prover has to see that no position

@@ -1,11 +1,12 @@
 //! Addresses by their index, and the sets of addresses. The worked cases of `dwarf_list` have whole sets, and the
 //! first errors without their positions.
 
+use super::readings::{Check, Reading, alone, check_slices, four_at};
 use super::worked::{CUT_SET, FOUR_ADDRESSES, TWO_SETS, twenty_words};
-use super::{Four, eof, reader_at, same};
+use super::{Four, eof, same};
 use dwarf_read_core::{
-    AddrEntryIter, AddrHeader, AddrHeaderIter, DebugAddr, DebugAddrBase, DebugAddrIndex,
-    EndianSlice, Error, Format, LittleEndian, Reader, ReaderOffset, Result, RunTimeEndian,
+    AddrEntryIter, AddrHeader, AddrHeaderIter, DebugAddr, Error, Format, Reader, ReaderOffset,
+    Result, RunTimeEndian,
 };
 use std::alloc::Global;
 use std::process::Abort;
@@ -19,7 +20,7 @@ const BYTES: &[u8] =
     b"\x2c\0\0\0\x05\0\x04\0\x78\x56\x34\x12\xef\xbe\xad\xde\xf0\xde\xbc\x9a\x78\x56\x34\x12";
 
 // Bytes, their order, a size, a base and an index, and the address that they name.
-static ADDRESSES: &[(&[u8], RunTimeEndian, u8, usize, usize, Result<u64>)] = &[
+static ADDRESSES: &[(&[u8], RunTimeEndian, u8, u64, u64, Result<u64>)] = &[
     (BYTES, LITTLE, 4, 8, 0, Ok(0x1234_5678)),
     (BYTES, LITTLE, 4, 8, 1, Ok(0xdead_beef)),
     (BYTES, LITTLE, 4, 8, 3, Ok(0x1234_5678)),
@@ -95,7 +96,7 @@ static ADDRESSES: &[(&[u8], RunTimeEndian, u8, usize, usize, Result<u64>)] = &[
         LITTLE,
         3,
         0,
-        usize::MAX,
+        u64::MAX,
         Err(Error::UnsupportedOffset),
     ),
     (
@@ -103,7 +104,7 @@ static ADDRESSES: &[(&[u8], RunTimeEndian, u8, usize, usize, Result<u64>)] = &[
         LITTLE,
         255,
         0,
-        usize::MAX,
+        u64::MAX,
         Err(Error::UnsupportedOffset),
     ),
     (&[0; 64], LITTLE, 8, 60, 0, Err(eof!(60))),
@@ -111,31 +112,19 @@ static ADDRESSES: &[(&[u8], RunTimeEndian, u8, usize, usize, Result<u64>)] = &[
     (&[], LITTLE, 4, 0, 0, Err(eof!(0))),
 ];
 
-// The address that an index names.
-fn address_at(
-    bytes: &[u8],
-    order: RunTimeEndian,
-    size: u8,
-    base: usize,
-    index: usize,
-) -> Result<u64> {
-    let section = DebugAddr::from(EndianSlice::new(bytes, order));
-    section.get_address(size, DebugAddrBase(base), DebugAddrIndex(index))
-}
-
 #[test]
 fn addresses_are_looked_up(rt: HostRuntime) {
     for (bytes, order, size, base, index, wanted) in ADDRESSES {
-        let address = address_at(bytes, *order, *size, *base, *index);
-        same(&rt, address, *wanted, index);
+        let address = four_at(bytes, *order, 0, Reading::Address(*size, *base, *index));
+        same(&rt, address, alone(*wanted), index);
     }
 }
 
 // Ends the test where twenty addresses of a size aren't 1000 and what follows.
-fn check_twenty(rt: &impl Abort, bytes: &[u8], size: u8, base: usize) {
-    for index in 0..20usize {
-        let address = address_at(bytes, LITTLE, size, base, index);
-        same(rt, address, Ok(1000 + index as u64), index);
+fn check_twenty(rt: &impl Abort, bytes: &[u8], size: u8, base: u64) {
+    for index in 0..20 {
+        let address = four_at(bytes, LITTLE, 0, Reading::Address(size, base, index));
+        same(rt, address, alone(Ok(1000 + index)), index);
     }
 }
 
@@ -167,6 +156,21 @@ fn next_length<R: Reader>(headers: &mut AddrHeaderIter<R>) -> Result<Option<u64>
 
 pub(super) fn lengths_of<R: Reader>(section: &DebugAddr<R>) -> Result<Four> {
     Ok(next_lengths(&mut section.headers()?))
+}
+
+// The error in place of the first set's addresses, or no item.
+pub(super) fn fault_of_entries<R: Reader>(section: &DebugAddr<R>) -> Result<Four> {
+    Ok(match fault_of_next(&mut section.headers()?)? {
+        Some(error) => ended!(Err(error)),
+        None => ended!(Ok(None)),
+    })
+}
+
+fn fault_of_next<R: Reader>(headers: &mut AddrHeaderIter<R>) -> Result<Option<Error>> {
+    match headers.next()? {
+        Some(header) => Ok(header.entries().err()),
+        None => Ok(None),
+    }
 }
 
 // The first position, bytes, and what four calls return of their sets. No set follows an error.
@@ -232,28 +236,27 @@ pub(super) fn walk<R: Reader>(section: &DebugAddr<R>, addresses: &mut Vec<u64>) 
     Ok(())
 }
 
-fn lengths_at(bytes: &[u8], first: u8) -> Result<Four> {
-    lengths_of(&reader_at(bytes, LittleEndian, first).into())
-}
-
 #[test]
 fn sets_have_lengths_up_to_the_first_error(rt: HostRuntime) {
     for (first, bytes, wanted) in LENGTHS {
-        same(&rt, lengths_at(bytes, *first), Ok(*wanted), bytes);
+        let lengths = four_at(bytes, LITTLE, *first, Reading::AddressSets);
+        same(&rt, lengths, Ok(*wanted), bytes);
     }
 }
 
-// Ends the test where a section's sets have other addresses up to the first error, or another error.
-fn check_walk<R: Reader>(
+// Ends the test where a section's sets don't have so many of the four addresses up to the first error, or have another
+// error.
+pub(super) fn check_walk<R: Reader>(
     rt: &impl Abort,
     mem: Global,
     section: &DebugAddr<R>,
-    wanted: &[u64],
+    count: usize,
     outcome: Result<()>,
-) {
-    let mut found = Vec::new(mem);
+) -> Result<()> {
+    let (mut found, wanted) = (Vec::new(mem), &FOUR_ADDRESSES[..count.min(4)]);
     same(rt, walk(section, &mut found), outcome, wanted);
     same(rt, found.as_slice(), wanted, outcome);
+    Ok(())
 }
 
 // How many addresses the first bytes of two sets have, and their first error.
@@ -270,24 +273,13 @@ fn cut(len: usize) -> (usize, Result<()>) {
     }
 }
 
-// Ends the test where these bytes don't have so many of the four addresses, or have another error.
-fn check_cut(
-    rt: &impl Abort,
-    mem: Global,
-    bytes: &[u8],
-    first: u8,
-    count: usize,
-    outcome: Result<()>,
-) {
-    let section = reader_at(bytes, LittleEndian, first).into();
-    check_walk(rt, mem, &section, &FOUR_ADDRESSES[..count.min(4)], outcome);
-}
-
 #[test]
 fn cut_sets_end_early(rt: HostRuntime) {
     for len in 0..49usize {
         let (count, outcome) = cut(len);
-        check_cut(&rt, rt.alloc(), &TWO_SETS[..len], 0, count, outcome);
+        let check = Check::Walk(count, outcome);
+        check_slices(&rt, rt.alloc(), check, 0, [&TWO_SETS[..len], b"", b""]);
     }
-    check_cut(&rt, rt.alloc(), CUT_SET, 100, 1, Err(eof(112)));
+    let check = Check::Walk(1, Err(eof(112)));
+    check_slices(&rt, rt.alloc(), check, 100, [CUT_SET, b"", b""]);
 }

@@ -1,18 +1,18 @@
 //! The small callers, on worked sections.
 
+use super::readings::{Check, check_slices};
 use super::worked::{FOUR_ADDRESSES, STRINGS, THREE, TWO_SETS, UNIT};
-use super::{little, same};
+use super::{check_bytes, little, same};
 use dwarf_read_core::constants::{DW_TAG_compile_unit, DwTag};
 use dwarf_read_core::{
     Abbreviations, AddrHeader, DebugAbbrev, DebugAbbrevOffset, DebugAddr, DebugStr,
-    DebugStrOffsets, DebugStrOffsetsBase, DebugStrOffsetsIndex, EndianSlice, Format, LittleEndian,
-    Reader, ReaderOffset, Result,
+    DebugStrOffsets, DebugStrOffsetsBase, DebugStrOffsetsIndex, Format, Reader, ReaderOffset,
+    Result,
 };
 use dwarf_uses::callers::{addresses_in, string_by_index, table_lengths, table_text, tag_of};
 use dwarf_uses::parts::{clone_is_equal, split_ten};
 use std::alloc::Global;
 use std::process::Abort;
-use std::test::Fail;
 
 fn check_tags(rt: &impl Abort, table: &Abbreviations) {
     let none: Option<DwTag> = None;
@@ -33,29 +33,50 @@ fn check_text(rt: &impl Abort, text: &str) {
     same(rt, text, wanted, "text");
 }
 
-// The lengths of the tables at 0, at 5, and at 0 again.
-fn lengths(mem: Global, bytes: &[u8]) -> Result<Vec<usize>> {
-    let (first, second) = (DebugAbbrevOffset(0), DebugAbbrevOffset(5));
-    let section = DebugAbbrev::new(bytes, LittleEndian);
-    table_lengths(mem, &section, &[first, second, first])
+const UNITS: &[DebugAbbrevOffset<usize>] = &[
+    DebugAbbrevOffset(0),
+    DebugAbbrevOffset(5),
+    DebugAbbrevOffset(0),
+];
+
+// Ends the test where the tables at 0, at 5, and at 0 again don't have three, two and three declarations.
+fn check_lengths<R: Reader<Offset = usize>>(
+    rt: &impl Abort,
+    mem: Global,
+    section: &DebugAbbrev<R>,
+) -> Result<()> {
+    let lengths = table_lengths(mem, section, UNITS)?;
+    same(rt, lengths.as_slice(), [3, 2, 3].as_slice(), "lengths");
+    Ok(())
+}
+
+pub(super) fn check_tables<R: Reader<Offset = usize>>(
+    rt: &impl Abort,
+    mem: Global,
+    unit: R,
+    three: R,
+) -> Result<()> {
+    check_unit(rt, mem, &unit.into())?;
+    check_lengths(rt, mem, &three.into())
 }
 
 #[test]
-fn tables_are_walked(rt: HostRuntime) -> std::result::Result<(), Fail> {
-    let mem = rt.alloc();
-    check_unit(&rt, mem, &DebugAbbrev::new(UNIT, LittleEndian))?;
-    let lengths = lengths(mem, THREE)?;
-    same(&rt, lengths.as_slice(), [3, 2, 3].as_slice(), "lengths");
-    Ok(())
+fn tables_are_walked(rt: HostRuntime) {
+    check_slices(&rt, rt.alloc(), Check::Tables, 0, [UNIT, THREE, b""]);
 }
 
 const OFFSETS: &[u8] = b"\x0c\0\0\0\x05\0\0\0\0\0\0\0\x04\0\0\0";
 
-fn string_at(index: usize) -> Result<&'static [u8]> {
-    let offsets = DebugStrOffsets::from(EndianSlice::new(OFFSETS, LittleEndian));
-    let strings = DebugStr::new(STRINGS, LittleEndian);
-    let (base, index) = (DebugStrOffsetsBase(8), DebugStrOffsetsIndex(index));
-    Ok(string_by_index(&offsets, &strings, Format::Dwarf32, base, index)?.slice())
+// Ends the test where the string at index 1 isn't the second.
+fn check_string<R: Reader>(
+    rt: &impl Abort,
+    offsets: &DebugStrOffsets<R>,
+    strings: &DebugStr<R>,
+) -> Result<()> {
+    let base = DebugStrOffsetsBase(R::Offset::from_u8(8));
+    let index = DebugStrOffsetsIndex(R::Offset::from_u8(1));
+    let string = string_by_index(offsets, strings, Format::Dwarf32, base, index)?;
+    check_bytes(rt, &string, b"two")
 }
 
 // Appends the addresses of a set.
@@ -78,10 +99,21 @@ fn check_sets<R: Reader>(rt: &impl Abort, mem: Global, sets: &DebugAddr<R>) {
     same(rt, found.as_slice(), wanted, "addresses");
 }
 
+pub(super) fn check_sections<R: Reader>(
+    rt: &impl Abort,
+    mem: Global,
+    offsets: R,
+    strings: R,
+    sets: R,
+) -> Result<()> {
+    check_sets(rt, mem, &sets.into());
+    check_string(rt, &offsets.into(), &strings.into())
+}
+
 #[test]
 fn sections_are_looked_up(rt: HostRuntime) {
-    same(&rt, string_at(1), Ok(b"two".as_slice()), "string 1");
-    check_sets(&rt, rt.alloc(), &little(TWO_SETS).into());
+    let sections = [OFFSETS, STRINGS, TWO_SETS];
+    check_slices(&rt, rt.alloc(), Check::Lookups, 0, sections);
 }
 
 #[test]
@@ -89,6 +121,5 @@ fn parts_are_cut(rt: HostRuntime) {
     let bytes = b"0123456789";
     let wanted = (b"012".as_slice(), b"3456789".as_slice());
     same(&rt, split_ten(bytes), wanted, "three and seven");
-    let reader = EndianSlice::new(bytes, LittleEndian);
-    same(&rt, clone_is_equal(&reader), Ok(true), "a clone");
+    same(&rt, clone_is_equal(&little(bytes)), Ok(true), "a clone");
 }

@@ -1,9 +1,10 @@
 //! Copies of the sets of addresses and of string offsets, and of their iterators. That a copy is what it is a copy of
 //! is proved (`is_clone`). So these tests show that each kind of copy can be made.
 
+use super::readings::{Check, check_slices};
+use super::same;
 use super::string_offset_sets::{TWO_SETS as TWO_OFFSET_SETS, next_header as next_offsets};
 use super::worked::{FOUR_ADDRESSES, TWO_SETS};
-use super::{little, same};
 use dwarf_read_core::{
     AddrEntryIter, AddrHeader, AddrHeaderIter, DebugAddr, DebugStrOffsets, Error, Reader,
     ReaderOffset, Result, StrOffsetsEntryIter, StrOffsetsHeader, StrOffsetsHeaderIter,
@@ -80,7 +81,7 @@ fn check_offset_sets<R: Reader + Clone + PartialEq>(
 }
 
 // Ends the test where copies of either kind of sets are read otherwise.
-fn check_copies<R: Reader + Clone + PartialEq>(
+pub(super) fn check_copies<R: Reader + Clone + PartialEq>(
     rt: &impl Abort,
     addresses: &DebugAddr<R>,
     offsets: &DebugStrOffsets<R>,
@@ -91,11 +92,6 @@ fn check_copies<R: Reader + Clone + PartialEq>(
 
 #[test]
 fn copies_are_read_alike(rt: HostRuntime) {
-    let (addresses, offsets) = (little(TWO_SETS).into(), little(TWO_OFFSET_SETS).into());
-    same(
-        &rt,
-        check_copies(&rt, &addresses, &offsets),
-        Ok(()),
-        "copies",
-    );
+    let sections = [TWO_SETS, TWO_OFFSET_SETS, b""];
+    check_slices(&rt, rt.alloc(), Check::Copies, 0, sections);
 }

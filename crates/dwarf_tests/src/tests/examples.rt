@@ -1,8 +1,9 @@
 //! The examples of the documentation, each as it is there. `tools/doc-examples` compares them.
 
-use super::same;
+use super::readings::{Check, check_slices};
 use super::worked::{STRINGS, TWO_SETS, UNIT};
-use dwarf_read_core::constants::DW_TAG_compile_unit;
+use super::{little, same};
+use dwarf_read_core::constants::{DW_TAG_compile_unit, DwTag};
 use dwarf_read_core::leb128::write::Leb128;
 use dwarf_read_core::{
     AbbreviationsCache, AbbreviationsCacheStrategy, BigEndian, DebugAbbrev, DebugAbbrevOffset,
@@ -11,6 +12,7 @@ use dwarf_read_core::{
 };
 use std::alloc::Global;
 use std::fmt::Display;
+use std::process::Abort;
 use std::test::Fail;
 
 // The end of a part, at any type of offsets.
@@ -48,15 +50,23 @@ fn examples_of_leb128(rt: HostRuntime) {
     assert_eq!(rt; input.offset_id(), ReaderOffsetId(2));
 }
 
-#[test]
-fn examples_of_tables(rt: HostRuntime) -> std::result::Result<(), Fail> {
-    let (mem, bytes) = (rt.alloc(), UNIT);
+fn tag_in(mem: Global, bytes: &[u8]) -> Result<Option<DwTag>> {
     let section = DebugAbbrev::new(bytes, LittleEndian);
     let table = section.abbreviations(mem, DebugAbbrevOffset(0))?;
     let tag = table.get(1).map(|abbreviation| abbreviation.tag());
-    same(&rt, tag, Some(DW_TAG_compile_unit), "tag");
-    Ok(())
+    Ok(tag)
 }
+
+#[test]
+fn examples_of_tables(rt: HostRuntime) {
+    let tag = tag_in(rt.alloc(), UNIT);
+    same(&rt, tag, Ok(Some(DW_TAG_compile_unit)), "tag");
+}
+
+const OFFSETS: &[Result<DebugAbbrevOffset<usize>>] = &[
+    Ok(DebugAbbrevOffset(0)),
+    Ok(DebugAbbrevOffset(0)),
+];
 
 // How many declarations a table from a cache has.
 fn cached<R: Reader<Offset = usize>>(mem: Global, debug_abbrev: DebugAbbrev<R>) -> Result<usize> {
@@ -73,10 +83,18 @@ fn cached<R: Reader<Offset = usize>>(mem: Global, debug_abbrev: DebugAbbrev<R>) 
     Ok(table.len())
 }
 
+pub(super) fn check_cached<R: Reader<Offset = usize>>(
+    rt: &impl Abort,
+    mem: Global,
+    debug_abbrev: DebugAbbrev<R>,
+) -> Result<()> {
+    same(rt, cached(mem, debug_abbrev)?, 1, "cached");
+    Ok(())
+}
+
 #[test]
 fn examples_of_caches(rt: HostRuntime) {
-    let debug_abbrev = DebugAbbrev::new(UNIT, LittleEndian);
-    same(&rt, cached(rt.alloc(), debug_abbrev), Ok(1), "cached");
+    check_slices(&rt, rt.alloc(), Check::Caches, 0, [UNIT, b"", b""]);
 }
 
 // The bytes of a section of a file, by its name.
@@ -85,12 +103,15 @@ fn find_section(name: &str) -> Result<EndianSlice<'static, LittleEndian>> {
     Ok(EndianSlice::new(bytes, LittleEndian))
 }
 
-#[test]
-fn examples_of_sections(rt: HostRuntime) -> std::result::Result<(), Fail> {
+fn string_of_file() -> Result<&'static [u8]> {
     let debug_str = DebugStr::load(|id| find_section(id.name()))?;
     let string = debug_str.get_str(DebugStrOffset(4))?;
-    same(&rt, string.slice(), b"two", "string");
-    Ok(())
+    Ok(string.slice())
+}
+
+#[test]
+fn examples_of_sections(rt: HostRuntime) {
+    same(&rt, string_of_file(), Ok(b"two".as_slice()), "string");
 }
 
 fn print_addresses<R: Reader>(
@@ -120,12 +141,16 @@ where
     Ok(())
 }
 
+fn print_sets<R: Reader>(rt: &impl Print, addresses: R, offsets: R) -> std::result::Result<(), Fail>
+where
+    R::Offset: Display,
+{
+    print_addresses(rt, &addresses.into())?;
+    print_offsets(rt, &offsets.into())
+}
+
 #[test]
 fn examples_of_sets(rt: HostRuntime) -> std::result::Result<(), Fail> {
-    let section = DebugAddr::from(EndianSlice::new(TWO_SETS, LittleEndian));
-    print_addresses(&rt, &section)?;
     let offsets = b"\x08\0\0\0\x05\0\0\0\x04\0\0\0";
-    let section = DebugStrOffsets::from(EndianSlice::new(offsets, LittleEndian));
-    print_offsets(&rt, &section)?;
-    Ok(())
+    print_sets(&rt, little(TWO_SETS), little(offsets))
 }

@@ -1,16 +1,17 @@
 //! The owned reader: 32-bit offsets, and clones that fail.
 
-use super::addresses::{lengths_of, walk};
+use super::addresses::walk;
+use super::readings::{Reading, four_of};
 use super::worked::{FOUR_ADDRESSES, STRINGS, TWO_SETS, UNIT};
-use super::{Four, end_requests, same};
+use super::{Four, cache, check_bytes, end_requests, same};
 use dwarf_read_core::{
-    Abbreviations, AbbreviationsCache, AbbreviationsCacheStrategy, AddrHeaderIter, DebugAbbrev,
-    DebugAbbrevOffset, DebugAddr, DebugAddrBase, DebugAddrIndex, DebugStr, DebugStrOffset,
-    DebugStrOffsets, DebugStrOffsetsBase, DebugStrOffsetsIndex, EndianSlice, Error, Format,
+    Abbreviations, AbbreviationsCache, AbbreviationsCacheStrategy, DebugAbbrev, DebugAbbrevOffset,
+    DebugAddr, DebugAddrBase, DebugAddrIndex, DebugStr, DebugStrOffset, EndianSlice, Error, Format,
     LittleEndian, Reader, ReaderOffset, Result, RunTimeEndian, Section, read_u8_array,
 };
 use dwarf_uses::{OwnedReader, SharedReader};
 use std::alloc::Global;
+use std::iter::once;
 use std::process::Abort;
 use std::rc::Rc;
 use std::test::Fail;
@@ -43,11 +44,6 @@ fn check_parts<R: Reader>(rt: &impl Abort, mem: Global, mut strings: R) -> Resul
 
 fn check_first<R: Reader>(rt: &impl Abort, mem: Global, strings: &mut R) -> Result<()> {
     check_one(rt, mem, &mut strings.read_null_terminated_slice()?)
-}
-
-fn check_bytes<R: Reader>(rt: &impl Abort, part: &R, wanted: &[u8]) -> Result<()> {
-    same(rt, part.to_slice()?.as_slice(), wanted, wanted);
-    Ok(())
 }
 
 fn check_two<R: Reader>(rt: &impl Abort, two: &mut R) -> Result<()> {
@@ -89,38 +85,13 @@ fn parts_have_one_clone_fewer(rt: HostRuntime) -> std::result::Result<(), Fail> 
 // A length of 2^32 in the 64-bit format.
 const LONG: &[u8] = &[0xff, 0xff, 0xff, 0xff, 0, 0, 0, 0, 1, 0, 0, 0];
 
-// The error of the reading of an initial length, and how many bytes it consumes.
-fn fault_of_length<R: Reader>(mut input: R) -> (Option<Error>, u64) {
-    (input.read_initial_length().err(), input.offset_id().0)
+// What four calls return of bytes by a reader whose clones may go so deep.
+pub(super) fn four(mem: Global, bytes: &[u8], depth: u8, reading: Reading) -> Result<Four> {
+    four_of(owned(mem, bytes, depth)?, reading)
 }
 
-fn check_length(rt: &impl Abort, mem: Global, wanted: Error) -> Result<()> {
-    let (fault, position) = fault_of_length(owned(mem, LONG, 0)?);
-    same(rt, fault, Some(wanted), "a length");
-    same(rt, position, 12, "a length");
-    Ok(())
-}
-
-// The offset that an index names.
-fn offset_of<R: Reader>(
-    section: &DebugStrOffsets<R>,
-    format: Format,
-    index: R::Offset,
-) -> Result<R::Offset> {
-    let base = DebugStrOffsetsBase(R::Offset::from_u8(0));
-    Ok(
-        section
-            .get_str_offset(format, base, DebugStrOffsetsIndex(index))?
-            .0,
-    )
-}
-
-// The offset that an index names of a section of one word of 2^32.
-fn offset_at(mem: Global, format: Format, index: u32) -> Result<u32> {
-    offset_of(&owned(mem, &LONG[4..], 1)?.into(), format, index)
-}
-
-static FAULTS: &[(Format, u32, Error)] = &[
+// In a section of one word of 2^32: a format, an index, and the error in place of the offset that it names.
+static FAULTS: &[(Format, u64, Error)] = &[
     (Format::Dwarf64, 0, Error::UnsupportedOffset),
     (Format::Dwarf32, 1 << 30, Error::UnsupportedOffset),
     (Format::Dwarf32, (1 << 30) - 1, eof!(0)),
@@ -129,10 +100,14 @@ static FAULTS: &[(Format, u32, Error)] = &[
 #[test]
 fn offsets_have_32_bits(rt: HostRuntime) {
     let (mem, fault) = (rt.alloc(), Error::UnsupportedOffset);
-    same(&rt, check_length(&rt, mem, fault), Ok(()), "a length");
-    same(&rt, lengths(mem, LONG, 2), Ok(ended!(Err(fault))), "a set");
+    let length = four(mem, LONG, 0, Reading::Length);
+    let wanted = Ok([Err(fault), Ok(Some(12)), Ok(None), Ok(None)]);
+    same(&rt, length, wanted, "a length");
+    let sets = four(mem, LONG, 2, Reading::AddressSets);
+    same(&rt, sets, Ok(ended!(Err(fault))), "a set");
     for (format, index, fault) in FAULTS {
-        same(&rt, offset_at(mem, *format, *index), Err(*fault), index);
+        let offset = four(mem, &LONG[4..], 1, Reading::Offset(*format, 0, *index));
+        same(&rt, offset, Err(*fault), index);
     }
 }
 
@@ -141,18 +116,19 @@ type Answer = [u64; 2];
 
 // What a call returns where clones may go 0, 1, 2 and 3 deep: first OutOfMemory, and from some depth
 // on what is wanted.
-fn check_depths(rt: &impl Abort, results: &[Result<Answer>], wanted: Answer, what: &str) {
+fn check_depths(rt: &impl Abort, results: [Result<Answer>; 4], wanted: Answer, what: &str) {
     let mut is_refused = true;
-    for (depth, result) in results.iter().enumerate() {
-        if *result == Err(Error::OutOfMemory) {
-            assert!(rt; is_refused, "{what} at {depth}");
+    for result in &results {
+        let was_refused = is_refused;
+        is_refused = *result == Err(Error::OutOfMemory);
+        if is_refused {
+            assert!(rt; was_refused, "{what}");
         } else {
-            assert!(rt; depth > 0, "{what} at {depth}");
             same(rt, *result, Ok(wanted), what);
-            is_refused = false;
         }
     }
-    assert!(rt; !is_refused, "{what} at any depth");
+    same(rt, results[0], Err(Error::OutOfMemory), what);
+    assert!(rt; !is_refused, "{what}");
 }
 
 // The first code of the table at 0, or 0 where there is none: as it is read, as it is read strictly, from a cache
@@ -168,18 +144,11 @@ fn first_codes<R: Reader>(mem: Global, section: &DebugAbbrev<R>) -> [Result<Answ
 }
 
 fn first_code(table: Result<Abbreviations>) -> Result<Answer> {
-    Ok(code_of(&table?))
+    Ok([cache::first_code(&table?), 0])
 }
 
 fn shared_code(table: Result<Rc<Abbreviations>>) -> Result<Answer> {
-    Ok(code_of(&*table?))
-}
-
-fn code_of(table: &Abbreviations) -> Answer {
-    match table.iter().next() {
-        Some(abbreviation) => [abbreviation.code(), 0],
-        None => [0, 0],
-    }
+    Ok([cache::first_code(&*table?), 0])
 }
 
 fn kept_code<R: Reader>(
@@ -188,10 +157,7 @@ fn kept_code<R: Reader>(
     offset: DebugAbbrevOffset<R::Offset>,
 ) -> Result<Answer> {
     let mut cache = AbbreviationsCache::new(mem);
-    let mut offsets = Vec::new(mem);
-    offsets.push(offset)?;
-    let units = offsets.iter().map(|offset| Ok(*offset));
-    cache.populate(AbbreviationsCacheStrategy::All, section, units)?;
+    cache.populate(AbbreviationsCacheStrategy::All, section, once(Ok(offset)))?;
     shared_code(cache.get(section, offset))
 }
 
@@ -267,84 +233,53 @@ fn answers_at(mem: Global, depth: u8) -> Result<Answers> {
     answers_of(mem, tables, strings, owned(mem, TWO_SETS, depth))
 }
 
+// What each call returns.
+static ANSWERS: [(&str, Answer); 8] = [
+    ("lenient", [1, 0]),
+    ("strict", [1, 0]),
+    ("fresh", [1, 0]),
+    ("kept", [1, 0]),
+    // The letters of "two", the first of them lowest.
+    ("a string", [0x6f_7774, 4]),
+    ("a range", [3, 4]),
+    ("an address", [0xdead_beef, 0]),
+    ("sets", [4, 0]),
+];
+
+fn check_answers(rt: &impl Abort, by_depth: [Answers; 4]) {
+    for (index, (what, wanted)) in ANSWERS.iter().enumerate() {
+        let [none, one, two, three] = by_depth;
+        let results = [none[index], one[index], two[index], three[index]];
+        check_depths(rt, results, *wanted, what);
+    }
+}
+
 #[test]
 fn refused_clones_are_returned(rt: HostRuntime) -> std::result::Result<(), Fail> {
     let mem = rt.alloc();
-    let (none, one, two, three) = (
-        answers_at(mem, 0)?,
-        answers_at(mem, 1)?,
-        answers_at(mem, 2)?,
-        answers_at(mem, 3)?,
-    );
-    let rows = [
-        ("lenient", [1, 0]),
-        ("strict", [1, 0]),
-        ("fresh", [1, 0]),
-        ("kept", [1, 0]),
-        ("a string", [u64::from_le_bytes(*b"two\0\0\0\0\0"), 4]),
-        ("a range", [3, 4]),
-        ("an address", [0xdead_beef, 0]),
-        ("sets", [4, 0]),
-    ];
-    for (index, (what, wanted)) in rows.iter().enumerate() {
-        let results = [none[index], one[index], two[index], three[index]];
-        check_depths(&rt, &results, *wanted, what);
-    }
+    let (none, one) = (answers_at(mem, 0)?, answers_at(mem, 1)?);
+    check_answers(&rt, [none, one, answers_at(mem, 2)?, answers_at(mem, 3)?]);
     Ok(())
 }
 
-// The error that is returned in place of the first set's addresses.
-fn fault_of_entries<R: Reader>(section: &DebugAddr<R>) -> Result<Option<Error>> {
-    fault_of_next(&mut section.headers()?)
-}
-
-fn fault_of_next<R: Reader>(headers: &mut AddrHeaderIter<R>) -> Result<Option<Error>> {
-    match headers.next()? {
-        Some(header) => Ok(header.entries().err()),
-        None => Ok(None),
-    }
-}
-
-// What is returned of a section's sets: the lengths of four, the error in place of the first set's addresses, and the
-// outcome of a walk over all addresses.
-type Walked = (Result<Four>, Result<Option<Error>>, Result<()>);
-
-fn walked<R: Reader>(section: &DebugAddr<R>, found: &mut Vec<u64>) -> Walked {
-    (
-        lengths_of(section),
-        fault_of_entries(section),
-        walk(section, found),
-    )
-}
-
-// The same of a reader whose clones may go so deep.
-fn walked_at(mem: Global, bytes: &[u8], depth: u8, found: &mut Vec<u64>) -> Result<Walked> {
-    Ok(walked(&DebugAddr::from(owned(mem, bytes, depth)?), found))
-}
-
-// The lengths alone.
-fn lengths(mem: Global, bytes: &[u8], depth: u8) -> Result<Four> {
-    walked_at(mem, bytes, depth, &mut Vec::new(mem))?.0
+// Appends the addresses of two sets, by a reader whose clones may go so deep, up to the first error.
+fn walk_at(mem: Global, depth: u8, found: &mut Vec<u64>) -> Result<()> {
+    walk(&DebugAddr::from(owned(mem, TWO_SETS, depth)?), found)
 }
 
 // An iterator that returned OutOfMemory has no other item.
 #[test]
-fn refused_clones_end_a_walk(rt: HostRuntime) -> std::result::Result<(), Fail> {
-    let mem = rt.alloc();
-    let (refused, mut found) = (Error::OutOfMemory, Vec::new(mem));
-    same(
-        &rt,
-        lengths(mem, TWO_SETS, 1),
-        Ok(ended!(Err(refused))),
-        "1",
-    );
-    let (_, fault, _) = walked_at(mem, TWO_SETS, 2, &mut found)?;
-    same(&rt, fault, Ok(Some(refused)), "2");
+fn refused_clones_end_a_walk(rt: HostRuntime) {
+    let (mem, refused) = (rt.alloc(), Error::OutOfMemory);
+    let sets = four(mem, TWO_SETS, 1, Reading::AddressSets);
+    same(&rt, sets, Ok(ended!(Err(refused))), "1");
+    let entries = four(mem, TWO_SETS, 2, Reading::Addresses);
+    same(&rt, entries, Ok(ended!(Err(refused))), "2");
+    let mut found = Vec::new(mem);
+    same(&rt, walk_at(mem, 2, &mut found), Err(refused), "2");
     same(&rt, found.is_empty(), true, "2");
-    let (_, _, outcome) = walked_at(mem, TWO_SETS, 3, &mut found)?;
-    same(&rt, outcome, Ok(()), "3");
+    same(&rt, walk_at(mem, 3, &mut found), Ok(()), "3");
     same(&rt, found.as_slice(), FOUR_ADDRESSES.as_slice(), "3");
-    Ok(())
 }
 
 // If an allocation fails, the addresses up to some are there, and all if the outcome isn't OutOfMemory.
@@ -352,13 +287,12 @@ fn refused_clones_end_a_walk(rt: HostRuntime) -> std::result::Result<(), Fail> {
 fn refused_memory_for_clones(rt: HostRuntime) {
     let mem = rt.alloc();
     let mut found = Vec::new(mem);
-    if let Ok((_, _, outcome)) = walked_at(mem, TWO_SETS, 3, &mut found) {
-        let count = found.len().min(4);
-        same(&rt, found.as_slice(), &FOUR_ADDRESSES[..count], "sets");
-        match outcome {
-            Ok(()) => same(&rt, count, 4, "sets"),
-            Err(fault) => same(&rt, fault, Error::OutOfMemory, "sets"),
-        }
+    let outcome = walk_at(mem, 3, &mut found);
+    let count = found.len().min(4);
+    same(&rt, found.as_slice(), &FOUR_ADDRESSES[..count], "sets");
+    match outcome {
+        Ok(()) => same(&rt, count, 4, "sets"),
+        Err(fault) => same(&rt, fault, Error::OutOfMemory, "sets"),
     }
     end_requests(&rt, mem);
 }
@@ -366,7 +300,7 @@ fn refused_memory_for_clones(rt: HostRuntime) {
 // No set follows an allocation that failed.
 #[test]
 fn refused_memory_for_headers(rt: HostRuntime) {
-    if let Ok(sets) = lengths(rt.alloc(), TWO_SETS, 3) {
+    if let Ok(sets) = four(rt.alloc(), TWO_SETS, 3, Reading::AddressSets) {
         let wanted = if sets[0].is_err() {
             [Err(Error::OutOfMemory), Ok(None), Ok(None), Ok(None)]
         } else if sets[1].is_err() {

@@ -1,6 +1,7 @@
 //! Sections: their names, and what they have in common.
 
-use super::{little, same};
+use super::readings::{Check, check_slices};
+use super::{check_bytes, little, same};
 use dwarf_read_core::{
     DebugAbbrev, DebugAddr, DebugLineStr, DebugStr, DebugStrOffsets, EndianSlice, Error,
     LittleEndian, Reader, ReaderOffset, ReaderOffsetId, Result, Section, SectionId,
@@ -36,7 +37,7 @@ fn check_range<R: Reader, S: Section<R> + Drop>(
 
 // Ends the test where a reader has other bytes or another position.
 fn check_part<R: Reader>(rt: &impl Abort, part: &R, bytes: &[u8], position: u64) -> Result<()> {
-    same(rt, part.to_slice()?.as_slice(), bytes, position);
+    check_bytes(rt, part, bytes)?;
     same(rt, part.offset_id().0, position, bytes);
     Ok(())
 }
@@ -80,15 +81,20 @@ fn check_places<R: Reader>(rt: &impl Abort, section: &DebugLineStr<R>) {
 }
 
 // Ends the test where a section of ten bytes or one of three at position 100 is read otherwise.
-fn check_ranges_and_places<R: Reader + Copy>(rt: &impl Abort, ten: R, three_at_100: R) {
+pub(super) fn check_ranges_and_places<R: Reader + Copy>(
+    rt: &impl Abort,
+    ten: R,
+    three_at_100: R,
+) -> Result<()> {
     check_sections(rt, ten);
     check_places(rt, &DebugLineStr::from(three_at_100));
+    Ok(())
 }
 
 #[test]
 fn sections_have_identifiers_ranges_and_places(rt: HostRuntime) {
-    let three = EndianSlice::with_first_id(b"abc", LittleEndian, ReaderOffsetId(100));
-    check_ranges_and_places(&rt, little(b"0123456789"), three);
+    let sections = [b"abc".as_slice(), b"0123456789", b""];
+    check_slices(&rt, rt.alloc(), Check::Ranges, 100, sections);
 }
 
 // A loader that has strings alone.
@@ -99,16 +105,20 @@ fn load(id: SectionId) -> std::result::Result<Slice<'static>, SectionId> {
     }
 }
 
-// The bytes of a section that is loaded.
-fn loaded<S: Section<Slice<'static>> + Drop>() -> std::result::Result<&'static [u8], SectionId> {
-    Ok(S::load(load)?.reader().slice())
+// The bytes of the strings that are loaded.
+fn loaded() -> std::result::Result<&'static [u8], SectionId> {
+    Ok(DebugStr::load(load)?.reader().slice())
+}
+
+// What is returned in place of the addresses.
+fn refused() -> Option<SectionId> {
+    DebugAddr::load(load).err()
 }
 
 #[test]
 fn sections_are_loaded(rt: HostRuntime) {
-    let (strings, addresses) = (loaded::<DebugStr<_>>(), loaded::<DebugAddr<_>>());
-    same(&rt, strings, Ok(b"abc\0".as_slice()), "strings");
-    same(&rt, addresses, Err(SectionId::DebugAddr), "addresses");
+    same(&rt, loaded(), Ok(b"abc\0".as_slice()), "strings");
+    same(&rt, refused(), Some(SectionId::DebugAddr), "addresses");
 }
 
 fn borrowed<'a>(bytes: &'a [u8; 4]) -> Slice<'a> {

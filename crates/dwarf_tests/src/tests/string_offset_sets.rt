@@ -1,14 +1,16 @@
 //! The sets of string offsets. The worked cases of `dwarf_list` have whole sets, and the first errors without their
 //! positions.
 
-use super::strings::offset_at;
-use super::{Four, reader_at, same};
+use super::readings::{Reading, alone, four_at};
+use super::{Four, owned, same};
 use dwarf_read_core::{
     DebugStrOffsets, Error, Format, Reader, ReaderOffset, Result, RunTimeEndian,
     StrOffsetsEntryIter, StrOffsetsHeader, StrOffsetsHeaderIter,
 };
-use dwarf_uses::OwnedReader;
 use std::alloc::Global;
+use std::process::Abort;
+
+const LITTLE: RunTimeEndian = RunTimeEndian::Little;
 
 // Two sets, the first in the 32-bit format with two offsets, the second in the 64-bit format with
 // one, and with padding that isn't zero.
@@ -16,7 +18,7 @@ pub(super) const TWO_SETS: &[u8] = b"\x0c\0\0\0\x05\0\0\0\xe8\x03\0\0\xe9\x03\0\
     \xff\xff\xff\xff\x0c\0\0\0\0\0\0\0\x05\0\x34\x12\xe8\x03\0\0\0\0\0\0";
 
 // A set with the offset 2^32.
-const LARGE_OFFSET: [u8; 24] = *b"\xff\xff\xff\xff\x0c\0\0\0\0\0\0\0\x05\0\0\0\0\0\0\0\x01\0\0\0";
+const LARGE_OFFSET: &[u8] = b"\xff\xff\xff\xff\x0c\0\0\0\0\0\0\0\x05\0\0\0\0\0\0\0\x01\0\0\0";
 
 // The next header, where there has to be one.
 pub(super) fn next_header<R: Reader>(
@@ -59,18 +61,12 @@ fn next_offset<R: Reader>(entries: &mut StrOffsetsEntryIter<R>) -> Result<Option
     }
 }
 
-// What four calls return of a section's sets, and of its first set's offsets.
-type Answers = (Result<Four>, Result<Four>);
-
-fn answers_of<R: Reader>(section: &DebugStrOffsets<R>) -> Answers {
-    (lengths_of(section), offsets_of(section))
-}
-
-fn lengths_of<R: Reader>(section: &DebugStrOffsets<R>) -> Result<Four> {
+pub(super) fn lengths_of<R: Reader>(section: &DebugStrOffsets<R>) -> Result<Four> {
     Ok(next_lengths(&mut section.headers()?))
 }
 
-fn offsets_of<R: Reader>(section: &DebugStrOffsets<R>) -> Result<Four> {
+// Of the first set.
+pub(super) fn offsets_of<R: Reader>(section: &DebugStrOffsets<R>) -> Result<Four> {
     let header = next_header(&mut section.headers()?)?;
     Ok(next_offsets(&mut header.entries()?))
 }
@@ -102,56 +98,65 @@ static LENGTHS: &[(&[u8], Four)] = &[
     (b"\x06\0\0\0\x05\0\0\0\x01\x02", ended!(Ok(Some(6)))),
 ];
 
-fn answers_at(bytes: &[u8], first: u8) -> Answers {
-    answers_of(&reader_at(bytes, RunTimeEndian::Little, first).into())
-}
-
 #[test]
 fn sets_have_lengths_up_to_the_first_error(rt: HostRuntime) {
     for (bytes, wanted) in LENGTHS {
-        same(&rt, answers_at(bytes, 100).0, Ok(*wanted), bytes);
+        let lengths = four_at(bytes, LITTLE, 100, Reading::OffsetSets);
+        same(&rt, lengths, Ok(*wanted), bytes);
     }
 }
 
-// The offsets of a set, each by its set's base and its index.
-static BY_INDEX: &[(Format, usize, usize, usize)] = &[
+// The offsets of two sets, each by its set's base and its index.
+static BY_INDEX: &[(Format, u64, u64, u64)] = &[
     (Format::Dwarf32, 8, 0, 1000),
     (Format::Dwarf32, 8, 1, 1001),
     (Format::Dwarf64, 32, 0, 1000),
 ];
 
+// Bytes, and what four calls return of their first set's offsets.
+static OFFSETS: &[(&[u8], Four)] = &[
+    (
+        TWO_SETS,
+        [Ok(Some(1000)), Ok(Some(1001)), Ok(None), Ok(None)],
+    ),
+    // Two bytes too few.
+    (b"\x06\0\0\0\x05\0\0\0\x01\x02", ended!(Err(eof!(8)))),
+];
+
 #[test]
 fn entries_are_found_by_their_index(rt: HostRuntime) {
-    let offsets = [Ok(Some(1000)), Ok(Some(1001)), Ok(None), Ok(None)];
-    same(&rt, answers_at(TWO_SETS, 0).1, Ok(offsets), "entries");
-    let cut = ended!(Err(eof!(8)));
-    let found = answers_at(b"\x06\0\0\0\x05\0\0\0\x01\x02", 0).1;
-    same(&rt, found, Ok(cut), "two bytes too few");
+    for (bytes, wanted) in OFFSETS {
+        let offsets = four_at(bytes, LITTLE, 0, Reading::Offsets);
+        same(&rt, offsets, Ok(*wanted), bytes);
+    }
     for (format, base, index, wanted) in BY_INDEX {
-        let offset = offset_at(TWO_SETS, RunTimeEndian::Little, *format, *base, *index);
-        same(&rt, offset, Ok(*wanted), index);
+        let offset = four_at(TWO_SETS, LITTLE, 0, Reading::Offset(*format, *base, *index));
+        same(&rt, offset, alone(Ok(*wanted)), index);
     }
 }
 
-// The results of a section with the offset 2^32, whose reader counts in 32 bits and whose clones may go so deep.
-fn large_answers(mem: Global, depth: u8) -> Result<Answers> {
-    let bytes = LARGE_OFFSET.to_vec(mem)?;
-    let reader = OwnedReader::new(mem, bytes, RunTimeEndian::Little, depth);
-    Ok(answers_of(&reader.into()))
+// Ends the test where four calls return something else of the sets, or of the first set's offsets, of a section with
+// the offset 2^32, whose reader counts in 32 bits and whose clones may go so deep.
+fn check_large(
+    rt: &impl Abort,
+    mem: Global,
+    depth: u8,
+    lengths: Result<Four>,
+    offsets: Result<Four>,
+) {
+    let found = owned::four(mem, LARGE_OFFSET, depth, Reading::OffsetSets);
+    same(rt, found, lengths, depth);
+    let found = owned::four(mem, LARGE_OFFSET, depth, Reading::Offsets);
+    same(rt, found, offsets, depth);
 }
 
 // An iterator that returned an error has no other item.
 #[test]
 fn refused_clones_and_offsets_end_a_walk(rt: HostRuntime) {
-    let (refused, large) = (Error::OutOfMemory, Error::UnsupportedOffset);
-    let whole = Ok(ended!(Ok(Some(12))));
-    for (depth, wanted) in [
-        (0, (Err(refused), Err(refused))),
-        (1, (Ok(ended!(Err(refused))), Err(refused))),
-        (2, (whole, Err(refused))),
-        (3, (whole, Ok(ended!(Err(large))))),
-    ] {
-        let found = large_answers(rt.alloc(), depth);
-        same(&rt, found, Ok(wanted), depth);
-    }
+    let (mem, refused) = (rt.alloc(), Error::OutOfMemory);
+    let (whole, large) = (Ok(ended!(Ok(Some(12)))), Error::UnsupportedOffset);
+    check_large(&rt, mem, 0, Err(refused), Err(refused));
+    check_large(&rt, mem, 1, Ok(ended!(Err(refused))), Err(refused));
+    check_large(&rt, mem, 2, whole, Err(refused));
+    check_large(&rt, mem, 3, whole, Ok(ended!(Err(large))));
 }

@@ -1,11 +1,11 @@
 //! Strings, and their offsets by index.
 
+use super::readings::{Reading, alone, four_at};
 use super::same;
 use super::worked::{STRINGS, twenty_words};
 use dwarf_read_core::{
-    DebugLineStr, DebugLineStrOffset, DebugStr, DebugStrOffset, DebugStrOffsets,
-    DebugStrOffsetsBase, DebugStrOffsetsIndex, EndianSlice, Error, Format, LittleEndian, Reader,
-    ReaderOffsetId, Result, RunTimeEndian,
+    DebugLineStr, DebugLineStrOffset, DebugStr, DebugStrOffset, EndianSlice, Error, Format,
+    LittleEndian, Reader, ReaderOffsetId, Result, RunTimeEndian,
 };
 use std::test::Fail;
 
@@ -77,20 +77,7 @@ fn positions_begin_at_the_first(rt: HostRuntime) {
     }
 }
 
-// The offset that an index names.
-pub(super) fn offset_at(
-    bytes: &[u8],
-    order: RunTimeEndian,
-    format: Format,
-    base: usize,
-    index: usize,
-) -> Result<usize> {
-    let section = DebugStrOffsets::from(EndianSlice::new(bytes, order));
-    let place = (DebugStrOffsetsBase(base), DebugStrOffsetsIndex(index));
-    Ok(section.get_str_offset(format, place.0, place.1)?.0)
-}
-
-static OFFSETS: &[(Format, usize, usize, Result<usize>)] = &[
+static OFFSETS: &[(Format, u64, u64, Result<u64>)] = &[
     (Format::Dwarf32, 8, 0, Ok(1000)),
     (Format::Dwarf32, 8, 1, Ok(1001)),
     (Format::Dwarf32, 8, 19, Ok(1019)),
@@ -109,15 +96,15 @@ fn offsets_are_looked_up(rt: HostRuntime) -> std::result::Result<(), Fail> {
     for (format, base, index, wanted) in OFFSETS {
         for (order, is_big) in [(RunTimeEndian::Little, false), (RunTimeEndian::Big, true)] {
             let bytes = twenty_words(rt.alloc(), *format, is_big)?;
-            let offset = offset_at(&bytes, order, *format, *base, *index);
-            same(&rt, offset, *wanted, index);
+            let offset = four_at(&bytes, order, 0, Reading::Offset(*format, *base, *index));
+            same(&rt, offset, alone(*wanted), index);
         }
     }
     Ok(())
 }
 
 // Of 64 zero bytes.
-static FAULTS: &[(Format, usize, usize, Error)] = &[
+static FAULTS: &[(Format, u64, u64, Error)] = &[
     (Format::Dwarf64, 0, 1 << 61, Error::UnsupportedOffset),
     (Format::Dwarf64, 0, 1 << 62, Error::UnsupportedOffset),
     (Format::Dwarf32, 0, 1 << 62, Error::UnsupportedOffset),
@@ -131,7 +118,8 @@ static FAULTS: &[(Format, usize, usize, Error)] = &[
 #[test]
 fn first_faults_are_returned(rt: HostRuntime) {
     for (format, base, index, fault) in FAULTS {
-        let offset = offset_at(&[0; 64], RunTimeEndian::Little, *format, *base, *index);
+        let reading = Reading::Offset(*format, *base, *index);
+        let offset = four_at(&[0; 64], RunTimeEndian::Little, 0, reading);
         same(&rt, offset, Err(*fault), index);
     }
 }

@@ -11,10 +11,6 @@ use std::alloc::{AllocError, Global};
 use std::process::Abort;
 use std::test::Fail;
 
-fn children(value: u8) -> Error {
-    Error::InvalidAbbreviationChildren(DwChildren(value))
-}
-
 fn unterminated(position: u64) -> Error {
     Error::UnterminatedAbbreviations(ReaderOffsetId(position))
 }
@@ -180,21 +176,22 @@ fn far_error(mem: Global, bytes: &[u8], offset: u8) -> Option<Error> {
     table_in(mem, &section, offset, Mode::Lenient).err()
 }
 
+static FAR_ERRORS: &[(&[u8], u8, Error)] = &[
+    (b"\x80", 0, eof!(101)),
+    (ENDED, 6, eof!(100)),
+    (b"\x01\x11\0\0\0\x01", 0, eof!(106)),
+    (
+        b"\0\x01\x11\x02",
+        1,
+        Error::InvalidAbbreviationChildren(DwChildren(2)),
+    ),
+];
+
 #[test]
 fn positions_begin_at_the_first(rt: HostRuntime) {
-    let rows: [(&[u8], u8, Error); 4] = [
-        (b"\x80", 0, eof(101)),
-        (ENDED, 6, eof(100)),
-        (b"\x01\x11\0\0\0\x01", 0, eof(106)),
-        (b"\0\x01\x11\x02", 1, children(2)),
-    ];
-    for (bytes, offset, wanted) in rows {
-        same(
-            &rt,
-            far_error(rt.alloc(), bytes, offset),
-            Some(wanted),
-            bytes,
-        );
+    for (bytes, offset, wanted) in FAR_ERRORS {
+        let error = far_error(rt.alloc(), bytes, *offset);
+        same(&rt, error, Some(*wanted), bytes);
     }
 }
 
@@ -226,6 +223,12 @@ static CUTS: &[(&[u8], &[(usize, usize, bool)])] = &[
     ),
 ];
 
+// How many declarations a table has, and whether a code of value 0 closes it.
+fn length_at(mem: Global, bytes: &[u8]) -> Result<(usize, bool)> {
+    let table = table_at(mem, bytes, 0)?;
+    Ok((table.len(), table.closed_by_null()))
+}
+
 #[test]
 fn cut_tables_end_early(rt: HostRuntime) {
     for (bytes, whole) in CUTS {
@@ -236,11 +239,8 @@ fn cut_tables_end_early(rt: HostRuntime) {
                     wanted = Ok((*count, *is_closed));
                 }
             }
-            let found = match table_at(rt.alloc(), &bytes[..len], 0) {
-                Ok(table) => Ok((table.len(), table.closed_by_null())),
-                Err(error) => Err(error),
-            };
-            same(&rt, found, wanted, &bytes[..len]);
+            let bytes = &bytes[..len];
+            same(&rt, length_at(rt.alloc(), bytes), wanted, bytes);
         }
     }
 }
@@ -296,16 +296,21 @@ fn declarations_are_found_by_code(rt: HostRuntime) {
     }
 }
 
-fn check_attributes(
+// Ends the test where an abbreviation has other attributes, or a copy of it isn't equal to it.
+fn check_attributes(rt: &impl Abort, table: &Abbreviations, wanted: &[AttributeSpecification]) {
+    for abbreviation in table.iter() {
+        same(rt, abbreviation.attributes(), wanted, wanted);
+        same(rt, is_one_copied(abbreviation), Ok(true), wanted);
+    }
+}
+
+fn check_attributes_at(
     rt: &impl Abort,
     mem: Global,
     bytes: &[u8],
     wanted: &[AttributeSpecification],
 ) -> Result<()> {
-    for abbreviation in table_at(mem, bytes, 0)?.iter() {
-        same(rt, abbreviation.attributes(), wanted, bytes);
-        same(rt, is_one_copied(abbreviation), Ok(true), bytes);
-    }
+    check_attributes(rt, &table_at(mem, bytes, 0)?, wanted);
     Ok(())
 }
 
@@ -330,16 +335,20 @@ fn attributes_are_in_their_order(rt: HostRuntime) -> std::result::Result<(), Fai
     let mem = rt.alloc();
     let name = AttributeSpecification::new(DW_AT_name, DW_FORM_string, None);
     let value = AttributeSpecification::new(DW_AT_name, DW_FORM_implicit_const, Some(-42));
-    check_attributes(&rt, mem, UNIT, &[name])?;
-    check_attributes(&rt, mem, IMPLICIT, &[value])?;
-    check_attributes(&rt, mem, FIVE, &[name; 5])?;
-    check_attributes(&rt, mem, SIX, &[name; 6])?;
+    check_attributes_at(&rt, mem, UNIT, &[name])?;
+    check_attributes_at(&rt, mem, IMPLICIT, &[value])?;
+    check_attributes_at(&rt, mem, FIVE, &[name; 5])?;
+    check_attributes_at(&rt, mem, SIX, &[name; 6])?;
     Ok(())
 }
 
 // Whether a copy of a table has the same abbreviations.
 fn is_copied(table: &Abbreviations) -> Result<bool> {
-    Ok(table.try_clone()?.iter().eq(table.iter()))
+    Ok(are_alike(&table.try_clone()?, table))
+}
+
+fn are_alike(first: &Abbreviations, second: &Abbreviations) -> bool {
+    first.iter().eq(second.iter())
 }
 
 fn is_copied_at(mem: Global, bytes: &[u8]) -> Result<bool> {
@@ -353,26 +362,28 @@ fn copies_are_equal(rt: HostRuntime) {
     }
 }
 
+// Bytes, and how many declarations their table has.
+static LENGTHS: &[(&[u8], usize)] = &[
+    (b"", 0),
+    (b"\x80\0\xaa", 0),
+    (UNIT, 1),
+    (THREE, 3),
+    (SIX, 1),
+    (b"\x02\x11\0\0\0\x04\x11\0\0\0\x03\x11\0\0\0\0", 3),
+];
+
 // If an allocation fails, a call returns the whole table or OutOfMemory, and the table alone if it allocates nothing.
 #[test]
 fn refused_memory_for_a_table(rt: HostRuntime) {
-    let rows: [(&[u8], usize); 6] = [
-        (b"", 0),
-        (b"\x80\0\xaa", 0),
-        (UNIT, 1),
-        (THREE, 3),
-        (SIX, 1),
-        (b"\x02\x11\0\0\0\x04\x11\0\0\0\x03\x11\0\0\0\0", 3),
-    ];
-    for (bytes, len) in rows {
+    for (bytes, len) in LENGTHS {
         match table_at(rt.alloc(), bytes, 0) {
             Ok(table) => {
-                same(&rt, table.len(), len, bytes);
+                same(&rt, table.len(), *len, bytes);
                 copied_or_refused(&rt, &table);
             }
             Err(error) => {
                 same(&rt, error, Error::OutOfMemory, bytes);
-                assert!(rt; len > 0);
+                assert!(rt; *len > 0);
             }
         }
     }
