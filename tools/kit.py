@@ -65,7 +65,7 @@ def functions_in(crate, of_tests):
     """How many functions the files of a crate have, those of its tests or the others."""
     found = 0
     for path in glob.glob(f"{ROOT}/crates/{crate}/src/**/*.rt", recursive=True):
-        if bool(re.search(r"/tests(\.rt|/)", path)) == of_tests:
+        if bool(re.search(r"/tests(\.rt|/)", os.path.relpath(path, ROOT))) == of_tests:
             with open(path, encoding="utf-8") as file:
                 found += len(FN.findall(file.read()))
     return found
