@@ -51,16 +51,6 @@ pub(crate) fn with_sign(value: u64, is_negative: bool, bits: u32) -> i64
     (value | sign).cast_signed()
 }
 
-// The bits of a first byte that another follows. This call is out of line and cold, so that the
-// compiler takes longer numbers for rare. The code for numbers of one byte then has no jump.
-#[cold]
-#[inline(never)]
-pub(crate) fn first_digit(byte: u8) -> u64
-    ensures { result ≡ byte % 128 }
-{
-    u64::from(low_bits_of_byte(byte))
-}
-
 // The number with the bits of a further byte.
 #[inline]
 pub(crate) fn with_digit(value: u64, byte: u8, shift: u32) -> u64

@@ -13,8 +13,7 @@ ghost use Rattle.dwarf_reader_core.specs.InitialLength.{initial_length};
 ghost use Rattle.dwarf_reader_core.specs.Layout.{read, FailsAt};
 
 use crate::leb128::{
-    MAX_TENTH_BYTE, MAX_THIRD_BYTE, first_digit, has_continuation_bit, has_sign_bit, with_digit,
-    with_sign,
+    MAX_TENTH_BYTE, MAX_THIRD_BYTE, has_continuation_bit, has_sign_bit, with_digit, with_sign,
 };
 use dwarf_base_core::common::Format;
 use dwarf_base_core::endianity::Endianity;
@@ -492,7 +491,7 @@ pub trait Reader: Debug + Drop + Sized {
         if !has_continuation_bit(first) {
             return Ok(u16::from(first));
         }
-        let one = first_digit(first);
+        let one = with_digit(0, first, 0);
         let second = self.read_u8()?;
         let two = with_digit(one, second, 7);
         if !has_continuation_bit(second) {
