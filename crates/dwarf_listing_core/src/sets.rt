@@ -46,13 +46,13 @@ pub fn string_offsets(mem: Global, section: &[u8], endian: RunTimeEndian) -> Res
     Ok(text)
 }
 
-// An item of a section, such as a set or an entry of a set, which is listed by lines.
+/// An item of a section, such as a set or an entry of a set, which is listed by lines.
 trait Listed: Drop {
     ghost use Rattle.dwarf_read_core.specs.declared.Error.{Error};
 
     ghost lists: { Self → Result (List ℕ) Error → Type 0 };
 
-    // Appends the lines of the item, or returns the error that takes their place.
+    /// Appends the lines of the item, or returns the error that takes their place.
     fn push_lines(&self, text: &mut Vec<u8>) -> Result<(), Error>
         ensures { AppendsText (lists self.now) text.old.items text.new.items result };
 }

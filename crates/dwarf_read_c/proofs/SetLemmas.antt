@@ -45,11 +45,12 @@ first_fails : {A : Type 0} {item : ℕ → Layout A} {offset : ℕ} {old : Input
     → AreItems item offset old (Err e ∷ items) → (old.bytes ≢ []) × (read (item offset) old ≡ Err e)
 first_fails (fault some fails) = (some, fails)
 
--- without a first item no bytes are there
-none_first : {A : Type 0} {item : ℕ → Layout A} {offset : ℕ} {old : Input} → AreItems item offset old [] → old.bytes ≡ []
+-- where there is no item, there are no bytes
+none_first : {A : Type 0} {item : ℕ → Layout A} {offset : ℕ} {old : Input} → AreItems item offset old []
+    → old.bytes ≡ []
 none_first (none empty) = empty
 
--- if there is no item from an offset on, that is the length of the section
+-- an offset from which on there is no item is the length of the section
 pub set_ended : {H : Type 0} (header : Layout H) (bytes : List ℕ) (is_big : Bool) {offset : ℕ} {old : Headers}
     → offset ≤ length bytes → old ≡ sets_from offset (section_of bytes is_big)
     → StandsForSets header (2 ^ 64 - 1) old [] → offset ≡ length bytes

@@ -132,8 +132,8 @@ module _ {H : Type 0} (header : Layout H) (greatest : ℕ) where
       → StandsForSets header greatest (followed_headers more headers) (Err e ∷ [])
   set_error_more headers e more are_items settled = error-stays are_items settled more
 
-  -- an error in place of a set is the first item, or memory ran out; nothing remains behind either. The code has the
-  -- offset as `at`
+  -- an error in place of a set is the first item, or memory ran out; nothing remains behind either. `at` is the offset
+  -- as the code computes it
   pub set_error_first : (offset place : ℕ) (rest left : Input) {at : ℕ} {e : Error} (is_free : Bool) → rest.bytes ≢ []
       → ((read (set header greatest at) rest ≡ Err e) ⊎ WantsMemory is_free e) → at ≡ offset → left.bytes ≡ []
       → ComesFirst (StandsForSets header greatest) (headers_at offset rest) (Err e) (headers_at place left)
@@ -180,7 +180,7 @@ module _ {H : Type 0} {header : Layout H} (four : HasFour header) (greatest : �
   module _ (offset place : ℕ) (rest left : Input) {at : ℕ} {s : Set H} (some : rest.bytes ≢ [])
       (is_read_at : read (set header greatest at) rest ≡ Ok (s, left)) (same : at ≡ offset)
       (behind : place ≡ offset + (length rest.bytes - length left.bytes)) where
-    -- the code has the offset as `at`
+    -- `at` is the offset as the code computes it
     is_read : read (set header greatest offset) rest ≡ Ok (s, left)
     is_read = subst (λ n. read (set header greatest n) rest ≡ Ok (s, left)) same is_read_at
 

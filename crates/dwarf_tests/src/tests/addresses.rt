@@ -252,11 +252,10 @@ pub(super) fn check_walk<R: Reader>(
     section: &DebugAddr<R>,
     count: usize,
     outcome: Result<()>,
-) -> Result<()> {
+) {
     let (mut found, wanted) = (Vec::new(mem), &FOUR_ADDRESSES[..count.min(4)]);
     same(rt, walk(section, &mut found), outcome, wanted);
     same(rt, found.as_slice(), wanted, outcome);
-    Ok(())
 }
 
 // How many addresses the first bytes of two sets have, and their first error.

@@ -63,11 +63,6 @@ fn examples_of_tables(rt: HostRuntime) {
     same(&rt, tag, Ok(Some(DW_TAG_compile_unit)), "tag");
 }
 
-const OFFSETS: &[Result<DebugAbbrevOffset<usize>>] = &[
-    Ok(DebugAbbrevOffset(0)),
-    Ok(DebugAbbrevOffset(0)),
-];
-
 // How many declarations a table from a cache has.
 fn cached<R: Reader<Offset = usize>>(mem: Global, debug_abbrev: DebugAbbrev<R>) -> Result<usize> {
     let offsets = [DebugAbbrevOffset(0), DebugAbbrevOffset(0)]

@@ -42,7 +42,10 @@ impl<R: Reader> Model for StrOffsetsHeaderIter<R> {
 
     ghost Value = { Headers };
 
-    ghost view = { λ headers. record { offset = R.Offset.value headers.end - length (R.view headers.input).bytes; rest = R.view headers.input } };
+    ghost view = { λ headers. record {
+      offset = R.Offset.value headers.end - length (R.view headers.input).bytes;
+      rest = R.view headers.input;
+    } };
 
     ghost invariant = { λ headers. length (R.view headers.input).bytes ≤ R.Offset.value headers.end };
 }
