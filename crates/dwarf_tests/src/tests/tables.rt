@@ -1,6 +1,6 @@
 //! Abbreviation tables.
 
-use super::worked::{ENDED, FIVE, IMPLICIT, SIX, THREE, UNIT};
+use super::worked::{ENDED, FIVE, IMPLICIT, LONG, MANY, SIX, THREE, UNIT};
 use super::{end_requests, eof, reader_at, same};
 use dwarf_read_core::constants::*;
 use dwarf_read_core::{
@@ -368,7 +368,9 @@ static LENGTHS: &[(&[u8], usize)] = &[
     (b"\x80\0\xaa", 0),
     (UNIT, 1),
     (THREE, 3),
+    (MANY, 17),
     (SIX, 1),
+    (LONG, 1),
     (b"\x02\x11\0\0\0\x04\x11\0\0\0\x03\x11\0\0\0\0", 3),
 ];
 

@@ -21,6 +21,17 @@ pub(super) const FIVE: &[u8] = b"\x01\x11\0\x03\x08\x03\x08\x03\x08\x03\x08\x03\
 // A declaration of six attributes.
 pub(super) const SIX: &[u8] = b"\x01\x11\0\x03\x08\x03\x08\x03\x08\x03\x08\x03\x08\x03\x08\0\0\0";
 
+// Declarations with the codes 1 to 17: one more than a table first has room for.
+pub(super) const MANY: &[u8] = b"\
+    \x01\x11\0\0\0\x02\x11\0\0\0\x03\x11\0\0\0\x04\x11\0\0\0\x05\x11\0\0\0\x06\x11\0\0\0\
+    \x07\x11\0\0\0\x08\x11\0\0\0\x09\x11\0\0\0\x0a\x11\0\0\0\x0b\x11\0\0\0\x0c\x11\0\0\0\
+    \x0d\x11\0\0\0\x0e\x11\0\0\0\x0f\x11\0\0\0\x10\x11\0\0\0\x11\x11\0\0\0\0";
+
+// A declaration of 17 attributes: one more than the list of a table first has room for.
+pub(super) const LONG: &[u8] = b"\
+    \x01\x11\0\x03\x08\x03\x08\x03\x08\x03\x08\x03\x08\x03\x08\x03\x08\x03\x08\x03\x08\x03\x08\
+    \x03\x08\x03\x08\x03\x08\x03\x08\x03\x08\x03\x08\x03\x08\0\0\0";
+
 // Three strings, the last of them empty.
 pub(super) const STRINGS: &[u8] = b"one\0two\0\0";
 
