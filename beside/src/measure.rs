@@ -29,6 +29,7 @@ extern "C" {
     fn beside_headers(bytes: *const u8, len: usize) -> u64;
     fn beside_addresses(bytes: *const u8, len: usize) -> u64;
     fn beside_get_sum(bytes: *const u8, len: usize, offset: usize, codes: u64, rounds: u64) -> u64;
+    fn beside_walk(bytes: *const u8, len: usize, offset: usize) -> u64;
     fn beside_strings(bytes: *const u8, len: usize, offsets: *const usize, count: usize) -> usize;
     fn beside_str_offset_lookups(
         bytes: *const u8, len: usize, base: usize, indices: *const usize, count: usize,
@@ -106,6 +107,23 @@ fn get_sum(section: Bytes) -> u64 {
     sum
 }
 
+/// Reads a table, and looks at each declaration and each attribute. gimli's tables can't be walked, so each code is
+/// looked up.
+#[inline(never)]
+fn walk(section: Bytes, offset: usize, codes: &[u64]) -> u64 {
+    let table = DebugAbbrev::new(section, LittleEndian).abbreviations(DebugAbbrevOffset(offset)).unwrap();
+    let mut sum = 0u64;
+    for found in codes.iter().filter_map(|it| table.get(*it)) {
+        let head = u64::from(found.tag().0) + u64::from(found.has_children());
+        sum = sum.wrapping_add(found.code()).wrapping_add(head);
+        for it in found.attributes() {
+            let value = it.implicit_const_value().unwrap_or(0) as u64;
+            sum = sum.wrapping_add(u64::from(it.name().0) + u64::from(it.form().0)).wrapping_add(value);
+        }
+    }
+    sum
+}
+
 #[inline(never)]
 fn strings(section: Bytes, offsets: Places) -> u64 {
     let section = DebugStr::new(section, LittleEndian);
@@ -128,7 +146,11 @@ fn addresses(section: Bytes, indices: Places) -> u64 {
     indices.iter().fold(0u64, |sum, it| sum.wrapping_add(found(it)))
 }
 
-fn of_tables(name: &str, section: Vec<u8>, offsets: Vec<usize>, all: &mut Vec<Workload>) {
+/// Where a table is, and its codes as they rise.
+type Table = (usize, Vec<u64>);
+
+fn of_tables(name: &str, section: Vec<u8>, given: Vec<Table>, all: &mut Vec<Workload>) {
+    let offsets: Vec<usize> = given.iter().map(|it| it.0).collect();
     let (s, o): (Bytes, Places) = (section.leak(), offsets.leak());
     let count = unsafe { beside_tables(s.as_ptr(), s.len(), o.as_ptr(), o.len()) } as u64;
     all.push(Workload {
@@ -137,6 +159,14 @@ fn of_tables(name: &str, section: Vec<u8>, offsets: Vec<usize>, all: &mut Vec<Wo
         gimli: Box::new(move || tables(s, o)),
         ours: Box::new(move || unsafe { beside_tables(s.as_ptr(), s.len(), o.as_ptr(), o.len()) } as u64),
         is_same: false,
+    });
+    let added = |sum: u64, one: u64| sum.wrapping_add(one);
+    all.push(Workload {
+        name: format!("a declaration read and looked at, {name}"),
+        operations: count,
+        gimli: Box::new(move || given.iter().map(|it| walk(s, it.0, &it.1)).fold(0, added)),
+        ours: Box::new(move || o.iter().map(|it| unsafe { beside_walk(s.as_ptr(), s.len(), *it) }).fold(0, added)),
+        is_same: true,
     });
     if name.starts_with("codes that") {
         all.push(Workload {
@@ -151,19 +181,21 @@ fn of_tables(name: &str, section: Vec<u8>, offsets: Vec<usize>, all: &mut Vec<Wo
 
 fn all_of_tables(random: &mut Random, all: &mut Vec<Workload>) {
     let (mut rising, mut falling, mut far, mut small) = (vec![], vec![], vec![], vec![]);
-    shaped_table(random, 1..=CODES, &mut rising);
-    shaped_table(random, (1..=CODES).rev(), &mut falling);
-    shaped_table(random, (1..=CODES).map(|it| it * 0x1_0000_0001), &mut far);
-    let mut starts = vec![];
+    let codes: Vec<u64> = (1..=CODES).collect();
+    let apart: Vec<u64> = codes.iter().map(|it| it * 0x1_0000_0001).collect();
+    shaped_table(random, codes.iter().copied(), &mut rising);
+    shaped_table(random, codes.iter().rev().copied(), &mut falling);
+    shaped_table(random, apart.iter().copied(), &mut far);
+    let mut tables = vec![];
     for _ in 0..400 {
-        starts.push(small.len());
         let count = 5 + random.below(20) as u64;
+        tables.push((small.len(), (1..=count).collect()));
         shaped_table(random, 1..=count, &mut small);
     }
-    of_tables("codes that rise from 1", rising, vec![0], all);
-    of_tables("codes that fall", falling, vec![0], all);
-    of_tables("codes far apart", far, vec![0], all);
-    of_tables("small tables", small, starts, all);
+    of_tables("codes that rise from 1", rising, vec![(0, codes.clone())], all);
+    of_tables("codes that fall", falling, vec![(0, codes)], all);
+    of_tables("codes far apart", far, vec![(0, apart)], all);
+    of_tables("small tables", small, tables, all);
 }
 
 fn all_of_numbers(random: &mut Random, all: &mut Vec<Workload>) {

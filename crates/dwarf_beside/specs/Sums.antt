@@ -1,10 +1,13 @@
 -- The sums that the loops return, each modulo 2 ^ 64.
-use Rattle.std.specs.Prelude.{◌≡◌, ℕ, ℤ, suc, zero, ◌+◌, ◌-◌, ◌%◌, ◌^◌, List, [], ◌∷◌, ◌++◌, length, Result, Ok, Err, ◌⊎◌}
+use Rattle.std.specs.Prelude.{◌≡◌, ℕ, ℤ, pos, suc, zero, ◌+◌, ◌-◌, ◌%◌, ◌^◌, List, [], ◌∷◌, ◌++◌, length, Result, Ok, Err, ◌⊎◌}
+use Rattle.std.specs.FinMap.{values}
 use Rattle.std.specs.Int.{w64, cast_unsigned}
+use Rattle.std.specs.List.{sum_by}
+use Rattle.std.specs.Option.{unwrap_or}
 use Rattle.std.specs.Result.{result_unwrap_or}
 use Rattle.dwarf_read_core.specs.declared.Error.{Error}
 use Rattle.dwarf_read_core.specs.Answer.{Answer, Answers}
-use Rattle.dwarf_read_core.specs.Grammar.{Table}
+use Rattle.dwarf_read_core.specs.Grammar.{Declaration, Specification, Table, children_byte}
 use Rattle.dwarf_read_core.specs.Input.{Input}
 use Rattle.dwarf_read_core.specs.Leb128.{ReadsNumber, TakesEncoding, signed64}
 use Rattle.dwarf_read_core.specs.Strings.{StringAt}
@@ -92,3 +95,15 @@ OfTable section offset result Is =
 abbrev pub tags_to : Table → ℕ → ℕ
 tags_to t zero = 0
 tags_to t (suc greatest) = tags_to t greatest + tag_in t (suc greatest)
+
+-- what a specification adds to a walk: its name, its form, and the 64 bits of the value that is in the table itself
+abbrev pub specification_sum : Specification → ℕ
+specification_sum s = s.name + s.form + cast_unsigned w64 (unwrap_or s.value (pos 0))
+
+-- what a declaration adds: its code, its tag, 1 if there are children, and what its specifications add
+abbrev pub declaration_sum : Declaration → ℕ
+declaration_sum d = d.code + d.tag + children_byte d.children + sum_by specification_sum d.attributes
+
+-- what all declarations of a table add
+abbrev pub walk_sum : Table → ℕ
+walk_sum t = sum_by declaration_sum (values t.by_code)

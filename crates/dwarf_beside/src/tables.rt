@@ -4,11 +4,13 @@ ghost use Rattle.std.specs.Prelude.{◌≡◌, ◌*◌, ◌%◌, ◌^◌, ◌⊎
 ghost use Rattle.dwarf_read_core.specs.Cache.{IsFaithful};
 ghost use Rattle.dwarf_beside.specs.Sections.{section_of};
 ghost use Rattle.dwarf_beside.specs.Sums.{Adds, AddsTimes, CountsAs, OfTable, tags_to};
+ghost use Rattle.dwarf_beside.specs.Sums.{declaration_sum, specification_sum, walk_sum};
 
 use crate::single::{table_at, tag_of};
 use dwarf_read_core::{
-    Abbreviations, AbbreviationsCache, AbbreviationsCacheStrategy, DebugAbbrev, DebugAbbrevOffset,
-    EndianSlice, Error, LittleEndian, Result,
+    Abbreviation, Abbreviations, AbbreviationsCache, AbbreviationsCacheStrategy,
+    AttributeSpecification, DebugAbbrev, DebugAbbrevOffset, EndianSlice, Error, LittleEndian,
+    Result,
 };
 use std::alloc::Global;
 
@@ -77,6 +79,51 @@ pub extern "C" fn beside_get_sum(
 {
     match table_at(mem, section, offset) {
         Ok(table) => get_rounds(&table, codes, rounds),
+        Err(_) => FAILED as u64,
+    }
+}
+
+// The sum of what an attribute is, with its value in the table as 64 bits.
+fn of_attribute(attribute: &AttributeSpecification) -> u64
+    ensures { result ≡ specification_sum attribute.now % 2 ^ 64 }
+{
+    let (name, form) = (attribute.name(), attribute.form());
+    let value = attribute.implicit_const_value().unwrap_or(0);
+    (u64::from(name.0) + u64::from(form.0)).wrapping_add(value.cast_unsigned())
+}
+
+// The sum of what an abbreviation is, and of its attributes.
+fn of_abbreviation(abbreviation: &Abbreviation) -> u64
+    ensures { result ≡ declaration_sum abbreviation.now % 2 ^ 64 }
+{
+    let head = u64::from(abbreviation.tag().0) + u64::from(abbreviation.has_children());
+    let mut sum = abbreviation.code().wrapping_add(head);
+    for attribute in abbreviation.attributes() {
+        sum = sum.wrapping_add(of_attribute(attribute));
+    }
+    sum
+}
+
+// The sum over all abbreviations.
+fn walked(table: &Abbreviations) -> u64
+    ensures { result ≡ walk_sum table.now % 2 ^ 64 }
+{
+    let mut sum: u64 = 0;
+    for abbreviation in table.iter() {
+        sum = sum.wrapping_add(of_abbreviation(abbreviation));
+    }
+    sum
+}
+
+/// Looks at each abbreviation of the table at `offset` and at each of its attributes. Returns the sum
+/// of what they are modulo 2^64, or 2^32 if no table is there.
+#[unsafe(no_mangle)]
+pub extern "C" fn beside_walk(mem: Global, section: &[u8], offset: usize) -> u64
+    ensures { OfTable (section_of section.now) offset result
+        (λ t. result ≡ walk_sum t % 2 ^ 64) }
+{
+    match table_at(mem, section, offset) {
+        Ok(table) => walked(&table),
         Err(_) => FAILED as u64,
     }
 }
