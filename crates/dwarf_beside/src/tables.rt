@@ -83,7 +83,7 @@ pub extern "C" fn beside_get_sum(
     }
 }
 
-// The sum of what an attribute is, with its value in the table as 64 bits.
+// The name, the form and the value of an attribute, added up. The value counts as 64 bits.
 fn of_attribute(attribute: &AttributeSpecification) -> u64
     ensures { result ≡ specification_sum attribute.now % 2 ^ 64 }
 {
@@ -92,7 +92,7 @@ fn of_attribute(attribute: &AttributeSpecification) -> u64
     (u64::from(name.0) + u64::from(form.0)).wrapping_add(value.cast_unsigned())
 }
 
-// The sum of what an abbreviation is, and of its attributes.
+// The code and the tag of an abbreviation, 1 if there are children, and its attributes, added up.
 fn of_abbreviation(abbreviation: &Abbreviation) -> u64
     ensures { result ≡ declaration_sum abbreviation.now % 2 ^ 64 }
 {
@@ -104,7 +104,7 @@ fn of_abbreviation(abbreviation: &Abbreviation) -> u64
     sum
 }
 
-// The sum over all abbreviations.
+// The sum over all abbreviations of a table.
 fn walked(table: &Abbreviations) -> u64
     ensures { result ≡ walk_sum table.now % 2 ^ 64 }
 {
@@ -115,8 +115,9 @@ fn walked(table: &Abbreviations) -> u64
     sum
 }
 
-/// Looks at each abbreviation of the table at `offset` and at each of its attributes. Returns the sum
-/// of what they are modulo 2^64, or 2^32 if no table is there.
+/// Looks at each abbreviation of the table at `offset`, and at each of its attributes. Returns
+/// their codes, tags, children, names, forms and values, added up modulo 2^64, or 2^32 if no table
+/// is there.
 #[unsafe(no_mangle)]
 pub extern "C" fn beside_walk(mem: Global, section: &[u8], offset: usize) -> u64
     ensures { OfTable (section_of section.now) offset result
