@@ -27,7 +27,7 @@ pub(super) const MANY: &[u8] = b"\
     \x07\x11\0\0\0\x08\x11\0\0\0\x09\x11\0\0\0\x0a\x11\0\0\0\x0b\x11\0\0\0\x0c\x11\0\0\0\
     \x0d\x11\0\0\0\x0e\x11\0\0\0\x0f\x11\0\0\0\x10\x11\0\0\0\x11\x11\0\0\0\0";
 
-// A declaration of 17 attributes: one more than the list of a table first has room for.
+// A declaration of 17 attributes: one more than the list that collects them first has room for.
 pub(super) const LONG: &[u8] = b"\
     \x01\x11\0\x03\x08\x03\x08\x03\x08\x03\x08\x03\x08\x03\x08\x03\x08\x03\x08\x03\x08\x03\x08\
     \x03\x08\x03\x08\x03\x08\x03\x08\x03\x08\x03\x08\x03\x08\0\0\0";

@@ -1,4 +1,4 @@
-use Rattle.std.proofs.Common.{inl}
+use Rattle.dwarf_beside.proofs.Common.{inl}
 use Rattle.dwarf_beside.proofs.tables.beside_walk.Goals as goal
 
 pub returns-in-Ok : goal.returns-in-Ok
