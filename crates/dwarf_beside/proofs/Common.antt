@@ -9,7 +9,7 @@ pub use Rattle.dwarf_read_core.specs.Grammar.{children_byte}
 pub use Rattle.dwarf_read_core.specs.Input.{Input}
 pub use Rattle.dwarf_read_core.specs.Items.{ComesFirst}
 pub use Rattle.dwarf_read_core.specs.Leb128.{ReadsNumber, unsigned16, unsigned64}
-pub use Rattle.dwarf_read_core.specs.Sets.{StandsForAddressSets}
+pub use Rattle.dwarf_read_core.specs.Sets.{StandsForSets, address_header}
 pub use Rattle.dwarf_read_core.specs.Shortest.{IsShortestLength}
 pub use Rattle.dwarf_beside.specs.Sections.{section_of, tag_in}
 pub use Rattle.dwarf_beside.specs.Sets.{AddsAddresses, AddsItems, AddsMeasures, OfItem}

@@ -3,7 +3,7 @@ use Rattle.std.specs.Prelude.{◌≡◌, ℕ, ◌+◌, ◌-◌, ◌^◌, List, R
 use Rattle.dwarf_read_core.specs.declared.Error.{Error}
 use Rattle.dwarf_read_core.specs.Entries.{StandsForAddresses}
 use Rattle.dwarf_read_core.specs.Input.{Input}
-use Rattle.dwarf_read_core.specs.Sets.{Set, StandsForAddressSets, addresses_of}
+use Rattle.dwarf_read_core.specs.Sets.{Set, StandsForSets, address_header, addresses_of}
 use Rattle.dwarf_beside.specs.Sums.{AddsOrFails}
 
 -- an item adds what its value adds, or is an error
@@ -33,4 +33,4 @@ AddsMeasures s answer = answer ≡ Ok (s.unit_length + s.offset + s.header)
 -- header
 abbrev pub AddsSets : (Set ℕ → Result ℕ Error → Type 0) → Input → Result ℕ Error → Type 0
 AddsSets Has section answer =
-    AddsItems (StandsForAddressSets (2 ^ 64 - 1)) Has (record { offset = 0; rest = section }) answer
+    AddsItems (StandsForSets address_header (2 ^ 64 - 1)) Has (record { offset = 0; rest = section }) answer

@@ -8,7 +8,7 @@ ghost use Rattle.dwarf_listing_core.specs.Sets.{ListsAddresses, ListsStringOffse
 ghost use Rattle.dwarf_listing_core.specs.Tables.{ListsStrictTable, ListsTable};
 ghost use Rattle.dwarf_listing_core.specs.Text.{IsText, Lists};
 
-use dwarf_read_core::laws;
+use dwarf_read_core::{AddressSize, laws};
 
 /// Every section has exactly one listing of each kind: a text, or its first error.
 pub fn exactly_one_listing()
@@ -23,9 +23,9 @@ pub fn exactly_one_listing()
     laws::exactly_one_answer();
     laws::exactly_one_strict_answer();
     laws::exactly_one_string();
-    laws::exactly_one_list_of_sets();
+    laws::exactly_one_list_of_sets::<AddressSize>();
     laws::exactly_one_list_of_entries();
-    laws::exactly_one_list_of_offset_sets();
+    laws::exactly_one_list_of_sets::<()>();
     laws::exactly_one_list_of_string_offsets();
 }
 

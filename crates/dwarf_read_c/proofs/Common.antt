@@ -5,13 +5,13 @@ pub use Rattle.std.proofs.Common.{sym, ap, ◌∙◌, sum_by, false, map, length
 pub use Rattle.std.proofs.lemmas.Grind.{common_steps}
 pub use Rattle.std.proofs.lemmas.Result.{err_from_is_err_and}
 pub use Rattle.std.specs.FinMap.{entries, len, values, len-entries}
-pub use Rattle.dwarf_read_core.proofs.sets.Sets.{HasFour, set-parts, set-spans, address_header-four}
-pub use Rattle.dwarf_read_core.proofs.sets.Sets.{string_offsets_header-four}
+pub use Rattle.dwarf_read_core.proofs.sets.Sets.{set-parts, set-spans}
 pub use Rattle.dwarf_read_core.specs.Faults.{EndsBefore, WantsMemory, eof}
 pub use Rattle.dwarf_read_core.specs.Grammar.{Declaration, ByCode}
 pub use Rattle.dwarf_read_core.specs.Input.{Input, after}
 pub use Rattle.dwarf_read_core.specs.Leb128.{Kind, RefusesNumber}
-pub use Rattle.dwarf_read_core.specs.Sets.{Headers, Set, StandsForSets, addresses_of, string_offsets_of}
+pub use Rattle.dwarf_read_core.specs.Sets.{HasSize, Headers, Set, StandsForSets, addresses_of, string_offsets_of}
+pub use Rattle.dwarf_read_core.specs.Sets.{address_header-size, string_offsets_header-size}
 unfoldable pub use Rattle.dwarf_read_core.specs.Sets.{address_header, set, string_offsets_header}
 unfoldable pub use Rattle.dwarf_read_core.specs.Strings.{StringAt, string_at}
 pub use Rattle.dwarf_read_core.specs.declared.Error.{Error}

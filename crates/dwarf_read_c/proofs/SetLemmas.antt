@@ -4,7 +4,7 @@ use Rattle.dwarf_read_core.specs.Format.{initial_length_size}
 use Rattle.dwarf_read_core.specs.Items.{ComesFirst}
 use Rattle.dwarf_read_core.specs.Layout.{AreItems, Layout, and_then, fault, more, none, read}
 use Rattle.dwarf_read_c.specs.declared.sets.DwarfSet.{DwarfSet}
-use Rattle.dwarf_read_c.proofs.Common.{◌≡◌, ◌≢◌, Bool, true, ℕ, ◌+◌, ◌-◌, ◌<◌, ◌≤◌, ◌^◌, List, [], ◌∷◌, length, drop, Result, Ok, Err, ap, subst, arith, ◌⊎◌, inl, inr, length-drop, common_steps, Error, EndsBefore, WantsMemory, Input, after, Headers, Set, StandsForSets, set, HasFour, set-parts, set-spans, section_of, HasSet, LacksSet, TellsSet, set_at, set_from, outside, faulty}
+use Rattle.dwarf_read_c.proofs.Common.{◌≡◌, ◌≢◌, Bool, true, ℕ, ◌+◌, ◌-◌, ◌<◌, ◌≤◌, ◌^◌, List, [], ◌∷◌, length, drop, Result, Ok, Err, ap, subst, arith, ◌⊎◌, inl, inr, length-drop, common_steps, Error, EndsBefore, WantsMemory, Input, after, Headers, Set, StandsForSets, set, HasSize, set-parts, set-spans, section_of, HasSet, LacksSet, TellsSet, set_at, set_from, outside, faulty}
 
 -- what is known of a set that was found at an offset
 pub record FoundSet {H : Type 0} (header : Layout H) (section : Input) (offset : ℕ) (s : Set H) : Type 0 where
@@ -61,10 +61,10 @@ set_ended header bytes is_big {offset} {old} within start ended =
 -- if the first item from an offset on is a set, the section has this set there
 pub set_found : {H : Type 0} {header : Layout H} {bytes : List ℕ} {is_big : Bool} {offset : ℕ} {old new : Headers}
     {s : Set H}
-    → HasFour header → old ≡ sets_from offset (section_of bytes is_big)
+    → HasSize 4 header → old ≡ sets_from offset (section_of bytes is_big)
     → ComesFirst (StandsForSets header (2 ^ 64 - 1)) old (Ok s) new
     → FoundSet header (section_of bytes is_big) offset s
-set_found {H} {header} {bytes} {is_big} {offset} {old} {new} {s} four start given =
+set_found {H} {header} {bytes} {is_big} {offset} {old} {new} {s} has_four start given =
     let rest = after offset (section_of bytes is_big) in
     let there = subst (λ (h : Headers). StandsForSets header (2 ^ 64 - 1) h (Ok s ∷ given.0.0)) start
     (given.1 given.0.0 given.0.1) in
@@ -72,7 +72,7 @@ set_found {H} {header} {bytes} {is_big} {offset} {old} {new} {s} four start give
     let within = some_left bytes offset begins.0 in
     let whole = length-drop offset bytes in
     let taken = (set-spans header (2 ^ 64 - 1) 0).by _ _ _ begins.2 in
-    let parts = set-parts (2 ^ 64 - 1) 0 four rest begins.2 in
+    let parts = set-parts (2 ^ 64 - 1) 0 has_four rest begins.2 in
     record {
       has = record {
         within = omega (arith, within);
@@ -81,7 +81,7 @@ set_found {H} {header} {bytes} {is_big} {offset} {old} {new} {s} four start give
         ends = omega (arith, whole, taken, within);
       };
       within = omega (arith, whole, taken, within);
-      four = parts.four;
+      four = parts.enough;
       first = omega (arith, parts.place);
     }
 

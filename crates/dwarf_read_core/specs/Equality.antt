@@ -1,5 +1,5 @@
 -- When two abbreviations, or the headers of two sets, are equal.
-use Rattle.std.specs.Prelude.{◌≡◌, refl, ◌↔◌, Bool, true, ◌==◌, pos, unwrap_or, IsSome}
+use Rattle.std.specs.Prelude.{◌≡◌, ◌↔◌, Bool, ◌==◌, pos, unwrap_or, IsSome}
 use Rattle.std.specs.Bool.{beq}
 use Rattle.std.specs.Cmp.{IsEquivalence, IsPartialEquivalence, partial_equiv_from_equiv, and_equiv, and_per, on_equiv, on_per, nat_eq_equiv, int_eq_equiv, bool_eq_equiv}
 use Rattle.std.specs.Cmp.Lexicographic.{pointwise, lists_equiv}
@@ -37,13 +37,6 @@ same_declaration_equiv =
     (and_equiv (on_equiv (λ (d : Declaration). d.code) nat_eq_equiv)
     (and_equiv (on_equiv (λ (d : Declaration). d.tag) nat_eq_equiv)
     (on_equiv (λ (d : Declaration). d.attributes) (lists_equiv same_specification_equiv))))
-
--- headers without content are equal
-abbrev pub same_unit : Unit {0} → Unit {0} → Bool
-same_unit one other = true
-
-pub same_unit_equiv : IsEquivalence same_unit
-same_unit_equiv = record { refl = λ x. refl; symm = λ x y. refl; congr = λ x y z p. refl }
 
 -- equal offsets, lengths, formats, headers and entries
 abbrev pub same_set : {H E : Type 0} → (H → H → Bool) → (E → E → Bool) → SetOf H E → SetOf H E → Bool

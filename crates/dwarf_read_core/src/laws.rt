@@ -1,6 +1,6 @@
 //! Laws over the definitions: each function has one as its contract, and does nothing.
 
-ghost use Rattle.std.specs.Prelude.{◌≡◌, ◌↔◌, IsTrue, Option, ℕ, ◌<◌, ◌≤◌, List, [], ◌∷◌, length, All, IfErr, Ok, Err, Result};
+ghost use Rattle.std.specs.Prelude.{◌≡◌, ◌↔◌, ◌+◌, IsTrue, Option, ℕ, ◌<◌, ◌≤◌, List, [], ◌∷◌, length, All, IfErr, Ok, Err, Result};
 ghost use Rattle.std.specs.List.{sum_by};
 ghost use Rattle.dwarf_base_core.specs.declared.error.Error.{Error};
 ghost use Rattle.dwarf_reader_core.specs.Input.{Input, Takes};
@@ -14,10 +14,11 @@ ghost use Rattle.dwarf_read_core.specs.Entries.{Entries, StandsForAddresses, Sta
 ghost use Rattle.dwarf_read_core.specs.Items.{least_taken};
 ghost use Rattle.dwarf_reader_core.specs.Layout.{read};
 ghost use Rattle.dwarf_read_core.specs.Ranges.{RangeAt};
-ghost use Rattle.dwarf_read_core.specs.Sets.{Headers, IsJoined, Set, StandsForAddressSets, StandsForStringOffsetSets, address_header, followed_headers, set, string_offsets_header};
+ghost use Rattle.dwarf_read_core.specs.Sets.{Headers, IsJoined, Set, StandsForSets, followed_headers, set};
 ghost use Rattle.dwarf_read_core.specs.Strings.{StringAt};
 ghost use Rattle.dwarf_read_core.specs.Words.{AddressAt, HasNoAddress, HasNoWord, Holds, Slot, WordAt};
 
+use crate::read::HeaderFields;
 pub use dwarf_reader_core::laws::{
     exactly_one_outcome, exactly_one_shortest, no_encoding_begins_another, written_is_read,
 };
@@ -129,46 +130,31 @@ pub fn exactly_one_range()
     ensures { (section : Input) (offset size : ℕ) → HasOne (RangeAt section offset size) }
 {}
 
-/// The bytes that remain of a section have exactly one list of sets of addresses, and then at most
-/// one error. A set has at least eight bytes, and an error takes up at least one byte.
-pub fn exactly_one_list_of_sets()
+/// The bytes that remain of a section have exactly one list of sets of each kind, and then at most
+/// one error. A set has at least four bytes and those of its header, and an error takes up at least
+/// one byte.
+pub fn exactly_one_list_of_sets<H: HeaderFields>()
     ensures one { (greatest : ℕ) (headers : Headers)
-        → HasOne (StandsForAddressSets greatest headers) }
-    ensures bound { (greatest : ℕ) (headers : Headers) (items : List (Result (Set ℕ) Error))
-        → StandsForAddressSets greatest headers items
-        → sum_by (least_taken 8) items ≤ length headers.rest.bytes }
-{}
-
-/// The bytes that remain of a section have exactly one list of sets of string offsets, and then at
-/// most one error. A set has at least eight bytes, and an error takes up at least one byte.
-pub fn exactly_one_list_of_offset_sets()
-    ensures one { (greatest : ℕ) (headers : Headers)
-        → HasOne (StandsForStringOffsetSets greatest headers) }
-    ensures bound { (greatest : ℕ) (headers : Headers)
-        (items : List (Result (Set (Unit {0})) Error))
-        → StandsForStringOffsetSets greatest headers items
-        → sum_by (least_taken 8) items ≤ length headers.rest.bytes }
+        → HasOne (StandsForSets H.layout greatest headers) }
+    ensures bound { (greatest : ℕ) (headers : Headers) (items : List (Result (Set H) Error))
+        → StandsForSets H.layout greatest headers items
+        → sum_by (least_taken (4 + H.BYTES)) items ≤ length headers.rest.bytes }
 {}
 
 /// A set that is read is at the front of the bytes, and the rest remains.
 #[tactic(auto, using(dwarf_reader_core::proofs::Layouts::read_front))]
-pub fn sets_are_fronts()
-    ensures addresses { (greatest offset : ℕ) (old new : Input) (s : Set ℕ)
-        → read (set address_header greatest offset) old ≡ Ok (s, new)
-        → (count : ℕ) × Takes count old new }
-    ensures string_offsets { (greatest offset : ℕ) (old new : Input) (s : Set (Unit {0}))
-        → read (set string_offsets_header greatest offset) old ≡ Ok (s, new)
+pub fn sets_are_fronts<H: HeaderFields>()
+    ensures { (greatest offset : ℕ) (old new : Input) (s : Set H)
+        → read (set H.layout greatest offset) old ≡ Ok (s, new)
         → (count : ℕ) × Takes count old new }
 {}
 
 /// The bytes of a set that is read are those of its initial length, its header and its entries,
 /// joined, and the rest remains. The length of the set is that of header and entries.
 #[tactic(auto, using(crate::proofs::sets::Sets::parts_of_sets))]
-pub fn sets_are_joined()
-    ensures addresses { (greatest offset : ℕ) (old new : Input) (s : Set ℕ)
-        → read (set address_header greatest offset) old ≡ Ok (s, new) → IsJoined old s new }
-    ensures string_offsets { (greatest offset : ℕ) (old new : Input) (s : Set (Unit {0}))
-        → read (set string_offsets_header greatest offset) old ≡ Ok (s, new) → IsJoined old s new }
+pub fn sets_are_joined<H: HeaderFields>()
+    ensures { (greatest offset : ℕ) (old new : Input) (s : Set H)
+        → read (set H.layout greatest offset) old ≡ Ok (s, new) → IsJoined H.BYTES old s new }
 {}
 
 /// The bytes that remain of a set have exactly one list of addresses, and then at most one error.
@@ -192,31 +178,16 @@ pub fn exactly_one_list_of_string_offsets()
         → sum_by (least_taken entries.width) items ≤ length entries.rest.bytes }
 {}
 
-/// The first set of addresses stays the first when bytes are appended. So does a first error,
-/// unless it is an `UnexpectedEof`.
+/// The first set stays the first when bytes are appended. So does a first error, unless it is an
+/// `UnexpectedEof`.
 #[tactic(auto, using(crate::proofs::sets::Sets::set_more, crate::proofs::sets::Sets::set_error_more))]
-pub fn appended_bytes_change_no_set()
-    ensures set { (greatest : ℕ) (headers : Headers) (s : Set ℕ)
-        (items others : List (Result (Set ℕ) Error)) (more : List ℕ)
-        → StandsForAddressSets greatest headers (Ok s ∷ items)
-        → StandsForAddressSets greatest (followed_headers more headers) others
-        → (rest : List (Result (Set ℕ) Error)) × (others ≡ Ok s ∷ rest) }
+pub fn appended_bytes_change_no_set<H: HeaderFields>()
+    ensures set { (greatest : ℕ) (headers : Headers) (s : Set H)
+        (items others : List (Result (Set H) Error)) (more : List ℕ)
+        → StandsForSets H.layout greatest headers (Ok s ∷ items)
+        → StandsForSets H.layout greatest (followed_headers more headers) others
+        → (rest : List (Result (Set H) Error)) × (others ≡ Ok s ∷ rest) }
     ensures error { (greatest : ℕ) (headers : Headers) (e : Error) (more : List ℕ)
-        → StandsForAddressSets greatest headers (Err e ∷ []) → IsNoEof e
-        → StandsForAddressSets greatest (followed_headers more headers) (Err e ∷ []) }
-{}
-
-/// The first set of string offsets stays the first when bytes are appended. So does a first error,
-/// unless it is an `UnexpectedEof`.
-#[tactic(auto, using(crate::proofs::sets::Sets::set_more, crate::proofs::sets::Sets::set_error_more))]
-pub fn appended_bytes_change_no_offset_set()
-    ensures set { (greatest : ℕ) (headers : Headers) (s : Set (Unit {0}))
-        (items others : List (Result (Set (Unit {0})) Error)) (more : List ℕ)
-        → StandsForStringOffsetSets greatest headers (Ok s ∷ items)
-        → StandsForStringOffsetSets greatest (followed_headers more headers) others
-        → (rest : List (Result (Set (Unit {0})) Error)) × (others ≡ Ok s ∷ rest) }
-    ensures error { (greatest : ℕ) (headers : Headers) (e : Error) (more : List ℕ)
-        → StandsForStringOffsetSets greatest headers (Err e ∷ [])
-        → IsNoEof e
-        → StandsForStringOffsetSets greatest (followed_headers more headers) (Err e ∷ []) }
+        → StandsForSets H.layout greatest headers (Err e ∷ []) → IsNoEof e
+        → StandsForSets H.layout greatest (followed_headers more headers) (Err e ∷ []) }
 {}

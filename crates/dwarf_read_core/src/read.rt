@@ -6,18 +6,20 @@ mod addr;
 mod indexed;
 mod key;
 mod section;
+mod sets;
 mod str;
 
 pub use abbrev::{
     Abbreviation, Abbreviations, AbbreviationsCache, AbbreviationsCacheStrategy, AbbreviationsIter,
     AttributeSpecification, DebugAbbrev,
 };
-pub use addr::{AddrEntryIter, AddrHeader, AddrHeaderIter, DebugAddr};
+pub use addr::{AddrEntryIter, AddrHeader, AddrHeaderIter, AddressSize, DebugAddr};
 pub use dwarf_base_core::{
     Error, ReaderAddress, ReaderOffset, ReaderOffsetId, Result, StoreOnHeap, UnitOffset,
 };
 pub use dwarf_reader_core::{EndianSlice, Reader, read_u8_array};
 pub use section::Section;
+pub use sets::{HeaderFields, SetHeader, SetHeaderIter};
 pub use str::{
     DebugLineStr, DebugStr, DebugStrOffsets, StrOffsetsEntryIter, StrOffsetsHeader,
     StrOffsetsHeaderIter,

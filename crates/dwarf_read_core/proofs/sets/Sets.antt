@@ -1,5 +1,5 @@
 -- Sets as layouts: what a reader reads of one, and what `next` returns.
-use Rattle.dwarf_read_core.proofs.Common.{common_steps, ◌≡◌, ◌≢◌, ℕ, ◌+◌, ◌-◌, ◌≤◌, ◌<◌, List, [], ◌∷◌, ◌++◌, length, take, Result, Ok, Err, refl, sym, ap, subst, arith, Bool, ◌⊎◌, inl, inr, ◌∙◌, append_assoc, sum_by, nat_lt, length-append, length-take-le, take-append-drop, Error, WantsMemory, Input, first, Takes, HasOne, IsNoEof, followed_by, ComesFirst, least_taken, Layout, read, none, Set, IsJoined, address_header, string_offsets_header, Headers, StandsForSets, followed_headers, then_reads, pure_reads, after_part, after_inside, read_more, error_more, Spans, TakesLeast, spanned, number_spans, byte_spans, check_spans, pure_spans, refuse_spans, when_spans, then_spans, part_spans, inside_spans, then_read, part_read, inside_read, pure_read}
+use Rattle.dwarf_read_core.proofs.Common.{common_steps, ◌≡◌, ◌≢◌, ℕ, ◌+◌, ◌-◌, ◌≤◌, ◌<◌, List, [], ◌∷◌, ◌++◌, length, take, Result, Ok, Err, refl, sym, ap, subst, arith, Bool, ◌⊎◌, inl, inr, ◌∙◌, append_assoc, sum_by, nat_lt, length-append, length-take-le, take-append-drop, Error, WantsMemory, Input, first, Takes, HasOne, IsNoEof, followed_by, ComesFirst, least_taken, Layout, read, none, Set, HasSize, IsJoined, Headers, StandsForSets, followed_headers, then_reads, pure_reads, after_part, after_inside, read_more, error_more, Spans, TakesLeast, spanned, number_spans, check_spans, pure_spans, refuse_spans, when_spans, then_spans, part_spans, inside_spans, then_read, part_read, inside_read, pure_read}
 use Rattle.dwarf_base_core.specs.declared.common.Format.{Format}
 use Rattle.dwarf_base_core.specs.Format.{initial_length_size}
 use Rattle.dwarf_reader_core.specs.InitialLength.{initial_length, long_length}
@@ -26,33 +26,29 @@ set-spans header greatest offset =
     then_spans (initial_length-spans greatest) (λ initial. then_spans (part_spans initial.1)
     (λ unit. then_spans (inside_spans unit header) (λ said. pure_spans (omega arith))))
 
--- the header has four bytes
-abbrev pub HasFour : {H : Type 0} → Layout H → Type 0
-HasFour header = Spans 0 (λ _. 4) header
-
 -- the parts of a set that is read: the bytes of its header, and its entries behind them
-pub record HasParts {H : Type 0} (old : Input) (s : Set H) : Type 0 where
-  pub four : 4 ≤ s.unit_length
-  pub place : s.entries.position ≡ old.position + initial_length_size s.format + 4
+pub record HasParts {H : Type 0} (size : ℕ) (old : Input) (s : Set H) : Type 0 where
+  pub enough : size ≤ s.unit_length
+  pub place : s.entries.position ≡ old.position + initial_length_size s.format + size
 
 -- equal inputs have equal positions
 same_place : {i j : Input} → i ≡ j → i.position ≡ j.position
 same_place same = ap (λ (i : Input). i.position) same
 
--- a set that is read has its parts, if the header has four bytes
-pub set-parts : {H : Type 0} {header : Layout H} (greatest offset : ℕ) → HasFour header → (old : Input)
-    {s : Set H} {new : Input} → read (set header greatest offset) old ≡ Ok (s, new) → HasParts old s
+-- a set that is read has its parts, if its header has a size
+pub set-parts : {H : Type 0} {header : Layout H} {size : ℕ} (greatest offset : ℕ) → HasSize size header → (old : Input)
+    {s : Set H} {new : Input} → read (set header greatest offset) old ≡ Ok (s, new) → HasParts size old s
 unfolding set
-set-parts greatest offset header_four old is =
+set-parts {size = size} greatest offset has_size old is =
     let initial = then_read _ _ _ is in
     let unit = then_read _ _ _ initial.3 in
     let said = then_read _ _ _ unit.3 in
     let front = spanned (initial_length-spans greatest) old initial.2 in
     let part = part_read _ _ unit.2 in
-    let taken = spanned header_four unit.0 (inside_read _ _ _ said.2).0 in
-    let size = length-take-le (initial.0).1 (initial.1).bytes part.1.enough in
-    subst (HasParts old) (sym (pure_read _ _ said.3).0) (record {
-      four = omega (arith, ap (λ (i : Input). length i.bytes) part.0, size, taken.enough);
+    let taken = has_size.by unit.0 _ _ (inside_read _ _ _ said.2).0 in
+    let all = length-take-le (initial.0).1 (initial.1).bytes part.1.enough in
+    subst (HasParts size old) (sym (pure_read _ _ said.3).0) (record {
+      enough = omega (arith, ap (λ (i : Input). length i.bytes) part.0, all, taken.enough);
       place = omega (arith, same_place taken.left, same_place part.0, same_place front.left);
     })
 
@@ -64,48 +60,32 @@ taken_front {n} {old} takes = grind (arith, common_steps, take-append-drop)
 joined_left : (a b c d : List ℕ) → a ++ (b ++ c ++ d) ≡ a ++ b ++ c ++ d
 joined_left a b c d = grind (arith, common_steps, append_assoc)
 
--- a set that is read has its parts joined, if the header has four bytes
-pub set-joined : {H : Type 0} {header : Layout H} (greatest offset : ℕ) → HasFour header → (old : Input) {s : Set H}
-    {new : Input} → read (set header greatest offset) old ≡ Ok (s, new) → IsJoined old s new
+-- a set that is read has its parts joined, if its header has a size
+pub set-joined : {H : Type 0} {header : Layout H} {size : ℕ} (greatest offset : ℕ) → HasSize size header → (old : Input)
+    {s : Set H} {new : Input} → read (set header greatest offset) old ≡ Ok (s, new) → IsJoined size old s new
 unfolding set
-set-joined greatest offset header_four old {new = new} is =
+set-joined {size = size} greatest offset has_size old {new = new} is =
     let initial = then_read _ _ _ is in
     let unit = then_read _ _ _ initial.3 in
     let said = then_read _ _ _ unit.3 in
     let front = spanned (initial_length-spans greatest) old initial.2 in
     let part = part_read _ _ unit.2 in
     let inner = inside_read _ _ _ said.2 in
-    let taken = spanned header_four unit.0 inner.0 in
+    let taken = has_size.by unit.0 _ _ inner.0 in
     let last = pure_read _ _ said.3 in
     let bytes = λ (i : Input). i.bytes in
-    let regrouped = joined_left (take (initial_length_size (initial.0).0) old.bytes) (take 4 unit.0.bytes)
+    let regrouped = joined_left (take (initial_length_size (initial.0).0) old.bytes) (take size unit.0.bytes)
     said.0.1.bytes new.bytes in
-    subst (λ s. IsJoined old s new) (sym last.0) (record {
+    subst (λ s. IsJoined size old s new) (sym last.0) (record {
       initial = take (initial_length_size (initial.0).0) old.bytes;
-      header = take 4 unit.0.bytes;
+      header = take size unit.0.bytes;
       parts = cc
           (taken_front front, taken_front part.1, taken_front taken, ap bytes part.0, ap bytes (last.1 ∙ inner.1));
       of_format = length-take-le (initial_length_size (initial.0).0) old.bytes front.enough;
-      four = length-take-le 4 unit.0.bytes taken.enough;
-      of_length = sym (length-append (take 4 unit.0.bytes) said.0.1.bytes) ∙ ap length (sym (taken_front taken))
+      of_size = length-take-le size unit.0.bytes taken.enough;
+      of_length = sym (length-append (take size unit.0.bytes) said.0.1.bytes) ∙ ap length (sym (taken_front taken))
           ∙ ap (λ (i : Input). length i.bytes) part.0 ∙ length-take-le (initial.0).1 (initial.1).bytes part.1.enough;
     })
-
--- the header of a set of addresses has four bytes
-pub address_header-four : HasFour address_header
-unfolding address_header
-address_header-four =
-    then_spans (number_spans 2) (λ version. then_spans (check_spans _ _)
-    (λ known. then_spans byte_spans (λ size. then_spans (check_spans _ _)
-    (λ sized. then_spans byte_spans (λ segment. then_spans (check_spans _ _)
-    (λ flat. pure_spans refl))))))
-
--- the header of a set of string offsets has four bytes
-pub string_offsets_header-four : HasFour string_offsets_header
-unfolding string_offsets_header
-string_offsets_header-four =
-    then_spans (number_spans 2) (λ version. then_spans (check_spans _ _)
-    (λ known. then_spans (number_spans 2) (λ padding. pure_spans refl)))
 
 -- ---- the lists of sets, and what `next` returns
 
@@ -159,13 +139,13 @@ module _ {H : Type 0} (header : Layout H) (greatest : ℕ) where
 initial_length_size-least : (format : Format) → 4 ≤ initial_length_size format
 initial_length_size-least format = grind arith
 
--- ---- if the header has four bytes
-module _ {H : Type 0} {header : Layout H} (four : HasFour header) (greatest : ℕ) where
-  -- a set has at least eight bytes
-  pub set_least : (offset : ℕ) → TakesLeast 8 (set header greatest offset)
+-- ---- if the header has a size
+module _ {H : Type 0} {header : Layout H} {size : ℕ} (has_size : HasSize size header) (greatest : ℕ) where
+  -- a set has at least the four bytes of its length, and those of its header
+  pub set_least : (offset : ℕ) → TakesLeast (4 + size) (set header greatest offset)
   set_least offset = record {
     by = λ old new s is. let spans = (set-spans header greatest offset).by old new s is in
-        omega (arith, spans, (set-parts greatest offset four old is).four, initial_length_size-least s.format);
+        omega (arith, spans, (set-parts greatest offset has_size old is).enough, initial_length_size-least s.format);
   }
 
   -- the bytes that remain have exactly one list of sets
@@ -174,7 +154,7 @@ module _ {H : Type 0} {header : Layout H} (four : HasFour header) (greatest : �
 
   -- sets consume no more bytes than there are
   pub sets_bounded : (headers : Headers) (items : List (Result (Set H) Error))
-      → StandsForSets header greatest headers items → sum_by (least_taken 8) items ≤ length headers.rest.bytes
+      → StandsForSets header greatest headers items → sum_by (least_taken (4 + size)) items ≤ length headers.rest.bytes
   sets_bounded headers items are_items = items-bounded set_least are_items
 
   module _ (offset place : ℕ) (rest left : Input) {at : ℕ} {s : Set H} (some : rest.bytes ≢ [])
@@ -197,23 +177,23 @@ module _ {H : Type 0} {header : Layout H} (four : HasFour header) (greatest : �
         (bytes-still_some rest.bytes more some) (read_more (set header greatest offset) more rest is_read)
         (omega (arith, l, length-append rest.bytes more, length-append left.bytes more))
 
--- a set that a reader read has at least eight bytes, if its header has four
-pub set_bound : {H : Type 0} {header : Layout H} (greatest : ℕ) {n : ℕ} {format : Format} (old new : Input)
+-- a set that a reader read has at least four bytes and those of its header
+pub set_bound : {H : Type 0} {header : Layout H} {size : ℕ} (greatest : ℕ) {n : ℕ} {format : Format} (old new : Input)
     {behind unit entries : Input} {h : H} → read (initial_length greatest) old ≡ Ok ((format, n), behind)
-    → unit ≡ first n behind → Takes n behind new → read header unit ≡ Ok (h, entries) → HasFour header
-    → length new.bytes + 8 ≤ length old.bytes
+    → unit ≡ first n behind → Takes n behind new → read header unit ≡ Ok (h, entries) → HasSize size header
+    → length new.bytes + (4 + size) ≤ length old.bytes
 unfolding set
-set_bound greatest old new measured is taken said four =
-    (set_least four greatest 0).by old new _
+set_bound greatest old new measured is taken said has_size =
+    (set_least has_size greatest 0).by old new _
     (then_reads _ _ _ measured ∙ after_part _ is taken (after_inside _ _ _ _ said (pure_reads _ _)))
 
--- a header of four bytes is never read from fewer
-pub cut_header : {H : Type 0} {header : Layout H} {h : H} (old new : Input) → read header old ≡ Ok (h, new)
-    → HasFour header → length old.bytes < 4 → ⊥
-cut_header old new is four short = omega (arith, short, (spanned four old is).enough)
+-- a header isn't read from fewer bytes than it has
+pub cut_header : {H : Type 0} {header : Layout H} {size : ℕ} {h : H} (old new : Input)
+    → read header old ≡ Ok (h, new) → HasSize size header → length old.bytes < size → ⊥
+cut_header old new is has_size short = omega (arith, short, (has_size.by old new _ is).enough)
 
--- how many bytes a set of each kind has, and its header
-pub ruleset set_bounds = (set_bound, cut_header, address_header-four, string_offsets_header-four)
+-- how many bytes a set has, and its header
+pub ruleset set_bounds = (set_bound, cut_header)
 
--- the parts of a set of each kind
-pub ruleset parts_of_sets = (set-joined, address_header-four, string_offsets_header-four)
+-- the parts of a set
+pub ruleset parts_of_sets = (set-joined)

@@ -1,34 +1,25 @@
 //! Addresses: the section `.debug_addr` (DWARF 5, 7.27).
 
-ghost use Rattle.std.specs.Prelude.{nat_eq, ◌≡◌, ◌+◌, ◌<◌, ◌≤◌, ◌⊎◌, ℕ, [], Ok, Err, true, length, IsTrue, IfOk, IfErr, IfSome, OnOk, OnErr};
-ghost use Rattle.std.specs.Cmp.{nat_eq_equiv};
+ghost use Rattle.std.specs.Prelude.{◌≡◌, ◌+◌, ◌<◌, ◌≤◌, [], true, length, IsTrue, IfOk, IfErr, IfSome, OnErr};
 ghost use Rattle.std.specs.Fn.{CalledAt, TakesAt};
 ghost use Rattle.dwarf_base_core.specs.declared.common.SectionId.TheVariants.{DebugAddr as debug_addr};
 ghost use Rattle.std.specs.Result.{result_transpose};
 ghost use Rattle.dwarf_reader_core.specs.Faults.{WantsMemory, is_number_size};
 ghost use Rattle.dwarf_read_core.specs.Entries.{StandsForAddresses};
-ghost use Rattle.dwarf_read_core.specs.Equality.{same_set, same_set_per, same_set_equiv};
-ghost use Rattle.dwarf_read_core.specs.Items.{GivesFirst, StaysFirst};
-ghost use Rattle.dwarf_reader_core.specs.Layout.{read};
+ghost use Rattle.dwarf_read_core.specs.Items.{GivesFirst};
 ghost use Rattle.dwarf_read_core.specs.Lookups.{AnswersBy, StaysBy};
-ghost use Rattle.dwarf_read_core.specs.Sets.{StandsForAddressSets, address_header, addresses_of, followed_headers, seen_by, set};
+ghost use Rattle.dwarf_read_core.specs.Sets.{address_header, address_header-size, addresses_of, seen_by};
 ghost use Rattle.dwarf_read_core.specs.Words.{AddressAt, slot};
 
 use super::indexed::skip_to_index;
 use super::section::Section;
+use super::sets::{HeaderFields, SetHeader, SetHeaderIter, VERSION};
 use dwarf_base_core::{
-    DebugAddrBase, DebugAddrIndex, DebugAddrOffset, Encoding, Error, ReaderOffset, Result,
-    SectionId,
+    DebugAddrBase, DebugAddrIndex, DebugAddrOffset, Encoding, Error, Result, SectionId,
 };
 use dwarf_reader_core::Reader;
 use std::alloc::AllocError;
 use std::marker::Model;
-
-// The version of every set. Earlier standards have no sets.
-const VERSION: u16 = 5;
-
-// How many bytes are between the length of a set and its addresses.
-const HEADER_BYTES: u64 = 4;
 
 /// The `.debug_addr` section (DWARF 5, 7.27): sets of addresses, each with a header.
 #[derive(Debug, Default, Clone, Copy, Drop)]
@@ -88,10 +79,7 @@ impl<R: Reader> DebugAddr<R> {
             IfOk result (λ headers. headers ≡ record { offset = 0; rest = section }) }
         ensures err { IfErr result (WantsMemory R.clone_is_free) }
     {
-        Ok(AddrHeaderIter {
-            input: self.section.try_clone()?,
-            end: self.section.len(),
-        })
+        Ok(AddrHeaderIter::new(self.section.try_clone()?))
     }
 }
 
@@ -151,251 +139,72 @@ impl<R> From<R> for DebugAddr<R> {
 ///     }
 /// }
 /// ```
-#[derive(Debug, Drop)]
-pub struct AddrHeaderIter<R: Reader> {
-    input: R,
-    // The offset behind the last byte. The bytes that remain say where the next set begins.
-    end: R::Offset,
-}
-
-impl<R: Reader> Model for AddrHeaderIter<R> {
-    ghost use Rattle.std.specs.Prelude.{◌-◌, ◌≤◌, length};
-    ghost use Rattle.dwarf_read_core.specs.Sets.{Headers};
-
-    ghost Value = { Headers };
-
-    ghost view = { λ headers. record {
-      offset = R.Offset.value headers.end - length (R.view headers.input).bytes;
-      rest = R.view headers.input;
-    } };
-
-    ghost invariant = { λ headers. length (R.view headers.input).bytes ≤ R.Offset.value headers.end };
-}
-
-impl<R: Reader> AddrHeaderIter<R> {
-    /// Returns the header of the next set, or `None` if no bytes remain.
-    ///
-    /// A set has at least eight bytes.
-    ///
-    /// # Errors
-    ///
-    /// If the bytes that remain don't begin with a set, the first of these. Positions are those of
-    /// the section.
-    ///
-    /// - `UnexpectedEof` at the set if fewer than four bytes remain;
-    /// - `UnknownReservedLength` if the first four bytes are a reserved value;
-    /// - `UnexpectedEof` after the first four bytes if they announce a length of eight bytes, and
-    ///   fewer remain;
-    /// - `UnsupportedOffset` if the length doesn't fit the offset type;
-    /// - `UnexpectedEof` after the length if fewer bytes remain, or if the set ends before the
-    ///   version;
-    /// - `UnknownVersion` if the version isn't 5;
-    /// - `UnexpectedEof` if the set ends before the address size or the segment size;
-    /// - `UnsupportedAddressSize` if the address size isn't 1, 2, 4 or 8;
-    /// - `UnsupportedSegmentSize` if the segment size isn't 0.
-    ///
-    /// `OutOfMemory` if memory for a reader of the set runs out. After any error the iterator is
-    /// exhausted: `next` returns `Ok(None)`.
-    #[tactic(auto, using(crate::proofs::sets::Sets::sets_none))]
-    pub fn next(&mut self) -> Result<Option<AddrHeader<R>>>
-        ensures first { GivesFirst (StandsForAddressSets R.Offset.GREATEST)
-            (seen_by R.view) R.clone_is_free self.old
-            (result_transpose result) self.new }
-        ensures failed { OnErr result (self.new.rest.bytes ≡ []) }
-        ensures bound { IfOk result
-            (λ item. IfSome item
-            (λ _. length self.new.rest.bytes + 8 ≤ length self.old.rest.bytes)) }
-        ensures some { OnErr result (1 ≤ length self.old.rest.bytes) }
-
-        // Appended bytes change neither a set nor an error, unless it is an `UnexpectedEof`.
-        ensures stable { StaysFirst (StandsForAddressSets R.Offset.GREATEST)
-            (seen_by R.view) R.clone_is_free followed_headers self.old
-            (result_transpose result) self.new }
-    {
-        if self.input.is_empty() {
-            return Ok(None);
-        }
-        let offset = DebugAddrOffset(self.end - self.input.len());
-        match AddrHeader::parse(&mut self.input, offset) {
-            Ok(header) => Ok(Some(header)),
-            Err(error) => {
-                // Nothing says where the next set would begin.
-                self.input.empty();
-                Err(error)
-            }
-        }
-    }
-}
-
-impl<R: Reader> Iterator for AddrHeaderIter<R> {
-    type Item = Result<AddrHeader<R>>;
-
-    ghost use Rattle.std.specs.Prelude.{length};
-    ghost use Rattle.std.specs.Iterator.{at_most};
-    ghost use Rattle.dwarf_read_core.specs.Items.{GivesFirst};
-    ghost use Rattle.dwarf_read_core.specs.Sets.{StandsForAddressSets, seen_by};
-
-    ghost next_gives = { GivesFirst (StandsForAddressSets R.Offset.GREATEST) (seen_by R.view) R.clone_is_free };
-
-    ghost remaining = { λ headers. at_most (length headers.rest.bytes) };
-
-    #[tactic(auto, using(crate::proofs::sets::IteratorsEnd::sets_progress))]
-    fn next(&mut self) -> Option<Result<AddrHeader<R>>> {
-        self.next().transpose()
-    }
-}
-
-impl<R: Reader + Clone> Clone for AddrHeaderIter<R> {
-    ghost is_clone = { λ headers copy. copy ≡ headers };
-
-    ghost is_infallible = { λ _. R.clone_is_free ≡ true };
-
-    fn clone(&self) -> std::result::Result<Self, AllocError> {
-        match self.input.try_clone() {
-            Ok(input) => Ok(AddrHeaderIter {
-                input,
-                end: self.end,
-            }),
-            Err(_) => Err(AllocError),
-        }
-    }
-}
+pub type AddrHeaderIter<R> = SetHeaderIter<R, AddressSize>;
 
 /// The header of a set of addresses, and the addresses that follow it.
-#[derive(Debug, Drop)]
-pub struct AddrHeader<R: Reader> {
-    offset: DebugAddrOffset<R::Offset>,
-    encoding: SetEncoding,
-    length: R::Offset,
-    entries: R,
-}
+pub type AddrHeader<R> = SetHeader<R, AddressSize>;
 
-// The encoding of a set of addresses.
+/// The size of the addresses of a set: 1, 2, 4 or 8 bytes. The header says nothing else behind its
+/// version.
 #[derive(Clone, Copy, Debug, PartialEq, Eq)]
-struct SetEncoding {
-    encoding: Encoding,
-    ghost sized: { IsTrue (is_number_size encoding.address_size) },
-    ghost known: { encoding.version ≡ 5 },
+pub struct AddressSize {
+    size: u8,
 }
 
-impl<R: Reader> Model for AddrHeader<R> {
-    ghost use Rattle.std.specs.Prelude.{ℕ};
-    ghost use Rattle.dwarf_read_core.specs.Sets.{SetOf};
+impl Model for AddressSize {
+    ghost use Rattle.std.specs.Prelude.{ℕ, IsTrue};
+    ghost use Rattle.dwarf_reader_core.specs.Faults.{is_number_size};
 
-    ghost Value = { SetOf ℕ R };
+    ghost Value = { ℕ };
 
-    ghost view = { λ a. record {
-      offset = R.Offset.value a.offset.0;
-      format = a.encoding.encoding.format;
-      unit_length = R.Offset.value a.length;
-      header = a.encoding.encoding.address_size;
-      entries = a.entries;
-    } };
+    ghost view = { λ a. a.size };
+
+    ghost inverse = { λ size. record { size = size } };
+
+    ghost invariant = { λ a. IsTrue (is_number_size a.size) };
 }
 
-/// Two headers are equal if their offsets, lengths, encodings and readers are.
-impl<R: Reader + PartialEq> PartialEq for AddrHeader<R> {
-    ghost eq = { same_set nat_eq R.eq };
-
-    ghost laws = { same_set_per nat_eq_equiv R.PartialEq.laws };
-
-    fn eq(&self, other: &Self) -> bool {
-        self.offset == other.offset
-            && self.length == other.length
-            && self.encoding == other.encoding
-            && self.entries == other.entries
-    }
-}
-
-impl<R: Reader + Eq> Eq for AddrHeader<R> {
-    ghost laws = { same_set_equiv nat_eq_equiv R.Eq.laws };
-}
-
-impl<R: Reader + Clone> Clone for AddrHeader<R> {
-    ghost is_clone = { λ header copy. seen_by R.view copy ≡ seen_by R.view header };
-
-    ghost is_infallible = { λ _. R.clone_is_free ≡ true };
-
-    fn clone(&self) -> std::result::Result<Self, AllocError> {
-        match self.entries.try_clone() {
-            Ok(entries) => Ok(AddrHeader {
-                offset: self.offset,
-                encoding: self.encoding,
-                length: self.length,
-                entries,
-            }),
-            Err(_) => Err(AllocError),
-        }
-    }
-}
-
-impl<R: Reader> AddrHeader<R> {
-    #[tactic(auto, using(crate::proofs::sets::Sets::set_bounds), unfolding(crate::specs::Sets::set, dwarf_reader_core::specs::Layout::read))]
-    fn parse(input: &mut R, offset: DebugAddrOffset<R::Offset>) -> Result<AddrHeader<R>>
-        ensures ok { IfOk result
-            (λ header. read (set address_header R.Offset.GREATEST (R.Offset.value offset.0))
-            (R.view input.old) ≡ Ok (seen_by R.view header, R.view input.new)) }
-        ensures err { IfErr result
-            (λ e. (read (set address_header R.Offset.GREATEST (R.Offset.value offset.0))
-            (R.view input.old) ≡ Err e) ⊎ WantsMemory R.clone_is_free e) }
-        ensures bound { OnOk result
-            (length (R.view input.new).bytes + 8 ≤ length (R.view input.old).bytes) }
+impl AddressSize {
+    /// Returns the size in bytes.
+    pub fn bytes(self) -> u8
+        ensures is { result ≡ self }
+        ensures sized { IsTrue (is_number_size result) }
     {
-        let (length, format) = input.read_initial_length()?;
-        let mut unit = input.split(length)?;
-        // A set without room for a header is an error, which the call returns. Once that is excluded,
-        // the same call below doesn't test any more where the set ends.
-        if unit.len().into_u64() < HEADER_BYTES {
-            Self::parse_address_size(&mut unit)?;
-            unreachable!();
-        }
-        let encoding = SetEncoding {
-            encoding: Encoding {
-                address_size: Self::parse_address_size(&mut unit)?,
-                format,
-                version: VERSION,
-            },
-        };
-        Ok(AddrHeader {
-            offset,
-            encoding,
-            length,
-            entries: unit,
-        })
+        self.size
     }
+}
 
-    // Reads what is between the length of a set and its addresses, and returns their size.
+impl HeaderFields for AddressSize {
+    ghost layout = { address_header };
+
+    ghost BYTES = { 4 };
+
+    const BYTES: u64 = 4;
+
+    const NAME: &'static str = "AddrHeader";
+
     #[tactic(auto, unfolding(crate::specs::Sets::address_header, dwarf_reader_core::specs::Layout::read, dwarf_reader_core::specs::Layout::fixed, dwarf_reader_core::specs::Layout::byte, dwarf_reader_core::specs::Layout::check))]
-    fn parse_address_size(unit: &mut R) -> Result<u8>
-        ensures ok { IfOk result
-            (λ size. read address_header (R.view unit.old) ≡ Ok (size, R.view unit.new)) }
-        ensures sized { IfOk result (λ size. IsTrue (is_number_size size)) }
-        ensures err { IfErr result (λ e. read address_header (R.view unit.old) ≡ Err e) }
-    {
+    fn parse<R: Reader>(unit: &mut R) -> Result<Self> {
         let version = unit.read_u16()?;
         if version != VERSION {
             return Err(Error::UnknownVersion(u64::from(version)));
         }
-        let address_size = unit.read_address_size()?;
+        let size = unit.read_address_size()?;
         match unit.read_u8()? {
-            0 => Ok(address_size),
+            0 => Ok(AddressSize { size }),
             segment_size => Err(Error::UnsupportedSegmentSize(segment_size)),
         }
     }
 
+    ghost has_size = { address_header-size };
+}
+
+impl<R: Reader> AddrHeader<R> {
     /// Returns where the set begins, in bytes from the section's start.
     pub fn offset(&self) -> DebugAddrOffset<R::Offset>
         ensures { R.Offset.value result.0 ≡ self.now.offset }
     {
-        self.offset
-    }
-
-    /// Returns how many bytes of the set follow its initial length: the rest of the header, and the
-    /// addresses.
-    pub fn length(&self) -> R::Offset
-        ensures { R.Offset.value result ≡ self.now.unit_length }
-    {
-        self.length
+        DebugAddrOffset(self.offset)
     }
 
     /// Returns the set's format and address size; the version is 5.
@@ -406,7 +215,11 @@ impl<R: Reader> AddrHeader<R> {
           version = 5;
         } }
     {
-        self.encoding.encoding
+        Encoding {
+            address_size: self.encoding.fields.bytes(),
+            format: self.encoding.format,
+            version: self.encoding.version,
+        }
     }
 
     /// Returns the addresses of the set.
@@ -421,7 +234,7 @@ impl<R: Reader> AddrHeader<R> {
     {
         Ok(AddrEntryIter {
             input: self.entries.try_clone()?,
-            encoding: self.encoding,
+            size: self.encoding.fields,
         })
     }
 }
@@ -430,7 +243,7 @@ impl<R: Reader> AddrHeader<R> {
 #[derive(Debug, Drop)]
 pub struct AddrEntryIter<R: Reader> {
     input: R,
-    encoding: SetEncoding,
+    size: AddressSize,
 }
 
 impl<R: Reader> Model for AddrEntryIter<R> {
@@ -438,7 +251,7 @@ impl<R: Reader> Model for AddrEntryIter<R> {
 
     ghost Value = { Entries };
 
-    ghost view = { λ entries. record { width = entries.encoding.encoding.address_size; rest = R.view entries.input } };
+    ghost view = { λ entries. record { width = entries.size; rest = R.view entries.input } };
 }
 
 impl<R: Reader> AddrEntryIter<R> {
@@ -462,7 +275,7 @@ impl<R: Reader> AddrEntryIter<R> {
         if self.input.is_empty() {
             return Ok(None);
         }
-        match self.input.read_address(self.encoding.encoding.address_size) {
+        match self.input.read_address(self.size.bytes()) {
             Ok(entry) => Ok(Some(entry)),
             Err(error) => {
                 self.input.empty();
@@ -499,7 +312,7 @@ impl<R: Reader + Clone> Clone for AddrEntryIter<R> {
         match self.input.try_clone() {
             Ok(input) => Ok(AddrEntryIter {
                 input,
-                encoding: self.encoding,
+                size: self.size,
             }),
             Err(_) => Err(AllocError),
         }

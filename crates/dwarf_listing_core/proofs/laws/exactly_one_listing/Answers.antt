@@ -16,5 +16,5 @@ returns c = record {
   string_offsets = λ endian section. one_section (offset_listing (2 ^ 64 - 1)) (sets_section endian section)
       (λ offset old new s h. c.exactly_one_list_of_string_offsets.ensures.one (2 ^ 64 - 1) (string_offsets_of s)
       (word_positive s.format))
-      (c.exactly_one_list_of_offset_sets.ensures.one (2 ^ 64 - 1) (sets_section endian section));
+      (c.exactly_one_list_of_sets-2.ensures.one (2 ^ 64 - 1) (sets_section endian section));
 }

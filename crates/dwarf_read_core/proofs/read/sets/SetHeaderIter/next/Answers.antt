@@ -1,0 +1,23 @@
+use Rattle.dwarf_read_core.proofs.Common.{rules, ap, Input}
+use Rattle.dwarf_read_core.proofs.sets.Sets.{set_first, set_error_first, set_error_stays, set_stays}
+use Rattle.dwarf_read_core.proofs.read.sets.SetHeaderIter.next.Goals as goal
+
+pub returns-in-Ok-clause-first : goal.returns-in-Ok-clause-first
+returns-in-Ok-clause-first g c =
+    rw (← c.self.view_is) (set_first g.met.H.HeaderFields.has_size _ _ _ _ _ (search rules) c.in-Ok.ensures.ok
+    (search rules) (search rules))
+
+pub returns-in-Ok-clause-stable : goal.returns-in-Ok-clause-stable
+returns-in-Ok-clause-stable g c =
+    rw (← c.self.view_is) (set_stays g.met.H.HeaderFields.has_size _ _ _ _ _ (search rules) c.in-Ok.ensures.ok
+    (search rules) (search rules))
+
+pub returns-in-Err-clause-first : goal.returns-in-Err-clause-first
+returns-in-Err-clause-first g c =
+    rw (← c.self.view_is) (set_error_first g.H.HeaderFields.layout _ _ _ _ _ _ (search rules) c.in-Err.ensures.err
+    (search rules) (ap (λ (i : Input). i.bytes) c.empty.ensures.left))
+
+pub returns-in-Err-clause-stable : goal.returns-in-Err-clause-stable
+returns-in-Err-clause-stable g c =
+    rw (← c.self.view_is) (set_error_stays g.H.HeaderFields.layout _ _ _ _ (search rules) c.in-Err.ensures.err
+    (search rules))

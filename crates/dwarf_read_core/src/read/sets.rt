@@ -1,0 +1,307 @@
+//! Sets: what a section has one after the other, each with a header (DWARF 5, 7.26 and 7.27).
+
+ghost use Rattle.std.specs.Prelude.{◌≡◌, ◌+◌, ◌≤◌, ◌⊎◌, ℕ, [], Ok, Err, true, length, IfOk, IfErr, IfSome, OnOk, OnErr};
+ghost use Rattle.std.specs.Result.{result_transpose};
+ghost use Rattle.dwarf_reader_core.specs.Faults.{WantsMemory};
+ghost use Rattle.dwarf_reader_core.specs.Layout.{Layout, read};
+ghost use Rattle.dwarf_read_core.specs.Equality.{same_set, same_set_per, same_set_equiv};
+ghost use Rattle.dwarf_read_core.specs.Items.{GivesFirst, StaysFirst};
+ghost use Rattle.dwarf_read_core.specs.Sets.{HasSize, StandsForSets, followed_headers, seen_by, set};
+
+use dwarf_base_core::{Error, Format, ReaderOffset, Result};
+use dwarf_reader_core::Reader;
+use std::alloc::AllocError;
+use std::fmt;
+use std::marker::{Model, PhantomData};
+
+// The version of every set. Earlier standards have no sets.
+pub(super) const VERSION: u16 = 5;
+
+/// What the header of a set says behind the set's length, for one kind of sets.
+///
+/// [`SetHeader`] and [`SetHeaderIter`] read each kind by its fields. A set of addresses has an
+/// [`AddressSize`](super::AddressSize), and a set of string offsets has none, `()`.
+pub trait HeaderFields: fmt::Debug + Copy + Drop {
+    ghost layout: { Layout Self };
+
+    ghost BYTES: { ℕ };
+
+    /// How many bytes of the header follow the set's length.
+    const BYTES: u64;
+
+    /// The name of the kind's header, with which its debug text begins.
+    const NAME: &'static str;
+
+    /// Reads the fields from the front of what follows the set's length, and returns them.
+    ///
+    /// # Errors
+    ///
+    /// The first error of the fields.
+    fn parse<R: Reader>(unit: &mut R) -> Result<Self>
+        ensures ok { IfOk result
+            (λ fields. read layout (R.view unit.old) ≡ Ok (fields, R.view unit.new)) }
+        ensures err { IfErr result (λ e. read layout (R.view unit.old) ≡ Err e) };
+
+    // Fields that are read have as many bytes as the constant says.
+    ghost has_size: { HasSize BYTES layout };
+}
+
+/// The sets that remain of a section, each by its header.
+///
+/// [`AddrHeaderIter`](super::AddrHeaderIter) and [`StrOffsetsHeaderIter`](super::StrOffsetsHeaderIter)
+/// are this iterator.
+#[derive(Debug, Drop)]
+pub struct SetHeaderIter<R: Reader, H: HeaderFields> {
+    input: R,
+    // The offset behind the last byte. The bytes that remain say where the next set begins.
+    end: R::Offset,
+    fields: PhantomData<H>,
+}
+
+impl<R: Reader, H: HeaderFields> Model for SetHeaderIter<R, H> {
+    ghost use Rattle.std.specs.Prelude.{◌-◌, ◌≤◌, length};
+    ghost use Rattle.dwarf_read_core.specs.Sets.{Headers};
+
+    ghost Value = { Headers };
+
+    ghost view = { λ headers. record {
+      offset = R.Offset.value headers.end - length (R.view headers.input).bytes;
+      rest = R.view headers.input;
+    } };
+
+    ghost invariant = { λ headers. length (R.view headers.input).bytes ≤ R.Offset.value headers.end };
+}
+
+impl<R: Reader, H: HeaderFields> SetHeaderIter<R, H> {
+    /// Returns the sets of a whole section.
+    pub(super) fn new(input: R) -> Self
+        ensures { result ≡ record { offset = 0; rest = R.view input } }
+    {
+        let end = input.len();
+        SetHeaderIter {
+            input,
+            end,
+            fields: PhantomData,
+        }
+    }
+
+    /// Returns the header of the next set, or `None` if no bytes remain.
+    ///
+    /// A set has at least the four bytes of its length, and those of the other fields: eight for
+    /// addresses and for string offsets.
+    ///
+    /// # Errors
+    ///
+    /// If the bytes that remain don't begin with a set, the first of these. Positions are those of
+    /// the section.
+    ///
+    /// - `UnexpectedEof` at the set if fewer than four bytes remain;
+    /// - `UnknownReservedLength` if the first four bytes are a reserved value;
+    /// - `UnexpectedEof` after the first four bytes if they announce a length of eight bytes, and
+    ///   fewer remain;
+    /// - `UnsupportedOffset` if the length doesn't fit the offset type;
+    /// - `UnexpectedEof` after the length if fewer bytes remain, or if the set ends before the
+    ///   version;
+    /// - `UnknownVersion` if the version isn't 5;
+    /// - for addresses, `UnexpectedEof` if the set ends before the address size or the segment size,
+    ///   `UnsupportedAddressSize` if the address size isn't 1, 2, 4 or 8, and
+    ///   `UnsupportedSegmentSize` if the segment size isn't 0;
+    /// - for string offsets, `UnexpectedEof` after the version if the set ends before the two bytes
+    ///   of padding, which may have any value.
+    ///
+    /// `OutOfMemory` if memory for a reader of the set runs out. After any error the iterator is
+    /// exhausted: `next` returns `Ok(None)`.
+    #[tactic(auto, using(crate::proofs::sets::Sets::sets_none))]
+    pub fn next(&mut self) -> Result<Option<SetHeader<R, H>>>
+        ensures first { GivesFirst (StandsForSets H.layout R.Offset.GREATEST)
+            (seen_by R.view) R.clone_is_free self.old
+            (result_transpose result) self.new }
+        ensures failed { OnErr result (self.new.rest.bytes ≡ []) }
+        ensures bound { IfOk result
+            (λ item. IfSome item
+            (λ _. length self.new.rest.bytes + (4 + H.BYTES) ≤ length self.old.rest.bytes)) }
+        ensures some { OnErr result (1 ≤ length self.old.rest.bytes) }
+
+        // Appended bytes change neither a set nor an error, unless it is an `UnexpectedEof`.
+        ensures stable { StaysFirst (StandsForSets H.layout R.Offset.GREATEST)
+            (seen_by R.view) R.clone_is_free followed_headers self.old
+            (result_transpose result) self.new }
+    {
+        if self.input.is_empty() {
+            return Ok(None);
+        }
+        let offset = self.end - self.input.len();
+        match SetHeader::parse(&mut self.input, offset) {
+            Ok(header) => Ok(Some(header)),
+            Err(error) => {
+                // Nothing says where the next set would begin.
+                self.input.empty();
+                Err(error)
+            }
+        }
+    }
+}
+
+impl<R: Reader, H: HeaderFields> Iterator for SetHeaderIter<R, H> {
+    type Item = Result<SetHeader<R, H>>;
+
+    ghost use Rattle.std.specs.Prelude.{length};
+    ghost use Rattle.std.specs.Iterator.{at_most};
+    ghost use Rattle.dwarf_read_core.specs.Items.{GivesFirst};
+    ghost use Rattle.dwarf_read_core.specs.Sets.{StandsForSets, seen_by};
+
+    ghost next_gives = { GivesFirst (StandsForSets H.layout R.Offset.GREATEST) (seen_by R.view) R.clone_is_free };
+
+    ghost remaining = { λ headers. at_most (length headers.rest.bytes) };
+
+    #[tactic(auto, using(crate::proofs::sets::IteratorsEnd::sets_progress))]
+    fn next(&mut self) -> Option<Result<SetHeader<R, H>>> {
+        self.next().transpose()
+    }
+}
+
+impl<R: Reader + Clone, H: HeaderFields> Clone for SetHeaderIter<R, H> {
+    ghost is_clone = { λ headers copy. copy ≡ headers };
+
+    ghost is_infallible = { λ _. R.clone_is_free ≡ true };
+
+    fn clone(&self) -> std::result::Result<Self, AllocError> {
+        match self.input.try_clone() {
+            Ok(input) => Ok(SetHeaderIter {
+                input,
+                end: self.end,
+                fields: PhantomData,
+            }),
+            Err(_) => Err(AllocError),
+        }
+    }
+}
+
+/// The header of a set, and the entries that follow it.
+///
+/// [`AddrHeader`](super::AddrHeader) and [`StrOffsetsHeader`](super::StrOffsetsHeader) are this
+/// header. What they say of their own kind stands there.
+#[derive(Drop)]
+pub struct SetHeader<R: Reader, H: HeaderFields> {
+    pub(super) offset: R::Offset,
+    length: R::Offset,
+    pub(super) encoding: SetEncoding<H>,
+    pub(super) entries: R,
+}
+
+// How the entries of a set are encoded. As a struct of its own it is copied at once, with the
+// padding behind it.
+#[derive(Clone, Copy)]
+pub(super) struct SetEncoding<H: HeaderFields> {
+    pub fields: H,
+    pub format: Format,
+    pub version: u16,
+}
+
+impl<R: Reader, H: HeaderFields> Model for SetHeader<R, H> {
+    ghost use Rattle.std.specs.Prelude.{◌≡◌};
+    ghost use Rattle.dwarf_read_core.specs.Sets.{SetOf};
+
+    ghost Value = { SetOf H R };
+
+    ghost view = { λ a. record {
+      offset = R.Offset.value a.offset;
+      format = a.encoding.format;
+      unit_length = R.Offset.value a.length;
+      header = a.encoding.fields;
+      entries = a.entries;
+    } };
+
+    ghost invariant = { λ a. a.encoding.version ≡ 5 };
+}
+
+/// Two headers are equal if their offsets, lengths, formats, fields and readers are.
+impl<R: Reader + PartialEq, H: HeaderFields + Eq> PartialEq for SetHeader<R, H> {
+    ghost eq = { same_set H.eq R.eq };
+
+    ghost laws = { same_set_per H.Eq.laws R.PartialEq.laws };
+
+    fn eq(&self, other: &Self) -> bool {
+        self.offset == other.offset
+            && self.length == other.length
+            && self.encoding.format == other.encoding.format
+            && self.encoding.fields == other.encoding.fields
+            && self.entries == other.entries
+    }
+}
+
+impl<R: Reader + Eq, H: HeaderFields + Eq> Eq for SetHeader<R, H> {
+    ghost laws = { same_set_equiv H.Eq.laws R.Eq.laws };
+}
+
+impl<R: Reader + Clone, H: HeaderFields> Clone for SetHeader<R, H> {
+    ghost is_clone = { λ header copy. seen_by R.view copy ≡ seen_by R.view header };
+
+    ghost is_infallible = { λ _. R.clone_is_free ≡ true };
+
+    fn clone(&self) -> std::result::Result<Self, AllocError> {
+        match self.entries.try_clone() {
+            Ok(entries) => Ok(SetHeader {
+                offset: self.offset,
+                length: self.length,
+                encoding: self.encoding,
+                entries,
+            }),
+            Err(_) => Err(AllocError),
+        }
+    }
+}
+
+// Prints the name of the kind's header.
+impl<R: Reader, H: HeaderFields> fmt::Debug for SetHeader<R, H> {
+    fn fmt<W: fmt::Write>(&self, f: &mut fmt::Formatter<W>) -> fmt::Result {
+        f.debug_struct(H::NAME)
+            .field("offset", &self.offset)
+            .field("length", &self.length)
+            .field("format", &self.encoding.format)
+            .field("fields", &self.encoding.fields)
+            .field("entries", &self.entries)
+            .finish()
+    }
+}
+
+impl<R: Reader, H: HeaderFields> SetHeader<R, H> {
+    #[tactic(auto, using(crate::proofs::sets::Sets::set_bounds), unfolding(crate::specs::Sets::set, dwarf_reader_core::specs::Layout::read))]
+    fn parse(input: &mut R, offset: R::Offset) -> Result<Self>
+        ensures ok { IfOk result
+            (λ header. read (set H.layout R.Offset.GREATEST (R.Offset.value offset))
+            (R.view input.old) ≡ Ok (seen_by R.view header, R.view input.new)) }
+        ensures err { IfErr result
+            (λ e. (read (set H.layout R.Offset.GREATEST (R.Offset.value offset))
+            (R.view input.old) ≡ Err e) ⊎ WantsMemory R.clone_is_free e) }
+        ensures bound { OnOk result
+            (length (R.view input.new).bytes + (4 + H.BYTES) ≤ length (R.view input.old).bytes) }
+    {
+        let (length, format) = input.read_initial_length()?;
+        let mut unit = input.split(length)?;
+        // A set without room for its fields is an error, which the call returns. Once that is
+        // excluded, the same call below doesn't test any more where the set ends.
+        if unit.len().into_u64() < H::BYTES {
+            H::parse(&mut unit)?;
+            unreachable!();
+        }
+        Ok(SetHeader {
+            offset,
+            length,
+            encoding: SetEncoding {
+                fields: H::parse(&mut unit)?,
+                format,
+                version: VERSION,
+            },
+            entries: unit,
+        })
+    }
+
+    /// Returns how many bytes of the set follow its initial length: the rest of the header, and the
+    /// entries.
+    pub fn length(&self) -> R::Offset
+        ensures { R.Offset.value result ≡ self.now.unit_length }
+    {
+        self.length
+    }
+}
