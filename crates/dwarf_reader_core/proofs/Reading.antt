@@ -1,7 +1,7 @@
 -- Reading a LEB128 number, one byte after the other.
-use Rattle.dwarf_reader_core.proofs.Common.{common_steps, List, ◌-◌, ◌≡◌, ℕ, ◌+◌, ◌*◌, ◌%◌, ◌^◌, ◌<◌, ◌≤◌, [], ◌∷◌, ◌++◌, length, get_or, take, refl, sym, ap, ◌∙◌, arith, inr, IsTrue, ◌↔◌, ◌≢◌, Bool, ℤ, pos, ◌-ℤ◌, nat_le, if◌then◌else◌, lt-ltb, ltb-true, bit_or, to_z, of_z, w64, FitsSigned, add_assoc, add-zero, length-take-le, drop-drop, Input, after, Takes, TakesByte, ints, to_z-of_z}
+use Rattle.dwarf_reader_core.proofs.Common.{common_steps, List, ◌-◌, ◌≡◌, ℕ, ◌+◌, ◌*◌, ◌%◌, ◌^◌, ◌<◌, ◌≤◌, [], ◌∷◌, ◌++◌, length, get_or, take, refl, sym, ap, ◌∙◌, arith, inl, inr, IsTrue, ◌↔◌, ◌≢◌, Bool, ℤ, pos, ◌-ℤ◌, nat_le, if◌then◌else◌, lt-ltb, ltb-true, bit_or, to_z, of_z, w64, FitsSigned, add_assoc, add-zero, length-take-le, drop-drop, take_all, Error, EndsBefore, IsFirst, length-drop, Input, after, Takes, TakesByte, ints, to_z-of_z}
 use Rattle.dwarf_base_core.specs.declared.error.Error.TheVariants.{BadUnsignedLeb128, BadSignedLeb128}
-use Rattle.dwarf_reader_core.specs.Leb128.{unsigned64, unsigned16, signed64, IsEncoding, NoneIsLast, unsigned_value, signed_value, is_negative, Kind, Number, value as value_of, limit, is_in_range, refusal, HasNumber, IsCut, ReadsNumber, RefusesNumber, TakesEncoding}
+use Rattle.dwarf_reader_core.specs.Leb128.{unsigned64, unsigned16, signed64, IsEncoding, NoneIsLast, unsigned_value, signed_value, is_negative, Kind, Number, value as value_of, limit, is_in_range, refusal, HasNumber, IsCut, ReadsNumber, RefusesNumber, LacksEncoding, TakesEncoding}
 use Rattle.dwarf_reader_core.proofs.Encodings.{in_range_i64, IsEncoding-cons, NoneIsLast-push, IsEncoding-push, IsEncoding-last, unsigned_value-push, worth_below, past_none, is_negative-push}
 use Rattle.dwarf_reader_core.proofs.Bits.{pow_digits, or_digit, tenth_out}
 
@@ -12,6 +12,11 @@ after-zero input = ap (λ (p : ℕ). let i : Input = record input { position = p
 -- consuming n bytes and then m is consuming n + m bytes
 pub after-after : (m n : ℕ) (input : Input) → after m (after n input) ≡ after (n + m) input
 after-after m n input = rw (drop-drop, add_assoc) refl
+
+-- a byte that is found remains behind those before it
+pub found_left : {byte n : ℕ} {old mid : Input} → IsFirst byte old.bytes n → Takes n old mid → length mid.bytes < 1 → ⊥
+found_left {n = n} {old = old} found takes none =
+    omega (arith, found.within, length-drop n old.bytes, ap (λ (i : Input). length i.bytes) takes.left, none)
 
 -- the first k bytes are consumed, none of them is the last of an encoding, and the value is that of their digits
 pub record Begun (old : Input) (k : ℕ) (mid : Input) (value : ℕ) : Type 0 where
@@ -35,6 +40,28 @@ begun_below {old} {k = k} b = grind (arith, worth_below)
 -- the value of nine digits has at most 63 bits
 pub begun_below_nine : {old mid : Input} {k value : ℕ} → Begun old k mid value → k ≡ 9 → value < 2 ^ 63
 begun_below_nine b nine = rw nine at (begun_below b)
+
+-- without a byte behind the first k, all bytes are consumed and no encoding ends in them
+pub begun_cut : {old mid new : Input} {k value : ℕ} {e : Error} → Begun old k mid value → EndsBefore 1 mid e new
+    → LacksEncoding old e new × (k ≡ length old.bytes)
+begun_cut {old} {k = k} b ends =
+    let all : k ≡ length old.bytes = grind (arith, common_steps) in
+    let whole : take k old.bytes ≡ old.bytes = take_all k old.bytes (omega arith) in (
+      record {
+        none = rw whole at b.none;
+        left = ends.left ∙ b.left ∙ ap (λ (n : ℕ). after n old) all;
+        fault = rw (← ends.left) at ends.fault;
+      },
+      all,
+    )
+
+-- a number that bytes are missing for, within the limit of its kind, is refused
+pub cut_refuses : {old mid new : Input} {k value : ℕ} {e : Error} (kind : Kind) → Begun old k mid value
+    → k < limit kind → EndsBefore 1 mid e new → RefusesNumber kind old e new
+cut_refuses kind b within ends =
+    let cut = begun_cut b ends in
+    let short : IsCut kind _ = record { short = rw (cut.1) at within; unended = cut.0.none } in
+    inl (record { cut = short; left = cut.0.left; fault = cut.0.fault })
 
 module _ {old mid new : Input} {k value byte : ℕ} (b : Begun old k mid value) (t : TakesByte mid byte new) where
   -- the next byte is consumed behind the first k

@@ -1,5 +1,5 @@
 -- Lookups of numbers by an index, as layouts.
-use Rattle.dwarf_read_core.proofs.Common.{common_steps, ◌≡◌, ℕ, ◌<◌, ◌≤◌, List, Bool, Result, Ok, Err, refl, sym, ◌∙◌, arith, ◌⊎◌, inl, inr, IsTrue, IfOk, IfErr, le-leb, lt-leb, Error, UnsupportedOffset, EndsBefore, IsNoOffset, RefusesAddress, is_number_size, Input, after, first, Takes, TakesNumber, HasOne, followed_by, IsNoEof, read, AnswersBy, At_one, At_more, At_value, At_error, then_reads, then_fails, error_is, part_reads, part_fails, number_reads, number_fails, after_part, no_part, after_check, no_check, rest-length, takes-both, StaysBy}
+use Rattle.dwarf_read_core.proofs.Common.{common_steps, ◌≡◌, ℕ, ◌<◌, ◌≤◌, List, Bool, Result, Ok, Err, refl, sym, ◌∙◌, arith, ◌⊎◌, inl, inr, IsTrue, IfOk, IfErr, OnOk, le-leb, lt-leb, Error, UnsupportedOffset, EndsBefore, IsNoOffset, RefusesAddress, is_number_size, Input, after, first, Takes, TakesNumber, HasOne, followed_by, IsNoEof, read, AnswersBy, At_one, At_more, At_value, At_error, then_reads, then_fails, error_is, part_reads, part_fails, number_reads, number_fails, after_part, no_part, after_check, no_check, rest-length, takes-both, StaysBy}
 use Rattle.dwarf_reader_core.proofs.Reading.{after-after}
 use Rattle.dwarf_read_core.specs.Words.{Slot, distance, place, IsPlaced, Misplaced, Holds, to_slot, word, address, WordAt, AddressAt}
 use Rattle.dwarf_read_core.proofs.sets.Entries.{offset_reads, offset_fails}
@@ -10,6 +10,12 @@ use Rattle.dwarf_read_core.proofs.sets.Entries.{offset_reads, offset_fails}
 pub skipped : (section : Input) (s : Slot) (rest new : Input) → Takes s.base section rest
     → Takes (distance s) rest new → Takes (place s) section new
 skipped section s rest new takes further = takes-both takes further
+
+-- so they are if the code computed the distance
+pub skipped_found : {A : Type 0} (section : Input) (s : Slot) (rest new : Input) (far : ℕ) (r : Result A Error)
+    → Takes s.base section rest → far ≡ distance s → OnOk r (Takes far rest new) → OnOk r (Takes (place s) section new)
+skipped_found section s rest new far (Ok x) takes is further = skipped section s rest new takes (rw is at further)
+skipped_found section s rest new far (Err e) takes is further = tt
 
 -- a number that is consumed at the place of a slot is the one that the slot holds
 pub slot_holds : (section : Input) (s : Slot) (x : ℕ) (rest new : Input) → Takes (place s) section rest
@@ -45,6 +51,13 @@ module _ (greatest : ℕ) (section : Input) (s : Slot) where
   pub placed : (rest new : Input) → Takes s.base section rest → distance s ≤ greatest → Takes (distance s) rest new
       → IsPlaced greatest section s
   placed rest new takes counted further = grind (arith, common_steps, rest-length)
+
+  -- a slot has a place if a distance that the code computed is consumed
+  pub placed_found : {A : Type 0} (rest new : Input) (far : ℕ) (r : Result A Error) → Takes s.base section rest
+      → far ≡ distance s → far ≤ greatest → OnOk r (Takes far rest new) → OnOk r (IsPlaced greatest section s)
+  placed_found rest new far (Ok x) takes is counted further =
+      placed rest new takes (omega arith) (rw is at further)
+  placed_found rest new far (Err e) takes is counted further = tt
 
   -- if a slot has no place, its word is that error
   pub word_misplaced : (e : Error) → Misplaced greatest section s e → WordAt greatest section s (Err e)

@@ -3,7 +3,7 @@ use Rattle.dwarf_read_core.proofs.Common.{common_steps, ◌≡◌, ◌≢◌, �
 use Rattle.dwarf_reader_core.specs.Layout.{fault}
 
 -- bytes that aren't empty are at least one
-bytes-some : (bytes : List ℕ) → bytes ≢ [] → 1 ≤ length bytes
+pub bytes-some : (bytes : List ℕ) → bytes ≢ [] → 1 ≤ length bytes
 bytes-some bytes some = grind (arith, common_steps)
 
 -- bytes are empty, or they aren't

@@ -101,7 +101,6 @@ impl<R: Reader> DebugAbbrev<R> {
     /// - `DuplicateAbbreviationCode` for a whole declaration with the code of an earlier one.
     ///
     /// `OutOfMemory` if memory for the table, or for a clone of the reader, runs out.
-    #[tactic(auto, using(std::proofs::lemmas::Result::err_from_is_err_and, crate::proofs::tables::ExactlyOneAnswer::outside_of, crate::proofs::tables::ExactlyOneAnswer::answer_returned, crate::proofs::tables::AppendedBytes::returned_stays, crate::proofs::tables::TableBounds::bounded_read))]
     pub fn abbreviations(
         &self,
         mem: Global,
@@ -386,7 +385,6 @@ impl Abbreviations {
     }
 
     // Reads a table, and the code of value 0 that closes it, if there is one.
-    #[tactic(auto, using(crate::proofs::tables::ReadingTables::table_steps))]
     fn parse<R: Reader>(mem: Global, input: &mut R) -> Result<Abbreviations>
         ensures ends { (rest : List ℕ)
             → declaration_at (end_of (R.view input.old)) (R.view input.old).bytes ≡ Ok (None, rest)
@@ -672,7 +670,7 @@ impl Abbreviation {
     }
 
     // Reads what follows the code of a declaration. The attributes are then in `scratch`.
-    #[tactic(auto, using(crate::proofs::tables::ReadingNumbers::number_steps), unfolding(crate::specs::Reading::declared_at))]
+    #[tactic(auto, unfolding(crate::specs::Reading::declared_at))]
     fn parse_declared<R: Reader>(
         code: u64,
         input: &mut R,
@@ -696,7 +694,7 @@ impl Abbreviation {
 
     // Reads a declaration, or what closes the table in its place. The attributes of a declaration are
     // then in `scratch`.
-    #[tactic(auto, using(crate::proofs::tables::ReadingNumbers::number_steps), unfolding(crate::specs::Reading::declaration_at))]
+    #[tactic(auto, unfolding(crate::specs::Reading::declaration_at))]
     fn parse<R: Reader>(
         input: &mut R,
         scratch: &mut Vec<AttributeSpecification>,
@@ -817,7 +815,6 @@ impl AttributeSpecification {
     }
 
     // Reads an attribute, or `None` if name and form are 0, which ends the declaration.
-    #[tactic(auto, using(crate::proofs::tables::ReadingNumbers::number_steps), unfolding(crate::specs::Reading::specification_at, crate::specs::Reading::value_at))]
     fn parse<R: Reader>(input: &mut R) -> Result<Option<AttributeSpecification>>
         ensures read { Gives (λ s. (s, (R.view input.new).bytes)) result
             (specification_at (end_of (R.view input.old)) (R.view input.old).bytes) }

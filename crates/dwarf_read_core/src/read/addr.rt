@@ -261,7 +261,6 @@ impl<R: Reader> AddrEntryIter<R> {
     ///
     /// `UnexpectedEof` at the bytes that remain if they are fewer than an address has. After it
     /// `next` returns `Ok(None)`.
-    #[tactic(auto, using(crate::proofs::sets::Entries::entries_none))]
     pub fn next(&mut self) -> Result<Option<u64>>
         ensures first { GivesFirst StandsForAddresses
             (λ address. address) true self.old (result_transpose result) self.new }

@@ -31,7 +31,6 @@ fn length_before<Offset: ReaderOffset>(index: Offset, width: u8) -> Result<Offse
 /// `UnexpectedEof` at the input's start if `base` is past its end, and at `base` if the number is.
 /// `UnsupportedOffset` if the distance from `base` to the number doesn't fit the offset type.
 #[inline]
-#[tactic(auto, using(crate::proofs::lookups::Words::no_base, crate::proofs::lookups::Words::too_far_off, crate::proofs::lookups::Words::past_end, crate::proofs::lookups::Words::skipped, crate::proofs::lookups::Words::placed))]
 pub(crate) fn skip_to_index<R: Reader>(
     input: &mut R,
     base: R::Offset,
@@ -61,7 +60,6 @@ pub(crate) fn skip_to_index<R: Reader>(
 ///
 /// Those of [`skip_to_index`].
 #[inline]
-#[tactic(auto, using(crate::proofs::lookups::Words::no_base, crate::proofs::lookups::Words::too_far_off, crate::proofs::lookups::Words::past_end, crate::proofs::lookups::Words::skipped, crate::proofs::lookups::Words::placed))]
 pub(crate) fn skip_to_word<R: Reader>(
     input: &mut R,
     base: R::Offset,

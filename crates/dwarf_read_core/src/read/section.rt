@@ -85,7 +85,6 @@ pub trait Section<R>: From<R> + Sized {
     ///
     /// `UnexpectedEof` at the section's start if `offset` is past its end, and at the range's start
     /// if the range ends past it. `OutOfMemory` if a clone of the reader runs out of memory.
-    #[tactic(auto, using(crate::proofs::lookups::Ranges::range_taken, crate::proofs::lookups::Ranges::range_cut, crate::proofs::lookups::Ranges::range_outside))]
     fn dwp_range(&self, offset: u32, size: u32) -> Result<Self>
     where
         R: Reader,

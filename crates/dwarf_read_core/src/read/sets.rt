@@ -111,7 +111,6 @@ impl<R: Reader, H: HeaderFields> SetHeaderIter<R, H> {
     ///
     /// `OutOfMemory` if memory for a reader of the set runs out. After any error the iterator is
     /// exhausted: `next` returns `Ok(None)`.
-    #[tactic(auto, using(crate::proofs::sets::Sets::sets_none))]
     pub fn next(&mut self) -> Result<Option<SetHeader<R, H>>>
         ensures first { GivesFirst (StandsForSets H.layout R.Offset.GREATEST)
             (seen_by R.view) R.clone_is_free self.old
@@ -266,7 +265,7 @@ impl<R: Reader, H: HeaderFields> fmt::Debug for SetHeader<R, H> {
 }
 
 impl<R: Reader, H: HeaderFields> SetHeader<R, H> {
-    #[tactic(auto, using(crate::proofs::sets::Sets::set_bounds), unfolding(crate::specs::Sets::set, dwarf_reader_core::specs::Layout::read))]
+    #[tactic(auto, unfolding(crate::specs::Sets::set, dwarf_reader_core::specs::Layout::read))]
     fn parse(input: &mut R, offset: R::Offset) -> Result<Self>
         ensures ok { IfOk result
             (λ header. read (set H.layout R.Offset.GREATEST (R.Offset.value offset))

@@ -326,7 +326,6 @@ impl<R> From<R> for DebugLineStr<R> {
 
 // The string at an offset of a section.
 #[inline]
-#[tactic(auto, using(crate::proofs::lookups::Strings::string_outside))]
 fn string_at<R: Reader>(section: &R, offset: R::Offset) -> Result<R>
     ensures answer { AnswersBy (StringAt (R.view section.now) (R.Offset.value offset))
         R.view R.clone_is_free result }

@@ -1,5 +1,5 @@
-use Rattle.dwarf_reader_core.proofs.Common.{rules, true, false, arith, refl}
-use Rattle.dwarf_reader_core.proofs.Reading.{begun_below, begun_below_nine, next_below, next_continues, reads_signed, reads_tenth_signed, refuses_tenth_signed}
+use Rattle.dwarf_reader_core.proofs.Common.{rules, signed64, true, false, arith, refl}
+use Rattle.dwarf_reader_core.proofs.Reading.{begun_below, cut_refuses, begun_below_nine, next_below, next_continues, reads_signed, reads_tenth_signed, refuses_tenth_signed}
 use Rattle.dwarf_reader_core.proofs.endian_slice.EndianSliceReader.read_sleb128.Goals as goal
 
 pub with_digit-result-requires-in-loop-index-clause-below : goal.with_digit-result-requires-in-loop-index-clause-below
@@ -45,3 +45,11 @@ with_sign-requires-in-127-clause-below g c = begun_below_nine c.loop-index.invar
 
 pub returns-then-not-has_continuation_bit-clause-ok : goal.returns-then-not-has_continuation_bit-clause-ok
 returns-then-not-has_continuation_bit-clause-ok g c = grind arith
+
+pub returns-in_err-byte-clause-err : goal.returns-in_err-byte-clause-err
+returns-in_err-byte-clause-err g c =
+    search (rules, cut_refuses signed64 c.loop-index.invariant.begun (omega arith) c.in_err-byte.ensures.err)
+
+pub returns-in_err-byte-2-clause-err : goal.returns-in_err-byte-2-clause-err
+returns-in_err-byte-2-clause-err g c =
+    search (rules, cut_refuses signed64 c.loop-index.invariant.begun (omega arith) c.in_err-byte-2.ensures.err)

@@ -1,5 +1,5 @@
-use Rattle.dwarf_reader_core.proofs.Common.{rules, true, false, arith, refl}
-use Rattle.dwarf_reader_core.proofs.Reading.{begun_none, begun_below, begun_below_nine, next_below, next_continues, reads_signed, reads_tenth_signed, refuses_tenth_signed}
+use Rattle.dwarf_reader_core.proofs.Common.{rules, signed64, true, false, arith, refl}
+use Rattle.dwarf_reader_core.proofs.Reading.{begun_none, cut_refuses, begun_below, begun_below_nine, next_below, next_continues, reads_signed, reads_tenth_signed, refuses_tenth_signed}
 use Rattle.dwarf_reader_core.proofs.reader.Reader.read_sleb128.Goals as goal
 
 pub with_digit-result-requires-in-loop-index-clause-below : goal.with_digit-result-requires-in-loop-index-clause-below
@@ -47,3 +47,11 @@ pub returns-then-not-has_continuation_bit-clause-ok : goal.returns-then-not-has_
 returns-then-not-has_continuation_bit-clause-ok g c =
     reads_signed (begun_none _) c.in_ok-first.ensures.ok _ _ _ _ (search rules) (omega arith)
     c.with_digit-result.ensures refl c.has_sign_bit.ensures c.with_sign.ensures (search rules)
+
+pub returns-in_err-byte-clause-err : goal.returns-in_err-byte-clause-err
+returns-in_err-byte-clause-err g c =
+    search (rules, cut_refuses signed64 c.loop-index.invariant.begun (omega arith) c.in_err-byte.ensures.err)
+
+pub returns-in_err-byte-2-clause-err : goal.returns-in_err-byte-2-clause-err
+returns-in_err-byte-2-clause-err g c =
+    search (rules, cut_refuses signed64 c.loop-index.invariant.begun (omega arith) c.in_err-byte-2.ensures.err)

@@ -1,5 +1,5 @@
-use Rattle.dwarf_reader_core.proofs.Common.{rules, arith}
-use Rattle.dwarf_reader_core.proofs.Reading.{begun_below, next_continues, reads_unsigned, reads_tenth_unsigned, refuses_tenth_unsigned}
+use Rattle.dwarf_reader_core.proofs.Common.{rules, arith, unsigned64}
+use Rattle.dwarf_reader_core.proofs.Reading.{begun_below, cut_refuses, next_continues, reads_unsigned, reads_tenth_unsigned, refuses_tenth_unsigned}
 use Rattle.dwarf_reader_core.proofs.reader.Reader.read_uleb128.Goals as goal
 
 pub with_digit-result-requires-in-loop-index-clause-below : goal.with_digit-result-requires-in-loop-index-clause-below
@@ -28,3 +28,11 @@ returns-clause-ok g c =
 
 pub returns-then-not-has_continuation_bit-clause-ok : goal.returns-then-not-has_continuation_bit-clause-ok
 returns-then-not-has_continuation_bit-clause-ok g c = grind arith
+
+pub returns-in_err-byte-clause-err : goal.returns-in_err-byte-clause-err
+returns-in_err-byte-clause-err g c =
+    search (rules, cut_refuses unsigned64 c.loop-index.invariant.begun (omega arith) c.in_err-byte.ensures.err)
+
+pub returns-in_err-byte-2-clause-err : goal.returns-in_err-byte-2-clause-err
+returns-in_err-byte-2-clause-err g c =
+    search (rules, cut_refuses unsigned64 c.loop-index.invariant.begun (omega arith) c.in_err-byte-2.ensures.err)

@@ -15,6 +15,13 @@ declaration-coded : (end : ℕ) (bytes : List ℕ) (code : ℕ) (after : List �
 unfolding declaration_at
 declaration-coded end bytes code after some q nonzero = grind (arith, common_steps, ne_eqb, nil_from_length)
 
+-- a code of value 0 is no declaration
+declaration-null : (end : ℕ) (bytes : List ℕ) (code : ℕ) (after : List ℕ) → bytes ≢ []
+    → number_at unsigned64 end bytes ≡ Ok (code, after) → code ≡ 0 → declaration_at end bytes ≡ Ok (None, after)
+unfolding declaration_at
+declaration-null end bytes code after some q null =
+    rw (ne_eqb (length bytes) 0 (λ h. some (nil_from_length bytes h)), q, null) refl
+
 pub returns-in_err-code-clause-ends : goal.returns-in_err-code-clause-ends
 returns-in_err-code-clause-ends g c =
     let some : (g.R.Reader.view c.args.input.now).bytes ≢ [] = search rules in
@@ -43,3 +50,22 @@ returns-in_err-parse_declared-clause-read g c =
     gives_err _ _ c.from_residual-in_err-parse_declared.ensures.1
     (λ memory. declaration-coded _ _ _ _ some (number_read (end_of (g.R.Reader.view c.args.input.now)) code) nonzero
     ∙ rw (rw (end_stays code) at (c.in_err-parse_declared.ensures.read memory)) refl)
+
+pub returns-then-code-eq0-clause-read : goal.returns-then-code-eq0-clause-read
+returns-then-code-eq0-clause-read g c =
+    let some : (g.R.Reader.view c.args.input.now).bytes ≢ [] = search rules in
+    declaration-null _ _ _ _ some (number_read _ c.in_ok-code.ensures.ok) (search rules)
+
+pub returns-then-code-eq0-clause-same_end : goal.returns-then-code-eq0-clause-same_end
+returns-then-code-eq0-clause-same_end g c = end_stays c.in_ok-code.ensures.ok
+
+pub returns-clause-read : goal.returns-clause-read
+returns-clause-read g c =
+    let some : (g.R.Reader.view c.args.input.now).bytes ≢ [] = search rules in
+    let nonzero : c.in_ok-code.code ≢ 0 = search rules in
+    let code = c.in_ok-code.ensures.ok in
+    declaration-coded _ _ _ _ some (number_read (end_of (g.R.Reader.view c.args.input.now)) code) nonzero
+    ∙ rw (rw (end_stays code) at c.in_ok-parse_declared.ensures.read) refl
+
+pub returns-clause-same_end : goal.returns-clause-same_end
+returns-clause-same_end g c = c.in_ok-parse_declared.ensures.same_end ∙ end_stays c.in_ok-code.ensures.ok

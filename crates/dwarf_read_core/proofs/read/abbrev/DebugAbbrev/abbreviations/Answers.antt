@@ -1,5 +1,7 @@
-use Rattle.dwarf_read_core.proofs.Common.{◌≡◌, drop, ap, ◌∙◌, OutOfMemory, Input, end_of, debug_abbrev_reader, ok_is_no_error}
-use Rattle.dwarf_read_core.proofs.tables.ExactlyOneAnswer.{nothing_declared}
+use Rattle.dwarf_read_core.proofs.Common.{arith, ◌≡◌, drop, ap, ◌∙◌, OutOfMemory, Input, end_of, debug_abbrev_reader, ok_is_no_error}
+use Rattle.dwarf_read_core.proofs.tables.ExactlyOneAnswer.{answer_returned, nothing_declared, outside_of}
+use Rattle.dwarf_read_core.proofs.tables.AppendedBytes.{returned_stays}
+use Rattle.std.proofs.lemmas.Result.{err_from_is_err_and}
 use Rattle.dwarf_read_core.proofs.tables.TableBounds.{bounded_read}
 use Rattle.dwarf_read_core.proofs.read.abbrev.DebugAbbrev.abbreviations.Goals as goal
 
@@ -22,3 +24,14 @@ returns-clause-memory g c =
     let none = nothing_declared (end_of rest)
     (view (debug_abbrev_reader c.args.self.now)) offset rest.bytes nothing behind in
     ok_is_no_error c.parse_from.result OutOfMemory (c.parse_from.ensures.ends none.0 none.1) failed
+
+pub returns-in_err-skip-clause-answer : goal.returns-in_err-skip-clause-answer
+returns-in_err-skip-clause-answer g c = grind (arith, err_from_is_err_and, outside_of)
+
+pub returns-clause-answer : goal.returns-clause-answer
+returns-clause-answer g c = grind (arith, answer_returned)
+
+pub returns-clause-stable : goal.returns-clause-stable
+returns-clause-stable g c =
+    returned_stays c.parse_from.result (g.R.Reader.view (debug_abbrev_reader c.args.self.now))
+    (g.R.Offset.ReaderOffset.value c.args.offset.0) (returns-clause-answer g c)

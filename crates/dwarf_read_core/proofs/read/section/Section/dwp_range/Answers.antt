@@ -1,6 +1,7 @@
+use Rattle.dwarf_read_core.proofs.Common.{rules}
 use Rattle.dwarf_read_core.specs.Ranges.{RangeAt}
 use Rattle.dwarf_read_core.proofs.ResultLemmas.{result-propagated}
-use Rattle.dwarf_read_core.proofs.lookups.Ranges.{range_cut}
+use Rattle.dwarf_read_core.proofs.lookups.Ranges.{range_cut, range_outside, range_taken}
 use Rattle.dwarf_read_core.proofs.read.section.Section.dwp_range.Goals as goal
 
 pub returns-in_err-truncate : goal.returns-in_err-truncate
@@ -9,3 +10,16 @@ returns-in_err-truncate g c =
     (range_cut _ _ _ _ _ _
     (rw (c.from_u32.ensures, c.in_ok-part.ensures.ok, c.reader.ensures) at c.in_ok-skip.ensures.ok)
     (rw c.from_u32-2.ensures at c.in_err-truncate.ensures.err))
+
+pub returns-in_err-skip : goal.returns-in_err-skip
+returns-in_err-skip g c =
+    result-propagated (RangeAt _ _ _) _ _ _ c.from_residual-in_err-skip.ensures.1
+    (range_outside _ _ _ _ _
+    (rw (c.from_u32.ensures, c.in_ok-part.ensures.ok, c.reader.ensures) at c.in_err-skip.ensures.err))
+
+pub returns : goal.returns
+returns g c =
+    range_taken _ _ _ _ _
+    (rw (c.from_u32.ensures, c.in_ok-part.ensures.ok, c.reader.ensures) at c.in_ok-skip.ensures.ok)
+    (rw c.from_u32-2.ensures at c.in_ok-truncate.ensures.enough)
+    (search rules)

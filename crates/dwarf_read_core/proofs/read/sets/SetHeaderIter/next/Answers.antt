@@ -1,4 +1,5 @@
-use Rattle.dwarf_read_core.proofs.Common.{rules, ap, Input}
+use Rattle.dwarf_read_core.proofs.Common.{refl, none, rules, ap, Input}
+use Rattle.dwarf_read_core.proofs.sets.ItemLists.{bytes-some}
 use Rattle.dwarf_read_core.proofs.sets.Sets.{set_first, set_error_first, set_error_stays, set_stays}
 use Rattle.dwarf_read_core.proofs.read.sets.SetHeaderIter.next.Goals as goal
 
@@ -21,3 +22,10 @@ pub returns-in-Err-clause-stable : goal.returns-in-Err-clause-stable
 returns-in-Err-clause-stable g c =
     rw (← c.self.view_is) (set_error_stays g.H.HeaderFields.layout _ _ _ _ (search rules) c.in-Err.ensures.err
     (search rules))
+
+pub returns-then-is_empty-clause-first : goal.returns-then-is_empty-clause-first
+returns-then-is_empty-clause-first g c =
+    rw (← c.self.view_is) (none (c.if-is_empty.ensures.0 refl), none (c.if-is_empty.ensures.0 refl))
+
+pub returns-in-Err-clause-some : goal.returns-in-Err-clause-some
+returns-in-Err-clause-some g c = rw (← c.self.view_is) (bytes-some _ (search rules))
