@@ -192,13 +192,10 @@ fn put_digits<const BASE: u64>(line: &mut [u8; 65], number: u64) -> usize
     start
 }
 
+// A look-up takes fewer instructions than a test and a sum.
 fn digit(value: u8) -> u8
     requires { value < 16 }
     ensures { result ≡ digit_glyph false value }
 {
-    if value < 10 {
-        b'0' + value
-    } else {
-        b'a' + (value - 10)
-    }
+    b"0123456789abcdef"[usize::from(value)]
 }

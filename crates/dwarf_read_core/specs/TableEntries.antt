@@ -1,10 +1,15 @@
 -- What is read at a place where a declaration may begin.
-use Rattle.std.specs.Prelude.{◌≡◌, ◌≢◌, ◌==◌, ℕ, List, [], Option, Some, None, ⊤}
+use Rattle.std.specs.Prelude.{◌≡◌, ◌≢◌, ◌==◌, ℕ, List, [], ◌∷◌, take, Option, Some, None, ⊤}
 use Rattle.dwarf_read_core.specs.Grammar.{Specification, Declaration}
 use Rattle.dwarf_read_core.specs.Reading.{declaration_of}
 use Rattle.dwarf_read_core.specs.declared.read.abbrev.Head.{Head}
 use Rattle.dwarf_read_core.specs.declared.read.abbrev.TableEntry.{TableEntry}
 use Rattle.dwarf_read_core.specs.declared.read.abbrev.TableEntry.TheVariants.{Declared, NullCode, End}
+
+-- the attributes that are collected: those of the second list, or the first ones of the first list if it is empty
+abbrev pub collected : ℕ → List Specification → List Specification → List Specification
+collected n near [] = take n near
+collected n near (s ∷ far) = s ∷ far
 
 -- the declaration with this head and these attributes
 abbrev pub with_attributes : List Specification → Head → Declaration

@@ -1,5 +1,8 @@
 -- Reading the specifications up to the null one, as the loop does and as the grammar says.
-use Rattle.dwarf_read_core.proofs.Common.{◌≡◌, ℕ, zero, suc, ◌+◌, ◌<◌, List, [], ◌∷◌, ◌++◌, length, Option, Some, None, Result, Ok, Err, refl, sym, ap, ◌∙◌, append_assoc, arith, append-nil, Error, Specification, Declaration, Sequence, IsSpecification, IsNull, IsFront, IsFaulty, ◌>>=◌, specification_at, and_others, attributes_at, attributes_in, declaration_of, HasOutcome, returned, outcome-bind, common_steps}
+use Rattle.dwarf_read_core.proofs.Common.{◌≡◌, ℕ, zero, suc, ◌+◌, ◌<◌, List, [], ◌∷◌, ◌++◌, length, take, ◌≢◌, Option, Some, None, Result, Ok, Err, refl, sym, ap, ◌∙◌, append_assoc, arith, append-nil, Error, Specification, Declaration, Sequence, IsSpecification, IsNull, IsFront, IsFaulty, ◌>>=◌, specification_at, and_others, attributes_at, attributes_in, declaration_of, HasOutcome, returned, outcome-bind, common_steps}
+use Rattle.std.specs.Prelude.{slice_set}
+use Rattle.std.proofs.lemmas.List.{take_more_set}
+use Rattle.dwarf_read_core.specs.TableEntries.{collected}
 use Rattle.dwarf_read_core.proofs.tables.ReadingSpecifications.{SpecificationFound, SomeFound, specification_behind, specification_again, null_again, found_shorter, specification_shorter}
 
 -- the bytes of items, with those of one more behind them, are the bytes of all of them
@@ -162,6 +165,23 @@ attributes_again end bytes rest (s ∷ ss) q =
 -- the bytes of the null specification are read as an empty list, whatever follows
 pub attributes_end : (end : ℕ) (bytes rest : List ℕ) → IsNull bytes → attributes_in end (bytes ++ rest) ≡ Ok ([], rest)
 attributes_end end bytes rest is = next end (bytes ++ rest) (None, rest) (null_again end bytes rest is)
+
+-- ---- where attributes are collected
+
+-- an attribute that is put behind those in the first list is behind all that are collected
+pub collected_push : (far near : List Specification) (n : ℕ) (s : Specification) → n < length near
+    → far ++ take (n + 1) (slice_set near n s) ≡ (far ++ take n near) ++ s ∷ []
+collected_push far near n s short = rw (take_more_set near n s short) (sym (append_assoc far (take n near) (s ∷ [])))
+
+-- if the second list isn't empty, all that are collected are in it
+pub collected_far : (n : ℕ) (near far rest : List Specification) → far ≢ []
+    → collected n near (far ++ rest) ≡ far ++ rest
+collected_far n near [] rest some = absurd (some refl)
+collected_far n near (s ∷ ss) rest some = refl
+
+-- if the second list is empty, all that are collected are in the first one
+pub collected_near : (n : ℕ) (near far : List Specification) → far ≡ [] → collected n near far ≡ far ++ take n near
+collected_near n near far none = rw none refl
 
 -- how the attributes so far change with the next specification
 pub ruleset attribute_steps = (front-goes_on, front-ends, front-fails, front-begins, specification_shorter)

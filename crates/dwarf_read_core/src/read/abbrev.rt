@@ -17,7 +17,7 @@ ghost use Rattle.dwarf_read_core.specs.Grammar.{implicit_const, by_end, is_by_nu
 ghost use Rattle.dwarf_reader_core.specs.Appended.{followed_by};
 ghost use Rattle.dwarf_read_core.specs.Answer.{Answers, AnswersStrictly, IsFinal, IsStrictlyFinal, TakesNoMemory};
 ghost use Rattle.dwarf_read_core.specs.Reading.{Gives, tag_at, children_at, specification_at, attributes_in, declared_at, declaration_at, table_in};
-ghost use Rattle.dwarf_read_core.specs.TableEntries.{declared_in, with_attributes, ClosesAt};
+ghost use Rattle.dwarf_read_core.specs.TableEntries.{collected, declared_in, with_attributes, ClosesAt};
 
 use super::section::Section;
 use dwarf_base_core::{
@@ -393,8 +393,8 @@ impl Abbreviations {
             (table_in (end_of (R.view input.old)) finite.empty (R.view input.old).bytes) }
     {
         let mut abbreviations = Abbreviations::empty(mem);
-        // One list serves the whole table; each declaration's attributes are collected in it.
-        let mut scratch = Vec::new(mem);
+        // One serves the whole table; each declaration's attributes are collected in it.
+        let mut scratch = Scratch::new(mem);
         // The label names the loop in its proof.
         'declarations: loop {
             match Abbreviation::parse(input, &mut scratch)? {
@@ -454,6 +454,65 @@ impl Head {
     {
         Abbreviation::new(self.code, self.tag, self.has_children, attributes)
     }
+}
+
+// How many attributes are collected without allocating. Few declarations have more.
+const NEAR: usize = 16;
+
+// The attributes of a declaration while it is read.
+#[derive(Drop)]
+struct Scratch {
+    // They are the first `len` of `near`, unless there are too many: then `far` isn't empty and has
+    // all of them. So a table without a longer list allocates nothing for this.
+    len: usize,
+    near: [AttributeSpecification; NEAR],
+    far: Vec<AttributeSpecification>,
+}
+
+impl Model for Scratch {
+    ghost use Rattle.std.specs.Prelude.{◌≤◌, List};
+    ghost use Rattle.dwarf_read_core.specs.Grammar.{Specification};
+    ghost use Rattle.dwarf_read_core.specs.TableEntries.{collected};
+
+    ghost Value = { List Specification };
+
+    ghost view = { λ s. collected s.len s.near s.far.items };
+
+    ghost invariant = { λ s. s.len ≤ 16 };
+}
+
+impl Scratch {
+    fn new(mem: Global) -> Scratch
+        ensures { result ≡ [] }
+    {
+        Scratch {
+            len: 0,
+            near: [AttributeSpecification::made_with(mem); NEAR],
+            far: Vec::new(mem),
+        }
+    }
+
+    fn as_slice(&self) -> &[AttributeSpecification]
+        ensures value { result.now ≡ self.now }
+    {
+        if self.far.is_empty() {
+            &self.near[..self.len]
+        } else {
+            self.far.as_slice()
+        }
+    }
+}
+
+// Copies attributes behind those in `far`. It is a call out of line, since few declarations have so
+// many attributes that one is made.
+#[inline(never)]
+fn gather(
+    far: &mut Vec<AttributeSpecification>,
+    near: &[AttributeSpecification],
+) -> std::result::Result<(), AllocError>
+    ensures ok { OnOk result (far.new.items ≡ far.old.items ++ near.now) }
+{
+    far.extend_from_slice(near)
 }
 
 /// The abbreviations of a table, in the order of their codes.
@@ -647,44 +706,48 @@ impl Abbreviation {
         }
     }
 
+    // Reads the attributes of a declaration into the parts of a `Scratch`, and returns its `len`.
     #[tactic(auto, using(crate::proofs::tables::ReadingAttributes::attribute_steps))]
     fn parse_attributes<R: Reader>(
         input: &mut R,
-        scratch: &mut Vec<AttributeSpecification>,
-    ) -> Result<()>
-        ensures read { Gives (λ _. (scratch.new.items, (R.view input.new).bytes)) result
+        near: &mut [AttributeSpecification; NEAR],
+        far: &mut Vec<AttributeSpecification>,
+    ) -> Result<usize>
+        ensures fits { IfOk result (λ len. len ≤ 16) }
+        ensures read { Gives
+            (λ len. (collected len near.new far.new.items, (R.view input.new).bytes)) result
             (attributes_in (end_of (R.view input.old)) (R.view input.old).bytes) }
         ensures same_end { OnOk result (end_of (R.view input.new) ≡ end_of (R.view input.old)) }
     {
-        scratch.clear();
+        far.clear();
+        let mut len = 0;
         // The label names the loop in its proof.
         'attributes: while let Some(attribute) = AttributeSpecification::parse(input)? {
-            // Most declarations have fewer attributes than this, so that a small table allocates the
-            // list once.
-            if scratch.len() == scratch.capacity() {
-                scratch.reserve(16)?;
+            if len == NEAR {
+                gather(far, &near[..len])?;
+                len = 0;
             }
-            scratch.push_reserved(attribute);
+            near[len] = attribute;
+            len += 1;
         }
-        Ok(())
+        if !far.is_empty() {
+            gather(far, &near[..len])?;
+        }
+        Ok(len)
     }
 
     // Reads what follows the code of a declaration. The attributes are then in `scratch`.
     #[tactic(auto, unfolding(crate::specs::Reading::declared_at))]
-    fn parse_declared<R: Reader>(
-        code: u64,
-        input: &mut R,
-        scratch: &mut Vec<AttributeSpecification>,
-    ) -> Result<Head>
+    fn parse_declared<R: Reader>(code: u64, input: &mut R, scratch: &mut Scratch) -> Result<Head>
         ensures coded { IfOk result (λ head. head.code ≡ code) }
         ensures read { Gives
-            (λ head. (with_attributes scratch.new.items head, (R.view input.new).bytes)) result
+            (λ head. (with_attributes scratch.new head, (R.view input.new).bytes)) result
             (declared_at (end_of (R.view input.old)) code (R.view input.old).bytes) }
         ensures same_end { OnOk result (end_of (R.view input.new) ≡ end_of (R.view input.old)) }
     {
         let tag = Self::parse_tag(input)?;
         let has_children = Self::parse_has_children(input)?;
-        Self::parse_attributes(input, scratch)?;
+        scratch.len = Self::parse_attributes(input, &mut scratch.near, &mut scratch.far)?;
         Ok(Head {
             code,
             tag,
@@ -695,18 +758,15 @@ impl Abbreviation {
     // Reads a declaration, or what closes the table in its place. The attributes of a declaration are
     // then in `scratch`.
     #[tactic(auto, unfolding(crate::specs::Reading::declaration_at))]
-    fn parse<R: Reader>(
-        input: &mut R,
-        scratch: &mut Vec<AttributeSpecification>,
-    ) -> Result<TableEntry>
+    fn parse<R: Reader>(input: &mut R, scratch: &mut Scratch) -> Result<TableEntry>
         ensures coded { IfOk result
-            (λ entry. IfSome (declared_in scratch.new.items entry) (λ d. 0 < d.code)) }
+            (λ entry. IfSome (declared_in scratch.new entry) (λ d. 0 < d.code)) }
         ensures closes { IfOk result (ClosesAt (R.view input.old).bytes) }
         ensures ends { (rest : List ℕ)
             → declaration_at (end_of (R.view input.old)) (R.view input.old).bytes ≡ Ok (None, rest)
             → IsOk result }
         ensures read { Gives
-            (λ entry. (declared_in scratch.new.items entry, (R.view input.new).bytes)) result
+            (λ entry. (declared_in scratch.new entry, (R.view input.new).bytes)) result
             (declaration_at (end_of (R.view input.old)) (R.view input.old).bytes) }
         ensures same_end { OnOk result (end_of (R.view input.new) ≡ end_of (R.view input.old)) }
     {

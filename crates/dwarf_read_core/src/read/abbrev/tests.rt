@@ -3,7 +3,7 @@
 
 ghost use Rattle.std.specs.Prelude.{◌≡◌};
 
-use super::{Abbreviation, Abbreviations, AttributeSpecification, Attributes, TableEntry};
+use super::{Abbreviation, Abbreviations, AttributeSpecification, Attributes, Scratch, TableEntry};
 use dwarf_base_core::{Error, LittleEndian, Result};
 use dwarf_code_core::children::{DW_CHILDREN_no, DW_CHILDREN_yes, DwChildren};
 use dwarf_const_core::attribute::DW_AT_name;
@@ -167,7 +167,7 @@ fn entries_of_a_table_are_parsed(rt: HostRuntime) -> std::result::Result<(), Fai
         (b"\0\x01\x02\x03\x04", None),
         (b"", None),
     ];
-    let mut scratch = Vec::new(mem);
+    let mut scratch = Scratch::new(mem);
     for (bytes, attribute) in rows {
         let wanted = match attribute {
             Some(attribute) => {
