@@ -1,5 +1,5 @@
 -- The entries of sets, as layouts, and what `next` returns of them.
-use Rattle.dwarf_read_core.proofs.Common.{◌≡◌, ◌≢◌, ℕ, ◌<◌, ◌≤◌, List, [], length, Result, Ok, Err, sym, ◌∙◌, arith, inl, inr, ◌⊎◌, sum_by, IsTrue, le-leb, lt-leb, Error, is_number_size, EndsBefore, IsNoOffset, RefusesAddress, Input, TakesNumber, HasOne, Entries, StandsForAddresses, StandsForEntries, StandsForStringOffsets, string_offset, ComesFirst, least_taken, Layout, read, AreItems, none, more, fixed, TakesLeast, spans_least, number_spans, pure_spans, check_spans, then_spans, number_reads, number_fails, pure_reads, after_number, no_number, after_check, no_check}
+use Rattle.dwarf_read_core.proofs.Common.{◌≡◌, ◌≢◌, ℕ, ◌<◌, ◌≤◌, List, [], length, Result, Ok, Err, sym, ◌∙◌, arith, inl, inr, ◌⊎◌, sum_by, IsTrue, le-leb, lt-leb, Error, is_number_size, EndsBefore, IsNoOffset, RefusesAddress, Input, TakesNumber, HasOne, Entries, StandsForAddresses, StandsForStringOffsets, string_offset, ComesFirst, least_taken, Layout, read, AreItems, more, fixed, TakesLeast, spans_least, number_spans, pure_spans, check_spans, then_spans, number_reads, number_fails, pure_reads, after_number, no_number, after_check, no_check}
 use Rattle.dwarf_base_core.specs.declared.common.Format.{Format}
 use Rattle.dwarf_base_core.specs.declared.common.Format.TheVariants.{Dwarf32, Dwarf64}
 use Rattle.dwarf_base_core.specs.Format.{word_size}
@@ -16,11 +16,6 @@ module _ {f : Layout ℕ} {width : ℕ} (least : TakesLeast width f) (positive :
 -- the entries of a width that an input has
 abbrev entries_in : ℕ → Input → Entries
 entries_in width rest = record { width = width; rest = rest }
-
--- an input without bytes has no entries
-pub entries_none : (entry : ℕ → Layout ℕ) (entries : Entries) → entries.rest.bytes ≡ []
-    → StandsForEntries entry entries []
-entries_none entry entries empty = none empty
 
 -- ---- addresses
 

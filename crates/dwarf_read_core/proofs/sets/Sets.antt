@@ -93,11 +93,6 @@ set-joined {size = size} greatest offset has_size old {new = new} is =
 abbrev headers_at : ℕ → Input → Headers
 headers_at offset rest = record { offset = offset; rest = rest }
 
--- an input without bytes has no sets
-pub sets_none : {H : Type 0} (header : Layout H) (greatest : ℕ) (headers : Headers) → headers.rest.bytes ≡ []
-    → StandsForSets header greatest headers []
-sets_none header greatest headers empty = none empty
-
 module _ {H : Type 0} (header : Layout H) (greatest : ℕ) where
   -- the first set stays the first when bytes are appended
   pub set_more : (headers : Headers) (s : Set H) (items others : List (Result (Set H) Error)) (more : List ℕ)
