@@ -371,6 +371,14 @@ impl Abbreviations {
         }
     }
 
+    // Gives back the room that no abbreviation needs, if there may be much of it.
+    fn trim(&mut self)
+        ensures { self.new ≡ self.old }
+    {
+        trim(&mut self.vec);
+        self.others.trim();
+    }
+
     // Reads the table where the reader is. The reader is moved into a call out of line, since the
     // compiler then keeps it in registers.
     #[inline(never)]
@@ -381,7 +389,9 @@ impl Abbreviations {
         ensures read { Gives (λ t. t) result
             (table_in (end_of (R.view input)) finite.empty (R.view input).bytes) }
     {
-        Abbreviations::parse(mem, &mut input)
+        let mut abbreviations = Abbreviations::parse(mem, &mut input)?;
+        abbreviations.trim();
+        Ok(abbreviations)
     }
 
     // Reads a table, and the code of value 0 that closes it, if there is one.
@@ -412,8 +422,8 @@ impl Abbreviations {
     }
 }
 
-// Adds an abbreviation at the back. A vector begins with room for sixteen, so that a small table
-// allocates it once.
+// Adds an abbreviation at the back. A vector begins with room for 32, then has room for 256, and
+// doubles from then on. So a table of a usual unit is copied at most once.
 #[inline]
 fn push(
     items: &mut Vec<Abbreviation>,
@@ -423,10 +433,20 @@ fn push(
     ensures err { OnErr result (items.new.items ≡ items.old.items) }
 {
     if items.len() == items.capacity() {
-        items.reserve(16)?;
+        items.reserve(if items.is_empty() { 32 } else { 224 })?;
     }
     items.push_reserved(abbreviation);
     Ok(())
+}
+
+// Gives back the room that no abbreviation needs, in a vector whose room grew from 32 to 256. A
+// longer one has at most twice the room that it needs.
+fn trim(items: &mut Vec<Abbreviation>)
+    ensures { items.new.items ≡ items.old.items }
+{
+    if items.capacity() == 256 {
+        items.shrink_to_fit();
+    }
 }
 
 // What is at a place where a declaration may begin.

@@ -368,7 +368,7 @@ static LENGTHS: &[(&[u8], usize)] = &[
     (b"\x80\0\xaa", 0),
     (UNIT, 1),
     (THREE, 3),
-    (MANY, 17),
+    (MANY, 33),
     (SIX, 1),
     (LONG, 1),
     (b"\x02\x11\0\0\0\x04\x11\0\0\0\x03\x11\0\0\0\0", 3),

@@ -21,11 +21,14 @@ pub(super) const FIVE: &[u8] = b"\x01\x11\0\x03\x08\x03\x08\x03\x08\x03\x08\x03\
 // A declaration of six attributes.
 pub(super) const SIX: &[u8] = b"\x01\x11\0\x03\x08\x03\x08\x03\x08\x03\x08\x03\x08\x03\x08\0\0\0";
 
-// Declarations with the codes 1 to 17: one more than a table first has room for.
+// Declarations with the codes 1 to 33: one more than a table first has room for.
 pub(super) const MANY: &[u8] = b"\
     \x01\x11\0\0\0\x02\x11\0\0\0\x03\x11\0\0\0\x04\x11\0\0\0\x05\x11\0\0\0\x06\x11\0\0\0\
     \x07\x11\0\0\0\x08\x11\0\0\0\x09\x11\0\0\0\x0a\x11\0\0\0\x0b\x11\0\0\0\x0c\x11\0\0\0\
-    \x0d\x11\0\0\0\x0e\x11\0\0\0\x0f\x11\0\0\0\x10\x11\0\0\0\x11\x11\0\0\0\0";
+    \x0d\x11\0\0\0\x0e\x11\0\0\0\x0f\x11\0\0\0\x10\x11\0\0\0\x11\x11\0\0\0\x12\x11\0\0\0\
+    \x13\x11\0\0\0\x14\x11\0\0\0\x15\x11\0\0\0\x16\x11\0\0\0\x17\x11\0\0\0\x18\x11\0\0\0\
+    \x19\x11\0\0\0\x1a\x11\0\0\0\x1b\x11\0\0\0\x1c\x11\0\0\0\x1d\x11\0\0\0\x1e\x11\0\0\0\
+    \x1f\x11\0\0\0\x20\x11\0\0\0\x21\x11\0\0\0\0";
 
 // A declaration of 17 attributes: one more than the list that collects them first has room for.
 pub(super) const LONG: &[u8] = b"\

@@ -10,7 +10,7 @@ ghost use Rattle.dwarf_read_core.specs.Others.{others_entries, AreOthers, ArePla
 ghost use Rattle.dwarf_read_core.specs.Views.{others_rest};
 
 use super::super::key::Key;
-use super::{Abbreviation, push};
+use super::{Abbreviation, push, trim};
 use dwarf_base_core::{Error, Result};
 use std::alloc::{AllocError, Global};
 use std::cmp::Ordering;
@@ -93,6 +93,13 @@ impl Others {
                 places: self.places.values(),
             })
         }
+    }
+
+    // Gives back the room that no abbreviation needs, if there may be much of it.
+    pub(super) fn trim(&mut self)
+        ensures { self.new ≡ self.old }
+    {
+        trim(&mut self.items);
     }
 
     // Adds an abbreviation, or returns `DuplicateAbbreviationCode` if its code is there.
