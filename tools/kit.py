@@ -3,7 +3,10 @@
 `rt` proves the libraries below a crate again, unless it has built them itself for that. The scripts that
 follow `rt ci` run the prover over the libraries that it leaves.
 """
+import functools
 import glob
+import importlib.machinery
+import importlib.util
 import os
 import re
 import shutil
@@ -12,12 +15,35 @@ import sys
 
 ROOT = os.path.dirname(os.path.dirname(os.path.realpath(__file__)))
 PARTS = ("src", "specs", "proofs")
-# The kits that `tools/ci` was written for. They have one logic, and prove the same.
+# The kits that these scripts were written for. They have one logic, and prove the same.
 KITS = ("rattle-kit-13b logic dac8208d650f15bf", "rattle-kit-13f logic dac8208d650f15bf")
 # Where the gate's proofs keep what they have checked of each crate, if the gate runs.
 KEPT = os.environ.get("GATE_KEPT")
 TEST = re.compile(r"^ *#\[test\]", re.M)
 FN = re.compile(r"^ *(?:pub(?:\([^)]*\))? )?(?:const )?(?:unsafe )?(?:extern \"C\" )?fn (\w+)", re.M)
+
+
+def load_rt():
+    """The kit's command `rt`, as a module."""
+    path = os.path.realpath(shutil.which("rt"))
+    loader = importlib.machinery.SourceFileLoader("rt", path)
+    spec = importlib.util.spec_from_loader("rt", loader)
+    made = importlib.util.module_from_spec(spec)
+    sys.modules["rt"] = made
+    loader.exec_module(made)
+    return made
+
+
+@functools.cache
+def is_known():
+    """Whether the kit here is one that these scripts were written for."""
+    ran = subprocess.run(["rt", "version"], capture_output=True, text=True, check=False)
+    return ran.stdout.strip() in KITS
+
+
+def unproved():
+    """The words that run sources unproved, in a crate's folder: `rt try`, or the same without the check beside it."""
+    return [sys.executable, f"{ROOT}/tools/unproved.py"] if is_known() else ["rt", "try"]
 
 
 def libraries_of_crates():
