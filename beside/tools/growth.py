@@ -25,6 +25,19 @@ def measured(program, kind, count):
     return [float(it) / count for it in (gimli, here, gimli_bytes, here_bytes)]
 
 
+def touched(program):
+    """Prints the table of the pages that a process has touched once it has read a table."""
+    heads = ["declarations", *(f"{words}: bytes of touched pages" for words in KINDS.values())]
+    print(f"\n| {' | '.join(heads)} |\n{'|---' * len(heads)}|", flush=True)
+    for count in COUNTS[1:]:
+        cells = [f"{count:,}"]
+        for kind in KINDS:
+            sides = ([growing(program), "--touched", side, kind, str(count)] for side in ("gimli", "here"))
+            found = [int(must(words, "growth isn't measured")) / count for words in sides]
+            cells.append(f"{found[0]:.0f}, {found[1]:.0f}")
+        print(f"| {' | '.join(cells)} |", flush=True)
+
+
 def counts(program):
     """Prints the table of instructions. A cell has gimli's number, the library's, and their ratio."""
     heads = ["declarations", *(f"{words}: instructions" for words in KINDS.values())]
@@ -93,6 +106,7 @@ def growth(given):
         print(f"| {' | '.join(cells)} |", flush=True)
     with open(PAGE, "w", encoding="utf-8") as file:
         file.write("\n".join(drawing(rows)) + "\n")
+    touched(program)
     counts(program)
     print(f"\nThe drawing is {os.path.relpath(PAGE, kit.ROOT)}.")
     return 0

@@ -1,6 +1,7 @@
 //! Reads one table of many declarations by gimli and by the library, and prints the nanoseconds of either, and how many
 //! bytes of memory either had at once. The words are `rising`, `falling` or `far`, and how many declarations. With
-//! `--count` before them, each side reads the table once, to be counted.
+//! `--count` before them, each side reads the table once, to be counted. With `--touched gimli` or `--touched here` one
+//! side reads it once, and the bytes of the pages that it touched first are printed.
 //!
 //! Both request memory by the functions here, so that it is counted alike: as many bytes as `malloc` makes usable.
 
@@ -26,6 +27,7 @@ extern "C" {
     fn free(block: *mut c_void);
     fn malloc_usable_size(block: *mut c_void) -> usize;
     fn clock_gettime(clock: c_int, time: *mut [i64; 2]) -> c_int;
+    fn getrusage(who: c_int, usage: *mut [i64; 18]) -> c_int;
     fn beside_tables(bytes: *const u8, len: usize, offsets: *const usize, count: usize) -> usize;
 }
 
@@ -119,6 +121,20 @@ fn turn(call: &dyn Fn()) -> f64 {
     }
 }
 
+/// How many bytes the pages have that a call touches first. The system hands out a page when it is first touched, which
+/// is a minor fault. A page that is given back and handed out again counts twice.
+fn touched_bytes(call: &dyn Fn()) -> i64 {
+    let faults = || {
+        let mut usage = [0; 18];
+        assert_eq!(unsafe { getrusage(0, &mut usage) }, 0);
+        // Behind two times of two numbers each, and four numbers of memory.
+        usage[8]
+    };
+    let before = faults();
+    call();
+    (faults() - before) * 4096
+}
+
 /// How many bytes a call has at once.
 fn most_bytes(call: &dyn Fn()) -> usize {
     NOW.store(0, Relaxed);
@@ -147,6 +163,7 @@ fn main() {
     let mut words: Vec<String> = std::env::args().skip(1).collect();
     let is_counted = words[0] == "--count";
     words.drain(..usize::from(is_counted));
+    let side = if words[0] == "--touched" { words.drain(..2).nth(1) } else { None };
     let count: u64 = words[1].parse().expect("how many declarations");
     let (mut random, mut section) = (made::Random(88_172_645_463_325_252), vec![]);
     let codes = (1..=count).map(|it| match words[0].as_str() {
@@ -157,6 +174,15 @@ fn main() {
     made::shaped_table(&mut random, codes, &mut section);
     let gimli = || gimli_counted(&section);
     let ours = || ours_counted(&section, count);
+    if let Some(side) = side {
+        // Both have run before, so that their code is in memory.
+        let mut small = vec![];
+        made::shaped_table(&mut random, 1..=1, &mut small);
+        gimli_counted(&small);
+        ours_counted(&small, 1);
+        let touched = if side == "gimli" { touched_bytes(&gimli) } else { touched_bytes(&ours) };
+        return println!("{touched}");
+    }
     if is_counted {
         gimli();
         ours();
