@@ -28,6 +28,7 @@ extern "C" {
     fn malloc_usable_size(block: *mut c_void) -> usize;
     fn clock_gettime(clock: c_int, time: *mut [i64; 2]) -> c_int;
     fn getrusage(who: c_int, usage: *mut [i64; 18]) -> c_int;
+    fn malloc_trim(kept: usize) -> c_int;
     fn beside_tables(bytes: *const u8, len: usize, offsets: *const usize, count: usize) -> usize;
 }
 
@@ -122,8 +123,9 @@ fn turn(call: &dyn Fn()) -> f64 {
 }
 
 /// How many bytes the pages have that a call touches first. The system hands out a page when it is first touched, which
-/// is a minor fault. A page that is given back and handed out again counts twice.
+/// is a minor fault. A page that is given back and handed out again counts twice. What is free is given back before.
 fn touched_bytes(call: &dyn Fn()) -> i64 {
+    unsafe { malloc_trim(0) };
     let faults = || {
         let mut usage = [0; 18];
         assert_eq!(unsafe { getrusage(0, &mut usage) }, 0);
