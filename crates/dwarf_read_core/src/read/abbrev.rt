@@ -422,8 +422,13 @@ impl Abbreviations {
     }
 }
 
-// Adds an abbreviation at the back. A vector begins with room for 32, then has room for 256, and
-// doubles from then on. So a table of a usual unit is copied at most once.
+// How many abbreviations a vector first has room for, and then. It doubles from then on. So the table
+// of a usual unit is copied at most once.
+const FEW: usize = 32;
+
+const USUAL: usize = 256;
+
+// Adds an abbreviation at the back.
 #[inline]
 fn push(
     items: &mut Vec<Abbreviation>,
@@ -433,18 +438,18 @@ fn push(
     ensures err { OnErr result (items.new.items ≡ items.old.items) }
 {
     if items.len() == items.capacity() {
-        items.reserve(if items.is_empty() { 32 } else { 224 })?;
+        items.reserve(if items.is_empty() { FEW } else { USUAL - FEW })?;
     }
     items.push_reserved(abbreviation);
     Ok(())
 }
 
-// Gives back the room that no abbreviation needs, in a vector whose room grew from 32 to 256. A
-// longer one has at most twice the room that it needs.
+// Gives back what a vector with room for a usual table doesn't need. A longer one has at most twice
+// the room that it needs.
 fn trim(items: &mut Vec<Abbreviation>)
     ensures { items.new.items ≡ items.old.items }
 {
-    if items.capacity() == 256 {
+    if items.capacity() == USUAL {
         items.shrink_to_fit();
     }
 }
