@@ -422,10 +422,11 @@ impl Abbreviations {
     }
 }
 
-// How many abbreviations a vector first has room for, and then. It doubles from then on. So the table
-// of a usual unit is copied at most once.
+// How many abbreviations a vector first has room for.
 const FEW: usize = 32;
 
+// How many it has room for once it has grown. It doubles from then on, so the table of a usual unit is
+// copied at most once.
 const USUAL: usize = 256;
 
 // Adds an abbreviation at the back.

@@ -10,6 +10,7 @@ use dwarf_const_core::attribute::DW_AT_name;
 use dwarf_const_core::form::{DW_FORM_implicit_const, DW_FORM_string};
 use dwarf_const_core::tag::{DW_TAG_compile_unit, DW_TAG_subprogram, DwTag};
 use dwarf_reader_core::EndianSlice;
+use dwarf_reader_core::leb128::write::Leb128;
 use std::alloc::{AllocError, Global};
 use std::test::Fail;
 
@@ -207,6 +208,30 @@ fn five_attributes_stay_in_place(rt: HostRuntime) -> std::result::Result<(), Fai
         let found = table.get(1).ok_or("no declaration")?;
         let place = (found.attributes.len(), found.attributes.spilled());
         assert_eq!(rt; place, (count, count > 5));
+    }
+    Ok(())
+}
+
+// A section with a table of the codes from 1 to this one.
+fn section_up_to(mem: Global, last: u64) -> std::result::Result<Vec<u8>, AllocError> {
+    let mut section = Vec::new(mem);
+    for code in 0..last {
+        section.extend_from_slice(Leb128::unsigned(code + 1).bytes())?;
+        section.extend_from_slice(b"\x11\0\0\0")?;
+    }
+    Ok(section)
+}
+
+// How many abbreviations a table has, and for how many there is room once it is read.
+static ROOMS: &[(u64, usize)] = &[(0, 0), (1, 32), (32, 32), (33, 33), (256, 256), (257, 512)];
+
+#[test]
+fn room_for_a_usual_table_is_given_back(rt: HostRuntime) -> std::result::Result<(), Fail> {
+    for (count, room) in ROOMS {
+        let section = section_up_to(rt.alloc(), *count)?;
+        let table = Abbreviations::parse_from(rt.alloc(), slice(&section))?;
+        let found = (table.len() as u64, table.vec.capacity());
+        assert_eq!(rt; found, (*count, *room));
     }
     Ok(())
 }
