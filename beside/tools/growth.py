@@ -26,7 +26,8 @@ def measured(program, kind, count):
 
 
 def touched(program):
-    """Prints the table of the pages that a process has touched once it has read a table."""
+    """Prints the table of the bytes of pages that the reading of a table touches first. It begins at 1,000
+    declarations, since 100 take so few pages that one more or less is a large part of them."""
     heads = ["declarations", *(f"{words}: bytes of touched pages" for words in KINDS.values())]
     print(f"\n| {' | '.join(heads)} |\n{'|---' * len(heads)}|", flush=True)
     for count in COUNTS[1:]:

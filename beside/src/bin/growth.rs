@@ -1,7 +1,7 @@
 //! Reads one table of many declarations by gimli and by the library, and prints the nanoseconds of either, and how many
 //! bytes of memory either had at once. The words are `rising`, `falling` or `far`, and how many declarations. With
 //! `--count` before them, each side reads the table once, to be counted. With `--touched gimli` or `--touched here` one
-//! side reads it once, and the bytes of the pages that it touched first are printed.
+//! side alone reads it once, and prints how many bytes the pages have that are touched for the first time meanwhile.
 //!
 //! Both request memory by the functions here, so that it is counted alike: as many bytes as `malloc` makes usable.
 
@@ -14,7 +14,7 @@ mod question;
 
 use gimli::{DebugAbbrev, DebugAbbrevOffset, LittleEndian};
 use std::alloc::{GlobalAlloc, Layout, System};
-use std::os::raw::{c_int, c_void};
+use std::os::raw::{c_int, c_ulong, c_void};
 use std::sync::atomic::{AtomicBool, AtomicUsize, Ordering::Relaxed};
 
 static IS_COUNTED: AtomicBool = AtomicBool::new(false);
@@ -29,6 +29,7 @@ extern "C" {
     fn clock_gettime(clock: c_int, time: *mut [i64; 2]) -> c_int;
     fn getrusage(who: c_int, usage: *mut [i64; 18]) -> c_int;
     fn malloc_trim(kept: usize) -> c_int;
+    fn prctl(option: c_int, is_on: c_ulong, unused: c_ulong, too: c_ulong, as_well: c_ulong) -> c_int;
     fn beside_tables(bytes: *const u8, len: usize, offsets: *const usize, count: usize) -> usize;
 }
 
@@ -122,9 +123,12 @@ fn turn(call: &dyn Fn()) -> f64 {
     }
 }
 
-/// How many bytes the pages have that a call touches first. The system hands out a page when it is first touched, which
-/// is a minor fault. A page that is given back and handed out again counts twice. What is free is given back before.
+/// How many bytes the pages have that are first touched while a call runs. The system hands out a page then, and counts
+/// a minor fault. A page that is given back and handed out again counts twice. Before the call, free pages are given
+/// back, and pages of 2 MB are switched off, so that each has 4,096 bytes.
 fn touched_bytes(call: &dyn Fn()) -> i64 {
+    const PR_SET_THP_DISABLE: c_int = 41;
+    assert_eq!(unsafe { prctl(PR_SET_THP_DISABLE, 1, 0, 0, 0) }, 0);
     unsafe { malloc_trim(0) };
     let faults = || {
         let mut usage = [0; 18];
@@ -182,7 +186,11 @@ fn main() {
         made::shaped_table(&mut random, 1..=1, &mut small);
         gimli_counted(&small);
         ours_counted(&small, 1);
-        let touched = if side == "gimli" { touched_bytes(&gimli) } else { touched_bytes(&ours) };
+        let touched = match side.as_str() {
+            "gimli" => touched_bytes(&gimli),
+            "here" => touched_bytes(&ours),
+            _ => panic!("the word behind --touched is gimli or here, and not {side}"),
+        };
         return println!("{touched}");
     }
     if is_counted {
