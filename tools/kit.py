@@ -112,14 +112,15 @@ def worked_cases():
 
 
 def wrong_bodies_of_the_gate():
-    """The edits in wrong-bodies that say that the gate tries them, as CRATE/NAME."""
+    """The edits in wrong-bodies that say that the gate tries them, as CRATE/NAME. Those of one function are neighbours."""
     found = []
-    for path in sorted(glob.glob(f"{ROOT}/wrong-bodies/**/*", recursive=True)):
+    for path in glob.glob(f"{ROOT}/wrong-bodies/**/*", recursive=True):
         if os.path.isfile(path):
             with open(path, encoding="utf-8", errors="replace") as file:
-                if file.readline().startswith("# refused in the gate by "):
-                    found.append(os.path.relpath(path, f"{ROOT}/wrong-bodies").removesuffix(".edit"))
-    return found
+                first = file.readline()
+            if first.startswith("# refused in the gate by "):
+                found.append((first, os.path.relpath(path, f"{ROOT}/wrong-bodies").removesuffix(".edit")))
+    return [name for _, name in sorted(found)]
 
 
 def is_taken_over(crate):
