@@ -26,6 +26,9 @@ fn main() {
     }
     let folder = env::var("BESIDE_LIB").expect("BESIDE_LIB names the folder of both static libraries");
     println!("cargo:rustc-link-search=native={folder}");
+    // Nothing names what is in it. It moves the code of the libraries behind it.
+    println!("cargo:rerun-if-changed={folder}/libin_front.a");
+    println!("cargo:rustc-link-lib=static:+whole-archive=in_front");
     for library in ["dwarf_read_c", "dwarf_beside", "dwarf_read_heap"] {
         println!("cargo:rerun-if-changed={folder}/lib{library}.a");
         println!("cargo:rustc-link-lib=static={library}");

@@ -79,6 +79,24 @@ def put(source, target):
         file.write(text)
 
 
+def put_in_front(count):
+    """Makes the library that is linked in front of the others: so many bytes of code, which nothing calls."""
+    source, made = f"{OUT}/lib/in_front.s", f"{OUT}/lib/libin_front.a"
+    # The R keeps a linker from leaving the section out.
+    text = f'.section .text.in_front, "axR", @progbits\n.balign 64\n.skip {64 + count}, 0x90\n'
+    text += '.section .note.GNU-stack, "", @progbits\n'
+    if os.path.isfile(made):
+        with open(source, encoding="utf-8") as file:
+            if file.read() == text:
+                return
+        os.unlink(made)
+    with open(source, "w", encoding="utf-8") as file:
+        file.write(text)
+    compiler = os.environ.get("CC", "cc")
+    must([compiler, "-c", source, "-o", f"{OUT}/lib/in_front.o"], "the code in front isn't assembled")
+    must(["ar", "rcs", made, f"{OUT}/lib/in_front.o"], "the library of the code in front isn't made")
+
+
 def link_libraries():
     """Puts both static libraries, and the functions by which they request memory, into one folder."""
     for crate in LIBRARIES:
@@ -134,13 +152,14 @@ def sources_of_gimli(is_debian):
     return f"{OUT}/debian", ["--offline", *(word for it in replaced for word in ("--config", it))]
 
 
-def build(is_debian):
-    """Builds the program that compares, and returns where it is."""
+def build(is_debian, in_front=0):
+    """Builds the program that compares, and returns where it is. The library's code has so many bytes in front of it."""
     need("cargo", "cargo")
     need(os.environ.get("CC", "cc"), "gcc")
     need("objcopy", "binutils")
     folder, words = sources_of_gimli(is_debian)
     link_libraries()
+    put_in_front(in_front)
     # The processor that the kit compiles for.
     flags = os.environ.get("RUSTFLAGS", "") + " -C target-cpu=x86-64-v2"
     environment = {**os.environ, "BESIDE_LIB": f"{OUT}/lib", "RUSTFLAGS": flags.strip()}

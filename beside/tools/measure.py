@@ -1,6 +1,7 @@
 """Measures calls of the library beside gimli's."""
 import os
 import re
+import statistics
 import subprocess
 import tempfile
 
@@ -9,6 +10,8 @@ from common import Failed, build, must, need, run, sections
 # The C library copies a large block by one instruction that valgrind counts once a byte. With this setting it copies by
 # moves of 32 bytes, as it does small blocks.
 COUNTED_COPIES = {"GLIBC_TUNABLES": "glibc.cpu.x86_rep_movsb_threshold=1073741824"}
+# A processor runs the same code faster or slower by where it lies, so the library is timed with so many bytes in front.
+PLACES = (0, 16, 32, 48)
 
 
 def what_ran():
@@ -18,12 +21,18 @@ def what_ran():
     return f"{model[1] if model else 'a processor without a name'}; {run(['rustc', '--version'])[0]}"
 
 
-def timed(program, words):
-    """The rows of the table of `time`."""
-    for line in must([program, "--time", *words], "it can't be timed").splitlines():
-        name, _, *numbers = line.split("\t")
-        gimli, here, low, middle, high = (float(it) for it in numbers)
-        yield f"| {name} | {gimli:.1f} | {here:.1f} | {middle:.2f} | {low:.2f} to {high:.2f} |"
+def timed(is_debian, words):
+    """The rows of the table of `time`: means of the places, and the least and the greatest ratio."""
+    found = {}
+    for place in PLACES:
+        said = must([build(is_debian, place), "--time", *words], "it can't be timed")
+        for line in said.splitlines():
+            name, _, gimli, here, _, middle, _ = line.split("\t")
+            found.setdefault(name, []).append((float(gimli), float(here), float(middle)))
+    for name, rows in found.items():
+        gimli, here, ratio = (statistics.mean(it) for it in zip(*rows))
+        ratios = [middle for _, _, middle in rows]
+        yield f"| {name} | {gimli:.1f} | {here:.1f} | {ratio:.2f} | {min(ratios):.2f} to {max(ratios):.2f} |"
 
 
 def counted(program, words):
@@ -70,14 +79,15 @@ def measure(given, is_timed):
     if not is_timed:
         need("valgrind", "valgrind")
     program = build(given["debian"])
+    what = must([program, "--gimli"], "the program is another one")
     with tempfile.TemporaryDirectory(prefix="beside-") as work:
         words = []
         for i, path in enumerate(given["files"]):
             os.mkdir(f"{work}/{i}")
             words += sections(path, f"{work}/{i}")
-        rows = list(timed(program, words) if is_timed else counted_rows(program, words))
-    print(f"gimli {must([program, '--gimli'], 'the program is another one')}; {what_ran()}\n")
-    heads = ["nanoseconds of one operation", "gimli", "here", "ratio", "middle half"]
+        rows = list(timed(given["debian"], words) if is_timed else counted_rows(program, words))
+    print(f"gimli {what}; {what_ran()}\n")
+    heads = ["nanoseconds of one operation", "gimli", "here", "ratio", "at four places"]
     heads = heads if is_timed else ["instructions of one operation", *heads[1:4]]
     print("\n".join([f"| {' | '.join(heads)} |", "|---" * len(heads) + "|", *rows]))
     return 0
