@@ -1,16 +1,14 @@
 //! Names of constants by value: a table that is searched, and the text of a value that has no name.
 
-ghost use Rattle.std.specs.Prelude.{◌≡◌, ◌≤◌, IsTrue, length, option_map, unwrap_or};
+ghost use Rattle.std.specs.Prelude.{◌≡◌, IsTrue, length, option_map, unwrap_or};
 ghost use Rattle.std.specs.Fmt.{WritesOnOk, WritesStyledOnOk, formatter_spec, padded};
 ghost use Rattle.dwarf_const_core.specs.Names.{is_rising, unknown_text};
 
 use std::fmt;
 use std::fmt::{InlineText, Write};
 
-/// The longest name of a type that `pad_name` accepts, in bytes.
-pub const MAX_TYPE_NAME_LEN: usize = 32;
-
-// Room for the name of a type, twenty digits, and the text between them.
+// Room for the text of a value without a name: the name of a type of up to 34 bytes, twenty digits,
+// and the text between them.
 const MAX_LEN: usize = 64;
 
 /// The names of the constants of one type, in the order of their values. The macro `names!` writes
@@ -46,14 +44,13 @@ impl Names {
 ///
 /// # Errors
 ///
-/// Only an error of `f` itself.
+/// An error of `f` itself. Without a name also `fmt::Error` if `type_name` has more than 34 bytes.
 pub fn pad_name<W: fmt::Write>(
     f: &mut fmt::Formatter<W>,
     name: Option<&'static str>,
     type_name: &str,
     value: u64,
 ) -> fmt::Result
-    requires { length type_name.now ≤ MAX_TYPE_NAME_LEN }
     ensures writes { let known = option_map (λ s. s.now) name.entry in
         let text = unwrap_or known (unknown_text type_name.now value) in
         WritesOnOk W.write_str_gives f.old result text f.new }

@@ -1,9 +1,9 @@
 -- Laws of layouts: steps of reading, exactly one outcome, appended bytes, the front of the bytes, and how many are
 -- consumed.
-use Rattle.dwarf_reader_core.proofs.Common.{common_steps, ◌≡◌, ℕ, zero, suc, ◌+◌, ◌-◌, ◌≤◌, take, drop, Bool, true, false, List, [], ◌∷◌, ◌++◌, length, Option, None, Some, Result, Ok, Err, refl, sym, ap, subst, ◌∙◌, arith, lt-leb, length-append, length-drop, length-take-le, take-append-le, drop-append-le, All-head, All-tail, IfErr, ⊤, ◌≢◌, All, Error, EndsBefore, Lacks, Input, first, Takes, TakesNumber, TakesString, IsFirst, Layout, and_then, split_at, part, ended, pure, refuse, when◌then◌else◌, ◌>>=◌, inside, At, alone, HasOne}
+use Rattle.dwarf_reader_core.proofs.Common.{common_steps, inl, inr, ◌⊎◌, ◌≡◌, ℕ, zero, suc, ◌+◌, ◌-◌, ◌≤◌, take, drop, Bool, true, false, List, [], ◌∷◌, ◌++◌, length, Option, None, Some, Result, Ok, Err, refl, sym, ap, subst, ◌∙◌, arith, lt-leb, length-append, length-drop, length-take-le, take-append-le, drop-append-le, All-head, All-tail, IfErr, ⊤, ◌≢◌, All, Error, EndsBefore, Lacks, Input, first, Takes, TakesByte, TakesNumber, TakesString, IsFirst, Layout, and_then, split_at, part, ended, pure, refuse, when◌then◌else◌, ◌>>=◌, inside, At, alone, HasOne}
 use Rattle.std.proofs.Math.Seq.{drop-append-add}
 use Rattle.dwarf_reader_core.specs.Appended.{followed_by, IsNoEof}
-use Rattle.dwarf_reader_core.specs.Layout.{read, fixed, byte, check}
+use Rattle.dwarf_reader_core.specs.Layout.{FailsAt, read, remains, remains_behind, fixed, byte, check}
 
 -- ---- steps of reading
 
@@ -156,6 +156,78 @@ pub inside_read : {A : Type 0} (unit : Input) (f : Layout A) (old : Input) {x : 
 unfolding read
 inside_read {A} unit f old {x} {new} is = grind arith
 
+-- if a number was read, a reader reads it
+pub number_read : (n : ℕ) (old : Input) {x : ℕ} {new : Input} → read (fixed n) old ≡ Ok (x, new)
+    → TakesNumber n old x new
+unfolding read fixed
+number_read n old {x} {new} is = grind arith
+
+-- if a byte was read, a reader reads it
+pub byte_read : (old : Input) {x : ℕ} {new : Input} → read byte old ≡ Ok (x, new) → TakesByte old x new
+unfolding read byte
+byte_read old {x} {new} is = grind arith
+
+-- ---- what failed
+
+-- if two layouts in a row failed, the first failed, or it was read and the second failed behind it
+pub then_failed : {A B : Type 0} (p : Layout A) (f : A → Layout B) (old : Input) {e : Error} {new : Input}
+    → FailsAt (p >>= f) old e new
+    → FailsAt p old e new ⊎ ((x : A) × (mid : Input) × (read p old ≡ Ok (x, mid)) × FailsAt (f x) mid e new)
+unfolding read remains
+then_failed {A} {B} p f old {e} {new} fails = go (read p old) refl
+  where
+    go : (r : Outcome A) → read p old ≡ r
+        → FailsAt p old e new ⊎ ((x : A) × (mid : Input) × (read p old ≡ Ok (x, mid)) × FailsAt (f x) mid e new)
+    go (Ok (x, mid)) is = inr (
+      x,
+      mid,
+      is,
+      record {
+        fault = sym (then_reads p f old is) ∙ fails.fault;
+        left = fails.left ∙ ap (λ (s : Outcome A). remains_behind s (remains p old) (λ y. remains (f y.0) y.1)) is;
+      },
+    )
+    go (Err d) is = inl (record {
+      fault = is ∙ (let same = sym (then_fails p f old is) ∙ fails.fault in let error : d ≡ e = cc in λ i. Err (error i));
+      left = fails.left ∙ ap (λ (s : Outcome A). remains_behind s (remains p old) (λ y. remains (f y.0) y.1)) is;
+    })
+
+-- if a part failed, fewer bytes remain
+pub part_failed : (n : ℕ) (old : Input) {e : Error} {new : Input} → FailsAt (part n) old e new → EndsBefore n old e new
+unfolding read remains
+part_failed n old {e} {new} fails = grind arith
+
+-- a value without bytes doesn't fail
+pub pure_failed : {A : Type 0} (a : A) (old : Input) {e : Error} {new : Input} → FailsAt (pure a) old e new → ⊥
+unfolding read
+pure_failed a old fails = let is = fails.fault in cc
+
+-- if a number failed, fewer bytes remain
+pub number_failed : (n : ℕ) (old : Input) {e : Error} {new : Input} → FailsAt (fixed n) old e new
+    → EndsBefore n old e new
+unfolding fixed
+number_failed n old fails =
+    elim (then_failed _ _ old fails) [ inl short ↦ part_failed n old short | inr there ↦ absurd (pure_failed _ _ there.3) ]
+
+-- if a byte failed, no byte remains
+pub byte_failed : (old : Input) {e : Error} {new : Input} → FailsAt byte old e new → EndsBefore 1 old e new
+unfolding byte
+byte_failed old fails =
+    elim (then_failed _ _ old fails) [ inl short ↦ part_failed 1 old short | inr there ↦ absurd (pure_failed _ _ there.3) ]
+
+-- if a check failed, its test doesn't hold, and the error is the check's
+pub check_failed : (b : Bool) (error : Error) (old : Input) {e : Error} {new : Input} → FailsAt (check b error) old e new
+    → (b ≡ false) × (e ≡ error) × (new ≡ old)
+unfolding read remains check
+check_failed true error old fails = absurd (let is = fails.fault in cc)
+check_failed false error old fails = (refl, (let is = fails.fault in cc), fails.left)
+
+-- if a layout inside a part failed, it has that error in the part, and nothing more was consumed
+pub inside_failed : {A : Type 0} (unit : Input) (f : Layout A) (old : Input) {e : Error} {new : Input}
+    → FailsAt (inside unit f) old e new → (read f unit ≡ Err e) × (new ≡ old)
+unfolding read remains
+inside_failed {A} unit f old {e} {new} fails = grind arith
+
 -- ---- exactly one outcome
 
 -- a section has exactly one value or error at its front
@@ -181,6 +253,15 @@ At_read {A} f section {x} is = go (read f section) refl is
         → (new : Input) × (read f section ≡ Ok (x, new))
     go (Ok (y, new)) q h = let same : x ≡ y = cc in (new, q ∙ λ i. Ok ((sym same) i, new))
     go (Err e) q h = absurd cc
+
+-- if the result at the front of a section is an error, reading fails with it
+pub At_failed : {A : Type 0} (f : Layout A) (section : Input) {e : Error} → At f section (Err e)
+    → FailsAt f section e (remains f section)
+At_failed {A} f section {e} is = record { fault = go (read f section) is; left = refl }
+  where
+    go : (r : Outcome A) → ◌≡◌ {A = Result A Error} (Err e) (alone r) → r ≡ Err e
+    go (Ok x) h = absurd cc
+    go (Err d) h = let same : d ≡ e = cc in λ i. Err (same i)
 
 -- ---- more bytes
 

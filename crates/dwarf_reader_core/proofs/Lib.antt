@@ -13,3 +13,4 @@ pub mod Once
 pub mod Results
 pub mod Layouts
 pub mod LayoutErrors
+pub mod InitialLengths

@@ -1,6 +1,6 @@
 -- Bytes have exactly one outcome as a string.
 use Rattle.dwarf_reader_core.proofs.Common.{◌≡◌, ◌≢◌, ℕ, zero, suc, ◌+◌, take, refl, sym, subst, ◌∙◌, arith, ◌⊎◌, inl, inr, Ok, List, [], ◌∷◌, All, All-nil, All-cons, Error, Input, after, first, IsFirst, TakesString, Lacks, end_fault, ended}
-use Rattle.dwarf_reader_core.specs.Layout.{read}
+use Rattle.dwarf_reader_core.specs.Layout.{FailsAt, read}
 use Rattle.dwarf_reader_core.proofs.Layouts.{string_reads, string_fails}
 
 -- the bytes before the first zero byte are one string
@@ -56,4 +56,15 @@ string_was_read {old} {string} {new} is =
           let same : ◌≡◌ {A = Input × Input} (found.0, found.1) (string, new) = cc in
           subst (λ (z : Input × Input). TakesString old z.0 z.1) same found.2
       | inr none ↦ absurd (let both = sym (string_fails none.1) ∙ is in cc)
+    ]
+
+-- if no string is read, no byte is zero
+pub string_failed : {old new : Input} {e : Error} → FailsAt (ended 0) old e new → Lacks 0 old e
+string_failed {old} {new} {e} fails =
+    elim (some_string old) [
+      | inl found ↦ absurd (let both = sym (string_reads found.2) ∙ fails.fault in cc)
+      | inr none ↦
+          let both = sym (string_fails none.1) ∙ fails.fault in
+          let same : none.0 ≡ e = cc in
+          subst (Lacks 0 old) same none.1
     ]

@@ -1,6 +1,6 @@
 //! Reading LEB128 numbers (DWARF 5, 7.6) from any [`Reader`].
 
-ghost use Rattle.std.specs.Prelude.{IfOk, IfErr, OnOk};
+ghost use Rattle.std.specs.Prelude.{◌≡◌, IfOk, IfErr, OnOk};
 ghost use Rattle.dwarf_reader_core.specs.Leb128.{unsigned64, unsigned16, signed64, LacksEncoding, ReadsNumber, RefusesNumber, TakesEncoding};
 
 use crate::reader::Reader;
@@ -16,6 +16,7 @@ use dwarf_base_core::error::Result;
 pub fn skip<R: Reader>(r: &mut R) -> Result<()>
     ensures ok { OnOk result (TakesEncoding (R.view r.old) (R.view r.new)) }
     ensures err { IfErr result (λ e. LacksEncoding (R.view r.old) e (R.view r.new)) }
+    ensures order { R.order r.new ≡ R.order r.old }
 {
     r.skip_leb128()
 }
@@ -32,6 +33,7 @@ pub fn skip<R: Reader>(r: &mut R) -> Result<()>
 pub fn unsigned<R: Reader>(r: &mut R) -> Result<u64>
     ensures ok { IfOk result (λ v. ReadsNumber unsigned64 (R.view r.old) v (R.view r.new)) }
     ensures err { IfErr result (λ e. RefusesNumber unsigned64 (R.view r.old) e (R.view r.new)) }
+    ensures order { R.order r.new ≡ R.order r.old }
 {
     r.read_uleb128()
 }
@@ -48,6 +50,7 @@ pub fn unsigned<R: Reader>(r: &mut R) -> Result<u64>
 pub fn u16<R: Reader>(r: &mut R) -> Result<u16>
     ensures ok { IfOk result (λ v. ReadsNumber unsigned16 (R.view r.old) v (R.view r.new)) }
     ensures err { IfErr result (λ e. RefusesNumber unsigned16 (R.view r.old) e (R.view r.new)) }
+    ensures order { R.order r.new ≡ R.order r.old }
 {
     r.read_uleb128_u16()
 }
@@ -64,6 +67,7 @@ pub fn u16<R: Reader>(r: &mut R) -> Result<u16>
 pub fn signed<R: Reader>(r: &mut R) -> Result<i64>
     ensures ok { IfOk result (λ v. ReadsNumber signed64 (R.view r.old) v (R.view r.new)) }
     ensures err { IfErr result (λ e. RefusesNumber signed64 (R.view r.old) e (R.view r.new)) }
+    ensures order { R.order r.new ≡ R.order r.old }
 {
     r.read_sleb128()
 }
