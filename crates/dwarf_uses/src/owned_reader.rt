@@ -16,7 +16,7 @@ ghost use Rattle.std.proofs.Common.{arith, length-drop};
 ghost use Rattle.std.proofs.lemmas.List.Elements.{All-drop};
 ghost use Rattle.dwarf_read_core.specs.Endian.{is_big_at_run_time};
 ghost use Rattle.dwarf_read_core.specs.Input.{Takes};
-ghost use Rattle.dwarf_read_core.specs.declared.Error.TheVariants.{OutOfMemory};
+ghost use Rattle.dwarf_read_core.specs.declared.Error.TheVariants.{OutOfMemory, UnsupportedOffset};
 
 use dwarf_read_core::{EndianSlice, Error, Reader, ReaderOffsetId, Result, RunTimeEndian};
 use std::alloc::Global;
@@ -47,20 +47,30 @@ pub struct OwnedReader {
 impl OwnedReader {
     /// Returns a reader of these bytes at position 0, whose clones may go `depth` deep.
     ///
-    /// There are fewer than 2^32 bytes.
-    pub fn new(alloc: Global, bytes: Vec<u8>, endian: RunTimeEndian, depth: u8) -> OwnedReader
-        requires { length bytes.items < 2 ^ 32 }
-        ensures { ⟦<OwnedReader as Reader>⟧.view result
-            ≡ record { bytes = bytes.items; position = 0; is_big = is_big_at_run_time endian } }
+    /// # Errors
+    ///
+    /// [`Error::UnsupportedOffset`] exactly if the number of bytes doesn't fit 32 bits.
+    pub fn new(
+        alloc: Global,
+        bytes: Vec<u8>,
+        endian: RunTimeEndian,
+        depth: u8,
+    ) -> Result<OwnedReader>
+        ensures ok { IfOk result (λ reader. ⟦<OwnedReader as Reader>⟧.view reader
+            ≡ record { bytes = bytes.items; position = 0; is_big = is_big_at_run_time endian }) }
+        ensures err { IfErr result (λ e. (e ≡ UnsupportedOffset) × (2 ^ 32 ≤ length bytes.items)) }
     {
-        OwnedReader {
+        if u32::try_from(bytes.len()).is_err() {
+            return Err(Error::UnsupportedOffset);
+        }
+        Ok(OwnedReader {
             alloc,
             bytes,
             endian,
             start: 0,
             position: 0,
             depth,
-        }
+        })
     }
 
     // The bytes that remain.

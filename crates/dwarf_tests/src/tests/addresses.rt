@@ -158,19 +158,44 @@ pub(super) fn lengths_of<R: Reader>(section: &DebugAddr<R>) -> Result<Four> {
     Ok(next_lengths(&mut section.headers()?))
 }
 
-// The error in place of the first set's addresses, or no item.
-pub(super) fn fault_of_entries<R: Reader>(section: &DebugAddr<R>) -> Result<Four> {
-    Ok(match fault_of_next(&mut section.headers()?)? {
-        Some(error) => ended!(Err(error)),
-        None => ended!(Ok(None)),
+// The next header, where there has to be one.
+fn next_header<R: Reader>(headers: &mut AddrHeaderIter<R>) -> Result<AddrHeader<R>> {
+    headers.next()?.ok_or(Error::NoEntryAtGivenOffset(0))
+}
+
+pub(super) fn first_set_of<R: Reader>(section: &DebugAddr<R>) -> Result<Four> {
+    Ok(fields_of(&next_header(&mut section.headers()?)?))
+}
+
+fn fields_of<R: Reader>(header: &AddrHeader<R>) -> Four {
+    let encoding = header.encoding();
+    [
+        Ok(Some(header.offset().0.into_u64())),
+        Ok(Some(header.length().into_u64())),
+        Ok(Some(u64::from(encoding.address_size))),
+        Ok(Some(u64::from(encoding.format.word_size()))),
+    ]
+}
+
+// What four calls return of the first set's addresses, behind so many, or the error in place of all addresses.
+pub(super) fn addresses_of<R: Reader>(section: &DebugAddr<R>, count: u8) -> Result<Four> {
+    let header = next_header(&mut section.headers()?)?;
+    Ok(match header.entries() {
+        Ok(mut entries) => next_addresses(&mut entries, count),
+        Err(error) => ended!(Err(error)),
     })
 }
 
-fn fault_of_next<R: Reader>(headers: &mut AddrHeaderIter<R>) -> Result<Option<Error>> {
-    match headers.next()? {
-        Some(header) => Ok(header.entries().err()),
-        None => Ok(None),
+fn next_addresses<R: Reader>(entries: &mut AddrEntryIter<R>, count: u8) -> Four {
+    for _ in 0..count {
+        let _ = entries.next();
     }
+    [
+        entries.next(),
+        entries.next(),
+        entries.next(),
+        entries.next(),
+    ]
 }
 
 // The first position, bytes, and what four calls return of their sets. No set follows an error.
@@ -207,6 +232,7 @@ static LENGTHS: &[(u8, &[u8], Four)] = &[
         b"\x04\0\0\0\x04\0\x08\0\x09\0\0\0\x05\0\x04\0\x78\x56\x34\x12\xaa",
         ended!(Err(Error::UnknownVersion(4))),
     ),
+    (0, CUT_SET, ended!(Ok(Some(9)))),
     (100, b"\xff\xff\xff", ended!(Err(eof!(100)))),
     (100, b"\x05\0\0\0\x05\0\x08\0", ended!(Err(eof!(104)))),
     (100, b"\x03\0\0\0\x05\0\x08", ended!(Err(eof!(107)))),
@@ -241,6 +267,29 @@ fn sets_have_lengths_up_to_the_first_error(rt: HostRuntime) {
     for (first, bytes, wanted) in LENGTHS {
         let lengths = four_at(bytes, LITTLE, *first, Reading::AddressSets);
         same(&rt, lengths, Ok(*wanted), bytes);
+    }
+}
+
+// Bytes, how many addresses of their first set come first, and what four calls then return. The set has one address, and
+// a byte too few for another. No address follows the error, however often the next one is requested.
+static CUT: &[(&[u8], u8, Four)] = &[
+    (
+        CUT_SET,
+        0,
+        [Ok(Some(0x1234_5678)), Err(eof!(12)), Ok(None), Ok(None)],
+    ),
+    (CUT_SET, 2, ended!(Ok(None))),
+    (CUT_SET, 6, ended!(Ok(None))),
+];
+
+#[test]
+fn no_address_follows_an_error(rt: HostRuntime) {
+    let fields = [Ok(Some(0)), Ok(Some(9)), Ok(Some(4)), Ok(Some(4))];
+    let set = four_at(CUT_SET, LITTLE, 0, Reading::AddressSet);
+    same(&rt, set, Ok(fields), "a cut set");
+    for (bytes, count, wanted) in CUT {
+        let addresses = four_at(bytes, LITTLE, 0, Reading::Addresses(*count));
+        same(&rt, addresses, Ok(*wanted), count);
     }
 }
 

@@ -1,6 +1,7 @@
 //! The cache of abbreviation tables.
 
-use super::worked::ENDED;
+use super::tables::check_table;
+use super::worked::{BARE_UNIT, CLOSED_TABLE, ENDED, ENDED_TABLE, NO_TABLE, Table};
 use super::{end_requests, same};
 use dwarf_read_core::{
     Abbreviations, AbbreviationsCache, AbbreviationsCacheStrategy, DebugAbbrev, DebugAbbrevOffset,
@@ -25,59 +26,88 @@ const OTHER: &[u8] = b"\0\0\0\0\0\x02\x11\0\0\0";
 
 type Wanted = Result<DebugAbbrevOffset<usize>>;
 
-// What is called of a cache and a section.
+// A call that changes what a cache keeps.
+#[derive(Clone, Copy)]
+enum Change {
+    // Keeps the tables at these offsets.
+    Populate(AbbreviationsCacheStrategy, &'static [Wanted]),
+    // Keeps the table at 0 for this offset.
+    Set(u8),
+}
+
+// What is called of a cache and a section, and what it returns.
 #[derive(Clone, Copy)]
 enum Step {
-    // Keeps the tables at these offsets, and returns 0.
-    Populate(AbbreviationsCacheStrategy, &'static [Wanted]),
-    // Keeps the table at 0 for the offset 5, and returns 0.
-    Set,
-    // Returns the only code of the table at an offset, or 0 where it has none.
-    Get(u8),
-    // Returns 1 if two calls return one table, and 0 if they return two that are alike.
-    GetTwice(u8),
-    // Returns the offset that an iterator yields behind those that `populate` has requested of it.
-    Behind(&'static [Wanted]),
+    Change(Change, Result<()>),
+    // The table at an offset.
+    Get(u8, Result<Table>),
+    // Whether two calls return one table, and not two that are alike.
+    GetTwice(u8, bool),
+    // The offset that an iterator yields behind those that `populate` has requested of it.
+    Behind(&'static [Wanted], usize),
 }
 
-// What a call returns whose section is these bytes.
-fn take(mem: Global, cache: &mut AbbreviationsCache, bytes: &[u8], step: Step) -> Result<u64> {
-    take_of(mem, cache, &DebugAbbrev::new(bytes, LittleEndian), step)
+// Makes the call on a section of these bytes.
+fn make_change(
+    mem: Global,
+    cache: &mut AbbreviationsCache,
+    bytes: &[u8],
+    change: Change,
+) -> Result<()> {
+    make_change_of(mem, cache, &DebugAbbrev::new(bytes, LittleEndian), change)
 }
 
-fn take_of<R: Reader<Offset = usize>>(
+fn make_change_of<R: Reader<Offset = usize>>(
     mem: Global,
     cache: &mut AbbreviationsCache,
     section: &DebugAbbrev<R>,
-    step: Step,
-) -> Result<u64> {
-    match step {
-        Step::Populate(strategy, offsets) => populate(cache, strategy, section, offsets),
-        Step::Set => set_at_five(mem, cache, section),
-        Step::Get(offset) => code_of(cache, section, offset),
-        Step::GetTwice(offset) => is_shared(cache, section, offset),
-        Step::Behind(offsets) => first_behind(cache, section, offsets),
+    change: Change,
+) -> Result<()> {
+    match change {
+        Change::Populate(strategy, offsets) => {
+            cache.populate(strategy, section, offsets.iter().copied())
+        }
+        Change::Set(offset) => set_at(mem, cache, section, offset),
     }
 }
 
-fn populate<R: Reader<Offset = usize>>(
-    cache: &mut AbbreviationsCache,
-    strategy: AbbreviationsCacheStrategy,
-    section: &DebugAbbrev<R>,
-    offsets: &[Wanted],
-) -> Result<u64> {
-    cache.populate(strategy, section, offsets.iter().copied())?;
-    Ok(0)
-}
-
-fn set_at_five<R: Reader<Offset = usize>>(
+fn set_at<R: Reader<Offset = usize>>(
     mem: Global,
     cache: &mut AbbreviationsCache,
     section: &DebugAbbrev<R>,
-) -> Result<u64> {
+    offset: u8,
+) -> Result<()> {
     let table = section.abbreviations(mem, DebugAbbrevOffset(0))?;
-    cache.set::<R>(DebugAbbrevOffset(5), Rc::new(mem, table)?)?;
-    Ok(0)
+    cache.set::<R>(DebugAbbrevOffset(usize::from(offset)), Rc::new(mem, table)?)
+}
+
+// Ends the test where a call returns something else.
+fn check_step<R: Reader<Offset = usize>>(
+    rt: &impl Abort,
+    mem: Global,
+    cache: &mut AbbreviationsCache,
+    section: &DebugAbbrev<R>,
+    (step, what): (Step, &str),
+) {
+    match step {
+        Step::Change(change, wanted) => {
+            same(
+                rt,
+                make_change_of(mem, cache, section, change),
+                wanted,
+                what,
+            );
+        }
+        Step::Get(offset, wanted) => {
+            check_shared(rt, table_at(cache, section, offset), wanted, what);
+        }
+        Step::GetTwice(offset, wanted) => {
+            same(rt, is_shared(cache, section, offset), Ok(wanted), what);
+        }
+        Step::Behind(offsets, wanted) => {
+            same(rt, first_behind(cache, section, offsets), Ok(wanted), what);
+        }
+    }
 }
 
 fn table_at<R: Reader<Offset = usize>>(
@@ -88,19 +118,15 @@ fn table_at<R: Reader<Offset = usize>>(
     cache.get(section, DebugAbbrevOffset(usize::from(offset)))
 }
 
-fn code_of<R: Reader<Offset = usize>>(
-    cache: &AbbreviationsCache,
-    section: &DebugAbbrev<R>,
-    offset: u8,
-) -> Result<u64> {
-    Ok(first_code(&*table_at(cache, section, offset)?))
-}
-
-// The code of a table's first declaration, or 0 where it has none.
-pub(super) fn first_code(table: &Abbreviations) -> u64 {
-    match table.iter().next() {
-        Some(abbreviation) => abbreviation.code(),
-        None => 0,
+fn check_shared(
+    rt: &impl Abort,
+    found: Result<Rc<Abbreviations>>,
+    wanted: Result<Table>,
+    what: &str,
+) {
+    match found {
+        Ok(table) => check_table(rt, Ok(&*table), wanted, what),
+        Err(error) => check_table(rt, Err(error), wanted, what),
     }
 }
 
@@ -108,32 +134,33 @@ fn is_shared<R: Reader<Offset = usize>>(
     cache: &AbbreviationsCache,
     section: &DebugAbbrev<R>,
     offset: u8,
-) -> Result<u64> {
+) -> Result<bool> {
     let first = table_at(cache, section, offset)?;
     let second = table_at(cache, section, offset)?;
-    Ok(u64::from(Rc::ptr_eq(&first, &second)))
+    Ok(Rc::ptr_eq(&first, &second))
 }
 
 fn first_behind<R: Reader<Offset = usize>>(
     cache: &mut AbbreviationsCache,
     section: &DebugAbbrev<R>,
     offsets: &[Wanted],
-) -> Result<u64> {
+) -> Result<usize> {
     let mut offsets = offsets.iter().copied();
     cache.populate(AbbreviationsCacheStrategy::All, section, offsets.by_ref())?;
     match offsets.next() {
-        Some(behind) => Ok(behind?.0 as u64),
+        Some(behind) => Ok(behind?.0),
         None => Err(Error::NoEntryAtGivenOffset(0)),
     }
 }
 
-// A section's bytes, a call, what it returns, and what the row is about.
-type Row = (&'static [u8], Step, Result<u64>, &'static str);
+// A section's bytes, a call and what it returns, and what the row is about.
+type Row = (&'static [u8], Step, &'static str);
 
 // Ends the test where one of these calls, one behind the other, returns something else.
 fn check_calls(rt: &impl Abort, mem: Global, cache: &mut AbbreviationsCache, rows: &[Row]) {
-    for (bytes, step, wanted, what) in rows {
-        same(rt, take(mem, cache, bytes, *step), *wanted, what);
+    for (bytes, step, what) in rows {
+        let section = DebugAbbrev::new(bytes, LittleEndian);
+        check_step(rt, mem, cache, &section, (*step, *what));
     }
 }
 
@@ -159,40 +186,50 @@ const OFFSETS: &[Wanted] = &[
 
 const REFUSED: &[Wanted] = &[Ok(DebugAbbrevOffset(0)), Err(Error::OutOfMemory)];
 
-const ALL: Step = Step::Populate(AbbreviationsCacheStrategy::All, OFFSETS);
+const ALL: Change = Change::Populate(AbbreviationsCacheStrategy::All, OFFSETS);
 
-const DUPLICATES: Step = Step::Populate(AbbreviationsCacheStrategy::Duplicates, OFFSETS);
+const DUPLICATES: Change = Change::Populate(AbbreviationsCacheStrategy::Duplicates, OFFSETS);
 
-// Nothing is kept, and then what each call keeps. The codes at 0 and at 5 are those that a cache returns for the empty
-// section.
+// The table with the code 9.
+const NINE_TABLE: Table = (&[9], BARE_UNIT, false);
+
+// The table that the other section has at 5.
+const OTHER_TABLE: Table = (&[2], BARE_UNIT, false);
+
+// Nothing is kept, and then what each call keeps. The tables at 0 and at 5 are those that a cache returns for the
+// empty section: what was kept of another section, or else what is read afresh.
 static STEPS: &[Row] = &[
-    (NONE, Step::Get(0), Ok(0), "new"),
-    (NONE, Step::Get(5), Err(eof!(0)), "new"),
-    (ONE, DUPLICATES, Ok(0), "duplicates"),
-    (NONE, Step::Get(0), Ok(0), "duplicates"),
-    (NONE, Step::Get(5), Ok(0), "duplicates"),
-    (ONE, ALL, Ok(0), "all"),
-    (NONE, Step::Get(0), Ok(1), "all"),
-    (NONE, Step::Get(5), Ok(0), "all"),
-    (NINE, Step::Set, Ok(0), "set"),
-    (NONE, Step::Get(0), Ok(1), "set"),
-    (NONE, Step::Get(5), Ok(9), "set"),
+    (NONE, Step::Get(0, Ok(CLOSED_TABLE)), "new"),
+    (NONE, Step::Get(5, Err(eof!(0))), "new"),
+    (ONE, Step::Change(DUPLICATES, Ok(())), "duplicates"),
+    (NONE, Step::Get(0, Ok(CLOSED_TABLE)), "duplicates"),
+    (NONE, Step::Get(5, Ok(NO_TABLE)), "duplicates"),
+    (ONE, Step::Change(ALL, Ok(())), "all"),
+    (NONE, Step::Get(0, Ok(ENDED_TABLE)), "all"),
+    (NONE, Step::Get(5, Ok(NO_TABLE)), "all"),
+    (NINE, Step::Change(Change::Set(5), Ok(())), "set"),
+    (NONE, Step::Get(0, Ok(ENDED_TABLE)), "set"),
+    (NONE, Step::Get(5, Ok(NINE_TABLE)), "set"),
     (
         NONE,
-        Step::Populate(AbbreviationsCacheStrategy::All, REFUSED),
-        Err(Error::OutOfMemory),
+        Step::Change(
+            Change::Populate(AbbreviationsCacheStrategy::All, REFUSED),
+            Err(Error::OutOfMemory),
+        ),
         "refused",
     ),
-    (NONE, Step::Get(0), Ok(1), "refused"),
-    (NONE, Step::Get(5), Ok(9), "refused"),
+    (NONE, Step::Get(0, Ok(ENDED_TABLE)), "refused"),
+    (NONE, Step::Get(5, Ok(NINE_TABLE)), "refused"),
     (
         ONE,
-        Step::Populate(AbbreviationsCacheStrategy::All, &[]),
-        Ok(0),
+        Step::Change(
+            Change::Populate(AbbreviationsCacheStrategy::All, &[]),
+            Ok(()),
+        ),
         "no offsets",
     ),
-    (NONE, Step::Get(0), Ok(0), "no offsets"),
-    (NONE, Step::Get(5), Err(eof!(0)), "no offsets"),
+    (NONE, Step::Get(0, Ok(CLOSED_TABLE)), "no offsets"),
+    (NONE, Step::Get(5, Err(eof!(0))), "no offsets"),
 ];
 
 #[test]
@@ -205,14 +242,16 @@ fn tables_are_kept_or_read_afresh(rt: HostRuntime) {
 static SHARED: &[Row] = &[
     (
         ONE,
-        Step::Populate(AbbreviationsCacheStrategy::All, &[Ok(DebugAbbrevOffset(0))]),
-        Ok(0),
+        Step::Change(
+            Change::Populate(AbbreviationsCacheStrategy::All, &[Ok(DebugAbbrevOffset(0))]),
+            Ok(()),
+        ),
         "populate",
     ),
-    (NINE, Step::Set, Ok(0), "set"),
-    (ONE, Step::GetTwice(0), Ok(1), "populated"),
-    (ONE, Step::GetTwice(5), Ok(1), "set"),
-    (ONE, Step::GetTwice(4), Ok(0), "only read"),
+    (NINE, Step::Change(Change::Set(5), Ok(())), "set"),
+    (ONE, Step::GetTwice(0, true), "populated"),
+    (ONE, Step::GetTwice(5, true), "set"),
+    (ONE, Step::GetTwice(4, false), "only read"),
 ];
 
 #[test]
@@ -223,17 +262,17 @@ fn kept_tables_are_shared(rt: HostRuntime) {
 
 // What is kept at 0, 5 and 7 is as it was read. What isn't kept is read from the other section.
 static OFTEN: &[Row] = &[
-    (OTHER, Step::Get(0), Ok(0), "none"),
-    (OTHER, Step::Get(5), Ok(2), "none"),
-    (OTHER, Step::Get(7), Ok(0), "none"),
-    (ONE, DUPLICATES, Ok(0), "duplicates"),
-    (OTHER, Step::Get(0), Ok(0), "duplicates"),
-    (OTHER, Step::Get(5), Ok(0), "duplicates"),
-    (OTHER, Step::Get(7), Ok(0), "duplicates"),
-    (ONE, ALL, Ok(0), "all"),
-    (OTHER, Step::Get(0), Ok(1), "all"),
-    (OTHER, Step::Get(5), Ok(0), "all"),
-    (OTHER, Step::Get(7), Err(eof!(0)), "all"),
+    (OTHER, Step::Get(0, Ok(CLOSED_TABLE)), "none"),
+    (OTHER, Step::Get(5, Ok(OTHER_TABLE)), "none"),
+    (OTHER, Step::Get(7, Ok(CLOSED_TABLE)), "none"),
+    (ONE, Step::Change(DUPLICATES, Ok(())), "duplicates"),
+    (OTHER, Step::Get(0, Ok(CLOSED_TABLE)), "duplicates"),
+    (OTHER, Step::Get(5, Ok(NO_TABLE)), "duplicates"),
+    (OTHER, Step::Get(7, Ok(CLOSED_TABLE)), "duplicates"),
+    (ONE, Step::Change(ALL, Ok(())), "all"),
+    (OTHER, Step::Get(0, Ok(ENDED_TABLE)), "all"),
+    (OTHER, Step::Get(5, Ok(NO_TABLE)), "all"),
+    (OTHER, Step::Get(7, Err(eof!(0))), "all"),
 ];
 
 #[test]
@@ -249,8 +288,8 @@ const ENDED_OFFSETS: &[Wanted] = &[
 ];
 
 static ASKED: &[Row] = &[
-    (ONE, Step::Behind(ENDED_OFFSETS), Ok(7), "behind"),
-    (NONE, Step::Get(5), Ok(0), "before"),
+    (ONE, Step::Behind(ENDED_OFFSETS, 7), "behind"),
+    (NONE, Step::Get(5, Ok(NO_TABLE)), "before"),
 ];
 
 #[test]
@@ -273,31 +312,31 @@ const GROWN_OFFSETS: &[Wanted] = &[
 static BEFORE: &[Row] = &[
     (
         SHORTER,
-        Step::Populate(AbbreviationsCacheStrategy::All, GROWN_OFFSETS),
-        Ok(0),
+        Step::Change(
+            Change::Populate(AbbreviationsCacheStrategy::All, GROWN_OFFSETS),
+            Ok(()),
+        ),
         "populate",
     ),
-    (LONGER, Step::Get(0), Ok(0), "at 0"),
+    (LONGER, Step::Get(0, Ok(CLOSED_TABLE)), "at 0"),
     (
         LONGER,
-        Step::Get(2),
-        Err(Error::AbbreviationTagZero),
+        Step::Get(2, Err(Error::AbbreviationTagZero)),
         "at 2",
     ),
-    (LONGER, Step::Get(5), Ok(1), "at 5"),
-    (LONGER, Step::Get(11), Err(eof!(0)), "at 11"),
+    (LONGER, Step::Get(5, Ok(ENDED_TABLE)), "at 5"),
+    (LONGER, Step::Get(11, Err(eof!(0))), "at 11"),
 ];
 
 static BEHIND: &[Row] = &[
-    (LONGER, Step::Get(0), Ok(0), "grown, at 0"),
+    (LONGER, Step::Get(0, Ok(CLOSED_TABLE)), "grown, at 0"),
     (
         LONGER,
-        Step::Get(2),
-        Err(Error::AbbreviationTagZero),
+        Step::Get(2, Err(Error::AbbreviationTagZero)),
         "grown, at 2",
     ),
-    (LONGER, Step::Get(5), Ok(0), "grown, at 5"),
-    (LONGER, Step::Get(11), Ok(0), "grown, at 11"),
+    (LONGER, Step::Get(5, Ok(CLOSED_TABLE)), "grown, at 5"),
+    (LONGER, Step::Get(11, Ok(CLOSED_TABLE)), "grown, at 11"),
 ];
 
 #[test]
@@ -308,50 +347,113 @@ fn growing_sections_are_read_again(rt: HostRuntime) {
     check_calls(&rt, rt.alloc(), &mut cache, BEHIND);
 }
 
-fn populated(mem: Global) -> Result<AbbreviationsCache> {
-    let mut cache = AbbreviationsCache::new(mem);
-    take(mem, &mut cache, ONE, ALL)?;
-    Ok(cache)
-}
+// What a cache keeps of the section with one declaration at 0, 5 and 7, seen by sections that have something else
+// there. None of these calls allocates.
+static KEPT: &[Row] = &[
+    (NONE, Step::Get(0, Ok(ENDED_TABLE)), "kept, at 0"),
+    (NONE, Step::Get(5, Ok(NO_TABLE)), "kept, at 5"),
+    (OTHER, Step::Get(7, Err(eof!(0))), "kept, at 7"),
+];
 
-// The code at an offset of the section with one declaration is the new one if the call returned Ok, and else the old
-// one, or memory for a fresh reading ran out.
-fn check_refused(
-    rt: &impl Abort,
+// A section's bytes, calls that change what such a cache keeps, and what it keeps behind all of them.
+type Changed = (&'static [u8], &'static [Change], &'static [Row]);
+
+// The first call replaces a table. The others add six, for which there is no room.
+static SET: &[Changed] = &[
+    (
+        NINE,
+        &[Change::Set(5)],
+        &[
+            (NONE, Step::Get(0, Ok(ENDED_TABLE)), "replaced, at 0"),
+            (NONE, Step::Get(5, Ok(NINE_TABLE)), "replaced, at 5"),
+            (OTHER, Step::Get(7, Err(eof!(0))), "replaced, at 7"),
+        ],
+    ),
+    (
+        NONE,
+        &[
+            Change::Set(1),
+            Change::Set(2),
+            Change::Set(3),
+            Change::Set(4),
+            Change::Set(6),
+            Change::Set(8),
+        ],
+        &[
+            (NONE, Step::Get(0, Ok(ENDED_TABLE)), "added, at 0"),
+            (ONE, Step::Get(1, Ok(CLOSED_TABLE)), "added, at 1"),
+            (NONE, Step::Get(5, Ok(NO_TABLE)), "added, at 5"),
+            (OTHER, Step::Get(7, Err(eof!(0))), "added, at 7"),
+            (ONE, Step::Get(8, Ok(CLOSED_TABLE)), "added, at 8"),
+        ],
+    ),
+];
+
+// The tables at 0, 5 and 7 of the other section, and the one at 5 alone.
+static POPULATED: &[Changed] = &[
+    (
+        OTHER,
+        &[ALL],
+        &[
+            (ONE, Step::Get(0, Ok(CLOSED_TABLE)), "all, at 0"),
+            (NONE, Step::Get(5, Ok(OTHER_TABLE)), "all, at 5"),
+            (NONE, Step::Get(7, Ok(CLOSED_TABLE)), "all, at 7"),
+        ],
+    ),
+    (
+        OTHER,
+        &[DUPLICATES],
+        &[
+            (b"\x01", Step::Get(0, Err(eof!(1))), "duplicates, at 0"),
+            (NONE, Step::Get(5, Ok(OTHER_TABLE)), "duplicates, at 5"),
+            (NONE, Step::Get(7, Err(eof!(0))), "duplicates, at 7"),
+        ],
+    ),
+];
+
+fn make_changes(
     mem: Global,
     cache: &mut AbbreviationsCache,
-    (bytes, step, offset, new, old): (&[u8], Step, u8, u64, u64),
-) {
-    let wanted = match take(mem, cache, bytes, step) {
-        Ok(_) => new,
+    bytes: &[u8],
+    changes: &[Change],
+) -> Result<()> {
+    for change in changes {
+        make_change(mem, cache, bytes, *change)?;
+    }
+    Ok(())
+}
+
+// Ends the test where a cache keeps something else behind these calls. A call whose allocation fails leaves the old
+// cache.
+fn check_changed(rt: &impl Abort, mem: Global, (bytes, changes, new): Changed) -> Result<()> {
+    let mut cache = AbbreviationsCache::new(mem);
+    make_change(mem, &mut cache, ONE, ALL)?;
+    match make_changes(mem, &mut cache, bytes, changes) {
+        Ok(()) => check_calls(rt, mem, &mut cache, new),
         Err(error) => {
-            same(rt, error, Error::OutOfMemory, offset);
-            old
+            same(rt, error, Error::OutOfMemory, bytes);
+            check_calls(rt, mem, &mut cache, KEPT);
         }
-    };
-    let code = take(mem, cache, ONE, Step::Get(offset));
-    if code != Err(Error::OutOfMemory) {
-        same(rt, code, Ok(wanted), offset);
+    }
+    Ok(())
+}
+
+fn check_refused(rt: &impl Abort, mem: Global, rows: &[Changed]) {
+    for row in rows {
+        if let Err(error) = check_changed(rt, mem, *row) {
+            same(rt, error, Error::OutOfMemory, "a cache");
+        }
     }
 }
 
-// A call whose allocation fails leaves the old cache.
 #[test]
 fn refused_memory_for_one_table(rt: HostRuntime) {
-    if let Ok(mut cache) = populated(rt.alloc()) {
-        let row = (NINE, Step::Set, 5, 9, 0);
-        check_refused(&rt, rt.alloc(), &mut cache, row);
-    }
+    check_refused(&rt, rt.alloc(), SET);
     end_requests(&rt, rt.alloc());
 }
 
-const TWICE: &[Wanted] = &[Ok(DebugAbbrevOffset(0)), Ok(DebugAbbrevOffset(0))];
-
 #[test]
 fn refused_memory_for_all_tables(rt: HostRuntime) {
-    if let Ok(mut cache) = populated(rt.alloc()) {
-        let step = Step::Populate(AbbreviationsCacheStrategy::Duplicates, TWICE);
-        check_refused(&rt, rt.alloc(), &mut cache, (NONE, step, 0, 0, 1));
-    }
+    check_refused(&rt, rt.alloc(), POPULATED);
     end_requests(&rt, rt.alloc());
 }

@@ -2,8 +2,9 @@
 
 use super::addresses::walk;
 use super::readings::{Reading, four_of};
-use super::worked::{FOUR_ADDRESSES, STRINGS, TWO_SETS, UNIT};
-use super::{Four, cache, check_bytes, end_requests, same};
+use super::tables::is_table;
+use super::worked::{FOUR_ADDRESSES, STRINGS, TWO_SETS, UNIT, UNIT_TABLE};
+use super::{Four, check_bytes, end_requests, same};
 use dwarf_read_core::{
     Abbreviations, AbbreviationsCache, AbbreviationsCacheStrategy, DebugAbbrev, DebugAbbrevOffset,
     DebugAddr, DebugAddrBase, DebugAddrIndex, DebugStr, DebugStrOffset, EndianSlice, Error, Format,
@@ -16,10 +17,9 @@ use std::process::Abort;
 use std::rc::Rc;
 use std::test::Fail;
 
-// A reader of at most a hundred bytes, whose clones may go so deep.
+// A reader whose clones may go so deep.
 fn owned(mem: Global, bytes: &[u8], depth: u8) -> Result<OwnedReader> {
-    let bytes = bytes[..bytes.len().min(100)].to_vec(mem)?;
-    Ok(OwnedReader::new(mem, bytes, RunTimeEndian::Little, depth))
+    OwnedReader::new(mem, bytes.to_vec(mem)?, RunTimeEndian::Little, depth)
 }
 
 #[test]
@@ -111,12 +111,12 @@ fn offsets_have_32_bits(rt: HostRuntime) {
     }
 }
 
-// A number, and behind it the position or the length that belongs to it, or 0.
-type Answer = [u64; 2];
+// Whether a call returns the whole of what is wanted.
+type Answer = Result<bool>;
 
 // What a call returns where clones may go 0, 1, 2 and 3 deep: first OutOfMemory, and from some depth
 // on what is wanted.
-fn check_depths(rt: &impl Abort, results: [Result<Answer>; 4], wanted: Answer, what: &str) {
+fn check_depths(rt: &impl Abort, results: [Answer; 4], what: &str) {
     let mut is_refused = true;
     for result in &results {
         let was_refused = is_refused;
@@ -124,77 +124,73 @@ fn check_depths(rt: &impl Abort, results: [Result<Answer>; 4], wanted: Answer, w
         if is_refused {
             assert!(rt; was_refused, "{what}");
         } else {
-            same(rt, *result, Ok(wanted), what);
+            same(rt, *result, Ok(true), what);
         }
     }
     same(rt, results[0], Err(Error::OutOfMemory), what);
     assert!(rt; !is_refused, "{what}");
 }
 
-// The first code of the table at 0, or 0 where there is none: as it is read, as it is read strictly, from a cache
-// that keeps nothing, and from one that keeps it.
-fn first_codes<R: Reader>(mem: Global, section: &DebugAbbrev<R>) -> [Result<Answer>; 4] {
+// The table of one unit at 0: as it is read, as it is read strictly, from a cache that keeps nothing, and from one that
+// keeps it.
+fn are_units<R: Reader>(mem: Global, section: &DebugAbbrev<R>) -> [Answer; 4] {
     let offset = DebugAbbrevOffset(R::Offset::from_u8(0));
     [
-        first_code(section.abbreviations(mem, offset)),
-        first_code(section.abbreviations_strict(mem, offset)),
-        shared_code(AbbreviationsCache::new(mem).get(section, offset)),
-        kept_code(mem, section, offset),
+        is_unit(section.abbreviations(mem, offset)),
+        is_unit(section.abbreviations_strict(mem, offset)),
+        is_shared_unit(AbbreviationsCache::new(mem).get(section, offset)),
+        is_kept_unit(mem, section, offset),
     ]
 }
 
-fn first_code(table: Result<Abbreviations>) -> Result<Answer> {
-    Ok([cache::first_code(&table?), 0])
+fn is_unit(table: Result<Abbreviations>) -> Answer {
+    Ok(is_table(&table?, UNIT_TABLE))
 }
 
-fn shared_code(table: Result<Rc<Abbreviations>>) -> Result<Answer> {
-    Ok([cache::first_code(&*table?), 0])
+fn is_shared_unit(table: Result<Rc<Abbreviations>>) -> Answer {
+    Ok(is_table(&*table?, UNIT_TABLE))
 }
 
-fn kept_code<R: Reader>(
+fn is_kept_unit<R: Reader>(
     mem: Global,
     section: &DebugAbbrev<R>,
     offset: DebugAbbrevOffset<R::Offset>,
-) -> Result<Answer> {
+) -> Answer {
     let mut cache = AbbreviationsCache::new(mem);
     cache.populate(AbbreviationsCacheStrategy::All, section, once(Ok(offset)))?;
-    shared_code(cache.get(section, offset))
+    is_shared_unit(cache.get(section, offset))
 }
 
-// The first three bytes of a string as a number, the first of them lowest, and its position.
-fn string_at<R: Reader>(section: &DebugStr<R>, offset: u8) -> Result<Answer> {
-    let mut string = section.get_str(DebugStrOffset(R::Offset::from_u8(offset)))?;
-    let position = string.offset_id().0;
-    let [first, second, third] = read_u8_array::<_, 3>(&mut string)?;
-    Ok([
-        u64::from_le_bytes([first, second, third, 0, 0, 0, 0, 0]),
-        position,
-    ])
+// The second string, and its position.
+fn is_second_string<R: Reader>(section: &DebugStr<R>) -> Answer {
+    is_two(&section.get_str(DebugStrOffset(R::Offset::from_u8(4)))?)
+}
+
+// The same bytes, as a range of the section.
+fn is_range<R: Reader>(section: &DebugStr<R>) -> Answer {
+    is_two(section.dwp_range(4, 3)?.reader())
+}
+
+fn is_two<R: Reader>(part: &R) -> Answer {
+    Ok(part.to_slice()?.as_slice() == b"two".as_slice() && part.offset_id().0 == 4)
 }
 
 // The second address of the first set.
-fn second_address<R: Reader>(section: &DebugAddr<R>) -> Result<Answer> {
+fn is_second_address<R: Reader>(section: &DebugAddr<R>) -> Answer {
     let (base, index) = (R::Offset::from_u8(8), R::Offset::from_u8(1));
     let address = section.get_address(4, DebugAddrBase(base), DebugAddrIndex(index))?;
-    Ok([address, 0])
+    Ok(address == FOUR_ADDRESSES[1])
 }
 
-// How many bytes a part of a section has, and the position of the first.
-fn range_of<R: Reader>(section: &DebugStr<R>) -> Result<Answer> {
-    let part = section.dwp_range(4, 3)?;
-    let reader = part.reader();
-    Ok([reader.len().into_u64(), reader.offset_id().0])
-}
-
-// How many addresses all sets have.
-fn count_of_addresses<R: Reader>(mem: Global, section: &DebugAddr<R>) -> Result<Answer> {
+// The addresses of all sets.
+fn are_all_addresses<R: Reader>(mem: Global, section: &DebugAddr<R>) -> Answer {
     let mut found = Vec::new(mem);
     walk(section, &mut found)?;
-    Ok([found.len() as u64, 0])
+    Ok(found.as_slice() == FOUR_ADDRESSES.as_slice())
 }
 
 // What a call of each kind returns.
-type Answers = [Result<Answer>; 8];
+type Answers = [Answer; 8];
 
 // The results of these readers' sections.
 fn answers_of<R: Reader>(
@@ -213,16 +209,16 @@ fn answers_in<R: Reader>(
     strings: &DebugStr<R>,
     addresses: &DebugAddr<R>,
 ) -> Answers {
-    let [lenient, strict, fresh, kept] = first_codes(mem, tables);
+    let [lenient, strict, fresh, kept] = are_units(mem, tables);
     [
         lenient,
         strict,
         fresh,
         kept,
-        string_at(strings, 4),
-        range_of(strings),
-        second_address(addresses),
-        count_of_addresses(mem, addresses),
+        is_second_string(strings),
+        is_range(strings),
+        is_second_address(addresses),
+        are_all_addresses(mem, addresses),
     ]
 }
 
@@ -233,24 +229,26 @@ fn answers_at(mem: Global, depth: u8) -> Result<Answers> {
     answers_of(mem, tables, strings, owned(mem, TWO_SETS, depth))
 }
 
-// What each call returns.
-static ANSWERS: [(&str, Answer); 8] = [
-    ("lenient", [1, 0]),
-    ("strict", [1, 0]),
-    ("fresh", [1, 0]),
-    ("kept", [1, 0]),
-    // The letters of "two", the first of them lowest.
-    ("a string", [0x6f_7774, 4]),
-    ("a range", [3, 4]),
-    ("an address", [0xdead_beef, 0]),
-    ("sets", [4, 0]),
+// What each call reads.
+static READ: [&str; 8] = [
+    "lenient",
+    "strict",
+    "fresh",
+    "kept",
+    "a string",
+    "a range",
+    "an address",
+    "sets",
 ];
 
 fn check_answers(rt: &impl Abort, by_depth: [Answers; 4]) {
-    for (index, (what, wanted)) in ANSWERS.iter().enumerate() {
+    for (index, what) in READ.iter().enumerate() {
         let [none, one, two, three] = by_depth;
-        let results = [none[index], one[index], two[index], three[index]];
-        check_depths(rt, results, *wanted, what);
+        check_depths(
+            rt,
+            [none[index], one[index], two[index], three[index]],
+            what,
+        );
     }
 }
 
@@ -273,7 +271,7 @@ fn refused_clones_end_a_walk(rt: HostRuntime) {
     let (mem, refused) = (rt.alloc(), Error::OutOfMemory);
     let sets = four(mem, TWO_SETS, 1, Reading::AddressSets);
     same(&rt, sets, Ok(ended!(Err(refused))), "1");
-    let entries = four(mem, TWO_SETS, 2, Reading::Addresses);
+    let entries = four(mem, TWO_SETS, 2, Reading::Addresses(0));
     same(&rt, entries, Ok(ended!(Err(refused))), "2");
     let mut found = Vec::new(mem);
     same(&rt, walk_at(mem, 2, &mut found), Err(refused), "2");

@@ -21,8 +21,10 @@ pub(super) enum Reading {
     Offset(Format, u64, u64),
     // Four sets of addresses, of each its length.
     AddressSets,
-    // The addresses of the first set, of which none is read.
-    Addresses,
+    // The first set of addresses: its offset, its length, the size of an address and the size of a word.
+    AddressSet,
+    // Four addresses of the first set, behind so many.
+    Addresses(u8),
     // Four sets of string offsets, of each its length.
     OffsetSets,
     // Four offsets of the first set.
@@ -46,7 +48,8 @@ pub(super) fn four_of<R: Reader>(reader: R, reading: Reading) -> Result<Four> {
         Reading::Address(size, base, index) => address_of(&reader.into(), size, base, index),
         Reading::Offset(format, base, index) => offset_of(&reader.into(), format, base, index),
         Reading::AddressSets => addresses::lengths_of(&reader.into()),
-        Reading::Addresses => addresses::fault_of_entries(&reader.into()),
+        Reading::AddressSet => addresses::first_set_of(&reader.into()),
+        Reading::Addresses(count) => addresses::addresses_of(&reader.into(), count),
         Reading::OffsetSets => string_offset_sets::lengths_of(&reader.into()),
         Reading::Offsets => string_offset_sets::offsets_of(&reader.into()),
         Reading::Length => Ok(length_of(reader)),
@@ -94,6 +97,8 @@ pub(super) enum Check {
     Caches,
     // Copies of sets of addresses, and of sets of string offsets.
     Copies,
+    // The offsets of two sets, by their index.
+    Offsets,
     // How many addresses sets have up to the first error, and the outcome.
     Walk(usize, Result<()>),
     // Places in three bytes, and ranges of ten.
@@ -124,6 +129,7 @@ fn check_of<R: Reader<Offset = usize> + Copy + PartialEq>(
         Check::Lookups => callers::check_sections(rt, mem, first, second, third),
         Check::Caches => examples::check_cached(rt, mem, first.into()),
         Check::Copies => copies::check_copies(rt, &first.into(), &second.into()),
+        Check::Offsets => string_offset_sets::check_by_index(rt, mem, &first.into()),
         Check::Walk(count, outcome) => {
             addresses::check_walk(rt, mem, &first.into(), count, outcome);
             Ok(())

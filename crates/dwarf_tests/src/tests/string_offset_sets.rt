@@ -1,11 +1,12 @@
 //! The sets of string offsets. The worked cases of `dwarf_list` have whole sets, and the first errors without their
 //! positions.
 
-use super::readings::{Reading, alone, four_at};
+use super::readings::{Check, Reading, check_slices, four_at};
 use super::{Four, owned, same};
 use dwarf_read_core::{
-    DebugStrOffsets, Error, Format, Reader, ReaderOffset, Result, RunTimeEndian,
-    StrOffsetsEntryIter, StrOffsetsHeader, StrOffsetsHeaderIter,
+    DebugStrOffsets, DebugStrOffsetsBase, DebugStrOffsetsIndex, Error, Format, Reader,
+    ReaderOffset, Result, RunTimeEndian, StrOffsetsEntryIter, StrOffsetsHeader,
+    StrOffsetsHeaderIter,
 };
 use std::alloc::Global;
 use std::process::Abort;
@@ -16,6 +17,9 @@ const LITTLE: RunTimeEndian = RunTimeEndian::Little;
 // one, and with padding that isn't zero.
 pub(super) const TWO_SETS: &[u8] = b"\x0c\0\0\0\x05\0\0\0\xe8\x03\0\0\xe9\x03\0\0\
     \xff\xff\xff\xff\x0c\0\0\0\0\0\0\0\x05\0\x34\x12\xe8\x03\0\0\0\0\0\0";
+
+// A set of two bytes, which are too few for an offset.
+const CUT_SET: &[u8] = b"\x06\0\0\0\x05\0\0\0\x01\x02";
 
 // A set with the offset 2^32.
 const LARGE_OFFSET: &[u8] = b"\xff\xff\xff\xff\x0c\0\0\0\0\0\0\0\x05\0\0\0\0\0\0\0\x01\0\0\0";
@@ -71,68 +75,111 @@ pub(super) fn offsets_of<R: Reader>(section: &DebugStrOffsets<R>) -> Result<Four
     Ok(next_offsets(&mut header.entries()?))
 }
 
-// Bytes whose first position is 100, and what four calls return of their sets. No set follows an error.
-static LENGTHS: &[(&[u8], Four)] = &[
-    (b"\xff\xff\xff", ended!(Err(eof!(100)))),
+// The first position, bytes, and what four calls return of their sets. No set follows an error.
+static LENGTHS: &[(u8, &[u8], Four)] = &[
+    (0, b"\x03\0\0\0\x05\0\0", ended!(Err(eof!(6)))),
+    (100, b"\xff\xff\xff", ended!(Err(eof!(100)))),
     (
+        100,
         b"\xfe\xff\xff\xff",
         ended!(Err(Error::UnknownReservedLength(0xffff_fffe))),
     ),
-    (b"\xff\xff\xff\xff\x12\x34\x56\x78", ended!(Err(eof!(104)))),
-    (b"\x05\0\0\0\x05\0\0\0", ended!(Err(eof!(104)))),
-    (b"\x01\0\0\0\x05", ended!(Err(eof!(104)))),
     (
+        100,
+        b"\xff\xff\xff\xff\x12\x34\x56\x78",
+        ended!(Err(eof!(104))),
+    ),
+    (100, b"\x05\0\0\0\x05\0\0\0", ended!(Err(eof!(104)))),
+    (100, b"\x01\0\0\0\x05", ended!(Err(eof!(104)))),
+    (
+        100,
         b"\x04\0\0\0\x04\0\0\0",
         ended!(Err(Error::UnknownVersion(4))),
     ),
     (
+        100,
         b"\x04\0\0\0\x06\0\0\0\x04\0\0\0\x05\0\0\0",
         ended!(Err(Error::UnknownVersion(6))),
     ),
-    (b"\x02\0\0\0\x05\0", ended!(Err(eof!(106)))),
-    (b"\x03\0\0\0\x05\0\0", ended!(Err(eof!(106)))),
+    (100, b"\x02\0\0\0\x05\0", ended!(Err(eof!(106)))),
+    (100, b"\x03\0\0\0\x05\0\0", ended!(Err(eof!(106)))),
     (
+        100,
         b"\x0c\0\0\0\x05\0\0\0\xe8\x03\0\0\xe9\x03\0\0\xff\xff",
         [Ok(Some(12)), Err(eof!(116)), Ok(None), Ok(None)],
     ),
-    (b"\x06\0\0\0\x05\0\0\0\x01\x02", ended!(Ok(Some(6)))),
+    (0, CUT_SET, ended!(Ok(Some(6)))),
 ];
 
 #[test]
 fn sets_have_lengths_up_to_the_first_error(rt: HostRuntime) {
-    for (bytes, wanted) in LENGTHS {
-        let lengths = four_at(bytes, LITTLE, 100, Reading::OffsetSets);
+    for (first, bytes, wanted) in LENGTHS {
+        let lengths = four_at(bytes, LITTLE, *first, Reading::OffsetSets);
         same(&rt, lengths, Ok(*wanted), bytes);
     }
 }
 
-// The offsets of two sets, each by its set's base and its index.
-static BY_INDEX: &[(Format, u64, u64, u64)] = &[
-    (Format::Dwarf32, 8, 0, 1000),
-    (Format::Dwarf32, 8, 1, 1001),
-    (Format::Dwarf64, 32, 0, 1000),
-];
-
-// Bytes, and what four calls return of their first set's offsets.
+// Bytes, and what four calls return of their first set's offsets. No offset follows an error.
 static OFFSETS: &[(&[u8], Four)] = &[
     (
         TWO_SETS,
         [Ok(Some(1000)), Ok(Some(1001)), Ok(None), Ok(None)],
     ),
-    // Two bytes too few.
-    (b"\x06\0\0\0\x05\0\0\0\x01\x02", ended!(Err(eof!(8)))),
+    (CUT_SET, ended!(Err(eof!(8)))),
 ];
 
 #[test]
-fn entries_are_found_by_their_index(rt: HostRuntime) {
+fn sets_have_offsets_up_to_the_first_error(rt: HostRuntime) {
     for (bytes, wanted) in OFFSETS {
         let offsets = four_at(bytes, LITTLE, 0, Reading::Offsets);
         same(&rt, offsets, Ok(*wanted), bytes);
     }
-    for (format, base, index, wanted) in BY_INDEX {
-        let offset = four_at(TWO_SETS, LITTLE, 0, Reading::Offset(*format, *base, *index));
-        same(&rt, offset, alone(Ok(*wanted)), index);
+}
+
+// Where the entries of a set begin, which its header says.
+fn base_of<R: Reader>(header: &StrOffsetsHeader<R>) -> DebugStrOffsetsBase<R::Offset> {
+    let size = match header.format() {
+        Format::Dwarf32 => R::Offset::from_u8(8),
+        Format::Dwarf64 => R::Offset::from_u8(16),
+    };
+    DebugStrOffsetsBase(header.offset().wrapping_add(size))
+}
+
+// Appends the offsets of a set. Ends the test where one of them isn't that of its index.
+fn append_set<R: Reader>(
+    rt: &impl Abort,
+    section: &DebugStrOffsets<R>,
+    header: &StrOffsetsHeader<R>,
+    found: &mut Vec<u64>,
+) -> Result<()> {
+    let mut index = R::Offset::from_u8(0);
+    for offset in header.entries()? {
+        let place = DebugStrOffsetsIndex(index);
+        let by_index = section.get_str_offset(header.format(), base_of(header), place);
+        same(rt, by_index, offset, "an offset");
+        found.push(offset?.0.into_u64())?;
+        index = index.wrapping_add(R::Offset::from_u8(1));
     }
+    Ok(())
+}
+
+// Ends the test where the sets have other offsets than 1000 and 1001, and 1000, or an index names another.
+pub(super) fn check_by_index<R: Reader>(
+    rt: &impl Abort,
+    mem: Global,
+    section: &DebugStrOffsets<R>,
+) -> Result<()> {
+    let mut found = Vec::new(mem);
+    for header in section.headers()? {
+        append_set(rt, section, &header?, &mut found)?;
+    }
+    same(rt, found.as_slice(), [1000, 1001, 1000].as_slice(), "sets");
+    Ok(())
+}
+
+#[test]
+fn entries_are_found_by_their_index(rt: HostRuntime) {
+    check_slices(&rt, rt.alloc(), Check::Offsets, 0, [TWO_SETS, b"", b""]);
 }
 
 // Ends the test where four calls return something else of the sets, or of the first set's offsets, of a section with

@@ -1,19 +1,34 @@
 //! Abbreviation tables.
 
-use super::worked::{ENDED, FIVE, IMPLICIT, LONG, MANY, SIX, THREE, UNIT};
+use super::worked::{
+    Attribute, BARE_UNIT, CLOSED_TABLE, Declaration, ENDED, ENDED_TABLE, FIVE, IMPLICIT, LONG,
+    MANY, NAME, NO_TABLE, SIX, THREE, Table, UNIT, UNIT_TABLE,
+};
 use super::{end_requests, eof, reader_at, same};
 use dwarf_read_core::constants::*;
 use dwarf_read_core::{
     Abbreviation, Abbreviations, AttributeSpecification, DebugAbbrev, DebugAbbrevOffset, Encoding,
-    EndianSlice, Error, Format, LittleEndian, Reader, ReaderOffset, ReaderOffsetId, Result,
+    EndianSlice, Error, Format, LittleEndian, Reader, ReaderOffset, Result,
 };
-use std::alloc::{AllocError, Global};
+use std::alloc::Global;
+use std::fmt::Debug;
 use std::process::Abort;
 use std::test::Fail;
 
-fn unterminated(position: u64) -> Error {
-    Error::UnterminatedAbbreviations(ReaderOffsetId(position))
+// The error that a table which ends at a position isn't closed.
+macro_rules! unterminated {
+    ($position:expr) => {
+        dwarf_read_core::Error::UnterminatedAbbreviations(dwarf_read_core::ReaderOffsetId($position))
+    };
 }
+
+const REPEATED: Error = Error::DuplicateAbbreviationCode(1);
+
+// Two declarations with the code 1.
+const TWICE: &[u8] = b"\x01\x11\0\0\0\x01\x11\0\0\0";
+
+// An attribute whose value is in the table.
+const VALUE: Attribute = (DW_AT_name, DW_FORM_implicit_const, Some(-42));
 
 type Section<'a> = DebugAbbrev<EndianSlice<'a, LittleEndian>>;
 
@@ -42,145 +57,116 @@ fn table_in(mem: Global, section: &Section<'_>, offset: u8, mode: Mode) -> Resul
     table_of(mem, section, offset, mode)
 }
 
+// The table at an offset of a section whose first position is this one.
+fn far_table(
+    mem: Global,
+    first: u8,
+    bytes: &[u8],
+    offset: u8,
+    mode: Mode,
+) -> Result<Abbreviations> {
+    let section = DebugAbbrev::from(reader_at(bytes, LittleEndian, first));
+    table_in(mem, &section, offset, mode)
+}
+
 fn table_at(mem: Global, bytes: &[u8], offset: u8) -> Result<Abbreviations> {
-    let section = DebugAbbrev::new(bytes, LittleEndian);
-    table_in(mem, &section, offset, Mode::Lenient)
+    far_table(mem, 0, bytes, offset, Mode::Lenient)
 }
 
-// Appends an attribute's name, its form, and the value that the table itself has of it.
-fn append_attribute(
-    attribute: &AttributeSpecification,
-    text: &mut String,
-) -> std::result::Result<(), AllocError> {
-    let (name, form) = (attribute.name(), attribute.form());
-    write!(text, ", {name} {form}")?;
-    if let Some(value) = attribute.implicit_const_value() {
-        write!(text, " {value}")?;
-    }
-    Ok(())
-}
-
-fn append(abbreviation: &Abbreviation, text: &mut String) -> std::result::Result<(), AllocError> {
-    let (code, tag) = (abbreviation.code(), abbreviation.tag());
-    let yes = abbreviation.has_children();
-    write!(text, "{code} {tag} {yes}")?;
-    for attribute in abbreviation.attributes() {
-        append_attribute(attribute, text)?;
-    }
-    text.push(';')
-}
-
-// A table by rising code, and a `.` where a code of value 0 closes it.
-fn shown(mem: Global, table: &Abbreviations) -> std::result::Result<String, AllocError> {
-    let mut text = String::new(mem);
+// Whether a table has these declarations and no others, and has the same end.
+pub(super) fn is_table(table: &Abbreviations, (codes, declaration, is_closed): Table) -> bool {
+    let mut codes_left = codes.iter();
     for abbreviation in table.iter() {
-        append(abbreviation, &mut text)?;
-    }
-    if table.closed_by_null() {
-        text.push('.')?;
-    }
-    Ok(text)
-}
-
-// Bytes, an offset, and the strict table there.
-static STRICT: &[(&[u8], u8, Result<&str>)] = &[
-    (
-        UNIT,
-        0,
-        Ok("1 DW_TAG_compile_unit true, DW_AT_name DW_FORM_string;."),
-    ),
-    (
-        ENDED,
-        0,
-        Err(Error::UnterminatedAbbreviations(ReaderOffsetId(5))),
-    ),
-    (
-        ENDED,
-        5,
-        Err(Error::UnterminatedAbbreviations(ReaderOffsetId(5))),
-    ),
-    (ENDED, 6, Err(eof!(0))),
-    (b"\x80\0\xaa", 0, Ok(".")),
-    (
-        b"\x80\0\xaa",
-        3,
-        Err(Error::UnterminatedAbbreviations(ReaderOffsetId(3))),
-    ),
-    (b"\x80", 0, Err(eof!(1))),
-    (
-        b"\x01\x11\0\0\0\x01\x11\0\0\0",
-        0,
-        Err(Error::DuplicateAbbreviationCode(1)),
-    ),
-];
-
-fn strict_text(mem: Global, bytes: &[u8], offset: u8) -> Result<String> {
-    let section = DebugAbbrev::new(bytes, LittleEndian);
-    let table = table_in(mem, &section, offset, Mode::Strict)?;
-    Ok(shown(mem, &table)?)
-}
-
-// The error of a table without its end in a section that begins at position 100.
-fn far_strict_error(mem: Global) -> Option<Error> {
-    let reader = EndianSlice::with_first_id(ENDED, LittleEndian, ReaderOffsetId(100));
-    table_in(mem, &DebugAbbrev::from(reader), 0, Mode::Strict).err()
-}
-
-#[test]
-fn strict_tables_are_closed(rt: HostRuntime) {
-    for (bytes, offset, wanted) in STRICT {
-        match strict_text(rt.alloc(), bytes, *offset) {
-            Ok(text) => same(&rt, Ok(text.as_str()), *wanted, bytes),
-            Err(error) => same(&rt, Err(error), *wanted, bytes),
+        if codes_left.next() != Some(&abbreviation.code())
+            || !is_declared(abbreviation, declaration)
+        {
+            return false;
         }
     }
-    let error = far_strict_error(rt.alloc());
-    same(&rt, error, Some(unterminated(105)), "at 100");
+    table.len() == codes.len() && codes_left.next().is_none() && table.closed_by_null() == is_closed
 }
 
-// Bytes, an offset, and the first error there, which has a position. The worked cases of `dwarf_list` have
-// the other errors, and whole tables.
-static ERRORS: &[(&[u8], u8, Error)] = &[
-    (ENDED, 6, eof!(0)),
-    (b"\x80", 0, eof!(1)),
-    (b"\x01", 0, eof!(1)),
-    (b"\x01\x11", 0, eof!(2)),
-    (b"\x01\x11\0\0", 0, eof!(4)),
-    (b"\x01\x11\0\x03", 0, eof!(4)),
-    (b"\x01\x11\0\0\x80", 0, eof!(5)),
-    (b"\x01\x2e\0\x03\x21", 0, eof!(5)),
-    (b"\x01\x11\0\0\0\x01\x11\0\0", 0, eof!(9)),
+// Whether an abbreviation is declared so, whatever its code.
+fn is_declared(found: &Abbreviation, (tag, has_children, attributes): Declaration) -> bool {
+    found.tag() == tag
+        && found.has_children() == has_children
+        && are_attributes(found.attributes(), attributes)
+}
+
+fn are_attributes(found: &[AttributeSpecification], wanted: &[Attribute]) -> bool {
+    for (found, wanted) in found.iter().zip(wanted) {
+        if (found.name(), found.form(), found.implicit_const_value()) != *wanted {
+            return false;
+        }
+    }
+    found.len() == wanted.len()
+}
+
+// Ends the test where a call returns another table, or another error.
+pub(super) fn check_table<W: Debug + Copy>(
+    rt: &impl Abort,
+    found: Result<&Abbreviations>,
+    wanted: Result<Table>,
+    what: W,
+) {
+    match (found, wanted) {
+        (Ok(table), Ok(wanted)) => same(rt, is_table(table, wanted), true, what),
+        (found, wanted) => same(rt, found.err(), wanted.err(), what),
+    }
+}
+
+// The first position, bytes, an offset, and the table there, as it is read strictly and leniently.
+static READ: &[(u8, &[u8], u8, Result<Table>, Result<Table>)] = &[
+    (0, UNIT, 0, Ok(UNIT_TABLE), Ok(UNIT_TABLE)),
+    (0, ENDED, 0, Err(unterminated!(5)), Ok(ENDED_TABLE)),
+    (0, ENDED, 5, Err(unterminated!(5)), Ok(NO_TABLE)),
+    (0, ENDED, 6, Err(eof!(0)), Err(eof!(0))),
+    (100, ENDED, 0, Err(unterminated!(105)), Ok(ENDED_TABLE)),
+    (0, b"\x80\0\xaa", 0, Ok(CLOSED_TABLE), Ok(CLOSED_TABLE)),
+    (0, b"\x80\0\xaa", 3, Err(unterminated!(3)), Ok(NO_TABLE)),
+    (0, b"\x80", 0, Err(eof!(1)), Err(eof!(1))),
+    (0, TWICE, 0, Err(REPEATED), Err(REPEATED)),
+];
+
+#[test]
+fn strict_tables_are_closed_and_others_end(rt: HostRuntime) {
+    for (first, bytes, offset, strict, lenient) in READ {
+        for (mode, wanted) in [(Mode::Strict, strict), (Mode::Lenient, lenient)] {
+            let table = far_table(rt.alloc(), *first, bytes, *offset, mode);
+            check_read(&rt, table, *wanted, bytes);
+        }
+    }
+}
+
+fn check_read(rt: &impl Abort, found: Result<Abbreviations>, wanted: Result<Table>, bytes: &[u8]) {
+    match found {
+        Ok(table) => check_table(rt, Ok(&table), wanted, bytes),
+        Err(error) => check_table(rt, Err(error), wanted, bytes),
+    }
+}
+
+// The first position, bytes, an offset, and the first error there, which has a position. The worked cases of
+// `dwarf_list` have the other errors, and whole tables.
+static ERRORS: &[(u8, &[u8], u8, Error)] = &[
+    (0, b"\x01", 0, eof!(1)),
+    (0, b"\x01\x11", 0, eof!(2)),
+    (0, b"\x01\x11\0\0", 0, eof!(4)),
+    (0, b"\x01\x11\0\x03", 0, eof!(4)),
+    (0, b"\x01\x11\0\0\x80", 0, eof!(5)),
+    (0, b"\x01\x2e\0\x03\x21", 0, eof!(5)),
+    (0, b"\x01\x11\0\0\0\x01\x11\0\0", 0, eof!(9)),
     (
+        0,
         b"\x01\x11\x02",
         0,
         Error::InvalidAbbreviationChildren(DwChildren(2)),
     ),
+    (0, b"\x01\x11\0\0\0\x81\0\x11\0\0\0", 0, REPEATED),
+    (100, b"\x80", 0, eof!(101)),
+    (100, ENDED, 6, eof!(100)),
+    (100, b"\x01\x11\0\0\0\x01", 0, eof!(106)),
     (
-        b"\x01\x11\0\0\0\x81\0\x11\0\0\0",
-        0,
-        Error::DuplicateAbbreviationCode(1),
-    ),
-];
-
-#[test]
-fn first_errors_have_positions(rt: HostRuntime) {
-    for (bytes, offset, wanted) in ERRORS {
-        let error = table_at(rt.alloc(), bytes, *offset).err();
-        same(&rt, error, Some(*wanted), bytes);
-    }
-}
-
-// The first error of a table whose section begins at position 100.
-fn far_error(mem: Global, bytes: &[u8], offset: u8) -> Option<Error> {
-    let section = DebugAbbrev::from(reader_at(bytes, LittleEndian, 100));
-    table_in(mem, &section, offset, Mode::Lenient).err()
-}
-
-static FAR_ERRORS: &[(&[u8], u8, Error)] = &[
-    (b"\x80", 0, eof!(101)),
-    (ENDED, 6, eof!(100)),
-    (b"\x01\x11\0\0\0\x01", 0, eof!(106)),
-    (
+        100,
         b"\0\x01\x11\x02",
         1,
         Error::InvalidAbbreviationChildren(DwChildren(2)),
@@ -188,9 +174,9 @@ static FAR_ERRORS: &[(&[u8], u8, Error)] = &[
 ];
 
 #[test]
-fn positions_begin_at_the_first(rt: HostRuntime) {
-    for (bytes, offset, wanted) in FAR_ERRORS {
-        let error = far_error(rt.alloc(), bytes, *offset);
+fn first_errors_have_positions(rt: HostRuntime) {
+    for (first, bytes, offset, wanted) in ERRORS {
+        let error = far_table(rt.alloc(), *first, bytes, *offset, Mode::Lenient).err();
         same(&rt, error, Some(*wanted), bytes);
     }
 }
@@ -296,24 +282,6 @@ fn declarations_are_found_by_code(rt: HostRuntime) {
     }
 }
 
-// Ends the test where an abbreviation has other attributes, or a copy of it isn't equal to it.
-fn check_attributes(rt: &impl Abort, table: &Abbreviations, wanted: &[AttributeSpecification]) {
-    for abbreviation in table.iter() {
-        same(rt, abbreviation.attributes(), wanted, wanted);
-        same(rt, is_one_copied(abbreviation), Ok(true), wanted);
-    }
-}
-
-fn check_attributes_at(
-    rt: &impl Abort,
-    mem: Global,
-    bytes: &[u8],
-    wanted: &[AttributeSpecification],
-) -> Result<()> {
-    check_attributes(rt, &table_at(mem, bytes, 0)?, wanted);
-    Ok(())
-}
-
 // Whether a copy of an abbreviation equals it.
 fn is_one_copied(abbreviation: &Abbreviation) -> Result<bool> {
     Ok(abbreviation.try_clone()? == *abbreviation)
@@ -330,62 +298,67 @@ fn attributes_are_compared(rt: HostRuntime) {
     same(&rt, found, [false; 3], "others");
 }
 
+// The codes from 1 to 33.
+const MANY_CODES: &[u64] = &[
+    1, 2, 3, 4, 5, 6, 7, 8, 9, 10, 11, 12, 13, 14, 15, 16, 17, 18, 19, 20, 21, 22, 23, 24, 25, 26,
+    27, 28, 29, 30, 31, 32, 33,
+];
+
+// Bytes, and the whole table at their front.
+static TABLES: &[(&[u8], Table)] = &[
+    (b"", NO_TABLE),
+    (b"\x80\0\xaa", CLOSED_TABLE),
+    (UNIT, UNIT_TABLE),
+    (IMPLICIT, (&[1], (DW_TAG_subprogram, false, &[VALUE]), true)),
+    (THREE, (&[1, 2, 3], BARE_UNIT, true)),
+    (FIVE, (&[1], (DW_TAG_compile_unit, false, &[NAME; 5]), true)),
+    (SIX, (&[1], (DW_TAG_compile_unit, false, &[NAME; 6]), true)),
+    (
+        LONG,
+        (&[1], (DW_TAG_compile_unit, false, &[NAME; 17]), true),
+    ),
+    (MANY, (MANY_CODES, BARE_UNIT, true)),
+    (
+        b"\x02\x11\0\0\0\x04\x11\0\0\0\x03\x11\0\0\0\0",
+        (&[2, 3, 4], BARE_UNIT, true),
+    ),
+];
+
 #[test]
-fn attributes_are_in_their_order(rt: HostRuntime) -> std::result::Result<(), Fail> {
-    let mem = rt.alloc();
-    let name = AttributeSpecification::new(DW_AT_name, DW_FORM_string, None);
-    let value = AttributeSpecification::new(DW_AT_name, DW_FORM_implicit_const, Some(-42));
-    check_attributes_at(&rt, mem, UNIT, &[name])?;
-    check_attributes_at(&rt, mem, IMPLICIT, &[value])?;
-    check_attributes_at(&rt, mem, FIVE, &[name; 5])?;
-    check_attributes_at(&rt, mem, SIX, &[name; 6])?;
-    Ok(())
-}
-
-// Whether a copy of a table has the same abbreviations.
-fn is_copied(table: &Abbreviations) -> Result<bool> {
-    Ok(are_alike(&table.try_clone()?, table))
-}
-
-fn are_alike(first: &Abbreviations, second: &Abbreviations) -> bool {
-    first.iter().eq(second.iter())
-}
-
-fn is_copied_at(mem: Global, bytes: &[u8]) -> Result<bool> {
-    is_copied(&table_at(mem, bytes, 0)?)
-}
-
-#[test]
-fn copies_are_equal(rt: HostRuntime) {
-    for bytes in [UNIT, THREE, FIVE, SIX] {
-        same(&rt, is_copied_at(rt.alloc(), bytes), Ok(true), bytes);
+fn tables_and_copies_are_whole(rt: HostRuntime) {
+    for (bytes, wanted) in TABLES {
+        let checked = check_whole(&rt, rt.alloc(), bytes, *wanted);
+        same(&rt, checked, Ok(()), bytes);
     }
 }
 
-// Bytes, and how many declarations their table has.
-static LENGTHS: &[(&[u8], usize)] = &[
-    (b"", 0),
-    (b"\x80\0\xaa", 0),
-    (UNIT, 1),
-    (THREE, 3),
-    (MANY, 33),
-    (SIX, 1),
-    (LONG, 1),
-    (b"\x02\x11\0\0\0\x04\x11\0\0\0\x03\x11\0\0\0\0", 3),
-];
+// Ends the test where these bytes have another table, or a copy isn't what it is a copy of.
+fn check_whole(rt: &impl Abort, mem: Global, bytes: &[u8], wanted: Table) -> Result<()> {
+    let table = table_at(mem, bytes, 0)?;
+    same(rt, is_table(&table, wanted), true, bytes);
+    same(rt, is_copied(&table, wanted), Ok(true), bytes);
+    for abbreviation in table.iter() {
+        same(rt, is_one_copied(abbreviation), Ok(true), bytes);
+    }
+    Ok(())
+}
+
+fn is_copied(table: &Abbreviations, wanted: Table) -> Result<bool> {
+    Ok(is_table(&table.try_clone()?, wanted))
+}
 
 // If an allocation fails, a call returns the whole table or OutOfMemory, and the table alone if it allocates nothing.
 #[test]
 fn refused_memory_for_a_table(rt: HostRuntime) {
-    for (bytes, len) in LENGTHS {
+    for (bytes, wanted) in TABLES {
         match table_at(rt.alloc(), bytes, 0) {
             Ok(table) => {
-                same(&rt, table.len(), *len, bytes);
-                copied_or_refused(&rt, &table);
+                same(&rt, is_table(&table, *wanted), true, bytes);
+                copied_or_refused(&rt, &table, *wanted);
             }
             Err(error) => {
                 same(&rt, error, Error::OutOfMemory, bytes);
-                assert!(rt; *len > 0);
+                assert!(rt; !wanted.0.is_empty());
             }
         }
     }
@@ -393,8 +366,8 @@ fn refused_memory_for_a_table(rt: HostRuntime) {
 }
 
 // A copy of the table and of each of its abbreviations is whole, or memory for it ran out.
-fn copied_or_refused(rt: &impl Abort, table: &Abbreviations) {
-    match is_copied(table) {
+fn copied_or_refused(rt: &impl Abort, table: &Abbreviations, wanted: Table) {
+    match is_copied(table, wanted) {
         Ok(is_equal) => assert!(rt; is_equal),
         Err(error) => {
             same(rt, error, Error::OutOfMemory, "a table");

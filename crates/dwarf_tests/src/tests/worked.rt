@@ -1,13 +1,41 @@
-//! Worked sections that several tests read.
+//! Worked sections that several tests read, and the tables that are in them.
 
 use dwarf_read_core::Format;
+use dwarf_read_core::constants::{
+    DW_AT_name, DW_FORM_string, DW_TAG_compile_unit, DwAt, DwForm, DwTag,
+};
 use std::alloc::{AllocError, Global};
+
+// The name of an attribute, its form, and the value that the table itself has of it.
+pub(super) type Attribute = (DwAt, DwForm, Option<i64>);
+
+// A tag, whether there are children, and the attributes.
+pub(super) type Declaration = (DwTag, bool, &'static [Attribute]);
+
+// A table whose declarations differ in their codes alone: the codes by rising value, a declaration, and whether a code
+// of value 0 closes the table.
+pub(super) type Table = (&'static [u64], Declaration, bool);
+
+pub(super) const NAME: Attribute = (DW_AT_name, DW_FORM_string, None);
+
+// A unit without children and attributes.
+pub(super) const BARE_UNIT: Declaration = (DW_TAG_compile_unit, false, &[]);
+
+// A table without declarations that a code of value 0 closes.
+pub(super) const CLOSED_TABLE: Table = (&[], BARE_UNIT, true);
+
+// A table without declarations that the section's end follows.
+pub(super) const NO_TABLE: Table = (&[], BARE_UNIT, false);
 
 // A declaration with one attribute and children, a code of value 0, and a byte behind it.
 pub(super) const UNIT: &[u8] = b"\x01\x11\x01\x03\x08\0\0\0\xff";
 
+pub(super) const UNIT_TABLE: Table = (&[1], (DW_TAG_compile_unit, true, &[NAME]), true);
+
 // A declaration that the section's end follows.
 pub(super) const ENDED: &[u8] = b"\x01\x11\0\0\0";
+
+pub(super) const ENDED_TABLE: Table = (&[1], BARE_UNIT, false);
 
 // A declaration whose attribute has the value -42 in the table itself.
 pub(super) const IMPLICIT: &[u8] = b"\x01\x2e\0\x03\x21\x56\0\0\0";

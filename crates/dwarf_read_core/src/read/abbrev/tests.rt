@@ -1,7 +1,8 @@
 //! Where abbreviations and their attributes are, and which bytes remain after the parsers. No
 //! public call shows this.
 
-ghost use Rattle.std.specs.Prelude.{◌≡◌};
+ghost use Rattle.std.specs.Prelude.{◌≡◌, All, IfOk};
+ghost use Rattle.dwarf_read_core.specs.Equality.{HasValueByForm};
 
 use super::{Abbreviation, Abbreviations, AttributeSpecification, Attributes, Scratch, TableEntry};
 use dwarf_base_core::{Error, LittleEndian, Result};
@@ -15,6 +16,7 @@ use std::alloc::{AllocError, Global};
 use std::test::Fail;
 
 fn declared(code: u64, attributes: Attributes) -> Abbreviation
+    requires { All HasValueByForm attributes.items }
     ensures { result.code ≡ code }
 {
     Abbreviation::new(code, DW_TAG_compile_unit, DW_CHILDREN_no, attributes)
@@ -105,7 +107,9 @@ fn slice(bytes: &[u8]) -> EndianSlice<'_, LittleEndian> {
 }
 
 // `count` attributes `DW_AT_name` in the form `DW_FORM_string`.
-fn attributes(mem: Global, count: usize) -> std::result::Result<Attributes, AllocError> {
+fn attributes(mem: Global, count: usize) -> std::result::Result<Attributes, AllocError>
+    ensures { IfOk result (λ list. All HasValueByForm list.items) }
+{
     let mut attributes = Attributes::new(mem);
     for _ in 0..count {
         attributes.push(AttributeSpecification::new(DW_AT_name, DW_FORM_string, None))?;
@@ -115,14 +119,11 @@ fn attributes(mem: Global, count: usize) -> std::result::Result<Attributes, Allo
 
 #[test]
 fn fields_are_parsed(rt: HostRuntime) {
-    let input = &mut slice(b"\x01\x02\0");
-    let tags = (
-        Abbreviation::parse_tag(input),
-        Abbreviation::parse_tag(input),
-        Abbreviation::parse_tag(input),
-    );
-    let wanted = (Ok(DwTag(1)), Ok(DwTag(2)), Err(Error::AbbreviationTagZero));
-    assert_eq!(rt; tags, wanted);
+    let input = &mut slice(b"\x01\x02");
+    let tag = Abbreviation::parse_tag(input);
+    assert_eq!(rt; (tag, input.slice()), (Ok(DwTag(1)), b"\x02".as_slice()));
+    let tag = Abbreviation::parse_tag(&mut slice(b"\0"));
+    assert_eq!(rt; tag, Err(Error::AbbreviationTagZero));
     let input = &mut slice(b"\0\x01\x02");
     let children = (
         Abbreviation::parse_has_children(input),
@@ -134,54 +135,58 @@ fn fields_are_parsed(rt: HostRuntime) {
         children,
         (Ok(DW_CHILDREN_no), Ok(DW_CHILDREN_yes), refused)
     );
-    let rows: [(&[u8], Result<Option<AttributeSpecification>>, usize); 3] = [
-        (b"\0\0\x01", Ok(None), 1),
-        (b"\0\x01\0\0", Err(Error::AttributeNameZero), 2),
-        (b"\x01\0\0\0", Err(Error::AttributeFormZero), 2),
+    let rows: [(&[u8], Result<Option<AttributeSpecification>>, &[u8]); 3] = [
+        (b"\0\0\x01", Ok(None), b"\x01"),
+        (b"\0\x01\0\0", Err(Error::AttributeNameZero), b"\0\0"),
+        (b"\x01\0\0\0", Err(Error::AttributeFormZero), b"\0\0"),
     ];
     for (bytes, wanted, left) in rows {
         let input = &mut slice(bytes);
         let parsed = AttributeSpecification::parse(input);
-        assert_eq!(rt; (parsed, input.slice().len()), (wanted, left), "{bytes:?}");
+        assert_eq!(rt; (parsed, input.slice()), (wanted, left), "{bytes:?}");
     }
 }
 
-// The declaration that was read, if one was, with these attributes.
-fn declaration(
-    entry: TableEntry,
-    attributes: std::result::Result<Attributes, AllocError>,
-) -> Option<Abbreviation> {
+// What a declaration has in front of its attributes, if one was read.
+fn head_of(entry: TableEntry) -> Option<(u64, DwTag, DwChildren)> {
     match entry {
-        TableEntry::Declared(head) => Some(head.with(attributes.ok()?)),
+        TableEntry::Declared(head) => Some((head.code, head.tag, head.has_children)),
         TableEntry::NullCode | TableEntry::End => None,
     }
 }
+
+// The bytes behind each entry.
+const BEHIND: &[u8] = b"\x01\x02\x03\x04";
 
 #[test]
 fn entries_of_a_table_are_parsed(rt: HostRuntime) -> std::result::Result<(), Fail> {
     let mem = rt.alloc();
     let name = AttributeSpecification::new(DW_AT_name, DW_FORM_string, None);
     let value = AttributeSpecification::new(DW_AT_name, DW_FORM_implicit_const, Some(-42));
-    let rows: [(&[u8], Option<AttributeSpecification>); 4] = [
-        (b"\x01\x2e\0\x03\x08\0\0\x01\x02\x03\x04", Some(name)),
-        (b"\x01\x2e\0\x03\x21\x56\0\0\x01\x02\x03\x04", Some(value)),
-        (b"\0\x01\x02\x03\x04", None),
-        (b"", None),
+    let rows: [(&[u8], Option<AttributeSpecification>, &[u8]); 4] = [
+        (
+            b"\x01\x2e\0\x03\x08\0\0\x01\x02\x03\x04",
+            Some(name),
+            BEHIND,
+        ),
+        (
+            b"\x01\x2e\0\x03\x21\x56\0\0\x01\x02\x03\x04",
+            Some(value),
+            BEHIND,
+        ),
+        (b"\0\x01\x02\x03\x04", None, BEHIND),
+        (b"", None, b""),
     ];
     let mut scratch = Scratch::new(mem);
-    for (bytes, attribute) in rows {
-        let wanted = match attribute {
-            Some(attribute) => {
-                let list = Attributes::from_slice(mem, &[attribute])?;
-                Some(Abbreviation::new(1, DW_TAG_subprogram, DW_CHILDREN_no, list))
-            }
-            None => None,
-        };
+    for (bytes, attribute, left) in rows {
         let input = &mut slice(bytes);
-        let entry = Abbreviation::parse(input, &mut scratch)?;
-        let list = Attributes::from_slice(mem, scratch.as_slice());
-        assert_eq!(rt; declaration(entry, list), wanted, "{bytes:?}");
-        assert_eq!(rt; input.slice().len(), bytes.len().min(4), "{bytes:?}");
+        let head = head_of(Abbreviation::parse(input, &mut scratch)?);
+        let wanted = attribute.map(|_| (1, DW_TAG_subprogram, DW_CHILDREN_no));
+        assert_eq!(rt; head, wanted, "{bytes:?}");
+        if let Some(attribute) = attribute {
+            assert_eq!(rt; scratch.as_slice(), [attribute].as_slice(), "{bytes:?}");
+        }
+        assert_eq!(rt; input.slice(), left, "{bytes:?}");
     }
     let bytes =
         b"\x01\x02\x03\x04\x02\x2e\0\x03\x08\0\0\x01\x11\x01\x25\x0e\x13\x05\0\0\0\x05\x06\x07\x08";

@@ -1,6 +1,6 @@
 //! LEB128 numbers, read and written.
 
-use super::{Call, Numbers, check_call, check_numbers};
+use super::{Call, LITTLE, Numbers, Row, check_call, check_calls, check_numbers};
 use crate::tests::same;
 use dwarf_base_core::Error;
 use dwarf_reader_core::leb128::write::{Leb128, sleb128_size, uleb128_size};
@@ -20,7 +20,6 @@ static UNSIGNED: Numbers = &[
     (&[0x80, 0x01], Ok(128), 2),
     (&[0x81, 0x01], Ok(129), 2),
     (&[0xb9, 0x64], Ok(12857), 2),
-    (&[0x82, 0x01, 0x01], Ok(130), 2),
     (
         &[0x80, 0x80, 0x80, 0x80, 0x80, 0x80, 0x80, 0x80, 0x80, 0x01],
         Ok(1 << 63),
@@ -36,6 +35,13 @@ static UNSIGNED: Numbers = &[
     (&[0x80], Err(eof!(1)), 1),
     (&[], Err(eof!(0)), 0),
 ];
+
+// The second call begins where the first number ends.
+static TWO: &[Row] = &[(
+    LITTLE,
+    &[0x82, 0x01, 0x01],
+    &[(Call::Uleb, Ok(130), 2), (Call::Uleb, Ok(1), 3)],
+)];
 
 static SHORT: Numbers = &[
     (&[0x02], Ok(2), 1),
@@ -128,6 +134,7 @@ static WRITTEN_SIGNED: &[(i64, &[u8])] = &[
 #[test]
 fn numbers_are_read(rt: HostRuntime) {
     check_numbers(&rt, Call::Uleb, UNSIGNED);
+    check_calls(&rt, TWO);
     check_numbers(&rt, Call::UlebOf16Bits, SHORT);
     check_numbers(&rt, Call::UlebOf32Bits, WORDS);
     check_numbers(&rt, Call::Sleb, SIGNED);
