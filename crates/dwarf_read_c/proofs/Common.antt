@@ -5,7 +5,8 @@ pub use Rattle.std.proofs.Common.{sym, ap, ◌∙◌, sum_by, false, map, length
 pub use Rattle.std.proofs.lemmas.Grind.{common_steps}
 pub use Rattle.std.proofs.lemmas.Result.{err_from_is_err_and}
 pub use Rattle.std.specs.FinMap.{entries, len, values, len-entries}
-pub use Rattle.dwarf_read_core.proofs.sets.Sets.{set-parts, set-spans}
+pub use Rattle.dwarf_read_core.proofs.sets.SetBytes.{set-joined}
+pub use Rattle.dwarf_read_core.proofs.sets.Sets.{set-spans}
 pub use Rattle.dwarf_read_core.specs.Faults.{EndsBefore, WantsMemory, eof}
 pub use Rattle.dwarf_read_core.specs.Grammar.{Declaration, ByCode}
 pub use Rattle.dwarf_read_core.specs.Input.{Input, after}

@@ -4,7 +4,7 @@ use Rattle.dwarf_read_core.specs.Format.{initial_length_size}
 use Rattle.dwarf_read_core.specs.Items.{ComesFirst}
 use Rattle.dwarf_read_core.specs.Layout.{AreItems, Layout, and_then, fault, more, none, read}
 use Rattle.dwarf_read_c.specs.declared.sets.DwarfSet.{DwarfSet}
-use Rattle.dwarf_read_c.proofs.Common.{◌≡◌, ◌≢◌, Bool, true, ℕ, ◌+◌, ◌-◌, ◌<◌, ◌≤◌, ◌^◌, List, [], ◌∷◌, length, drop, Result, Ok, Err, ap, subst, arith, ◌⊎◌, inl, inr, length-drop, common_steps, Error, EndsBefore, WantsMemory, Input, after, Headers, Set, StandsForSets, set, HasSize, set-parts, set-spans, section_of, HasSet, LacksSet, TellsSet, set_at, set_from, outside, faulty}
+use Rattle.dwarf_read_c.proofs.Common.{◌≡◌, ◌≢◌, Bool, true, ℕ, ◌+◌, ◌-◌, ◌<◌, ◌≤◌, ◌^◌, List, [], ◌∷◌, length, drop, Result, Ok, Err, ap, subst, arith, ◌⊎◌, inl, inr, length-drop, common_steps, Error, EndsBefore, WantsMemory, Input, after, Headers, Set, StandsForSets, set, HasSize, set-joined, set-spans, section_of, HasSet, LacksSet, TellsSet, set_at, set_from, outside, faulty}
 
 -- what is known of a set that was found at an offset
 pub record FoundSet {H : Type 0} (header : Layout H) (section : Input) (offset : ℕ) (s : Set H) : Type 0 where
@@ -72,7 +72,7 @@ set_found {H} {header} {bytes} {is_big} {offset} {old} {new} {s} has_four start 
     let within = some_left bytes offset begins.0 in
     let whole = length-drop offset bytes in
     let taken = (set-spans header (2 ^ 64 - 1) 0).by _ _ _ begins.2 in
-    let parts = set-parts (2 ^ 64 - 1) 0 has_four rest begins.2 in
+    let parts = set-joined header (2 ^ 64 - 1) 0 has_four rest begins.2 in
     record {
       has = record {
         within = omega (arith, within);
@@ -81,7 +81,7 @@ set_found {H} {header} {bytes} {is_big} {offset} {old} {new} {s} has_four start 
         ends = omega (arith, whole, taken, within);
       };
       within = omega (arith, whole, taken, within);
-      four = parts.enough;
+      four = omega (arith, parts.of_size, parts.of_length);
       first = omega (arith, parts.place);
     }
 

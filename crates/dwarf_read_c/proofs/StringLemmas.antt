@@ -1,6 +1,6 @@
 -- A string that was found is a part of its section.
 use Rattle.std.proofs.Math.Seq.{take-append_seam}
-use Rattle.dwarf_read_core.proofs.lookups.Strings.{string-is_text}
+use Rattle.dwarf_read_core.proofs.lookups.Strings.{string_held}
 use Rattle.dwarf_read_c.proofs.Common.{◌≡◌, ℕ, ◌∷◌, length, take, drop, Ok, arith, Input, StringAt, part_of}
 use Rattle.dwarf_read_c.proofs.KnownErrors.{known_string}
 
@@ -8,7 +8,7 @@ use Rattle.dwarf_read_c.proofs.KnownErrors.{known_string}
 pub part_is_string : (section : Input) (offset : ℕ) (found : Input) → StringAt section offset (Ok found)
     → StringAt section offset (Ok (part_of section offset (length found.bytes)))
 part_is_string section offset found at =
-    let text = string-is_text at in
+    let text = string_held _ _ _ at in
     let bytes : take (length found.bytes) (drop offset section.bytes) ≡ found.bytes =
     rw text.parts (take-append_seam found.bytes (0 ∷ text.rest)) in
     grind (arith, text, bytes)

@@ -54,13 +54,15 @@ pub use Rattle.dwarf_reader_core.specs.Leb128.{Kind, Number, IsEncoding, NoneIsL
 pub use Rattle.dwarf_reader_core.specs.Leb128.{unsigned16, signed64, refusal, limit, value, is_in_range, HasNumber}
 pub use Rattle.dwarf_reader_core.specs.Leb128.{IsCut, ReadsNumber, RefusesNumber}
 pub use Rattle.dwarf_reader_core.specs.Once.{HasOne}
-pub use Rattle.dwarf_reader_core.proofs.Layouts.{At_one, At_value, At_error, after_part, no_part, part_reads}
+pub use Rattle.dwarf_reader_core.proofs.Layouts.{At_failed, At_value, At_error, after_part, no_part, part_reads}
 pub use Rattle.dwarf_reader_core.proofs.Layouts.{part_fails, Outcome, number_reads, number_fails, rest-length}
 pub use Rattle.dwarf_reader_core.proofs.Layouts.{takes-both, At_more, At_read, string_reads, string_fails, then_read}
 pub use Rattle.dwarf_reader_core.proofs.Layouts.{part_read, then_reads, then_fails, error_is, after_check, no_check}
 pub use Rattle.dwarf_reader_core.proofs.Layouts.{TakesLeast, spans_least, number_spans, pure_spans, check_spans}
 pub use Rattle.dwarf_reader_core.proofs.Layouts.{then_spans, pure_reads, after_number, no_number, read_more}
 pub use Rattle.dwarf_reader_core.proofs.Layouts.{error_more, after_inside, Spans, spanned, byte_spans, refuse_spans}
+pub use Rattle.dwarf_reader_core.proofs.Layouts.{number_read, number_failed, byte_read, byte_failed, check_read}
+pub use Rattle.dwarf_reader_core.proofs.Layouts.{check_failed, pure_failed, part_failed, inside_failed, then_failed}
 pub use Rattle.dwarf_reader_core.proofs.Layouts.{when_spans, part_spans, inside_spans, inside_read, pure_read}
 pub use Rattle.dwarf_read_core.specs.Answer.{Answer, IsFinal, IsFault, IsFaulty, number_cut, number_bad, children_cut}
 pub use Rattle.dwarf_read_core.specs.Answer.{tag_zero, children_bad, name_zero, form_zero, in_declaration, repeated}
@@ -87,7 +89,7 @@ unfoldable pub use Rattle.dwarf_read_core.specs.Reading.{attributes_in, declared
 unfoldable pub use Rattle.dwarf_read_core.specs.Reading.{specification_at, value_at, number_at, attributes_at}
 unfoldable pub use Rattle.dwarf_read_core.specs.Reading.{children_at, encoding_at, table_at}
 pub use Rattle.dwarf_read_core.specs.Sections.{debug_abbrev_reader}
-pub use Rattle.dwarf_read_core.specs.Sets.{HasSize, Headers, Set, IsJoined, StandsForSets, followed_headers}
+pub use Rattle.dwarf_read_core.specs.Sets.{HasSize, Headers, Set, StandsForSets, followed_headers}
 unfoldable pub use Rattle.dwarf_read_core.specs.Sets.{address_header, string_offsets_header}
 pub use Rattle.dwarf_read_core.proofs.ResultLemmas.{HasOutcome, returned, failed, outcome-bind, outcome-map}
 pub use Rattle.dwarf_read_core.proofs.ResultLemmas.{gives_err, ok_is_no_error, outcome-cond, outcome-ok}

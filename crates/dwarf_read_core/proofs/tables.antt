@@ -14,3 +14,4 @@ pub mod TableBounds
 pub mod VectorAndMap
 pub mod OthersByCode
 pub mod EqualDeclarations
+pub mod AttributeValues

@@ -55,9 +55,10 @@ KeepsAnswers least section offsets kept =
     (key : ℕ) → MatchOption (kept key) (occurrences key offsets < least)
     (λ answer. (least ≤ occurrences key offsets) × Answer section key answer)
 
--- each result that the cache keeps is that of the section
+-- each result that the cache keeps is that of the section's bytes and position, in either byte order
 abbrev pub IsFaithful : Cache → Input → Type 0
-IsFaithful cache section = (key : ℕ) → IfSome (finite.get cache key) (Answer section key)
+IsFaithful cache section =
+    (is_big : Bool) (key : ℕ) → IfSome (finite.get cache key) (Answer (record section { is_big = is_big }) key)
 
 -- what comes behind the items: nothing, or an error that isn't `OutOfMemory`
 abbrev pub EndsItems : {T : Type 0} → Option (Result T Error) → Type 0

@@ -11,6 +11,7 @@ pub mod Ranges
 pub mod Reading
 pub mod Sections
 pub mod Sets
+pub mod SetBytes
 pub mod Strings
 pub mod TableEntries
 pub mod Views

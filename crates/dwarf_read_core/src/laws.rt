@@ -1,9 +1,12 @@
 //! Laws over the definitions: each function has one as its contract, and does nothing.
 
-ghost use Rattle.std.specs.Prelude.{◌≡◌, ◌↔◌, ◌+◌, IsTrue, Option, ℕ, ◌<◌, ◌≤◌, List, [], ◌∷◌, length, All, IfErr, Ok, Err, Result};
+ghost use Rattle.std.specs.Prelude.{◌≡◌, ◌↔◌, ◌+◌, IsTrue, true, Option, Some, ℕ, ◌<◌, ◌≤◌, nat_le, List, [], ◌∷◌, length, All, IfErr, Ok, Err, Result};
+ghost use Rattle.std.specs.FinMap as finite;
 ghost use Rattle.std.specs.List.{sum_by};
 ghost use Rattle.dwarf_base_core.specs.declared.error.Error.{Error};
-ghost use Rattle.dwarf_reader_core.specs.Input.{Input, Takes};
+ghost use Rattle.dwarf_base_core.specs.Format.{initial_length_size};
+ghost use Rattle.dwarf_reader_core.specs.Input.{Input, Takes, after};
+ghost use Rattle.dwarf_reader_core.specs.InitialLength.{HasLength};
 ghost use Rattle.dwarf_reader_core.specs.Once.{HasOne};
 ghost use Rattle.dwarf_reader_core.specs.Appended.{followed_by, IsNoEof};
 ghost use Rattle.dwarf_read_core.specs.Answer.{Answer, IsFinal, IsStrictlyFinal, StrictAnswer};
@@ -13,14 +16,19 @@ ghost use Rattle.dwarf_read_core.specs.Grammar.{Declaration, Table};
 ghost use Rattle.dwarf_read_core.specs.Entries.{Entries, StandsForAddresses, StandsForStringOffsets};
 ghost use Rattle.dwarf_read_core.specs.Items.{least_taken};
 ghost use Rattle.dwarf_reader_core.specs.Layout.{read};
-ghost use Rattle.dwarf_read_core.specs.Ranges.{RangeAt};
-ghost use Rattle.dwarf_read_core.specs.Sets.{Headers, IsJoined, Set, StandsForSets, followed_headers, set};
-ghost use Rattle.dwarf_read_core.specs.Strings.{StringAt};
+ghost use Rattle.dwarf_read_core.specs.Ranges.{HasNoRange, HoldsRange, RangeAt};
+ghost use Rattle.dwarf_read_core.specs.SetBytes.{AreNumbers, HasAddressHeader, HasNoAddressHeader, HasNoSet, HasNoStringOffsetsHeader, HasStringOffsetsHeader, IsJoined};
+ghost use Rattle.dwarf_read_core.specs.Sets.{Headers, Set, StandsForSets, address_header, followed_headers, set, string_offsets_header};
+ghost use Rattle.dwarf_read_core.specs.Strings.{HasNoString, HoldsString, StringAt};
 ghost use Rattle.dwarf_read_core.specs.Words.{AddressAt, HasNoAddress, HasNoWord, Holds, Slot, WordAt};
 
 use crate::read::HeaderFields;
+pub use dwarf_base_core::laws::{names_of_sections, numbers_of_bytes};
+pub use dwarf_code_core::laws::{names_are_distinct, negate_ra_state_is_window_save};
+pub use dwarf_const_core::laws::names_are_distinct as names_of_two_bytes_are_distinct;
 pub use dwarf_reader_core::laws::{
-    exactly_one_outcome, exactly_one_shortest, no_encoding_begins_another, written_is_read,
+    exactly_one_outcome, exactly_one_shortest, initial_lengths_are_numbers,
+    no_encoding_begins_another, one_string, written_is_read,
 };
 
 /// Every section has exactly one result at every offset: a table, or the first error.
@@ -64,10 +72,22 @@ pub fn equality_is_of_declarations()
         → All HasValueByForm b.attributes → IsTrue (same_declaration a b) ↔ (a ≡ b) }
 {}
 
-/// Every section has exactly one string at every offset, or one error.
-#[tactic(auto, using(crate::proofs::lookups::Strings::string_exactly_one))]
-pub fn exactly_one_string()
-    ensures { (section : Input) (offset : ℕ) → HasOne (StringAt section offset) }
+/// No table has code 0, and each declaration is found by its own code.
+#[tactic(auto, using(crate::proofs::tables::CodesOnce::code_is_key))]
+pub fn codes_are_keys()
+    ensures { (section : Input) (offset code : ℕ) (t : Table) (d : Declaration)
+        → Answer section offset (Ok t) → finite.get t.by_code code ≡ Some d
+        → (d.code ≡ code) × (0 < code) }
+{}
+
+/// The string at an offset is the bytes from there up to the first zero byte, at its own position.
+/// Without such a string, the section ends before the offset, or no zero byte is behind it.
+#[tactic(auto, using(crate::proofs::lookups::Strings::string_held, crate::proofs::lookups::Strings::string_none))]
+pub fn strings_end_at_zero_bytes()
+    ensures string { (section : Input) (offset : ℕ) (string : Input)
+        → StringAt section offset (Ok string) → HoldsString section offset string }
+    ensures none { (section : Input) (offset : ℕ) (e : Error)
+        → StringAt section offset (Err e) → HasNoString section offset e }
 {}
 
 /// Appended bytes don't change the string at an offset.
@@ -76,18 +96,6 @@ pub fn appended_bytes_change_no_string()
     ensures { (section : Input) (offset : ℕ) (found : Input) (more : List ℕ)
         → StringAt section offset (Ok found)
         → StringAt (followed_by section more) offset (Ok found) }
-{}
-
-/// Every section has exactly one string offset at every slot, or one error.
-#[tactic(auto, using(crate::proofs::lookups::Words::word_exactly_one))]
-pub fn exactly_one_word()
-    ensures { (greatest : ℕ) (section : Input) (s : Slot) → HasOne (WordAt greatest section s) }
-{}
-
-/// Every section has exactly one address at every slot, or one error.
-#[tactic(auto, using(crate::proofs::lookups::Words::address_exactly_one))]
-pub fn exactly_one_address()
-    ensures { (greatest : ℕ) (section : Input) (s : Slot) → HasOne (AddressAt greatest section s) }
 {}
 
 /// The string offset at a slot is the number that its bytes encode, and so is the address at a
@@ -124,10 +132,14 @@ pub fn appended_bytes_change_no_address()
         → AddressAt greatest (followed_by section more) s answer }
 {}
 
-/// Every section has exactly one part at every offset and size, or one error.
-#[tactic(auto, using(crate::proofs::lookups::Ranges::range_exactly_one))]
-pub fn exactly_one_range()
-    ensures { (section : Input) (offset size : ℕ) → HasOne (RangeAt section offset size) }
+/// The part at an offset is so many bytes from there on, at its own position. Without such a part,
+/// the section ends before the offset, or before the part's end.
+#[tactic(auto, using(crate::proofs::lookups::Ranges::range_held, crate::proofs::lookups::Ranges::range_none))]
+pub fn ranges_are_parts()
+    ensures range { (section : Input) (offset size : ℕ) (part : Input)
+        → RangeAt section offset size (Ok part) → HoldsRange section offset size part }
+    ensures none { (section : Input) (offset size : ℕ) (e : Error)
+        → RangeAt section offset size (Err e) → HasNoRange section offset size e }
 {}
 
 /// The bytes that remain of a section have exactly one list of sets of each kind, and then at most
@@ -150,11 +162,52 @@ pub fn sets_are_fronts<H: HeaderFields>()
 {}
 
 /// The bytes of a set that is read are those of its initial length, its header and its entries,
-/// joined, and the rest remains. The length of the set is that of header and entries.
-#[tactic(auto, using(crate::proofs::sets::Sets::parts_of_sets))]
+/// joined, and the rest remains. The initial length encodes the length of header and entries. Bytes
+/// that don't begin with a set have no initial length, too few bytes behind it, or no header there.
+#[tactic(auto, using(crate::proofs::sets::SetBytes::parts_of_sets))]
 pub fn sets_are_joined<H: HeaderFields>()
-    ensures { (greatest offset : ℕ) (old new : Input) (s : Set H)
-        → read (set H.layout greatest offset) old ≡ Ok (s, new) → IsJoined H.BYTES old s new }
+    ensures joined { (greatest offset : ℕ) (old new : Input) (s : Set H)
+        → read (set H.layout greatest offset) old ≡ Ok (s, new)
+        → IsJoined H.BYTES H.layout old s new }
+    ensures measured { (greatest offset : ℕ) (old new : Input) (s : Set H)
+        → All (λ b. b < 256) old.bytes → read (set H.layout greatest offset) old ≡ Ok (s, new)
+        → HasLength greatest old s.format s.unit_length
+        (after (initial_length_size s.format) old) }
+    ensures none { (greatest offset : ℕ) (old : Input) (e : Error) → All (λ b. b < 256) old.bytes
+        → read (set H.layout greatest offset) old ≡ Err e → HasNoSet H.layout greatest old e }
+{}
+
+/// The header of a set of addresses is version 5, an address size of 1, 2, 4 or 8, and the segment
+/// size 0. Without such a header, the error is that of the first field that is cut or isn't
+/// supported.
+#[tactic(auto, using(crate::proofs::sets::HeaderBytes::address_fields, crate::proofs::sets::HeaderBytes::no_address_fields))]
+pub fn address_headers_have_fields()
+    ensures header { (unit rest : Input) (size : ℕ)
+        → read address_header unit ≡ Ok (size, rest) → HasAddressHeader unit size rest }
+    ensures none { (unit : Input) (e : Error)
+        → read address_header unit ≡ Err e → HasNoAddressHeader unit e }
+{}
+
+/// The header of a set of string offsets is version 5, and two bytes of any value. Without such a
+/// header, the error is that of the first field that is cut or isn't supported.
+#[tactic(auto, using(crate::proofs::sets::HeaderBytes::offset_fields, crate::proofs::sets::HeaderBytes::no_offset_fields))]
+pub fn string_offsets_headers_have_fields()
+    ensures header { (unit rest : Input)
+        → read string_offsets_header unit ≡ Ok (tt, rest) → HasStringOffsetsHeader unit rest }
+    ensures none { (unit : Input) (e : Error)
+        → read string_offsets_header unit ≡ Err e → HasNoStringOffsetsHeader unit e }
+{}
+
+/// Each entry of a set is the number of its bytes, one behind the other up to the set's end. If the
+/// last bytes are fewer than an entry has, or a string offset is too great for an offset, that is
+/// the last item, as an error.
+#[tactic(auto, using(crate::proofs::sets::EntryBytes::addresses_are_numbers, crate::proofs::sets::EntryBytes::string_offsets_are_numbers))]
+pub fn entries_are_numbers()
+    ensures address { (entries : Entries) (items : List (Result ℕ Error))
+        → StandsForAddresses entries items → AreNumbers (λ x. true) entries 0 items }
+    ensures string_offset { (greatest : ℕ) (entries : Entries) (items : List (Result ℕ Error))
+        → StandsForStringOffsets greatest entries items
+        → AreNumbers (λ x. nat_le x greatest) entries 0 items }
 {}
 
 /// The bytes that remain of a set have exactly one list of addresses, and then at most one error.

@@ -1,8 +1,8 @@
 -- A string that is read at an offset is the section's string there.
-use Rattle.dwarf_read_core.proofs.Common.{◌≡◌, ◌≢◌, ℕ, suc, ◌+◌, ◌<◌, ◌≤◌, List, ◌∷◌, ◌++◌, length, take, drop, Result, Ok, Err, refl, sym, ap, subst, ◌∙◌, arith, ◌⊎◌, inl, inr, Bool, slice_index, IfOk, IfErr, All, Error, followed_by, EndsBefore, Lacks, WantsMemory, Input, Takes, TakesString, HasOne, At_one, At_more, At_value, At_error, At_read, after_part, no_part, string_reads, string_fails, then_read, part_read, AnswersBy, StaysBy, set}
+use Rattle.dwarf_read_core.proofs.Common.{◌≡◌, ◌≢◌, ℕ, suc, ◌<◌, List, ◌∷◌, ◌++◌, length, take, drop, Result, Ok, Err, refl, sym, ap, subst, ◌∙◌, arith, ◌⊎◌, inl, inr, Bool, slice_index, IfOk, IfErr, All, Error, followed_by, EndsBefore, Lacks, WantsMemory, Input, Takes, TakesString, At_failed, then_failed, part_failed, At_more, At_value, At_error, At_read, after_part, no_part, string_reads, string_fails, then_read, part_read, AnswersBy, StaysBy, set}
 use Rattle.std.proofs.lemmas.List.{set-get_or, set_split}
-use Rattle.dwarf_reader_core.proofs.Once.{string_was_read}
-use Rattle.dwarf_read_core.specs.Strings.{StringAt, string_at}
+use Rattle.dwarf_reader_core.proofs.Once.{string_failed, string_was_read}
+use Rattle.dwarf_read_core.specs.Strings.{HasNoString, HoldsString, StringAt, string_at, string_past_end, string_unended}
 
 -- ---- what a lookup returns
 
@@ -25,11 +25,6 @@ pub string_outside : (section : Input) (offset : ℕ) (e : Error) (new : Input) 
 unfolding StringAt string_at
 string_outside section offset e new short = At_error _ _ (no_part _ short)
 
--- a section has exactly one string or error at each offset
-pub string_exactly_one : (section : Input) (offset : ℕ) → HasOne (StringAt section offset)
-unfolding StringAt
-string_exactly_one section offset = At_one (string_at offset) section
-
 -- a string that is found at an offset of a section is still found there when more bytes follow
 pub string_more : (section : Input) (offset : ℕ) (found : Input) (more : List ℕ) → StringAt section offset (Ok found)
     → StringAt (followed_by section more) offset (Ok found)
@@ -51,20 +46,11 @@ cut_at : (bytes : List ℕ) (index item : ℕ) → index < length bytes → slic
 cut_at bytes index item within is =
     sym (ap (set bytes index) (sym is) ∙ set-get_or bytes index 0) ∙ set_split bytes index item within
 
--- the bytes of a section from an offset on are a string, a zero byte and any others
-pub record IsText (section : Input) (offset : ℕ) (found : Input) : Type 0 where
-  pub rest : List ℕ
-  pub within : offset ≤ length section.bytes
-  pub parts : drop offset section.bytes ≡ found.bytes ++ 0 ∷ rest
-  pub unbroken : All (λ b. b ≢ 0) found.bytes
-  pub place : found.position ≡ section.position + offset
-  pub order : found.is_big ≡ section.is_big
-
 -- a string that is found at an offset is there, with a zero byte behind it
-pub string-is_text : {section : Input} {offset : ℕ} {found : Input} → StringAt section offset (Ok found)
-    → IsText section offset found
+pub string_held : (section : Input) (offset : ℕ) (found : Input) → StringAt section offset (Ok found)
+    → HoldsString section offset found
 unfolding StringAt string_at
-string-is_text {section} {offset} {found} is =
+string_held section offset found is =
     let read = At_read (string_at offset) section is in
     let front = then_read _ _ _ read.1 in
     let mid = front.1 in
@@ -81,3 +67,17 @@ string-is_text {section} {offset} {found} is =
       place = ap (λ (i : Input). i.position) t.is ∙ ap (λ (i : Input). i.position) takes.left;
       order = ap (λ (i : Input). i.is_big) t.is ∙ ap (λ (i : Input). i.is_big) takes.left;
     }
+
+-- if no string is found at an offset, the section ends before it, or no zero byte is behind it
+pub string_none : (section : Input) (offset : ℕ) (e : Error) → StringAt section offset (Err e)
+    → HasNoString section offset e
+unfolding StringAt string_at
+string_none section offset e is =
+    elim (then_failed _ _ _ (At_failed (string_at offset) section is)) [
+      | inl short ↦ let past = part_failed _ _ short in rw past.fault (string_past_end past.short)
+      | inr front ↦
+          let takes = (part_read _ _ front.2).1 in
+          let lacks = string_failed front.3 in
+          let none = subst (λ (i : Input). All (λ b. b ≢ 0) i.bytes) takes.left lacks.none in
+          rw (lacks.fault, takes.left) (string_unended takes.enough none)
+    ]

@@ -1,5 +1,5 @@
 -- Lookups of numbers by an index, as layouts.
-use Rattle.dwarf_read_core.proofs.Common.{common_steps, ◌≡◌, ℕ, ◌<◌, ◌≤◌, List, Bool, Result, Ok, Err, refl, sym, ◌∙◌, arith, ◌⊎◌, inl, inr, IsTrue, IfOk, IfErr, OnOk, le-leb, lt-leb, Error, UnsupportedOffset, EndsBefore, IsNoOffset, RefusesAddress, is_number_size, Input, after, first, Takes, TakesNumber, HasOne, followed_by, IsNoEof, read, AnswersBy, At_one, At_more, At_value, At_error, then_reads, then_fails, error_is, part_reads, part_fails, number_reads, number_fails, after_part, no_part, after_check, no_check, rest-length, takes-both, StaysBy}
+use Rattle.dwarf_read_core.proofs.Common.{common_steps, ◌≡◌, ℕ, ◌<◌, ◌≤◌, List, Bool, Result, Ok, Err, refl, sym, ◌∙◌, arith, ◌⊎◌, inl, inr, IsTrue, IfOk, IfErr, OnOk, le-leb, lt-leb, Error, UnsupportedOffset, EndsBefore, IsNoOffset, RefusesAddress, is_number_size, Input, after, first, Takes, TakesNumber, followed_by, IsNoEof, read, AnswersBy, At_more, At_value, At_error, then_reads, then_fails, error_is, part_reads, part_fails, number_reads, number_fails, after_part, no_part, after_check, no_check, rest-length, takes-both, StaysBy}
 use Rattle.dwarf_reader_core.proofs.Reading.{after-after}
 use Rattle.dwarf_read_core.specs.Words.{Slot, distance, place, IsPlaced, Misplaced, Holds, to_slot, word, address, WordAt, AddressAt}
 use Rattle.dwarf_read_core.proofs.sets.Entries.{offset_reads, offset_fails}
@@ -108,15 +108,7 @@ module _ (greatest : ℕ) (section : Input) (s : Slot) where
     address-read new clone_is_free (Err e) given (inr (size, short)) =
         inl (At_error _ _ (then_reads _ _ _ slot_reached ∙ after_check _ _ _ size (number_fails short)))
 
-  -- ---- each slot has exactly one result, and appended bytes keep it
-
-  -- a slot has exactly one word or error
-  pub word_exactly_one : HasOne (WordAt greatest section s)
-  word_exactly_one = At_one (word greatest s) section
-
-  -- a slot has exactly one address or error
-  pub address_exactly_one : HasOne (AddressAt greatest section s)
-  address_exactly_one = At_one (address greatest s) section
+  -- ---- appended bytes keep the result
 
   -- appended bytes change neither a word nor its error, unless that is an `UnexpectedEof`
   pub word_more : (answer : Result ℕ Error) (more : List ℕ) → WordAt greatest section s answer

@@ -1,5 +1,5 @@
--- Iterators over sets and entries end.
-use Rattle.dwarf_read_core.proofs.Common.{◌≡◌, ◌+◌, ◌<◌, ◌≤◌, [], length, Option, Result, arith, Error, Entries, Headers}
+-- Iterators over entries end.
+use Rattle.dwarf_read_core.proofs.Common.{◌≡◌, ◌+◌, ◌<◌, ◌≤◌, [], length, Option, Result, arith, Error, Entries}
 use Rattle.std.specs.Prelude.{⊤, IfOk, IfSome, OnErr}
 use Rattle.std.specs.Iterator.{MakesProgress, at_most}
 use Rattle.std.specs.Result.{result_transpose}
@@ -12,11 +12,3 @@ pub entries_progress : {X : Type 0} (old new : Entries) (result : Result (Option
     → OnErr result (new.rest.bytes ≡ []) → OnErr result (1 ≤ length old.rest.bytes)
     → MakesProgress (λ _. ⊤) (λ (s : Entries). at_most (length s.rest.bytes)) old given new
 entries_progress old new result given is shorter empty some = grind arith
-
--- `next` makes progress over sets, so their iterators end
-pub sets_progress : {X : Type 0} (old new : Headers) (result : Result (Option X) Error)
-    (given : Option (Result X Error)) → given ≡ result_transpose result
-    → IfOk result (λ item. IfSome item (λ _. length new.rest.bytes + 8 ≤ length old.rest.bytes))
-    → OnErr result (new.rest.bytes ≡ []) → OnErr result (1 ≤ length old.rest.bytes)
-    → MakesProgress (λ _. ⊤) (λ (s : Headers). at_most (length s.rest.bytes)) old given new
-sets_progress old new result given is shorter empty some = grind arith

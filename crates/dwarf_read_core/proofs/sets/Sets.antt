@@ -1,22 +1,14 @@
 -- Sets as layouts: what a reader reads of one, and what `next` returns.
-use Rattle.dwarf_read_core.proofs.Common.{common_steps, ◌≡◌, ◌≢◌, ℕ, ◌+◌, ◌-◌, ◌≤◌, ◌<◌, List, [], ◌∷◌, ◌++◌, length, take, Result, Ok, Err, refl, sym, ap, subst, arith, Bool, ◌⊎◌, inl, inr, ◌∙◌, append_assoc, sum_by, nat_lt, length-append, length-take-le, take-append-drop, Error, WantsMemory, Input, first, Takes, HasOne, IsNoEof, followed_by, ComesFirst, least_taken, Layout, read, none, Set, HasSize, IsJoined, Headers, StandsForSets, followed_headers, then_reads, pure_reads, after_part, after_inside, read_more, error_more, Spans, TakesLeast, spanned, number_spans, check_spans, pure_spans, refuse_spans, when_spans, then_spans, part_spans, inside_spans, then_read, part_read, inside_read, pure_read}
+use Rattle.dwarf_read_core.proofs.Common.{◌≡◌, ◌≢◌, ℕ, ◌+◌, ◌-◌, ◌≤◌, ◌<◌, List, [], ◌∷◌, length, Result, Ok, Err, subst, arith, Bool, ◌⊎◌, inl, inr, ◌∙◌, sum_by, length-append, Error, WantsMemory, Input, first, Takes, HasOne, IsNoEof, followed_by, ComesFirst, least_taken, Layout, read, none, Set, HasSize, Headers, StandsForSets, followed_headers, then_reads, pure_reads, after_part, after_inside, read_more, error_more, Spans, TakesLeast, pure_spans, then_spans, part_spans, inside_spans}
 use Rattle.dwarf_base_core.specs.declared.common.Format.{Format}
 use Rattle.dwarf_base_core.specs.Format.{initial_length_size}
-use Rattle.dwarf_reader_core.specs.InitialLength.{initial_length, long_length}
+use Rattle.dwarf_reader_core.specs.InitialLength.{initial_length}
 use Rattle.dwarf_reader_core.specs.Layout.{fault}
 use Rattle.dwarf_read_core.specs.Sets.{set}
+use Rattle.dwarf_read_core.proofs.sets.SetBytes.{initial_length-spans, set-joined}
 use Rattle.dwarf_read_core.proofs.sets.ItemLists.{items-exactly_one, items-bounded, item-first, error-first, item-stays, error-stays, bytes-still_some}
 
 -- ---- how many bytes a set has
-
--- an initial length consumes as many bytes as its format says
-pub initial_length-spans : (greatest : ℕ) → Spans 0 (λ i. initial_length_size i.0) (initial_length greatest)
-unfolding initial_length long_length
-initial_length-spans greatest =
-    then_spans (number_spans 4)
-    (λ short. when_spans (nat_lt short 0xffff_fff0) (pure_spans refl)
-    (when_spans (nat_lt short 0xffff_ffff) refuse_spans
-    (then_spans (number_spans 8) (λ long. then_spans (check_spans _ _) (λ fits. pure_spans refl)))))
 
 -- a set consumes the bytes of its initial length and as many as that length says
 pub set-spans : {H : Type 0} (header : Layout H) (greatest offset : ℕ)
@@ -25,67 +17,6 @@ unfolding set
 set-spans header greatest offset =
     then_spans (initial_length-spans greatest) (λ initial. then_spans (part_spans initial.1)
     (λ unit. then_spans (inside_spans unit header) (λ said. pure_spans (omega arith))))
-
--- the parts of a set that is read: the bytes of its header, and its entries behind them
-pub record HasParts {H : Type 0} (size : ℕ) (old : Input) (s : Set H) : Type 0 where
-  pub enough : size ≤ s.unit_length
-  pub place : s.entries.position ≡ old.position + initial_length_size s.format + size
-
--- equal inputs have equal positions
-same_place : {i j : Input} → i ≡ j → i.position ≡ j.position
-same_place same = ap (λ (i : Input). i.position) same
-
--- a set that is read has its parts, if its header has a size
-pub set-parts : {H : Type 0} {header : Layout H} {size : ℕ} (greatest offset : ℕ) → HasSize size header → (old : Input)
-    {s : Set H} {new : Input} → read (set header greatest offset) old ≡ Ok (s, new) → HasParts size old s
-unfolding set
-set-parts {size = size} greatest offset has_size old is =
-    let initial = then_read _ _ _ is in
-    let unit = then_read _ _ _ initial.3 in
-    let said = then_read _ _ _ unit.3 in
-    let front = spanned (initial_length-spans greatest) old initial.2 in
-    let part = part_read _ _ unit.2 in
-    let taken = has_size.by unit.0 _ _ (inside_read _ _ _ said.2).0 in
-    let all = length-take-le (initial.0).1 (initial.1).bytes part.1.enough in
-    subst (HasParts size old) (sym (pure_read _ _ said.3).0) (record {
-      enough = omega (arith, ap (λ (i : Input). length i.bytes) part.0, all, taken.enough);
-      place = omega (arith, same_place taken.left, same_place part.0, same_place front.left);
-    })
-
--- bytes that are consumed are the first ones, and the rest remains behind them
-taken_front : {n : ℕ} {old new : Input} → Takes n old new → old.bytes ≡ take n old.bytes ++ new.bytes
-taken_front {n} {old} takes = grind (arith, common_steps, take-append-drop)
-
--- four lists that are joined from the right are the same as joined from the left
-joined_left : (a b c d : List ℕ) → a ++ (b ++ c ++ d) ≡ a ++ b ++ c ++ d
-joined_left a b c d = grind (arith, common_steps, append_assoc)
-
--- a set that is read has its parts joined, if its header has a size
-pub set-joined : {H : Type 0} {header : Layout H} {size : ℕ} (greatest offset : ℕ) → HasSize size header → (old : Input)
-    {s : Set H} {new : Input} → read (set header greatest offset) old ≡ Ok (s, new) → IsJoined size old s new
-unfolding set
-set-joined {size = size} greatest offset has_size old {new = new} is =
-    let initial = then_read _ _ _ is in
-    let unit = then_read _ _ _ initial.3 in
-    let said = then_read _ _ _ unit.3 in
-    let front = spanned (initial_length-spans greatest) old initial.2 in
-    let part = part_read _ _ unit.2 in
-    let inner = inside_read _ _ _ said.2 in
-    let taken = has_size.by unit.0 _ _ inner.0 in
-    let last = pure_read _ _ said.3 in
-    let bytes = λ (i : Input). i.bytes in
-    let regrouped = joined_left (take (initial_length_size (initial.0).0) old.bytes) (take size unit.0.bytes)
-    said.0.1.bytes new.bytes in
-    subst (λ s. IsJoined size old s new) (sym last.0) (record {
-      initial = take (initial_length_size (initial.0).0) old.bytes;
-      header = take size unit.0.bytes;
-      parts = cc
-          (taken_front front, taken_front part.1, taken_front taken, ap bytes part.0, ap bytes (last.1 ∙ inner.1));
-      of_format = length-take-le (initial_length_size (initial.0).0) old.bytes front.enough;
-      of_size = length-take-le size unit.0.bytes taken.enough;
-      of_length = sym (length-append (take size unit.0.bytes) said.0.1.bytes) ∙ ap length (sym (taken_front taken))
-          ∙ ap (λ (i : Input). length i.bytes) part.0 ∙ length-take-le (initial.0).1 (initial.1).bytes part.1.enough;
-    })
 
 -- ---- the lists of sets, and what `next` returns
 
@@ -140,7 +71,8 @@ module _ {H : Type 0} {header : Layout H} {size : ℕ} (has_size : HasSize size 
   pub set_least : (offset : ℕ) → TakesLeast (4 + size) (set header greatest offset)
   set_least offset = record {
     by = λ old new s is. let spans = (set-spans header greatest offset).by old new s is in
-        omega (arith, spans, (set-parts greatest offset has_size old is).enough, initial_length_size-least s.format);
+        let joined = set-joined header greatest offset has_size old is in
+        omega (arith, spans, joined.of_size, joined.of_length, initial_length_size-least s.format);
   }
 
   -- the bytes that remain have exactly one list of sets
@@ -189,6 +121,3 @@ cut_header old new is has_size short = omega (arith, short, (has_size.by old new
 
 -- how many bytes a set has, and its header
 pub ruleset set_bounds = (set_bound, cut_header)
-
--- the parts of a set
-pub ruleset parts_of_sets = (set-joined)

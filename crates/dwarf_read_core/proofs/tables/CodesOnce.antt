@@ -1,5 +1,5 @@
 -- The map of a table has the codes of its declarations, and each code occurs once.
-use Rattle.dwarf_read_core.proofs.Common.{◌≡◌, ℕ, true, false, List, [], ◌∷◌, ◌++◌, map, None, refl, sym, ap, ◌∙◌, arith, ◌⊎◌, inl, inr, is_some, nat_cmp, nat_cmp_total, find, insert, contains_key, from_entries, from_entries_push, get-from_entries, nat_cmp-IsAntisymmetric, true≢false, map_push, Declaration, Declares, AreDistinct, by_code_of, nat_tests}
+use Rattle.dwarf_read_core.proofs.Common.{◌≡◌, ℕ, ◌<◌, true, false, List, [], ◌∷◌, ◌++◌, map, None, Some, Ok, get, Input, Sequence, IsDeclaration, AreDeclarations, Table, IsTable, closed_by_null, closed_by_end, Answer, table, refl, sym, ap, ◌∙◌, arith, ◌⊎◌, inl, inr, is_some, nat_cmp, nat_cmp_total, find, insert, contains_key, from_entries, from_entries_push, get-from_entries, nat_cmp-IsAntisymmetric, true≢false, map_push, Declaration, Declares, AreDistinct, by_code_of, nat_tests}
 
 -- declarations with their codes, as entries of a map
 abbrev pub entries_by_code : List Declaration → List (ℕ × Declaration)
@@ -74,3 +74,29 @@ distinct_front (x ∷ ds) more d h (inl e) = h.0 (declares ds)
     declares [] = inl (sym e)
     declares (y ∷ xs) = inr (declares xs)
 distinct_front (x ∷ ds) more d h (inr w) = distinct_front ds more d h.1 w
+
+-- ---- keys
+
+-- a declaration that a search finds by a code has that code, which isn't 0
+found_by_code : (bytes : List ℕ) (ds : List Declaration) (code : ℕ) (d : Declaration) → Sequence IsDeclaration bytes ds
+    → find nat_cmp code (entries_by_code ds) ≡ Some d → (d.code ≡ code) × (0 < code)
+found_by_code bytes [] code d are is = absurd cc
+found_by_code bytes (x ∷ ds) code d (_, rest, _, first, others) is =
+    grind (arith, nat_tests, (found_by_code rest ds code d others), first.is_front.is_head.is_code.nonzero)
+
+-- the map of declarations has each by its code, which isn't 0
+found_in_table : (bytes : List ℕ) (ds : List Declaration) (code : ℕ) (d : Declaration) → AreDeclarations bytes ds
+    → get (by_code_of ds) code ≡ Some d → (d.code ≡ code) × (0 < code)
+found_in_table bytes ds code d are is =
+    found_by_code bytes ds code d are.each (sym (get-from_entries nat_cmp_total (entries_by_code ds) code) ∙ is)
+
+-- a table has each declaration by its code, which isn't 0
+found_in_bytes : (bytes : List ℕ) (t : Table) (code : ℕ) (d : Declaration) → IsTable bytes t
+    → get t.by_code code ≡ Some d → (d.code ≡ code) × (0 < code)
+found_in_bytes _ _ code d (closed_by_null bytes zero_code rest ds are is) found = found_in_table bytes ds code d are found
+found_in_bytes _ _ code d (closed_by_end bytes ds are) found = found_in_table bytes ds code d are found
+
+-- no table has code 0, and each declaration is found by its own code
+pub code_is_key : (section : Input) (offset code : ℕ) (t : Table) (d : Declaration) → Answer section offset (Ok t)
+    → get t.by_code code ≡ Some d → (d.code ≡ code) × (0 < code)
+code_is_key section offset code _ d (table t within is) found = found_in_bytes _ t code d is found

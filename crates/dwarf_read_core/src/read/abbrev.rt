@@ -4,14 +4,14 @@
 //! attributes. The unit's table of abbreviations says what a code means: the tag of the entry,
 //! whether it has children, and which attributes follow in which forms.
 
-ghost use Rattle.std.specs.Prelude.{◌≡◌, ◌≢◌, ◌↔◌, ◌==◌, ◌+◌, ◌*◌, ◌≤◌, ◌<◌, ◌∷◌, ◌++◌, [], length, true, false, IsTrue, IsSome, IsOk, IsErrOf, IfOk, IfSome, OnOk, OnErr, IfErr, option_copied, ⊤, ℕ, List};
+ghost use Rattle.std.specs.Prelude.{◌≡◌, ◌≢◌, All, ◌↔◌, ◌==◌, ◌+◌, ◌*◌, ◌≤◌, ◌<◌, ◌∷◌, ◌++◌, [], length, true, false, IsTrue, IsSome, IsOk, IsErrOf, IfOk, IfSome, OnOk, OnErr, IfErr, option_copied, ⊤, ℕ, List};
 ghost use Rattle.std.specs.Cmp.{partial_equiv_from_equiv};
 ghost use Rattle.std.specs.FinMap as finite;
 ghost use Rattle.std.specs.Fn.{CalledAt, TakesAt};
 ghost use Rattle.std.specs.Iterator.{YieldsFirstRef, item_count};
 ghost use Rattle.dwarf_base_core.specs.declared.common.SectionId.TheVariants.{DebugAbbrev as debug_abbrev};
 ghost use Rattle.dwarf_reader_core.specs.Input.{end_of};
-ghost use Rattle.dwarf_read_core.specs.Equality.{same_declaration, same_declaration_equiv};
+ghost use Rattle.dwarf_read_core.specs.Equality.{HasValueByForm, same_declaration, same_declaration_equiv};
 ghost use Rattle.dwarf_read_core.specs.Forms.{form_size};
 ghost use Rattle.dwarf_read_core.specs.Grammar.{implicit_const, by_end, is_by_null, attribute_count};
 ghost use Rattle.dwarf_reader_core.specs.Appended.{followed_by};
@@ -68,13 +68,15 @@ impl<'input, Endian: Endianity> DebugAbbrev<EndianSlice<'input, Endian>> {
     /// let tag = table.get(1).map(|abbreviation| abbreviation.tag());
     /// ```
     pub fn new(debug_abbrev_section: &'input [u8], endian: Endian) -> Self
-        ensures { let reader = ⟦<EndianSlice<'input, Endian> as Reader>⟧ in
+        ensures view { let reader = ⟦<EndianSlice<'input, Endian> as Reader>⟧ in
             reader.view (debug_abbrev_reader result)
             ≡ record {
               bytes = debug_abbrev_section.now;
               position = 0;
               is_big = Endian.is_big endian;
             } }
+        ensures order { let reader = ⟦<EndianSlice<'input, Endian> as Reader>⟧ in
+            reader.order (debug_abbrev_reader result) ≡ endian }
     {
         Self::from(EndianSlice::new(debug_abbrev_section, endian))
     }
@@ -476,6 +478,7 @@ struct Head {
 
 impl Head {
     fn with(self, attributes: Attributes) -> Abbreviation
+        requires { All HasValueByForm attributes.items }
         ensures { result ≡ with_attributes attributes.items self }
     {
         Abbreviation::new(self.code, self.tag, self.has_children, attributes)
@@ -610,6 +613,11 @@ impl Model for Abbreviation {
     ghost use Rattle.dwarf_read_core.specs.Views.{abbreviation_view};
 
     ghost view = { abbreviation_view };
+
+    ghost use Rattle.std.specs.Prelude.{All};
+    ghost use Rattle.dwarf_read_core.specs.Equality.{HasValueByForm};
+
+    ghost invariant = { λ a. All HasValueByForm a.attributes.items };
 }
 
 impl Clone for Abbreviation {
@@ -648,6 +656,7 @@ impl Eq for Abbreviation {
 
 impl Abbreviation {
     fn new(code: u64, tag: DwTag, has_children: DwChildren, attributes: Attributes) -> Abbreviation
+        requires { All HasValueByForm attributes.items }
         ensures { result ≡ record {
           code = code;
           tag = tag.0;
@@ -697,9 +706,11 @@ impl Abbreviation {
         self.has_children == DW_CHILDREN_yes
     }
 
-    /// Returns the attributes of the entries, in the order of their values.
+    /// Returns the attributes of the entries, in the order of their values. Exactly those of the form
+    /// `DW_FORM_implicit_const` have a value.
     pub fn attributes(&self) -> &[AttributeSpecification]
-        ensures { result.now ≡ self.now.attributes }
+        ensures is { result.now ≡ self.now.attributes }
+        ensures valued { All HasValueByForm result.now }
     {
         self.attributes.as_slice()
     }
@@ -787,6 +798,8 @@ impl Abbreviation {
     fn parse<R: Reader>(input: &mut R, scratch: &mut Scratch) -> Result<TableEntry>
         ensures coded { IfOk result
             (λ entry. IfSome (declared_in scratch.new entry) (λ d. 0 < d.code)) }
+        ensures valued { IfOk result
+            (λ entry. IfSome (declared_in scratch.new entry) (λ d. All HasValueByForm d.attributes)) }
         ensures closes { IfOk result (ClosesAt (R.view input.old).bytes) }
         ensures ends { (rest : List ℕ)
             → declaration_at (end_of (R.view input.old)) (R.view input.old).bytes ≡ Ok (None, rest)

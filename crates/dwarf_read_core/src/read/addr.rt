@@ -8,7 +8,7 @@ ghost use Rattle.dwarf_reader_core.specs.Faults.{WantsMemory, is_number_size};
 ghost use Rattle.dwarf_read_core.specs.Entries.{StandsForAddresses};
 ghost use Rattle.dwarf_read_core.specs.Items.{GivesFirst};
 ghost use Rattle.dwarf_read_core.specs.Lookups.{AnswersBy, StaysBy};
-ghost use Rattle.dwarf_read_core.specs.Sets.{address_header, address_header-size, addresses_of, seen_by};
+ghost use Rattle.dwarf_read_core.specs.Sets.{address_header, address_header-size, addresses_of, remaining_by, seen_by};
 ghost use Rattle.dwarf_read_core.specs.Words.{AddressAt, slot};
 
 use super::indexed::skip_to_index;
@@ -76,7 +76,10 @@ impl<R: Reader> DebugAddr<R> {
     /// `OutOfMemory` if a clone of the reader runs out of memory.
     pub fn headers(&self) -> Result<AddrHeaderIter<R>>
         ensures ok { let section = R.view (debug_addr_reader self.now) in
-            IfOk result (λ headers. headers ≡ record { offset = 0; rest = section }) }
+            IfOk result
+            (λ headers. remaining_by R.view headers ≡ record { offset = 0; rest = section }) }
+        ensures order { let order = R.order (debug_addr_reader self.now) in
+            IfOk result (λ headers. R.order headers.rest ≡ order) }
         ensures err { IfErr result (WantsMemory R.clone_is_free) }
     {
         Ok(AddrHeaderIter::new(self.section.try_clone()?))
@@ -207,13 +210,14 @@ impl<R: Reader> AddrHeader<R> {
         DebugAddrOffset(self.offset)
     }
 
-    /// Returns the set's format and address size; the version is 5.
+    /// Returns the set's format and address size. The size is 1, 2, 4 or 8, and the version is 5.
     pub fn encoding(&self) -> Encoding
-        ensures { result ≡ record {
+        ensures is { result ≡ record {
           address_size = self.now.header;
           format = self.now.format;
           version = 5;
         } }
+        ensures sized { IsTrue (is_number_size result.address_size) }
     {
         Encoding {
             address_size: self.encoding.fields.bytes(),
@@ -230,11 +234,12 @@ impl<R: Reader> AddrHeader<R> {
     pub fn entries(&self) -> Result<AddrEntryIter<R>>
         ensures ok { IfOk result
             (λ entries. entries ≡ addresses_of (seen_by R.view self.now)) }
+        ensures sized { IfOk result (λ entries. IsTrue (is_number_size entries.width)) }
         ensures err { IfErr result (WantsMemory R.clone_is_free) }
     {
         Ok(AddrEntryIter {
             input: self.entries.try_clone()?,
-            size: self.encoding.fields,
+            size: self.encoding.fields.bytes(),
         })
     }
 }
@@ -243,15 +248,20 @@ impl<R: Reader> AddrHeader<R> {
 #[derive(Debug, Drop)]
 pub struct AddrEntryIter<R: Reader> {
     input: R,
-    size: AddressSize,
+    // How many bytes an address has.
+    size: u8,
 }
 
 impl<R: Reader> Model for AddrEntryIter<R> {
+    ghost use Rattle.std.specs.Prelude.{IsTrue};
+    ghost use Rattle.dwarf_reader_core.specs.Faults.{is_number_size};
     ghost use Rattle.dwarf_read_core.specs.Entries.{Entries};
 
     ghost Value = { Entries };
 
     ghost view = { λ entries. record { width = entries.size; rest = R.view entries.input } };
+
+    ghost invariant = { λ entries. IsTrue (is_number_size entries.size) };
 }
 
 impl<R: Reader> AddrEntryIter<R> {
@@ -274,7 +284,7 @@ impl<R: Reader> AddrEntryIter<R> {
         if self.input.is_empty() {
             return Ok(None);
         }
-        match self.input.read_address(self.size.bytes()) {
+        match self.input.read_address(self.size) {
             Ok(entry) => Ok(Some(entry)),
             Err(error) => {
                 self.input.empty();

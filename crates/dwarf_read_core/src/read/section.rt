@@ -88,9 +88,11 @@ pub trait Section<R>: From<R> + Sized {
     fn dwp_range(&self, offset: u32, size: u32) -> Result<Self>
     where
         R: Reader,
-        ensures { let section = R.view (section_reader self.now) in
+        ensures answer { let section = R.view (section_reader self.now) in
             AnswersBy (RangeAt section offset size)
             (λ part. R.view (section_reader part)) R.clone_is_free result }
+        ensures order { let order = R.order (section_reader self.now) in
+            IfOk result (λ part. R.order (section_reader part) ≡ order) }
     {
         let mut part = self.reader().try_clone()?;
         part.skip(R::Offset::from_u32(offset))?;

@@ -6,7 +6,7 @@ ghost use Rattle.dwarf_reader_core.specs.Faults.{WantsMemory};
 ghost use Rattle.dwarf_reader_core.specs.Layout.{Layout, read};
 ghost use Rattle.dwarf_read_core.specs.Equality.{same_set, same_set_per, same_set_equiv};
 ghost use Rattle.dwarf_read_core.specs.Items.{GivesFirst, StaysFirst};
-ghost use Rattle.dwarf_read_core.specs.Sets.{HasSize, StandsForSets, followed_headers, seen_by, set};
+ghost use Rattle.dwarf_read_core.specs.Sets.{HasSize, StandsForSets, StandsForSetsBy, followed_headers, remaining_by, seen_by, set};
 
 use dwarf_base_core::{Error, Format, ReaderOffset, Result};
 use dwarf_reader_core::Reader;
@@ -40,7 +40,8 @@ pub trait HeaderFields: fmt::Debug + Copy + Drop {
     fn parse<R: Reader>(unit: &mut R) -> Result<Self>
         ensures ok { IfOk result
             (λ fields. read layout (R.view unit.old) ≡ Ok (fields, R.view unit.new)) }
-        ensures err { IfErr result (λ e. read layout (R.view unit.old) ≡ Err e) };
+        ensures err { IfErr result (λ e. read layout (R.view unit.old) ≡ Err e) }
+        ensures order { R.order unit.new ≡ R.order unit.old };
 
     // Fields that are read have as many bytes as the constant says.
     ghost has_size: { HasSize BYTES layout };
@@ -60,13 +61,13 @@ pub struct SetHeaderIter<R: Reader, H: HeaderFields> {
 
 impl<R: Reader, H: HeaderFields> Model for SetHeaderIter<R, H> {
     ghost use Rattle.std.specs.Prelude.{◌-◌, ◌≤◌, length};
-    ghost use Rattle.dwarf_read_core.specs.Sets.{Headers};
+    ghost use Rattle.dwarf_read_core.specs.Sets.{HeadersOf};
 
-    ghost Value = { Headers };
+    ghost Value = { HeadersOf R };
 
     ghost view = { λ headers. record {
       offset = R.Offset.value headers.end - length (R.view headers.input).bytes;
-      rest = R.view headers.input;
+      rest = headers.input;
     } };
 
     ghost invariant = { λ headers. length (R.view headers.input).bytes ≤ R.Offset.value headers.end };
@@ -75,7 +76,7 @@ impl<R: Reader, H: HeaderFields> Model for SetHeaderIter<R, H> {
 impl<R: Reader, H: HeaderFields> SetHeaderIter<R, H> {
     /// Returns the sets of a whole section.
     pub(super) fn new(input: R) -> Self
-        ensures { result ≡ record { offset = 0; rest = R.view input } }
+        ensures { result ≡ record { offset = 0; rest = input } }
     {
         let end = input.len();
         SetHeaderIter {
@@ -112,19 +113,23 @@ impl<R: Reader, H: HeaderFields> SetHeaderIter<R, H> {
     /// `OutOfMemory` if memory for a reader of the set runs out. After any error the iterator is
     /// exhausted: `next` returns `Ok(None)`.
     pub fn next(&mut self) -> Result<Option<SetHeader<R, H>>>
-        ensures first { GivesFirst (StandsForSets H.layout R.Offset.GREATEST)
+        ensures first { GivesFirst (StandsForSetsBy R.view H.layout R.Offset.GREATEST)
             (seen_by R.view) R.clone_is_free self.old
             (result_transpose result) self.new }
-        ensures failed { OnErr result (self.new.rest.bytes ≡ []) }
-        ensures bound { IfOk result
-            (λ item. IfSome item
-            (λ _. length self.new.rest.bytes + (4 + H.BYTES) ≤ length self.old.rest.bytes)) }
-        ensures some { OnErr result (1 ≤ length self.old.rest.bytes) }
+        ensures failed { OnErr result ((R.view self.new.rest).bytes ≡ []) }
+        ensures bound { let old = (R.view self.old.rest).bytes in
+            IfOk result (λ item. IfSome item
+            (λ _. length (R.view self.new.rest).bytes + (4 + H.BYTES) ≤ length old)) }
+        ensures some { OnErr result (1 ≤ length (R.view self.old.rest).bytes) }
+        ensures entries_order { let order = R.order self.old.rest in
+            IfOk result (λ item. IfSome item (λ header. R.order header.entries ≡ order)) }
+        ensures order { R.order self.new.rest ≡ R.order self.old.rest }
 
         // Appended bytes change neither a set nor an error, unless it is an `UnexpectedEof`.
-        ensures stable { StaysFirst (StandsForSets H.layout R.Offset.GREATEST)
-            (seen_by R.view) R.clone_is_free followed_headers self.old
-            (result_transpose result) self.new }
+        ensures stable { let old = remaining_by R.view self.old in
+            StaysFirst (StandsForSets H.layout R.Offset.GREATEST)
+            (seen_by R.view) R.clone_is_free followed_headers old
+            (result_transpose result) (remaining_by R.view self.new) }
     {
         if self.input.is_empty() {
             return Ok(None);
@@ -147,20 +152,20 @@ impl<R: Reader, H: HeaderFields> Iterator for SetHeaderIter<R, H> {
     ghost use Rattle.std.specs.Prelude.{length};
     ghost use Rattle.std.specs.Iterator.{at_most};
     ghost use Rattle.dwarf_read_core.specs.Items.{GivesFirst};
-    ghost use Rattle.dwarf_read_core.specs.Sets.{StandsForSets, seen_by};
+    ghost use Rattle.dwarf_read_core.specs.Sets.{StandsForSetsBy, seen_by};
 
-    ghost next_gives = { GivesFirst (StandsForSets H.layout R.Offset.GREATEST) (seen_by R.view) R.clone_is_free };
+    ghost next_gives = { GivesFirst (StandsForSetsBy R.view H.layout R.Offset.GREATEST) (seen_by R.view) R.clone_is_free };
 
-    ghost remaining = { λ headers. at_most (length headers.rest.bytes) };
+    ghost remaining = { λ headers. at_most (length (R.view headers.rest).bytes) };
 
-    #[tactic(auto, using(crate::proofs::sets::IteratorsEnd::sets_progress))]
     fn next(&mut self) -> Option<Result<SetHeader<R, H>>> {
         self.next().transpose()
     }
 }
 
 impl<R: Reader + Clone, H: HeaderFields> Clone for SetHeaderIter<R, H> {
-    ghost is_clone = { λ headers copy. copy ≡ headers };
+    ghost is_clone = { λ headers copy. (remaining_by R.view copy ≡ remaining_by R.view headers)
+        × (R.order copy.rest ≡ R.order headers.rest) };
 
     ghost is_infallible = { λ _. R.clone_is_free ≡ true };
 
@@ -234,7 +239,8 @@ impl<R: Reader + Eq, H: HeaderFields + Eq> Eq for SetHeader<R, H> {
 }
 
 impl<R: Reader + Clone, H: HeaderFields> Clone for SetHeader<R, H> {
-    ghost is_clone = { λ header copy. seen_by R.view copy ≡ seen_by R.view header };
+    ghost is_clone = { λ header copy. (seen_by R.view copy ≡ seen_by R.view header)
+        × (R.order copy.entries ≡ R.order header.entries) };
 
     ghost is_infallible = { λ _. R.clone_is_free ≡ true };
 
@@ -275,6 +281,9 @@ impl<R: Reader, H: HeaderFields> SetHeader<R, H> {
             (R.view input.old) ≡ Err e) ⊎ WantsMemory R.clone_is_free e) }
         ensures bound { OnOk result
             (length (R.view input.new).bytes + (4 + H.BYTES) ≤ length (R.view input.old).bytes) }
+        ensures entries_order { IfOk result
+            (λ header. R.order header.entries ≡ R.order input.old) }
+        ensures order { R.order input.new ≡ R.order input.old }
     {
         let (length, format) = input.read_initial_length()?;
         let mut unit = input.split(length)?;

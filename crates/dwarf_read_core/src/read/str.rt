@@ -6,6 +6,7 @@ ghost use Rattle.dwarf_base_core.specs.declared.common.SectionId.TheVariants.{De
 ghost use Rattle.dwarf_base_core.specs.Format.{word_size};
 ghost use Rattle.dwarf_reader_core.specs.Faults.{WantsMemory};
 ghost use Rattle.dwarf_read_core.specs.Lookups.{AnswersBy, StaysBy};
+ghost use Rattle.dwarf_read_core.specs.Sets.{remaining_by};
 ghost use Rattle.dwarf_read_core.specs.Strings.{StringAt};
 ghost use Rattle.dwarf_read_core.specs.Words.{WordAt, slot};
 
@@ -31,13 +32,15 @@ impl<'input, Endian: Endianity> DebugStr<EndianSlice<'input, Endian>> {
 
     /// Returns the section with these bytes, whose first byte has position 0.
     pub fn new(debug_str_section: &'input [u8], endian: Endian) -> Self
-        ensures { let reader = ⟦<EndianSlice<'input, Endian> as Reader>⟧ in
+        ensures view { let reader = ⟦<EndianSlice<'input, Endian> as Reader>⟧ in
             reader.view (debug_str_reader result)
             ≡ record {
               bytes = debug_str_section.now;
               position = 0;
               is_big = Endian.is_big endian;
             } }
+        ensures order { let reader = ⟦<EndianSlice<'input, Endian> as Reader>⟧ in
+            reader.order (debug_str_reader result) ≡ endian }
     {
         Self::from(EndianSlice::new(debug_str_section, endian))
     }
@@ -174,7 +177,10 @@ impl<R: Reader> DebugStrOffsets<R> {
     /// `OutOfMemory` if a clone of the reader runs out of memory.
     pub fn headers(&self) -> Result<StrOffsetsHeaderIter<R>>
         ensures ok { let section = R.view (debug_str_offsets_reader self.now) in
-            IfOk result (λ headers. headers ≡ record { offset = 0; rest = section }) }
+            IfOk result
+            (λ headers. remaining_by R.view headers ≡ record { offset = 0; rest = section }) }
+        ensures order { let order = R.order (debug_str_offsets_reader self.now) in
+            IfOk result (λ headers. R.order headers.rest ≡ order) }
         ensures err { IfErr result (WantsMemory R.clone_is_free) }
     {
         Ok(StrOffsetsHeaderIter::new(self.section.try_clone()?))
@@ -240,13 +246,15 @@ impl<'input, Endian: Endianity> DebugLineStr<EndianSlice<'input, Endian>> {
 
     /// Returns the section with these bytes, whose first byte has position 0.
     pub fn new(debug_line_str_section: &'input [u8], endian: Endian) -> Self
-        ensures { let reader = ⟦<EndianSlice<'input, Endian> as Reader>⟧ in
+        ensures view { let reader = ⟦<EndianSlice<'input, Endian> as Reader>⟧ in
             reader.view (debug_line_str_reader result)
             ≡ record {
               bytes = debug_line_str_section.now;
               position = 0;
               is_big = Endian.is_big endian;
             } }
+        ensures order { let reader = ⟦<EndianSlice<'input, Endian> as Reader>⟧ in
+            reader.order (debug_line_str_reader result) ≡ endian }
     {
         Self::from(EndianSlice::new(debug_line_str_section, endian))
     }

@@ -11,7 +11,7 @@ pub set_from-requires : goal.set_from-requires
 set_from-requires c =
     let found : FoundSet address_header (section_of c.args.section.now c.args.is_big) c.args.offset _ =
     set_found address_header-size (grind arith) (rw c.in-Some.is at c.in_ok-header.ensures.first) in
-    rw (c.encoding-encoding.ensures, c.length-length.ensures) (record {
+    rw (c.encoding-encoding.ensures.is, c.length-length.ensures) (record {
       within = omega (arith, found.within, c.well_formed);
       header = found.four;
     })
@@ -20,7 +20,7 @@ pub returns-in-Some-clause-found : goal.returns-in-Some-clause-found
 returns-in-Some-clause-found c =
     let first = rw c.in-Some.is at c.in_ok-header.ensures.first in
     set_told addresses_of _ refl (set_found address_header-size (grind arith) first)
-    (rw (c.encoding-encoding.ensures, c.length-length.ensures) at c.set_from.ensures)
+    (rw (c.encoding-encoding.ensures.is, c.length-length.ensures) at c.set_from.ensures)
 
 pub returns-in-None-clause-end : goal.returns-in-None-clause-end
 returns-in-None-clause-end c =

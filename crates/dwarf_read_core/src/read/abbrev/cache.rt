@@ -1,6 +1,6 @@
 //! A cache of abbreviation tables, which units share.
 
-ghost use Rattle.std.specs.Prelude.{◌≡◌, ◌≢◌, List, [], ℕ, IfOk, IfErr, OnOk, OnErr, MatchOption, Ok, Err, length, map, option_map};
+ghost use Rattle.std.specs.Prelude.{◌≡◌, ◌≢◌, List, [], ℕ, IfOk, IsOk, IsSome, IfErr, OnOk, OnErr, MatchOption, Ok, Err, length, map, option_map};
 ghost use Rattle.std.specs.FinMap as finite;
 ghost use Rattle.std.specs.Iterator.{IsFinite};
 ghost use Rattle.std.specs.List.Sorted.{IsBinarySearchResult, IsSearchInRange};
@@ -141,7 +141,8 @@ impl AbbreviationsCache {
     ///
     /// # Errors
     ///
-    /// `OutOfMemory` if memory runs out. The cache is then unchanged.
+    /// `OutOfMemory` if memory runs out. The cache is then unchanged. An offset at which something is
+    /// kept needs no memory.
     pub fn set<R: Reader>(
         &mut self,
         offset: DebugAbbrevOffset<R::Offset>,
@@ -151,6 +152,9 @@ impl AbbreviationsCache {
             (self.new ≡ finite.insert self.old (R.Offset.value offset.0) (Ok abbreviations.value)) }
         ensures err { IfErr result (λ e. e ≡ Error.OutOfMemory) }
         ensures unchanged { OnErr result (self.new ≡ self.old) }
+
+        // Replacing what is kept needs no memory.
+        ensures free { IsSome (finite.get self.old (R.Offset.value offset.0)) → IsOk result }
     {
         let number = offset.0.into_u64();
         let entry = (number, Ok(abbreviations));

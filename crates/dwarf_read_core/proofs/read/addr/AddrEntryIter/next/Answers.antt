@@ -5,12 +5,12 @@ use Rattle.dwarf_read_core.proofs.read.addr.AddrEntryIter.next.Goals as goal
 
 pub returns-in-Ok-clause-first : goal.returns-in-Ok-clause-first
 returns-in-Ok-clause-first g c =
-    rw (← c.self.view_is, ← c.bytes.ensures.is) (address_first _ _ _ c.in-Ok.ensures.ok.1 (search rules)
+    rw (← c.self.view_is) (address_first _ _ _ c.in-Ok.ensures.ok.1 (search rules)
     c.in-Ok.ensures.ok.0)
 
 pub returns-in-Err-clause-first : goal.returns-in-Err-clause-first
 returns-in-Err-clause-first g c =
-    rw (← c.self.view_is, ← c.bytes.ensures.is) (inl (address_error_first _ _ _ c.bytes.ensures.sized
+    rw (← c.self.view_is) (inl (address_error_first _ _ _ c.self.invariant
     (search rules) c.in-Err.ensures.err (ap (λ (i : Input). i.bytes) c.empty.ensures.left)))
 
 pub returns-then-is_empty-clause-first : goal.returns-then-is_empty-clause-first

@@ -1,4 +1,4 @@
-use Rattle.dwarf_read_core.proofs.Common.{arith, map, refl, least_count, debug_abbrev_reader}
+use Rattle.dwarf_read_core.proofs.Common.{map, refl, least_count, debug_abbrev_reader}
 use Rattle.dwarf_read_core.proofs.cache.FaithfulToSection.{faithful_of_kept}
 use Rattle.dwarf_read_core.proofs.cache.FirstItem.{first_item-of_items}
 use Rattle.dwarf_read_core.proofs.cache.NoMemoryError.{no_memory_error_answers}
@@ -13,7 +13,11 @@ returns-clause-ok g c = (
 )
 
 pub returns-clause-faithful : goal.returns-clause-faithful
-returns-clause-faithful g c = grind (arith, faithful_of_kept, shown, get-shown)
+returns-clause-faithful g c =
+    faithful_of_kept (least_count c.args.strategy) (g.R.Reader.view (debug_abbrev_reader c.args.debug_abbrev.now))
+    (map (λ offset. g.R.Offset.ReaderOffset.value offset.0) c.in_ok-offsets.offsets.items)
+    (shown c.in_ok-entries.entries.items)
+    (λ key. rw (get-shown c.in_ok-entries.entries.items key) (c.in_ok-entries.ensures.ok key))
 
 pub invariant_of-self : goal.invariant_of-self
 invariant_of-self g c = (
