@@ -4,7 +4,6 @@
 #![tactic(auto)]
 
 use dwarf_listing_core::fault::{Fault, exit_code};
-use dwarf_listing_core::output::buffered;
 use dwarf_listing_core::run::run;
 use dwarf_listing_core::words::command_line;
 use std::process::ExitCode;
@@ -12,8 +11,7 @@ use std::process::ExitCode;
 fn list(rt: &HostRuntime) -> Result<(), Fault> {
     let mem = rt.alloc();
     let words = command_line(mem, rt)?;
-    let mut output = buffered(mem, rt.stdout())?;
-    run(mem, &words, &mut rt.stdin(), &mut output)
+    run(mem, &words, &mut rt.stdin(), &mut rt.stdout())
 }
 
 fn main(rt: HostRuntime) -> ExitCode {

@@ -16,7 +16,6 @@ use dwarf_listing_core::arguments::{STANDARD_INPUT, parse_arguments};
 use dwarf_listing_core::fault::Fault;
 use dwarf_listing_core::many::fault::ManyFault;
 use dwarf_listing_core::many::run_many;
-use dwarf_listing_core::output::buffered;
 use dwarf_listing_core::words::command_line;
 use std::fs::File;
 use std::io;
@@ -55,8 +54,13 @@ fn list(rt: &HostRuntime) -> Result<(), ManyFault> {
     let named = parse_arguments(&words).ok_or(Fault::Usage)?;
     let mut section = open(rt, named.section, ManyFault::ReadSection)?;
     let mut offsets = open(rt, named.offsets, ManyFault::ReadOffsets)?;
-    let mut output = buffered(mem, rt.stdout())?;
-    run_many(mem, named.kind, &mut section, &mut offsets, &mut output)
+    run_many(
+        mem,
+        named.kind,
+        &mut section,
+        &mut offsets,
+        &mut rt.stdout(),
+    )
 }
 
 fn main(rt: HostRuntime) -> ExitCode {

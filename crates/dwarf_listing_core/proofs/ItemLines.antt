@@ -1,7 +1,17 @@
 -- The texts of items that are read one after the other.
-use Rattle.dwarf_listing_core.proofs.Common.{arith, ◌≡◌, ℕ, Bool, List, [], ◌∷◌, ◌++◌, Result, Ok, Err, refl, ap, ◌∙◌, append_assoc, inl, inr, Error, OutOfMemory, StandsForEntries, Set, AppendsText, ListsItemsOf, ListsRun, nothing, bad_item, bad_text, item, in_front, SetListing, ListsLine, ListsSet}
+use Rattle.dwarf_listing_core.proofs.Common.{arith, ◌≡◌, ℕ, ◌-◌, length, Bool, List, [], ◌∷◌, ◌++◌, Result, Ok, Err, refl, ap, ◌∙◌, append_assoc, inl, inr, Error, OutOfMemory, StandsForEntries, Set, AppendsText, ListsItemsOf, ListsRun, nothing, bad_item, bad_text, item, in_front, SetListing, HasSets, ListsLine, ListsSection, ListsSet}
+use Rattle.std.proofs.Common.{subst}
 use Rattle.std.specs.Prelude.{◌≢◌}
+use Rattle.std.specs.declared.cmp.PartialEq.{Ghosts as PartialEq}
+use Rattle.std.specs.declared.default.Default.{Ghosts as Default}
+use Rattle.std.specs.declared.fmt.Debug.{Ghosts as Debug}
+use Rattle.dwarf_read_core.specs.declared.EndianSlice.{EndianSlice}
+use Rattle.dwarf_read_core.specs.declared.Endianity.{Ghosts as Endianity}
+use Rattle.dwarf_read_core.specs.declared.RunTimeEndian.{RunTimeEndian}
+use Rattle.dwarf_read_core.specs.Endian.{is_big_at_run_time}
+use Rattle.dwarf_read_core.specs.Input.{Input}
 use Rattle.dwarf_read_core.specs.Items.{GivesFirst}
+use Rattle.dwarf_read_core.specs.Sets.{Headers, HeadersOf, remaining_by, seen_by}
 
 -- ---- the loop over an iterator
 
@@ -34,6 +44,27 @@ module _ {I X A : Type 0} (StandsFor : I → List (Result A Error) → Type 0) (
   items_of_run (item now next x text rest first h others) memory =
       let behind = items_of_run others (λ same. memory (ap (in_front text) same)) in
       (Ok (view x) ∷ behind.0, first.1 behind.0 behind.1, (Ok text, h, (rest, behind.2, refl)))
+
+module _ {endianity : Endianity RunTimeEndian} {debug : Debug RunTimeEndian} {default : Default RunTimeEndian}
+    {eq : PartialEq RunTimeEndian} where
+  -- the input that represents a slice whose byte order is chosen at run time
+  abbrev pub slice_input : EndianSlice RunTimeEndian endianity debug default eq → Input
+  slice_input s = record {
+    bytes = s.slice.now;
+    position = s.end - length s.slice.now;
+    is_big = is_big_at_run_time s.endian;
+  }
+
+  -- what an iterator over the sets of a section yields is listed as these sets, unless memory ran out
+  pub sets_of_run : {H : Type 0} (listing : SetListing H) (is_free : Bool)
+      {now : HeadersOf (EndianSlice RunTimeEndian endianity debug default eq)} {start : Headers}
+      {listed : Result (List ℕ) Error} → remaining_by slice_input now ≡ start
+      → ListsRun (GivesFirst (λ h. HasSets listing (remaining_by slice_input h)) (seen_by slice_input) is_free)
+      (λ x. ListsSet listing (seen_by slice_input x)) now listed
+      → listed ≢ Err OutOfMemory → ListsSection listing start listed
+  sets_of_run listing is_free {listed = listed} same run memory =
+      subst (λ h. ListsSection listing h listed) same (items_of_run (λ h. HasSets listing (remaining_by slice_input h))
+      (seen_by slice_input) (ListsSet listing) run memory)
 
 -- what is appended to no text is the whole text
 pub whole_text : (Lists : Result (List ℕ) Error → Type 0) (old added new : List ℕ) → old ≡ [] → new ≡ old ++ added

@@ -4,18 +4,18 @@ use Rattle.std.proofs.Common.{set}
 use Rattle.std.proofs.Math.Seq.{take-append_seam}
 use Rattle.dwarf_read_core.specs.Strings.{StringAt, string_at}
 use Rattle.dwarf_read_core.proofs.LayoutErrors.{At_error_has}
-use Rattle.dwarf_read_core.proofs.lookups.Strings.{string-is_text}
+use Rattle.dwarf_read_core.proofs.lookups.Strings.{string_held}
 
 -- the bytes of a string are those of the section from its offset on, as many as it has
 pub string-is_part : (section : Input) (offset : ℕ) (found : Input) → StringAt section offset (Ok found)
     → drop offset (take (offset + length found.bytes) section.bytes) ≡ found.bytes
-string-is_part section offset found is = grind (arith, string-is_text, drop-take, take-append_seam)
+string-is_part section offset found is = grind (arith, string_held, drop-take, take-append_seam)
 
 -- the byte behind a string is still in its section
 pub string-ends_inside : (section : Input) (offset : ℕ) (found : Input) → StringAt section offset (Ok found)
     → offset + length found.bytes < length section.bytes
 string-ends_inside section offset found is =
-    let text = string-is_text is in
+    let text = string_held _ _ _ is in
     let long : length (drop offset section.bytes) ≡ length (found.bytes ++ 0 ∷ text.rest) = ap length text.parts in
     omega (arith, long, length-drop offset section.bytes, length-append found.bytes (0 ∷ text.rest))
 

@@ -8,6 +8,7 @@ pub mod Many
 pub mod ManyFault
 pub mod Number
 pub mod Offsets
+pub mod Output
 pub mod Sets
 pub mod Tables
 pub mod Text

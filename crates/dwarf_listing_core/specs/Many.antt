@@ -33,6 +33,13 @@ pub record EndsAt (kind : Kind) (section offsets : List ℕ) (offset : ℕ) (err
   pub listed : ListsAll kind section before text
   pub fails : ListsOne kind section offset (Err error)
 
+-- the text is that of the first offsets, however many these are
+pub record ListsFirst (kind : Kind) (section offsets text : List ℕ) : Type 0 where
+  pub before : List ℕ
+  pub after : List ℕ
+  pub place : offsets ≡ before ++ after
+  pub listed : ListsAll kind section before text
+
 -- the text that a section has for the offsets on these lines
 abbrev pub IsManyText : Kind → List ℕ → List (List ℕ) → List ℕ → Type 0
 IsManyText kind section lines text =
@@ -42,6 +49,11 @@ IsManyText kind section lines text =
 abbrev pub EndsManyAt : Kind → List ℕ → List (List ℕ) → ℕ → Error → List ℕ → Type 0
 EndsManyAt kind section lines offset error text =
     (offsets : List ℕ) × AreOffsets lines offsets × EndsAt kind section offsets offset error text
+
+-- the text that a section has for the first of the offsets on these lines
+abbrev pub ListsManyFirst : Kind → List ℕ → List (List ℕ) → List ℕ → Type 0
+ListsManyFirst kind section lines text =
+    (offsets : List ℕ) × AreOffsets lines offsets × ListsFirst kind section offsets text
 
 -- the bytes of a section and of its offsets have this property, if both are known
 abbrev pub IfKnown : Option (List ℕ) → Option (List ℕ) → (List ℕ → List ℕ → Type 0) → Type 0

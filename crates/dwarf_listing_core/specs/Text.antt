@@ -1,9 +1,5 @@
 -- What the program writes.
-use Rattle.std.specs.Prelude.{◌≡◌, ◌≢◌, ℕ, List, [], Option, Result, Ok, Err, None, IsSomeAnd}
-use Rattle.std.specs.Io.Buffered.{writer_buffer, writer_contents}
-use Rattle.std.specs.Io.KnownBytes.{Appends}
-use Rattle.std.specs.declared.alloc.Global.{Global}
-use Rattle.std.specs.declared.io.buffered.BufWriter.{BufWriter}
+use Rattle.std.specs.Prelude.{◌≡◌, ◌≢◌, ℕ, List, Option, Result, Ok, Err, None, IsSomeAnd}
 use Rattle.dwarf_read_core.specs.declared.Error.{Error}
 use Rattle.dwarf_read_core.specs.declared.Error.TheVariants.{OutOfMemory}
 use Rattle.dwarf_read_core.specs.Leb128.{Kind, Number, unsigned64, signed64}
@@ -55,8 +51,3 @@ IsTextOf named input (Err Write) = ⊥
 -- the text that the arguments request of an input, or the error
 abbrev pub IsText : List (List ℕ) → List ℕ → Result (List ℕ) Fault → Type 0
 IsText words input result = IsTextOf (command_of words) input result
-
--- the text was written behind what was there, and the buffer is empty
-abbrev pub WritesOut : {W : Type 0} → (W → Option (List ℕ)) → BufWriter W Global → BufWriter W Global → List ℕ → Type 0
-WritesOut contents old new text =
-    Appends (writer_contents contents old) (writer_contents contents new) text × (writer_buffer new ≡ [])

@@ -22,7 +22,6 @@ pub fn exactly_one_listing()
 {
     laws::exactly_one_answer();
     laws::exactly_one_strict_answer();
-    laws::exactly_one_string();
     laws::exactly_one_list_of_sets::<AddressSize>();
     laws::exactly_one_list_of_entries();
     laws::exactly_one_list_of_sets::<()>();

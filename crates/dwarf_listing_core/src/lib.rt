@@ -20,7 +20,7 @@ pub mod listing;
 pub mod many;
 pub mod number;
 pub mod offsets;
-pub mod output;
+mod output;
 pub mod run;
 mod sets;
 mod tables;

@@ -1,25 +1,26 @@
 //! A run over many offsets of one section: the lines at each offset, below their title.
 
-ghost use Rattle.std.specs.Prelude.{◌≡◌, ◌⊎◌, ◌++◌, ℕ, List, Ok, Err, IfErr, IfSome, OnOk};
+ghost use Rattle.std.specs.Prelude.{◌≡◌, ◌≢◌, ◌⊎◌, ◌++◌, ℕ, List, Ok, Err, IfErr, IfSome, OnOk};
 ghost use Rattle.std.specs.Io.KnownBytes.{Appends, IsAtEnd};
 ghost use Rattle.dwarf_listing_core.specs.Fault.{IsMemoryFault};
-ghost use Rattle.dwarf_listing_core.specs.Many.{EndsAt, EndsManyAt, IfKnown, IsManyText, ListsAll, ListsOne, title};
+ghost use Rattle.dwarf_listing_core.specs.Many.{EndsAt, EndsManyAt, IfKnown, IsManyText, ListsAll, ListsFirst, ListsManyFirst, ListsOne, title};
 ghost use Rattle.dwarf_listing_core.specs.ManyFault.{IsListingFault};
 ghost use Rattle.dwarf_listing_core.specs.Offsets.{IsBadLine, lines_of};
-ghost use Rattle.dwarf_listing_core.specs.Text.{ReturnsListing, WritesOut};
+ghost use Rattle.dwarf_listing_core.specs.Text.{ReturnsListing};
 
 use crate::arguments::Kind;
 use crate::fault::Fault;
 use crate::input::read_input;
 use crate::lines::string;
 use crate::offsets::parse_offsets;
+use crate::output::{BUFFER_SIZE, Buffered};
 use crate::tables::abbreviations;
 use crate::text::Text;
 use dwarf_read_core::Error;
 use fault::ManyFault;
 use std::alloc::Global;
 use std::io;
-use std::io::{BufWriter, Read, Write};
+use std::io::{Read, Write};
 
 pub mod fault;
 #[cfg(test)]
@@ -28,8 +29,8 @@ mod tests;
 /// Writes what is listed at each offset of a section, below its title.
 ///
 /// Both inputs are read to their ends, and all offsets are parsed: decimal numbers, one a line.
-/// Then what each offset names is read whole, and its lines are written. The output is flushed at
-/// the end, also before an error at an offset is returned.
+/// Then what each offset names is read whole, and its lines are written through a buffer. The output
+/// is flushed at the end, and before an error at an offset is returned, also if memory ran out there.
 ///
 /// # Errors
 ///
@@ -37,19 +38,20 @@ mod tests;
 ///   offset. Nothing is written then.
 /// - `At` if the section is malformed at an offset, with the first error. The lines before it are
 ///   written.
-/// - `Other` if memory runs out or the output can't be written. A part of the text may be written
-///   then.
-pub fn run_many<S: Read, I: Read, O: Write + Drop>(
+/// - `Other` with `OutOfMemory` if memory runs out. The lines before the offset where that happens
+///   are written, or nothing if it happens earlier.
+/// - `Other` with `Write` if the output can't be written. A part of the text may be written then.
+pub fn run_many<S: Read, I: Read, O: Write>(
     mem: Global,
     kind: Kind,
     section: &mut S,
     offsets: &mut I,
-    output: &mut BufWriter<O>,
+    output: &mut O,
 ) -> Result<(), ManyFault>
     // What was written, and nothing else.
     ensures written { OnOk result (IfKnown (S.remaining section.old) (I.remaining offsets.old)
         (λ bytes input. (text : List ℕ) × IsManyText kind bytes (lines_of input) text
-        × WritesOut O.contents output.old output.new text)) }
+        × Appends (O.contents output.old) (O.contents output.new) text)) }
     ensures end { OnOk result
         (IsAtEnd (S.remaining section.new) × IsAtEnd (I.remaining offsets.new)) }
 
@@ -57,7 +59,7 @@ pub fn run_many<S: Read, I: Read, O: Write + Drop>(
     ensures first { (offset : ℕ) (error : _) → result ≡ Err (ManyFault.At offset error)
         → IfKnown (S.remaining section.old) (I.remaining offsets.old)
         (λ bytes input. (text : List ℕ) × EndsManyAt kind bytes (lines_of input) offset error text
-        × WritesOut O.contents output.old output.new text) }
+        × Appends (O.contents output.old) (O.contents output.new) text) }
     ensures line { (number : ℕ) → result ≡ Err (ManyFault.Line number)
         → IfSome (I.remaining offsets.old) (λ input. IsBadLine (lines_of input) number)
         × (output.new ≡ output.old) }
@@ -65,6 +67,10 @@ pub fn run_many<S: Read, I: Read, O: Write + Drop>(
     ensures read_offsets { result ≡ Err ManyFault.ReadOffsets → output.new ≡ output.old }
     ensures other { (fault : _) → result ≡ Err (ManyFault.Other fault)
         → (fault ≡ Fault.Write) ⊎ IsMemoryFault fault }
+    ensures stopped { (fault : _) → result ≡ Err (ManyFault.Other fault) → fault ≢ Fault.Write
+        → (output.new ≡ output.old) ⊎ IfKnown (S.remaining section.old) (I.remaining offsets.old)
+        (λ bytes input. (text : List ℕ) × ListsManyFirst kind bytes (lines_of input) text
+        × Appends (O.contents output.old) (O.contents output.new) text) }
 {
     let section = match read_input(mem, section) {
         Ok(section) => section,
@@ -78,34 +84,40 @@ pub fn run_many<S: Read, I: Read, O: Write + Drop>(
     write_all_at(mem, kind, &section, &offsets, output)
 }
 
-/// Writes what is listed at these offsets of a section, each below its title, and flushes the
-/// output.
+/// Writes what is listed at these offsets of a section, each below its title, through a buffer, and
+/// flushes the output.
 ///
 /// # Errors
 ///
-/// The first error. If it is that of a table or a string, the lines before it are written.
-pub fn write_all_at<O: Write + Drop>(
+/// The first error. Unless it is one of the output, the lines before it are written.
+pub fn write_all_at<O: Write>(
     mem: Global,
     kind: Kind,
     section: &[u8],
     offsets: &[u64],
-    output: &mut BufWriter<O>,
+    output: &mut O,
 ) -> Result<(), ManyFault>
     ensures ok { OnOk result ((text : List ℕ) × ListsAll kind section.now offsets.now text
-        × WritesOut O.contents output.old output.new text) }
+        × Appends (O.contents output.old) (O.contents output.new) text) }
     ensures first { (offset : ℕ) (error : _) → result ≡ Err (ManyFault.At offset error)
         → (text : List ℕ) × EndsAt kind section.now offsets.now offset error text
-        × WritesOut O.contents output.old output.new text }
+        × Appends (O.contents output.old) (O.contents output.new) text }
+    ensures stopped { (fault : _) → result ≡ Err (ManyFault.Other fault) → fault ≢ Fault.Write
+        → (text : List ℕ) × ListsFirst kind section.now offsets.now text
+        × Appends (O.contents output.old) (O.contents output.new) text }
     ensures err { IfErr result IsListingFault }
 {
-    let listed = write_each_at(mem, kind, section, offsets, output);
-    if let Err(ManyFault::Other(_)) = listed {
-        return listed;
-    }
-    // The text before an error at an offset is written too.
-    if output.flush().is_err() {
+    let buffer = Vec::with_capacity(mem, BUFFER_SIZE)?;
+    let mut buffered = Buffered::new(output, buffer);
+    let listed = write_each_at(mem, kind, section, offsets, &mut buffered);
+    let write_failed = listed == Err(ManyFault::Other(Fault::Write));
+    // The text before any other error is written too.
+    if write_failed || buffered.flush().is_err() {
         return Err(ManyFault::Other(Fault::Write));
     }
+    // This does nothing when it runs. The proof reads from it what the output holds.
+    let output = buffered.into_inner();
+    let _ = &*output;
     listed
 }
 
@@ -120,6 +132,9 @@ fn write_each_at<O: Write>(
         × Appends (O.contents output.old) (O.contents output.new) text) }
     ensures first { (offset : ℕ) (error : _) → result ≡ Err (ManyFault.At offset error)
         → (text : List ℕ) × EndsAt kind section.now offsets.now offset error text
+        × Appends (O.contents output.old) (O.contents output.new) text }
+    ensures stopped { (fault : _) → result ≡ Err (ManyFault.Other fault) → fault ≢ Fault.Write
+        → (text : List ℕ) × ListsFirst kind section.now offsets.now text
         × Appends (O.contents output.old) (O.contents output.new) text }
     ensures err { IfErr result IsListingFault }
 {
@@ -141,6 +156,8 @@ fn write_at<O: Write>(
     ensures at { (place : ℕ) (error : _) → result ≡ Err (ManyFault.At place error)
         → (place ≡ offset) × (output.new ≡ output.old)
         × ListsOne kind section.now offset (Err error) }
+    ensures stopped { (fault : _) → result ≡ Err (ManyFault.Other fault) → fault ≢ Fault.Write
+        → output.new ≡ output.old }
     ensures err { IfErr result IsListingFault }
 {
     let text = match text_at(mem, kind, section, offset) {

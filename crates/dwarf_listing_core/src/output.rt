@@ -1,28 +1,150 @@
-//! The buffer in front of the output of a program.
+//! The buffer in front of an output.
+//!
+//! It stands for the `BufWriter` of `std`, whose clauses don't say that it keeps the reference which
+//! it was given, nor that it writes nothing if its memory is refused.
 
-ghost use Rattle.std.specs.Prelude.{◌≡◌, [], IfErr, IfOk};
-ghost use Rattle.std.specs.Io.Buffered.{writer_buffer, writer_inner};
-ghost use Rattle.dwarf_listing_core.specs.Fault.{IsMemoryFault};
+ghost use Rattle.std.specs.Prelude.{◌≡◌, ◌+◌, ◌-◌, ◌≤◌, [], ◌++◌, OnOk, drop, length, take, vec_capacity, vec_len};
+ghost use Rattle.std.specs.Io.KnownBytes.{Appends, Keeps};
+ghost use Rattle.dwarf_listing_core.specs.Output.{buffered_contents};
 
-use crate::fault::Fault;
-use std::alloc::Global;
-use std::io::{BufWriter, Write};
+use std::io;
+use std::io::{ErrorKind, Write};
 
-// How many bytes are written at once.
-const SIZE: usize = 65536;
+/// How many bytes are written at once.
+pub(crate) const BUFFER_SIZE: usize = 65536;
 
-/// Returns an empty buffer in front of an output.
-///
-/// # Errors
-///
-/// `OutOfMemory` if memory runs out.
-pub fn buffered<O: Write + Drop>(mem: Global, output: O) -> Result<BufWriter<O>, Fault>
-    ensures output { IfOk result (λ buffered. writer_inner buffered ≡ output) }
-    ensures empty { IfOk result (λ buffered. writer_buffer buffered ≡ []) }
-    ensures err { IfErr result IsMemoryFault }
-{
-    match BufWriter::with_capacity(mem, SIZE, output) {
-        Ok(buffered) => Ok(buffered),
-        Err(_) => Err(Fault::out_of_memory()),
+/// A buffer in front of an output. Only a flush writes out what is left in it: a drop doesn't.
+#[derive(Drop)]
+pub(crate) struct Buffered<'a, O> {
+    output: &'a mut O,
+    buffer: Vec<u8>,
+}
+
+impl<'a, O: Write> Buffered<'a, O> {
+    /// Puts a buffer in front of an output. The buffer never grows.
+    pub(crate) fn new(output: &'a mut O, buffer: Vec<u8>) -> Buffered<'a, O>
+        ensures same_reference { result.output.ghost_name ≡ output.entry.ghost_name }
+        ensures output { result.output.now ≡ output.old }
+        ensures buffer { result.buffer ≡ buffer }
+    {
+        Buffered { output, buffer }
     }
+
+    /// Returns the output.
+    pub(crate) fn into_inner(self) -> &'a mut O
+        ensures same_reference { result.ghost_name ≡ self.entry.output.ghost_name }
+        ensures output { result.now ≡ self.entry.output.now }
+    {
+        self.output
+    }
+
+    // Writes what is in the buffer. What a failure leaves unwritten stays there.
+    fn write_buffer(&mut self) -> io::Result<()>
+        ensures same_reference { self.new.output.ghost_name ≡ self.old.output.ghost_name }
+        ensures bytes { Keeps (buffered_contents O.contents self.old)
+            (buffered_contents O.contents self.new) }
+        ensures empty { OnOk result (self.new.buffer.items ≡ []) }
+    {
+        let (written, result) = write_out(self.output, &self.buffer);
+        remove_front(&mut self.buffer, written);
+        result
+    }
+
+    // This stands apart, so that the test for room is inlined.
+    #[cold]
+    #[inline(never)]
+    fn write_all_cold(&mut self, bytes: &[u8]) -> io::Result<()>
+        ensures { OnOk result (Appends (buffered_contents O.contents self.old)
+            (buffered_contents O.contents self.new) bytes.now) }
+    {
+        self.write_buffer()?;
+        if bytes.len() > self.buffer.capacity() - self.buffer.len() {
+            return self.output.write_all(bytes);
+        }
+        append(&mut self.buffer, bytes);
+        Ok(())
+    }
+}
+
+impl<O: Write> Write for Buffered<'_, O> {
+    ghost use Rattle.dwarf_listing_core.specs.Output.{buffered_contents};
+
+    ghost contents = { buffered_contents O.contents };
+
+    fn write(&mut self, buf: &[u8]) -> io::Result<usize> {
+        if buf.len() > self.buffer.capacity() - self.buffer.len() {
+            self.write_buffer()?;
+            if buf.len() > self.buffer.capacity() - self.buffer.len() {
+                return self.output.write(buf);
+            }
+        }
+        append(&mut self.buffer, buf);
+        Ok(buf.len())
+    }
+
+    fn flush(&mut self) -> io::Result<()>
+        ensures bytes { Keeps (buffered_contents O.contents self.old)
+            (buffered_contents O.contents self.new) }
+        ensures empty { OnOk result (self.new.buffer.items ≡ []) }
+    {
+        self.write_buffer()?;
+        self.output.flush()
+    }
+
+    #[inline(always)]
+    fn write_all(&mut self, buf: &[u8]) -> io::Result<()> {
+        if buf.len() <= self.buffer.capacity() - self.buffer.len() {
+            append(&mut self.buffer, buf);
+            return Ok(());
+        }
+        self.write_all_cold(buf)
+    }
+}
+
+// Writes until all is written or a call fails, and returns how many bytes were written. An
+// interrupted call is repeated.
+fn write_out<O: Write>(output: &mut O, bytes: &[u8]) -> (usize, io::Result<()>)
+    ensures bound { result.0 ≤ length bytes.now }
+    ensures bytes { Appends (O.contents output.old) (O.contents output.new)
+        (take result.0 bytes.now) }
+    ensures all { OnOk result.1 (result.0 ≡ length bytes.now) }
+{
+    let mut written = 0;
+    // No output takes so many calls; the bound shows that the loop ends.
+    'calls: for _ in 0..u64::MAX {
+        if written == bytes.len() {
+            return (written, Ok(()));
+        }
+        match output.write(&bytes[written..]) {
+            Ok(0) => return (written, Err(io::Error::from(ErrorKind::WriteZero))),
+            Ok(count) => written += count,
+            Err(error) => {
+                if error.kind() != ErrorKind::Interrupted {
+                    return (written, Err(error));
+                }
+            }
+        }
+    }
+    (written, Err(io::Error::from(ErrorKind::TimedOut)))
+}
+
+fn remove_front(buffer: &mut Vec<u8>, count: usize)
+    requires { count ≤ vec_len buffer.old }
+    ensures items { buffer.new.items ≡ drop count buffer.old.items }
+    ensures len { vec_len buffer.new ≡ vec_len buffer.old - count }
+    ensures capacity { vec_capacity buffer.new ≡ vec_capacity buffer.old }
+{
+    let len = buffer.len();
+    buffer.as_mut_slice().copy_within(count..len, 0);
+    buffer.truncate(len - count);
+}
+
+#[inline(always)]
+fn append(buffer: &mut Vec<u8>, bytes: &[u8])
+    requires { vec_len buffer.old + length bytes.now ≤ vec_capacity buffer.old }
+    ensures { buffer.new.items ≡ buffer.old.items ++ bytes.now }
+{
+    let Ok(()) = buffer.extend_from_slice(bytes) else {
+        unreachable!()
+    };
 }

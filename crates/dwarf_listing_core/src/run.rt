@@ -1,10 +1,11 @@
 //! A whole run: arguments, input, result, output.
 
-ghost use Rattle.std.specs.Prelude.{◌≡◌, ◌≢◌, List, ℕ, ◌↔◌, Ok, Err, IfErr, OnOk, IfSome, map, string_bytes};
-ghost use Rattle.std.specs.Io.KnownBytes.{IsAtEnd};
+ghost use Rattle.std.specs.Prelude.{◌≡◌, ◌≢◌, ◌⊎◌, List, ℕ, ◌↔◌, Ok, Err, IfErr, OnOk, IfSome, map, string_bytes};
+ghost use Rattle.std.specs.Io.KnownBytes.{Appends, IsAtEnd};
 ghost use Rattle.dwarf_read_core.specs.declared.Error.TheVariants.{OutOfMemory};
 ghost use Rattle.dwarf_listing_core.specs.Command.{IsUsage, ReadsInput};
-ghost use Rattle.dwarf_listing_core.specs.Text.{IsText, WritesOut, text_bytes};
+ghost use Rattle.dwarf_listing_core.specs.Fault.{IsMemoryFault};
+ghost use Rattle.dwarf_listing_core.specs.Text.{IsText, text_bytes};
 
 #[cfg(test)]
 pub(crate) mod tests;
@@ -13,14 +14,16 @@ use crate::command::{parse_command, reads_input};
 use crate::fault::Fault;
 use crate::input::read_input;
 use crate::listing::listing;
+use crate::output::{BUFFER_SIZE, Buffered};
 use crate::text::Text;
 use std::alloc::Global;
-use std::io::{BufWriter, Read, Write};
+use std::io::{Read, Write};
 
 /// Does what the arguments request.
 ///
 /// The arguments are parsed first. Then the input is read to its end, if the command lists a part of
-/// it. Once it is known that there is a text, this is written and flushed.
+/// it. Once it is known that there is a text, this is written through a buffer, and the output is
+/// flushed.
 ///
 /// # Errors
 ///
@@ -29,16 +32,16 @@ use std::io::{BufWriter, Read, Write};
 /// - `Section` if what the command lists is malformed, with the first error, or if memory runs out.
 /// - `Write` if the output can't be written. A part of the text may be written then; after any
 ///   other error nothing is.
-pub fn run<I: Read, O: Write + Drop>(
+pub fn run<I: Read, O: Write>(
     mem: Global,
     words: &[String],
     input: &mut I,
-    output: &mut BufWriter<O>,
+    output: &mut O,
 ) -> Result<(), Fault>
     // What was written, and nothing else.
     ensures written { OnOk result (IfSome (I.remaining input.old) (λ bytes. (text : List ℕ)
         × IsText (map string_bytes words.now) bytes (Ok text)
-        × WritesOut O.contents output.old output.new text)) }
+        × Appends (O.contents output.old) (O.contents output.new) text)) }
     ensures unwritten { IfErr result (λ fault. fault ≢ Fault.Write → output.new ≡ output.old) }
     ensures unread { ¬ ReadsInput (map string_bytes words.now) → input.new ≡ input.old }
     ensures end { OnOk result
@@ -60,16 +63,22 @@ pub fn run<I: Read, O: Write + Drop>(
         Vec::new(mem)
     };
     let text = listing(mem, command, bytes)?;
-    write_output(output, &text)
+    write_output(mem, output, &text)
 }
 
-fn write_output<O: Write + Drop>(output: &mut BufWriter<O>, text: &Text) -> Result<(), Fault>
+fn write_output<O: Write>(mem: Global, output: &mut O, text: &Text) -> Result<(), Fault>
     ensures written { OnOk result
-        (WritesOut O.contents output.old output.new (text_bytes text.now)) }
-    ensures fault { IfErr result (λ fault. fault ≡ Fault.Write) }
+        (Appends (O.contents output.old) (O.contents output.new) (text_bytes text.now)) }
+    ensures unwritten { IfErr result (λ fault. fault ≢ Fault.Write → output.new ≡ output.old) }
+    ensures fault { IfErr result (λ fault. (fault ≡ Fault.Write) ⊎ IsMemoryFault fault) }
 {
-    if text.write_to(output).is_err() || output.flush().is_err() {
+    let buffer = Vec::with_capacity(mem, BUFFER_SIZE)?;
+    let mut buffered = Buffered::new(output, buffer);
+    if text.write_to(&mut buffered).is_err() || buffered.flush().is_err() {
         return Err(Fault::Write);
     }
+    // This does nothing when it runs. The proof reads from it what the output holds.
+    let output = buffered.into_inner();
+    let _ = &*output;
     Ok(())
 }

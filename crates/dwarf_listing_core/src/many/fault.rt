@@ -2,7 +2,6 @@
 
 ghost use Rattle.std.specs.Prelude.{◌≡◌, ◌≢◌};
 ghost use Rattle.std.specs.IoError.{error_kind};
-ghost use Rattle.dwarf_listing_core.specs.Fault.{IsReadFault};
 ghost use Rattle.dwarf_listing_core.specs.ManyFault.{many_fault_status};
 
 use crate::fault::Fault;
@@ -40,12 +39,11 @@ impl ManyFault {
         }
     }
 
-    /// Returns the error of an input that can't be read: the given one, unless memory ran out.
+    /// Returns the error of a run whose input has this error: the given one if the input can't be
+    /// read, and otherwise the same error.
     pub fn of_reading(error: Fault, fault: ManyFault) -> ManyFault
-        requires { IsReadFault error }
-        ensures memory { error ≢ Fault.Read
-            → result ≡ ManyFault.Other (Fault.Section Error.OutOfMemory) }
         ensures read { error ≡ Fault.Read → result ≡ fault }
+        ensures other { error ≢ Fault.Read → result ≡ ManyFault.Other error }
     {
         match error {
             Fault::Read => fault,

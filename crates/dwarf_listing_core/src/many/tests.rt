@@ -10,7 +10,7 @@ use crate::words::command_line;
 use crate::words::tests::Given;
 use dwarf_read_core::{Error, ReaderOffsetId};
 use std::alloc::Global;
-use std::io::{BufWriter, ErrorKind};
+use std::io::ErrorKind;
 use std::process::Abort;
 use std::test::Fail;
 
@@ -102,15 +102,12 @@ static RUNS: &[Run] = &[
     ),
 ];
 
-// The buffer is shorter than the text, and all of the text is flushed from it.
 fn check(rt: &impl Abort, mem: Global, run: &Run) -> Result<(), Fail> {
     let (kind, section, offsets, text, wanted) = run;
-    let mut output = BufWriter::with_capacity(mem, 16, Vec::new(mem))?;
+    let mut output = Vec::new(mem);
     let outcome = run_many(mem, *kind, &mut &**section, &mut &**offsets, &mut output);
-    let (written, left) = output.into_parts();
     assert_eq!(rt; outcome, *wanted, "{offsets:?}");
-    assert_eq!(rt; written.as_slice(), *text, "{offsets:?}");
-    assert_eq!(rt; left.len(), 0, "{offsets:?}");
+    assert_eq!(rt; output.as_slice(), *text, "{offsets:?}");
     Ok(())
 }
 
@@ -155,51 +152,57 @@ fn takes_names(rt: HostRuntime) -> Result<(), Fail> {
     Ok(())
 }
 
+// Ends the test if a run with these inputs has another outcome, or writes another number of bytes.
+fn check_ends(
+    rt: &impl Abort,
+    mem: Global,
+    kind: Kind,
+    (mut section, mut offsets): (FailingReader<'_>, FailingReader<'_>),
+    wanted: (usize, Result<(), ManyFault>),
+) -> Result<(), Fail> {
+    let mut output = Vec::new(mem);
+    let outcome = run_many(mem, kind, &mut section, &mut offsets, &mut output);
+    assert_eq!(rt; (output.len(), outcome), wanted);
+    Ok(())
+}
+
 // Each call of an input may fail: that for each byte, and the one that finds the end.
 #[test]
 fn inputs_fail_at_each_call(rt: HostRuntime) -> Result<(), Fail> {
     let mem = rt.alloc();
-    let (kind, section, offsets, text, _) = STRINGS;
-    for good_calls in 0..section.len() + 2 {
-        let mut bytes = FailingReader::new(section, good_calls, ErrorKind::OutOfMemory);
-        let mut lines = FailingReader::new(offsets, good_calls, ErrorKind::OutOfMemory);
-        let mut output = BufWriter::new(mem, Vec::new(mem))?;
-        let outcome = run_many(mem, kind, &mut bytes, &mut lines, &mut output);
-        let wanted = if good_calls <= section.len() {
-            (0, Err(ManyFault::ReadSection))
-        } else {
-            (text.len(), Ok(()))
-        };
-        assert_eq!(rt; (output.get_ref().len(), outcome), wanted);
-    }
-    for good_calls in 0..offsets.len() + 1 {
-        let mut lines = FailingReader::new(offsets, good_calls, ErrorKind::OutOfMemory);
-        let mut output = BufWriter::new(mem, Vec::new(mem))?;
-        let outcome = run_many(mem, kind, &mut &*section, &mut lines, &mut output);
-        let wanted = (0, Err(ManyFault::ReadOffsets));
-        assert_eq!(rt; (output.get_ref().len(), outcome), wanted);
+    for (kind, section, offsets, text, outcome) in [STRINGS, TABLES] {
+        let reader = |bytes, calls| FailingReader::new(bytes, calls, ErrorKind::OutOfMemory);
+        let (section_calls, calls) = (section.len() + 1, offsets.len() + 1);
+        for good_calls in 0..section_calls {
+            let inputs = (reader(section, good_calls), reader(offsets, calls));
+            check_ends(&rt, mem, kind, inputs, (0, Err(ManyFault::ReadSection)))?;
+        }
+        for good_calls in 0..calls {
+            let inputs = (reader(section, section_calls), reader(offsets, good_calls));
+            check_ends(&rt, mem, kind, inputs, (0, Err(ManyFault::ReadOffsets)))?;
+        }
+        let inputs = (reader(section, section_calls), reader(offsets, calls));
+        check_ends(&rt, mem, kind, inputs, (text.len(), outcome))?;
     }
     Ok(())
 }
 
-// The text before an error at an offset is nine bytes, each written by a call of its own. Then the
+// Each byte of the text is written by a call of its own, also before an error at an offset. Then the
 // output is flushed.
 #[test]
 fn outputs_fail_at_each_call(rt: HostRuntime) -> Result<(), Fail> {
-    let mem = rt.alloc();
-    let at = ManyFault::At(4, Error::UnexpectedEof(ReaderOffsetId(4)));
-    for good_calls in 0..11usize {
-        let writer = FailingWriter::new(good_calls, ErrorKind::OutOfMemory);
-        let mut output = BufWriter::with_capacity(mem, 4, writer)?;
-        let mut section = b"one\0two".as_slice();
-        let mut offsets = b"0\n4\n".as_slice();
-        let outcome = run_many(mem, Kind::Strings, &mut section, &mut offsets, &mut output);
-        let wanted = if good_calls < 10 {
-            ManyFault::Other(Fault::Write)
-        } else {
-            at
-        };
-        assert_eq!(rt; outcome, Err(wanted), "{good_calls}");
+    for (kind, section, offsets, text, outcome) in [STRINGS, TABLES] {
+        for good_calls in 0..text.len() + 2 {
+            let mut output = FailingWriter::new(good_calls, ErrorKind::OutOfMemory);
+            let (mut section, mut offsets) = (section, offsets);
+            let ended = run_many(rt.alloc(), kind, &mut section, &mut offsets, &mut output);
+            let wanted = if good_calls > text.len() {
+                outcome
+            } else {
+                Err(ManyFault::Other(Fault::Write))
+            };
+            assert_eq!(rt; ended, wanted, "{good_calls}");
+        }
     }
     Ok(())
 }
@@ -212,36 +215,36 @@ fn check_last(rt: &impl Print, mem: Global) -> Result<(), Fail> {
     Ok(())
 }
 
-// A run writes the whole text, or it returns that memory ran out and has written a front of the
-// text. `tools/fail-alloc` makes each allocation fail.
-fn check_refused<R: Abort + Print>(rt: &R, mem: Global, run: Run) -> Result<(), Fail> {
-    let (kind, section, offsets, text, wanted) = run;
-    let Ok(room) = Vec::with_capacity(mem, 64) else {
-        return Ok(());
-    };
-    let Ok(mut output) = BufWriter::with_capacity(mem, 16, room) else {
+// A run writes the whole text, or it returns that memory ran out and has written the text of the
+// offsets before: so many bytes. `tools/fail-alloc` makes each allocation fail.
+fn check_refused<R: Abort + Print>(
+    rt: &R,
+    mem: Global,
+    (kind, section, offsets, text, wanted): Run,
+    stops: &[usize],
+) -> Result<(), Fail> {
+    let Ok(mut output) = Vec::with_capacity(mem, 64) else {
         return Ok(());
     };
     let outcome = run_many(mem, kind, &mut &*section, &mut &*offsets, &mut output);
-    let (written, left) = output.into_parts();
     if outcome == Err(ManyFault::Other(Fault::out_of_memory())) {
-        assert!(rt; text.starts_with(written.as_slice()), "{offsets:?}");
+        assert!(rt; text.starts_with(output.as_slice()), "{offsets:?}");
+        assert!(rt; stops.contains(&output.len()), "{offsets:?}");
     } else {
         assert_eq!(rt; outcome, wanted, "{offsets:?}");
-        assert_eq!(rt; written.as_slice(), text, "{offsets:?}");
-        assert_eq!(rt; left.len(), 0, "{offsets:?}");
+        assert_eq!(rt; output.as_slice(), text, "{offsets:?}");
     }
     check_last(rt, mem)
 }
 
 #[test]
 fn refused_memory_for_many_strings(rt: HostRuntime) -> Result<(), Fail> {
-    check_refused(&rt, rt.alloc(), STRINGS)
+    check_refused(&rt, rt.alloc(), STRINGS, &[0, 9, 18])
 }
 
 #[test]
 fn refused_memory_for_many_tables(rt: HostRuntime) -> Result<(), Fail> {
-    check_refused(&rt, rt.alloc(), TABLES)
+    check_refused(&rt, rt.alloc(), TABLES, &[0, 36, 47])
 }
 
 // Errors, each with its line and its status.

@@ -2,9 +2,9 @@
 
 use super::run;
 use crate::fault::Fault;
-use ends::InterruptedReader;
+use ends::{InterruptedReader, InterruptedWriter};
 use std::alloc::{AllocError, Global};
-use std::io::{BufWriter, Read};
+use std::io::Read;
 use std::process::Abort;
 use std::test::Fail;
 
@@ -31,8 +31,7 @@ fn words(mem: Global, texts: &[&str]) -> Result<Vec<String>, AllocError> {
     Ok(words)
 }
 
-// Ends the test if a run has another outcome, or if it has an error and writes something. The buffer
-// is shorter than most texts, and nothing is left in it.
+// Ends the test if a run has another outcome, or if it has an error and writes something.
 fn check<I: Read>(
     rt: &impl Abort,
     mem: Global,
@@ -40,11 +39,9 @@ fn check<I: Read>(
     input: &mut I,
     wanted: Outcome<'_>,
 ) -> Result<(), Fail> {
-    let mut output = BufWriter::with_capacity(mem, 16, Vec::new(mem))?;
+    let mut output = Vec::new(mem);
     let outcome = run(mem, &words(mem, texts)?, input, &mut output);
-    let (written, left) = output.into_parts();
-    assert_eq!(rt; left.len(), 0);
-    check_outcome(rt, mem, outcome, &written, wanted)
+    check_outcome(rt, mem, outcome, &output, wanted)
 }
 
 fn check_outcome(
@@ -66,21 +63,37 @@ fn check_outcome(
     Ok(())
 }
 
-// Arguments, an input, and the text.
-static TEXTS: &[(&[&str], &[u8], &[u8])] = &[
+// A row for each command, and for both byte orders: arguments, an input, and the text. A command
+// that takes a number doesn't read the input, which is empty here.
+type Row = (&'static [&'static str], &'static [u8], &'static [u8]);
+
+static TEXTS: &[Row] = &[
     (&["abbrev", "0"], UNIT, UNIT_TEXT),
     (&["abbrev-strict", "0"], UNIT, UNIT_TEXT),
     (&["str", "4"], b"one\0two\0\0", b"two\n"),
+    (&["str", "8"], b"one\0two\0\0", b"\n"),
+    (
+        &["addr", "le"],
+        b"\x08\0\0\0\x05\0\x04\0\x78\x56\x34\x12",
+        b"set 0: length 8, 32-bit, address size 4\n  0x12345678\n",
+    ),
     (
         &["addr", "be"],
         b"\0\0\0\x08\0\x05\x04\0\x12\x34\x56\x78",
         b"set 0: length 8, 32-bit, address size 4\n  0x12345678\n",
     ),
     (
+        &["str-offsets", "le"],
+        b"\x08\0\0\0\x05\0\0\0\xe8\x03\0\0",
+        b"set 0: length 8, 32-bit\n  1000\n",
+    ),
+    (
         &["str-offsets", "be"],
         b"\0\0\0\x08\0\x05\0\0\xff\xff\xff\xff",
         b"set 0: length 8, 32-bit\n  4294967295\n",
     ),
+    (&["uleb", "12857"], b"", b"b9 64\n"),
+    (&["sleb", "-65"], b"", b"bf 7f\n"),
 ];
 
 // Each command, with a reader that returns one byte a call. What the program prints of whole inputs
@@ -90,6 +103,18 @@ fn lists_byte_by_byte(rt: HostRuntime) -> Result<(), Fail> {
     for (texts, bytes, text) in TEXTS {
         let mut input = InterruptedReader::new(bytes);
         check(&rt, rt.alloc(), texts, &mut input, Ok(text))?;
+    }
+    Ok(())
+}
+
+// Each command, with a writer that takes one byte a call.
+#[test]
+fn writes_byte_by_byte(rt: HostRuntime) -> Result<(), Fail> {
+    let mem = rt.alloc();
+    for (texts, bytes, text) in TEXTS {
+        let mut output = InterruptedWriter::new(mem);
+        let outcome = run(mem, &words(mem, texts)?, &mut &**bytes, &mut output);
+        check_outcome(&rt, mem, outcome, &output.bytes, Ok(text))?;
     }
     Ok(())
 }

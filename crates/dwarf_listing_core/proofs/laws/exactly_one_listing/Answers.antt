@@ -1,14 +1,23 @@
-use Rattle.dwarf_listing_core.proofs.Common.{◌-◌, ◌^◌, string_line, section_of, address_listing, offset_listing, sets_section, table_text, addresses_of, string_offsets_of}
+use Rattle.dwarf_listing_core.proofs.Common.{ℕ, ◌-◌, ◌^◌, string_line, section_of, address_listing, offset_listing, sets_section, table_text, addresses_of, string_offsets_of}
 use Rattle.dwarf_listing_core.proofs.OneText.{one_text_by}
 use Rattle.dwarf_listing_core.proofs.SetTexts.{address_size, one_section, word_positive}
+use Rattle.dwarf_read_core.specs.Input.{Input}
+use Rattle.dwarf_read_core.specs.Once.{HasOne}
+use Rattle.dwarf_read_core.specs.Strings.{StringAt, string_at}
+use Rattle.dwarf_read_core.proofs.Layouts.{At_one}
 use Rattle.dwarf_listing_core.proofs.laws.exactly_one_listing.Goals as goal
+
+-- a section has one string or error at an offset
+string_one : (section : Input) (offset : ℕ) → HasOne (StringAt section offset)
+unfolding StringAt
+string_one section offset = At_one (string_at offset) section
 
 pub returns : goal.returns
 returns c = record {
   table = λ section offset. one_text_by table_text _ (c.exactly_one_answer.ensures (section_of section) offset);
   strict = λ section offset.
       one_text_by table_text _ (c.exactly_one_strict_answer.ensures.one (section_of section) offset);
-  string = λ section offset. one_text_by string_line _ (c.exactly_one_string.ensures (section_of section) offset);
+  string = λ section offset. one_text_by string_line _ (string_one (section_of section) offset);
   addresses = λ endian section. one_section address_listing (sets_section endian section)
       (λ offset old new s h. c.exactly_one_list_of_entries.ensures.one (addresses_of s)
       (address_size (2 ^ 64 - 1) offset old new s h))

@@ -1,7 +1,7 @@
-use Rattle.dwarf_listing_core.proofs.Common.{arith, ◌≡◌, ◌<◌, ℕ, suc, List, [], length, take, drop, get_or, Err, drop-cons, take-append-drop, take_more, err_from_is_err_and, Error, EndsAt, ListsAll, ListsOne, one_more}
+use Rattle.dwarf_listing_core.proofs.Common.{arith, ◌≡◌, ◌<◌, ℕ, suc, List, [], length, take, drop, get_or, Err, drop-cons, take-append-drop, take_more, err_from_is_err_and, Error, EndsAt, ListsAll, ListsOne, one_more, sym}
 use Rattle.std.proofs.KnownBytes.{Appends-nil, Appends-trans}
 use Rattle.dwarf_listing_core.specs.declared.arguments.Kind.{Kind}
-use Rattle.dwarf_listing_core.specs.Many.{nothing}
+use Rattle.dwarf_listing_core.specs.Many.{ListsFirst, nothing}
 use Rattle.dwarf_listing_core.proofs.many.write_each_at.Goals as goal
 
 -- if the next offset has an error, that is the first error
@@ -14,6 +14,16 @@ first_error {kind} {section} {offset} {error} offsets i within listed same fails
   place = grind (arith, take-append-drop, drop-cons);
   listed = listed;
   fails = rw same fails;
+}
+
+-- the text of the offsets so far is that of the first offsets
+first_offsets : {kind : Kind} {section text : List ℕ} (offsets : List ℕ) (i : ℕ)
+    → ListsAll kind section (take i offsets) text → ListsFirst kind section offsets text
+first_offsets offsets i listed = record {
+  before = take i offsets;
+  after = drop i offsets;
+  place = sym (take-append-drop i offsets);
+  listed = listed;
 }
 
 pub loop-offset-init : goal.loop-offset-init
@@ -39,4 +49,14 @@ returns-in_err-write_at-clause-first g c offset error failed =
       before.0,
       first_error c.args.offsets.now i c.loop-offset-test.true before.1 at.0 at.2,
       rw at.1 before.2,
+    )
+
+pub returns-in_err-write_at-clause-stopped : goal.returns-in_err-write_at-clause-stopped
+returns-in_err-write_at-clause-stopped g c fault failed other =
+    let p = err_from_is_err_and c.from_residual.result c.from_residual.ensures.1 in
+    let before = c.loop-offset.invariant in
+    let same = c.in_err-write_at.ensures.stopped fault (cc (p.1, p.2)) other in (
+      before.0,
+      first_offsets c.args.offsets.now c.loop-offset.offset-index before.1,
+      rw same before.2,
     )

@@ -1,10 +1,10 @@
 //! Inputs and outputs that read or write one byte a call, are interrupted, and fail.
 
-use super::{TEXTS, UNIT, UNIT_TEXT, check, check_outcome, words};
+use super::{Row, TEXTS, check, check_outcome, words};
 use crate::run::run;
 use std::alloc::Global;
 use std::io;
-use std::io::{BufWriter, ErrorKind, Read, Write};
+use std::io::{ErrorKind, Read, Write};
 use std::process::Abort;
 use std::test::Fail;
 
@@ -73,21 +73,55 @@ impl Read for FailingReader<'_> {
     }
 }
 
-// The call behind the last byte, which finds the end, is one of them.
+// The call behind the last byte, which finds the end, is one of those that fail. A number is listed
+// without a call.
 #[test]
 fn inputs_fail_at_each_call(rt: HostRuntime) -> Result<(), Fail> {
-    for kind in KINDS {
-        for good_calls in 0..UNIT.len() + 2 {
-            let mut input = FailingReader::new(UNIT, good_calls, *kind);
-            let wanted = if good_calls <= UNIT.len() {
-                Err(("error: cannot read input", 3))
-            } else {
-                Ok(UNIT_TEXT)
-            };
-            check(&rt, rt.alloc(), &["abbrev", "0"], &mut input, wanted)?;
+    for (texts, bytes, text) in TEXTS {
+        for kind in KINDS {
+            for good_calls in 0..bytes.len() + 2 {
+                let mut input = FailingReader::new(bytes, good_calls, *kind);
+                let wanted = if !bytes.is_empty() && good_calls <= bytes.len() {
+                    Err(("error: cannot read input", 3))
+                } else {
+                    Ok(*text)
+                };
+                check(&rt, rt.alloc(), texts, &mut input, wanted)?;
+            }
         }
     }
     Ok(())
+}
+
+// A writer that takes one byte a call, and whose every other call is interrupted.
+#[derive(Drop)]
+pub(super) struct InterruptedWriter {
+    pub(super) bytes: Vec<u8>,
+    is_interrupted: bool,
+}
+
+impl InterruptedWriter {
+    pub(super) fn new(mem: Global) -> InterruptedWriter {
+        InterruptedWriter {
+            bytes: Vec::new(mem),
+            is_interrupted: false,
+        }
+    }
+}
+
+impl Write for InterruptedWriter {
+    fn write(&mut self, buf: &[u8]) -> io::Result<usize> {
+        self.is_interrupted = !self.is_interrupted;
+        if self.is_interrupted {
+            return Err(io::Error::from(ErrorKind::Interrupted));
+        }
+        let len = buf.len().min(1);
+        self.bytes.write(&buf[..len])
+    }
+
+    fn flush(&mut self) -> io::Result<()> {
+        Ok(())
+    }
 }
 
 // A writer that writes one byte a call, and fails after so many calls. A flush is a call, too.
@@ -127,16 +161,16 @@ impl Write for FailingWriter {
     }
 }
 
-// Each byte of the text is written by a call of its own, and then the output is flushed.
+// Each byte of the text is written by a call of its own, and then the output is flushed. Behind the
+// call that fails there is none.
 fn check_failing(
     rt: &impl Abort,
     mem: Global,
-    (texts, mut bytes, text): (&[&str], &[u8], &[u8]),
+    (texts, mut bytes, text): Row,
     good_calls: usize,
     kind: ErrorKind,
 ) -> Result<(), Fail> {
-    let writer = FailingWriter::new(good_calls, kind);
-    let mut output = BufWriter::with_capacity(mem, 16, writer)?;
+    let mut output = FailingWriter::new(good_calls, kind);
     let outcome = run(mem, &words(mem, texts)?, &mut bytes, &mut output);
     let wanted = if good_calls > text.len() {
         Ok(b"".as_slice())
@@ -144,7 +178,7 @@ fn check_failing(
         Err(("error: cannot write output", 3))
     };
     let calls = (text.len() + 1).min(good_calls.saturating_add(1));
-    assert_eq!(rt; output.get_ref().calls, calls, "{texts:?}");
+    assert_eq!(rt; output.calls, calls, "{texts:?}");
     check_outcome(rt, mem, outcome, b"", wanted)
 }
 

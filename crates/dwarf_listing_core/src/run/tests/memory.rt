@@ -5,8 +5,7 @@
 
 ghost use Rattle.std.specs.Prelude.{◌≤◌};
 
-use super::{UNIT, UNIT_TEXT, check_outcome, words};
-use crate::output::buffered;
+use super::{Row, TEXTS, check_outcome, words};
 use crate::run::run;
 use std::alloc::Global;
 use std::io;
@@ -36,33 +35,24 @@ impl Write for ArrayWriter {
 }
 
 // A run writes the whole text, or it returns that memory ran out and writes nothing.
-fn check_refused<R: Abort + Print>(
-    rt: &R,
-    mem: Global,
-    texts: &[&str],
-    mut input: &[u8],
-    text: &[u8],
-) -> Result<(), Fail> {
+fn check_refused(rt: &impl Abort, mem: Global, (texts, mut input, text): Row) -> Result<(), Fail> {
     let Ok(words) = words(mem, texts) else {
         return Ok(());
     };
-    let writer = ArrayWriter {
+    let mut output = ArrayWriter {
         bytes: [0; 256],
         length: 0,
-    };
-    let Ok(mut output) = buffered(mem, writer) else {
-        return Ok(());
     };
     let outcome = run(mem, &words, &mut input, &mut output);
     let wanted = match outcome {
         Ok(()) => Ok(text),
         Err(_) => Err(("error: out of memory", 1)),
     };
-    let (writer, left) = output.into_parts();
-    assert_eq!(rt; left.len(), 0);
-    let written = &writer.bytes[..writer.length];
-    check_outcome(rt, mem, outcome, written, wanted)?;
-    // The last allocation. If it fails, each one before it failed in an earlier run.
+    check_outcome(rt, mem, outcome, &output.bytes[..output.length], wanted)
+}
+
+// The last allocation. If it fails, each one before it failed in an earlier run.
+fn check_last(rt: &impl Print, mem: Global) -> Result<(), Fail> {
     if Vec::from_slice(mem, &[0u8]).is_err() {
         println!(rt; "every request was refused")?;
     }
@@ -70,40 +60,17 @@ fn check_refused<R: Abort + Print>(
 }
 
 #[test]
-fn refused_memory_for_a_table(rt: HostRuntime) -> Result<(), Fail> {
-    check_refused(&rt, rt.alloc(), &["abbrev", "0"], UNIT, UNIT_TEXT)
+fn refused_memory_for_tables_and_strings(rt: HostRuntime) -> Result<(), Fail> {
+    for row in TEXTS.iter().take(4) {
+        check_refused(&rt, rt.alloc(), *row)?;
+    }
+    check_last(&rt, rt.alloc())
 }
 
 #[test]
-fn refused_memory_for_a_strict_table(rt: HostRuntime) -> Result<(), Fail> {
-    check_refused(&rt, rt.alloc(), &["abbrev-strict", "0"], UNIT, UNIT_TEXT)
-}
-
-#[test]
-fn refused_memory_for_a_string(rt: HostRuntime) -> Result<(), Fail> {
-    check_refused(&rt, rt.alloc(), &["str", "4"], b"one\0two\0", b"two\n")
-}
-
-#[test]
-fn refused_memory_for_addresses(rt: HostRuntime) -> Result<(), Fail> {
-    let bytes = b"\0\0\0\x08\0\x05\x04\0\x12\x34\x56\x78";
-    let text = b"set 0: length 8, 32-bit, address size 4\n  0x12345678\n";
-    check_refused(&rt, rt.alloc(), &["addr", "be"], bytes, text)
-}
-
-#[test]
-fn refused_memory_for_string_offsets(rt: HostRuntime) -> Result<(), Fail> {
-    let bytes = b"\0\0\0\x08\0\x05\0\0\0\0\x03\xe8";
-    let text = b"set 0: length 8, 32-bit\n  1000\n";
-    check_refused(&rt, rt.alloc(), &["str-offsets", "be"], bytes, text)
-}
-
-#[test]
-fn refused_memory_for_an_unsigned_number(rt: HostRuntime) -> Result<(), Fail> {
-    check_refused(&rt, rt.alloc(), &["uleb", "12857"], b"", b"b9 64\n")
-}
-
-#[test]
-fn refused_memory_for_a_signed_number(rt: HostRuntime) -> Result<(), Fail> {
-    check_refused(&rt, rt.alloc(), &["sleb", "-65"], b"", b"bf 7f\n")
+fn refused_memory_for_sets_and_numbers(rt: HostRuntime) -> Result<(), Fail> {
+    for row in TEXTS.iter().skip(4) {
+        check_refused(&rt, rt.alloc(), *row)?;
+    }
+    check_last(&rt, rt.alloc())
 }
