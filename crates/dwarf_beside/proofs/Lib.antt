@@ -1,3 +1,1 @@
-pub mod Common
-pub mod ItemLemmas
-pub mod SumLemmas
+pub mod TableLengths

@@ -1,4 +1,2 @@
 pub mod Fault
 pub mod Sections
-pub mod Sets
-pub mod Sums

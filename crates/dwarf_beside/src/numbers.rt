@@ -1,8 +1,4 @@
-//! Loops over LEB128 numbers (DWARF 5, 7.6).
-
-ghost use Rattle.dwarf_read_core.specs.Leb128.{unsigned64, unsigned16, signed64, ReadsNumber, RefusesNumber, LacksEncoding};
-ghost use Rattle.dwarf_read_core.specs.Shortest.{IsShortestLength};
-ghost use Rattle.dwarf_beside.specs.Sums.{Adds, AddsOrRefuses, Counts, ReadsSigned};
+//! Loops over LEB128 numbers (DWARF 5, 7.6), to be measured.
 
 use dwarf_read_core::leb128::{read, write};
 use dwarf_read_core::{EndianSlice, LittleEndian, Reader};
@@ -10,10 +6,7 @@ use dwarf_read_core::{EndianSlice, LittleEndian, Reader};
 /// Reads the unsigned numbers that `bytes` are one after the other, and returns their sum modulo
 /// 2^64, or 0 if one of them is none.
 #[unsafe(no_mangle)]
-#[tactic(auto, using(crate::proofs::SumLemmas::read_steps))]
-pub extern "C" fn beside_unsigned_sum(bytes: &[u8]) -> u64
-    ensures { AddsOrRefuses (ReadsNumber unsigned64) (RefusesNumber unsigned64) bytes.now result }
-{
+pub extern "C" fn beside_unsigned_sum(bytes: &[u8]) -> u64 {
     let mut input = EndianSlice::new(bytes, LittleEndian);
     let mut sum: u64 = 0;
     while !input.is_empty() {
@@ -27,10 +20,7 @@ pub extern "C" fn beside_unsigned_sum(bytes: &[u8]) -> u64
 
 /// The same of signed numbers.
 #[unsafe(no_mangle)]
-#[tactic(auto, using(crate::proofs::SumLemmas::read_steps))]
-pub extern "C" fn beside_signed_sum(bytes: &[u8]) -> u64
-    ensures { AddsOrRefuses ReadsSigned (RefusesNumber signed64) bytes.now result }
-{
+pub extern "C" fn beside_signed_sum(bytes: &[u8]) -> u64 {
     let mut input = EndianSlice::new(bytes, LittleEndian);
     let mut sum: u64 = 0;
     while !input.is_empty() {
@@ -44,10 +34,7 @@ pub extern "C" fn beside_signed_sum(bytes: &[u8]) -> u64
 
 /// The same of numbers of at most 16 bits.
 #[unsafe(no_mangle)]
-#[tactic(auto, using(crate::proofs::SumLemmas::read_steps))]
-pub extern "C" fn beside_short_sum(bytes: &[u8]) -> u64
-    ensures { AddsOrRefuses (ReadsNumber unsigned16) (RefusesNumber unsigned16) bytes.now result }
-{
+pub extern "C" fn beside_short_sum(bytes: &[u8]) -> u64 {
     let mut input = EndianSlice::new(bytes, LittleEndian);
     let mut sum: u64 = 0;
     while !input.is_empty() {
@@ -62,10 +49,7 @@ pub extern "C" fn beside_short_sum(bytes: &[u8]) -> u64
 /// Skips the numbers that `bytes` are one after the other, and returns how many there are, or 0 if
 /// the last one is cut.
 #[unsafe(no_mangle)]
-#[tactic(auto, using(crate::proofs::SumLemmas::read_steps))]
-pub extern "C" fn beside_skipped_count(bytes: &[u8]) -> u64
-    ensures { AddsOrRefuses Counts LacksEncoding bytes.now result }
-{
+pub extern "C" fn beside_skipped_count(bytes: &[u8]) -> u64 {
     let mut input = EndianSlice::new(bytes, LittleEndian);
     let mut count: u64 = 0;
     while !input.is_empty() {
@@ -79,10 +63,7 @@ pub extern "C" fn beside_skipped_count(bytes: &[u8]) -> u64
 
 /// Writes each number, and returns how many bytes they have together, modulo 2^64.
 #[unsafe(no_mangle)]
-#[tactic(auto, using(crate::proofs::SumLemmas::sum_steps))]
-pub extern "C" fn beside_written_sum(values: &[u64]) -> usize
-    ensures { Adds (IsShortestLength unsigned64) values.now result }
-{
+pub extern "C" fn beside_written_sum(values: &[u64]) -> usize {
     let mut sum: usize = 0;
     for value in values {
         sum = sum.wrapping_add(write::Leb128::unsigned(*value).len());

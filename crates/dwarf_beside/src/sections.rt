@@ -1,7 +1,4 @@
-//! Loops over strings, and over lookups by an index (DWARF 5, 7.26 and 7.27).
-
-ghost use Rattle.dwarf_beside.specs.Sections.{section_of};
-ghost use Rattle.dwarf_beside.specs.Sums.{AddsOrFails, HasAddress, HasTextOf, HasWord, OrZero};
+//! Loops over strings, and over lookups by an index (DWARF 5, 7.26 and 7.27), to be measured.
 
 use dwarf_read_core::{
     DebugAddr, DebugAddrBase, DebugAddrIndex, DebugStr, DebugStrOffset, DebugStrOffsets,
@@ -11,10 +8,7 @@ use dwarf_read_core::{
 /// Returns the sum of the addresses of eight bytes at these indexes, modulo 2^64, or 0 for an
 /// error.
 #[unsafe(no_mangle)]
-#[tactic(auto, using(crate::proofs::SumLemmas::sum_steps))]
-pub extern "C" fn beside_address_lookups(section: &[u8], base: usize, indices: &[usize]) -> u64
-    ensures { OrZero (AddsOrFails (HasAddress (section_of section.now) base) indices.now) result }
-{
+pub extern "C" fn beside_address_lookups(section: &[u8], base: usize, indices: &[usize]) -> u64 {
     let section = DebugAddr::from(EndianSlice::new(section, LittleEndian));
     let mut sum: u64 = 0;
     for index in indices {
@@ -28,10 +22,7 @@ pub extern "C" fn beside_address_lookups(section: &[u8], base: usize, indices: &
 
 /// Returns how long the strings at these offsets are together, modulo 2^64, or 0 for an error.
 #[unsafe(no_mangle)]
-#[tactic(auto, using(crate::proofs::SumLemmas::sum_steps))]
-pub extern "C" fn beside_strings(section: &[u8], offsets: &[usize]) -> usize
-    ensures { OrZero (AddsOrFails (HasTextOf (section_of section.now)) offsets.now) result }
-{
+pub extern "C" fn beside_strings(section: &[u8], offsets: &[usize]) -> usize {
     let section = DebugStr::new(section, LittleEndian);
     let mut sum: usize = 0;
     for offset in offsets {
@@ -46,10 +37,11 @@ pub extern "C" fn beside_strings(section: &[u8], offsets: &[usize]) -> usize
 /// Returns the sum of the string offsets of four bytes at these indexes, modulo 2^64, or 0 for an
 /// error.
 #[unsafe(no_mangle)]
-#[tactic(auto, using(crate::proofs::SumLemmas::sum_steps))]
-pub extern "C" fn beside_str_offset_lookups(section: &[u8], base: usize, indices: &[usize]) -> usize
-    ensures { OrZero (AddsOrFails (HasWord (section_of section.now) base) indices.now) result }
-{
+pub extern "C" fn beside_str_offset_lookups(
+    section: &[u8],
+    base: usize,
+    indices: &[usize],
+) -> usize {
     let section = DebugStrOffsets::from(EndianSlice::new(section, LittleEndian));
     let mut sum: usize = 0;
     for index in indices {

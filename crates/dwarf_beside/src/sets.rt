@@ -1,19 +1,9 @@
-//! Loops over sets of addresses (DWARF 5, 7.27).
-
-ghost use Rattle.dwarf_read_core.specs.Lookups.{AnswersBy};
-ghost use Rattle.dwarf_read_core.specs.Sets.{seen_by};
-ghost use Rattle.dwarf_beside.specs.Sections.{section_of};
-ghost use Rattle.dwarf_beside.specs.Sets.{AddsAddresses, AddsMeasures, AddsSets};
-ghost use Rattle.dwarf_beside.specs.Sums.{OrZero};
+//! Loops over sets of addresses (DWARF 5, 7.27), to be measured.
 
 use dwarf_read_core::{AddrHeader, DebugAddr, EndianSlice, LittleEndian, Reader, Result};
 
 // The sum of the addresses of a set.
-#[tactic(auto, using(crate::proofs::ItemLemmas::none_added))]
-fn sum_of_set<R: Reader>(header: &AddrHeader<R>) -> Result<u64>
-    ensures { AnswersBy (AddsAddresses (seen_by R.view header.now)) (λ sum. sum)
-        R.clone_is_free result }
-{
+fn sum_of_set<R: Reader>(header: &AddrHeader<R>) -> Result<u64> {
     let mut sum: u64 = 0;
     for address in header.entries()? {
         sum = sum.wrapping_add(address?);
@@ -22,10 +12,7 @@ fn sum_of_set<R: Reader>(header: &AddrHeader<R>) -> Result<u64>
 }
 
 // The sum of all addresses of all sets.
-#[tactic(auto, using(crate::proofs::ItemLemmas::none_added))]
-fn sum_of_sets(section: &[u8]) -> Result<u64>
-    ensures { AddsSets AddsAddresses (section_of section.now) result }
-{
+fn sum_of_sets(section: &[u8]) -> Result<u64> {
     let section = DebugAddr::from(EndianSlice::new(section, LittleEndian));
     let mut sum: u64 = 0;
     for header in section.headers()? {
@@ -37,17 +24,12 @@ fn sum_of_sets(section: &[u8]) -> Result<u64>
 
 /// Returns the sum of all addresses of all sets modulo 2^64, or 0 for an error.
 #[unsafe(no_mangle)]
-pub extern "C" fn beside_addresses(section: &[u8]) -> u64
-    ensures { OrZero (AddsSets AddsAddresses (section_of section.now)) result }
-{
+pub extern "C" fn beside_addresses(section: &[u8]) -> u64 {
     sum_of_sets(section).unwrap_or(0)
 }
 
 // A sum of what each header has.
-#[tactic(auto, using(crate::proofs::ItemLemmas::none_added))]
-fn sum_of_headers(section: &[u8]) -> Result<u64>
-    ensures { AddsSets AddsMeasures (section_of section.now) result }
-{
+fn sum_of_headers(section: &[u8]) -> Result<u64> {
     let section = DebugAddr::from(EndianSlice::new(section, LittleEndian));
     let mut sum: u64 = 0;
     for header in section.headers()? {
@@ -62,8 +44,6 @@ fn sum_of_headers(section: &[u8]) -> Result<u64>
 
 /// Returns a sum of what each header of a set of addresses has, or 0 for an error.
 #[unsafe(no_mangle)]
-pub extern "C" fn beside_headers(section: &[u8]) -> u64
-    ensures { OrZero (AddsSets AddsMeasures (section_of section.now)) result }
-{
+pub extern "C" fn beside_headers(section: &[u8]) -> u64 {
     sum_of_headers(section).unwrap_or(0)
 }

@@ -1,10 +1,4 @@
-//! Loops over abbreviation tables (DWARF 5, 7.5.3) and their cache.
-
-ghost use Rattle.std.specs.Prelude.{◌≡◌, ◌*◌, ◌%◌, ◌^◌, ◌⊎◌, IfErr, IfOk};
-ghost use Rattle.dwarf_read_core.specs.Cache.{IsFaithful};
-ghost use Rattle.dwarf_beside.specs.Sections.{section_of};
-ghost use Rattle.dwarf_beside.specs.Sums.{Adds, AddsTimes, CountsAs, OfTable, tags_to};
-ghost use Rattle.dwarf_beside.specs.Sums.{declaration_sum, specification_sum, walk_sum};
+//! Loops over abbreviation tables (DWARF 5, 7.5.3) and their cache, to be measured.
 
 use crate::single::{table_at, tag_of};
 use dwarf_read_core::{
@@ -20,10 +14,7 @@ pub const FAILED: usize = 1 << 32;
 /// Reads the table at each offset, and returns how many abbreviations they have together. A table
 /// with an error counts as 2^32.
 #[unsafe(no_mangle)]
-#[tactic(auto, using(crate::proofs::SumLemmas::sum_steps))]
-pub extern "C" fn beside_tables(mem: Global, section: &[u8], offsets: &[usize]) -> usize
-    ensures { Adds (CountsAs (section_of section.now)) offsets.now result }
-{
+pub extern "C" fn beside_tables(mem: Global, section: &[u8], offsets: &[usize]) -> usize {
     let mut sum: usize = 0;
     for offset in offsets {
         sum = sum.wrapping_add(counted(mem, section, *offset));
@@ -32,10 +23,7 @@ pub extern "C" fn beside_tables(mem: Global, section: &[u8], offsets: &[usize]) 
 }
 
 // How many abbreviations the table at an offset has, or what an error counts as.
-#[tactic(auto, using(crate::proofs::SumLemmas::table_length))]
-fn counted(mem: Global, section: &[u8], offset: usize) -> usize
-    ensures { CountsAs (section_of section.now) offset result }
-{
+fn counted(mem: Global, section: &[u8], offset: usize) -> usize {
     match table_at(mem, section, offset) {
         Ok(table) => table.len(),
         Err(_) => FAILED,
@@ -43,9 +31,7 @@ fn counted(mem: Global, section: &[u8], offset: usize) -> usize
 }
 
 // The sum of the tags that are found.
-fn get_all(table: &Abbreviations, codes: u64) -> u64
-    ensures { result ≡ tags_to table.now codes % 2 ^ 64 }
-{
+fn get_all(table: &Abbreviations, codes: u64) -> u64 {
     let mut sum: u64 = 0;
     for code in 0..codes {
         sum = sum.wrapping_add(u64::from(tag_of(table, code + 1)));
@@ -54,9 +40,7 @@ fn get_all(table: &Abbreviations, codes: u64) -> u64
 }
 
 // The same, so many times.
-fn get_rounds(table: &Abbreviations, codes: u64, rounds: u64) -> u64
-    ensures { result ≡ (rounds * tags_to table.now codes) % 2 ^ 64 }
-{
+fn get_rounds(table: &Abbreviations, codes: u64, rounds: u64) -> u64 {
     let mut sum: u64 = 0;
     for round in 0..rounds {
         sum = sum.wrapping_add(get_all(table, codes));
@@ -73,10 +57,7 @@ pub extern "C" fn beside_get_sum(
     offset: usize,
     codes: u64,
     rounds: u64,
-) -> u64
-    ensures { OfTable (section_of section.now) offset result
-        (λ t. result ≡ (rounds * tags_to t codes) % 2 ^ 64) }
-{
+) -> u64 {
     match table_at(mem, section, offset) {
         Ok(table) => get_rounds(&table, codes, rounds),
         Err(_) => FAILED as u64,
@@ -84,18 +65,14 @@ pub extern "C" fn beside_get_sum(
 }
 
 // The name, the form and the value of an attribute, added up. The value counts as 64 bits.
-fn of_attribute(attribute: &AttributeSpecification) -> u64
-    ensures { result ≡ specification_sum attribute.now % 2 ^ 64 }
-{
+fn of_attribute(attribute: &AttributeSpecification) -> u64 {
     let (name, form) = (attribute.name(), attribute.form());
     let value = attribute.implicit_const_value().unwrap_or(0);
     (u64::from(name.0) + u64::from(form.0)).wrapping_add(value.cast_unsigned())
 }
 
 // The code and the tag of an abbreviation, 1 if there are children, and its attributes, added up.
-fn of_abbreviation(abbreviation: &Abbreviation) -> u64
-    ensures { result ≡ declaration_sum abbreviation.now % 2 ^ 64 }
-{
+fn of_abbreviation(abbreviation: &Abbreviation) -> u64 {
     let head = u64::from(abbreviation.tag().0) + u64::from(abbreviation.has_children());
     let mut sum = abbreviation.code().wrapping_add(head);
     for attribute in abbreviation.attributes() {
@@ -105,9 +82,7 @@ fn of_abbreviation(abbreviation: &Abbreviation) -> u64
 }
 
 // The sum over all abbreviations of a table.
-fn walked(table: &Abbreviations) -> u64
-    ensures { result ≡ walk_sum table.now % 2 ^ 64 }
-{
+fn walked(table: &Abbreviations) -> u64 {
     let mut sum: u64 = 0;
     for abbreviation in table.iter() {
         sum = sum.wrapping_add(of_abbreviation(abbreviation));
@@ -119,10 +94,7 @@ fn walked(table: &Abbreviations) -> u64
 /// their codes, tags, children, names, forms and values, added up modulo 2^64, or 2^32 if no table
 /// is there.
 #[unsafe(no_mangle)]
-pub extern "C" fn beside_walk(mem: Global, section: &[u8], offset: usize) -> u64
-    ensures { OfTable (section_of section.now) offset result
-        (λ t. result ≡ walk_sum t % 2 ^ 64) }
-{
+pub extern "C" fn beside_walk(mem: Global, section: &[u8], offset: usize) -> u64 {
     match table_at(mem, section, offset) {
         Ok(table) => walked(&table),
         Err(_) => FAILED as u64,
@@ -130,10 +102,7 @@ pub extern "C" fn beside_walk(mem: Global, section: &[u8], offset: usize) -> u64
 }
 
 // A cache that is filled with the tables at these offsets.
-fn filled(mem: Global, section: &[u8], offsets: &[usize]) -> Result<AbbreviationsCache>
-    ensures ok { IfOk result (λ cache. IsFaithful cache (section_of section.now)) }
-    ensures err { IfErr result (λ e. e ≡ Error.OutOfMemory) }
-{
+fn filled(mem: Global, section: &[u8], offsets: &[usize]) -> Result<AbbreviationsCache> {
     let mut cache = AbbreviationsCache::new(mem);
     let section = DebugAbbrev::new(section, LittleEndian);
     let units = offsets
@@ -143,12 +112,9 @@ fn filled(mem: Global, section: &[u8], offsets: &[usize]) -> Result<Abbreviation
     Ok(cache)
 }
 
-// (The contract can't say what was in a cache that is dropped.)
 /// Fills a cache with the tables at these offsets. Returns 1, or 2^32 if memory runs out.
 #[unsafe(no_mangle)]
-pub extern "C" fn beside_populate(mem: Global, section: &[u8], offsets: &[usize]) -> usize
-    ensures { (result ≡ 1) ⊎ (result ≡ FAILED) }
-{
+pub extern "C" fn beside_populate(mem: Global, section: &[u8], offsets: &[usize]) -> usize {
     match filled(mem, section, offsets) {
         Ok(_) => 1,
         Err(_) => FAILED,
@@ -156,11 +122,7 @@ pub extern "C" fn beside_populate(mem: Global, section: &[u8], offsets: &[usize]
 }
 
 // How many abbreviations the table has that a cache returns, or what an error counts as.
-#[tactic(auto, using(crate::proofs::SumLemmas::table_length))]
-fn count_cached(cache: &AbbreviationsCache, section: &[u8], offset: usize) -> usize
-    requires { IsFaithful cache.now (section_of section.now) }
-    ensures { CountsAs (section_of section.now) offset result }
-{
+fn count_cached(cache: &AbbreviationsCache, section: &[u8], offset: usize) -> usize {
     let section = DebugAbbrev::new(section, LittleEndian);
     match cache.get(&section, DebugAbbrevOffset(offset)) {
         Ok(table) => table.len(),
@@ -169,11 +131,7 @@ fn count_cached(cache: &AbbreviationsCache, section: &[u8], offset: usize) -> us
 }
 
 // The sum of the lengths that a cache returns.
-#[tactic(auto, using(crate::proofs::SumLemmas::sum_steps))]
-fn get_cached(cache: &AbbreviationsCache, section: &[u8], offsets: &[usize]) -> usize
-    requires { IsFaithful cache.now (section_of section.now) }
-    ensures { Adds (CountsAs (section_of section.now)) offsets.now result }
-{
+fn get_cached(cache: &AbbreviationsCache, section: &[u8], offsets: &[usize]) -> usize {
     let mut sum: usize = 0;
     for offset in offsets {
         sum = sum.wrapping_add(count_cached(cache, section, *offset));
@@ -182,16 +140,12 @@ fn get_cached(cache: &AbbreviationsCache, section: &[u8], offsets: &[usize]) -> 
 }
 
 // The same, so many times.
-#[tactic(auto, using(crate::proofs::SumLemmas::sum_steps))]
 fn get_cached_rounds(
     cache: &AbbreviationsCache,
     section: &[u8],
     offsets: &[usize],
     rounds: u64,
-) -> usize
-    requires { IsFaithful cache.now (section_of section.now) }
-    ensures { AddsTimes (Adds (CountsAs (section_of section.now)) offsets.now) rounds result }
-{
+) -> usize {
     let mut sum: usize = 0;
     for round in 0..rounds {
         sum = sum.wrapping_add(get_cached(cache, section, offsets));
@@ -208,10 +162,7 @@ pub extern "C" fn beside_cached(
     section: &[u8],
     offsets: &[usize],
     rounds: u64,
-) -> usize
-    ensures { let total = Adds (CountsAs (section_of section.now)) offsets.now in
-        AddsTimes total rounds result ⊎ (result ≡ FAILED) }
-{
+) -> usize {
     match filled(mem, section, offsets) {
         Ok(cache) => get_cached_rounds(&cache, section, offsets, rounds),
         Err(_) => FAILED,

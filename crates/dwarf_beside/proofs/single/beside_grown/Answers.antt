@@ -1,5 +1,5 @@
 use Rattle.std.proofs.Common.{arith}
-use Rattle.dwarf_beside.proofs.SumLemmas.{table_length}
+use Rattle.dwarf_beside.proofs.TableLengths.{table_length}
 use Rattle.dwarf_beside.proofs.single.beside_grown.Goals as goal
 
 pub returns-in-Ok-clause-read : goal.returns-in-Ok-clause-read

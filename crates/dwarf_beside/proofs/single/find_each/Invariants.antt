@@ -1,4 +1,5 @@
-use Rattle.dwarf_beside.proofs.Common.{◌≡◌, map, tag_in, take}
+use Rattle.std.proofs.Common.{◌≡◌, map, take}
+use Rattle.dwarf_beside.specs.Sections.{tag_in}
 use Rattle.dwarf_beside.proofs.single.find_each.Given as goal
 
 -- the tags so far are in front

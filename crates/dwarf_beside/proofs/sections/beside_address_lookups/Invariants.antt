@@ -1,7 +1,0 @@
-use Rattle.dwarf_beside.proofs.Common.{Adds, HasAddress, Ok, section_of, take}
-use Rattle.dwarf_beside.proofs.sections.beside_address_lookups.Given as goal
-
--- the addresses so far have this sum
-abbrev pub invariant-loop-index : goal.invariant-loop-index
-invariant-loop-index l =
-    Adds (λ item n. HasAddress (section_of l.fn.section) l.fn.base item (Ok n)) (take l.index-index l.fn.indices) l.sum
