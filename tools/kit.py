@@ -185,14 +185,40 @@ def folder():
     return os.path.dirname(os.path.dirname(os.path.realpath(shutil.which("rattle"))))
 
 
+def root_file(crate):
+    """The path of a crate's root file in its folder."""
+    is_program = os.path.isfile(f"{ROOT}/crates/{crate}/src/main.rt")
+    return f"src/{'main' if is_program else 'lib'}.rt"
+
+
 def words(crate):
     """The words behind `rattle check` or `rattle build` for a crate, in the folder of its sources."""
-    kit = folder()
-    is_program = os.path.isfile(f"{ROOT}/crates/{crate}/src/main.rt")
-    found = ["--crate-name", crate, f"src/{'main' if is_program else 'lib'}.rt", "-L", f"dependency={kit}/rlibs"]
+    found = []
     for it in ["std", *CRATES[crate]]:
-        found += ["--extern", f"{it}={library(it) if it in CRATES else f'{kit}/rlibs/{it}.rlib'}"]
+        found += ["--extern", f"{it}={library(it) if it in CRATES else of_kit(it)}"]
     for it in below(crate):
         found += ["-L", f"dependency={os.path.dirname(library(it))}"]
+    return with_logic(crate, found)
+
+
+def words_of_sources(crate):
+    """The same words for a run of the front end alone. It reads the sources of the libraries below, built or not."""
+    found, own = [], below(crate)
+    for it in dict.fromkeys(["core", "std", *(name for it in [*own, crate] for name in CRATES[it])]):
+        found += ["--extern", f"{it}={of_kit(it)}"] if it not in CRATES else []
+    for it in own:
+        found += ["--lib", f"{it}:{','.join(['core', 'std', *CRATES[it]])}={ROOT}/crates/{it}/src/lib.rt"]
+    return with_logic(crate, found)
+
+
+def of_kit(name):
+    """Where a library of the kit is."""
+    return f"{folder()}/rlibs/{name}.rlib"
+
+
+def with_logic(crate, libraries):
+    """These words for the libraries of a crate, and those for itself and the logic."""
+    kit = folder()
+    found = ["--crate-name", crate, root_file(crate), "-L", f"dependency={kit}/rlibs", *libraries]
     found += ["--antt-project", f"{kit}/rattle/logic/antt-project.json", "--logic-built", f"{kit}/logic_built"]
     return [*found, "--links", f"{crate}="]
