@@ -4,39 +4,34 @@ pub use Rattle.std.proofs.Common.{◌<◌, ◌≤◌, eqb, List, [], ◌∷◌, 
 pub use Rattle.std.proofs.Common.{MatchOption, sym, arith, All, IsPermutation, option_map, ap, filter, HoldsAt}
 pub use Rattle.std.proofs.Common.{nat_cmp, Less, Equal, Greater, suc, zero, ◌-◌, inl, inr, IfSome, OnErr, ◌*◌, ◌/◌}
 pub use Rattle.std.proofs.Common.{◌^◌, IfErr, leb, leb-true, leb-false, drop, ◌⊎◌, slice_index, IfOk, IsTrue, rules}
-pub use Rattle.std.proofs.Common.{◌==◌, ltb-true, IsSome, is_some, if◌then◌else◌, sum_by, append_assoc, nat_lt}
+pub use Rattle.std.proofs.Common.{◌==◌, ltb-true, is_some, sum_by, append_assoc, nat_lt}
 pub use Rattle.std.proofs.Common.{length-append, length-take-le, take-append-drop, ne_eqb, ◌↔◌, ltb, lt-ltb, le-ltb}
-pub use Rattle.std.proofs.Common.{reverse, Bor, option_copied, MatchResult, append-nil, length-drop, ℤ, OnOk}
-pub use Rattle.std.specs.BTreeMap.{is_at, insert_entry}
-pub use Rattle.std.specs.Cmp.{nat_cmp_total, eq_by_cmp_equiv, booleans_Decides, IsEquivalence, IsTotalOrder}
+pub use Rattle.std.proofs.Common.{Bor, option_copied, append-nil, length-drop, ℤ, OnOk}
+pub use Rattle.std.specs.BTreeMap.{is_at}
+pub use Rattle.std.specs.Cmp.{nat_cmp_total, eq_by_cmp_equiv, booleans_Decides}
 pub use Rattle.std.specs.FinMap.{get, insert, from_entries, contains_key, empty, empty_of_len, find}
 pub use Rattle.std.specs.FinMap.{from_entries_push, get-from_entries, nat_cmp-IsAntisymmetric, same_map, entries, len}
 pub use Rattle.std.specs.FinMap.{entries-insert, len-insert, len-empty, len-entries, get-entries, values, get-insert}
-pub use Rattle.std.specs.List.{AllWithin, IsDistinct, AllByRecursion}
-pub use Rattle.std.specs.List.Sorted.{IsPartitionPoint, IsNonDecreasingBy, IsSortedBy, IsBinarySearchResult}
-pub use Rattle.std.specs.List.Sorted.{IsSearchInRange}
+pub use Rattle.std.specs.List.{AllWithin, AllByRecursion}
+pub use Rattle.std.specs.List.Sorted.{IsPartitionPoint, IsNonDecreasingBy}
 unfoldable pub use Rattle.std.specs.List.Sorted.{IsStrictlySortedBy}
 pub use Rattle.std.specs.Map.{lookup, keys_of, set_value, values_of}
-pub use Rattle.std.specs.Ordering.{ordering_index, ordering_reverse, eq_by_cmp, is_eq, is_lt}
+pub use Rattle.std.specs.Ordering.{ordering_index, ordering_reverse}
 pub use Rattle.std.proofs.lemmas.Bool.{eqb-true, eqb-false, eq-eqb, cases_lt, le-leb, lt-leb, true≢false, and_parts}
 pub use Rattle.std.proofs.lemmas.Bool.Decides.{nat_tests}
-pub use Rattle.std.proofs.lemmas.Cmp.{ranked, back_total}
-pub use Rattle.std.proofs.lemmas.Fn.{called_at, filter_same, always_returns_same}
+pub use Rattle.std.proofs.lemmas.Cmp.{ranked}
+pub use Rattle.std.proofs.lemmas.Fn.{called_at, filter_same}
 pub use Rattle.std.proofs.lemmas.Grind.{common_steps}
-pub use Rattle.std.proofs.lemmas.List.{take_more, map_push, get_or-map, get_or_default, take_all, length-map}
-pub use Rattle.std.proofs.lemmas.List.{drop-append-le, take-append-le, nil_from_length, map-id, get_or_push, take_at}
-pub use Rattle.std.proofs.lemmas.List.{get_or-reverse, length-reverse, length_push, reverse-append}
+pub use Rattle.std.proofs.lemmas.List.{take_more, map_push, get_or-map, get_or_default, take_all}
+pub use Rattle.std.proofs.lemmas.List.{drop-append-le, take-append-le, nil_from_length}
 pub use Rattle.std.proofs.lemmas.List.Elements.{All-head, All-tail, All-from_recursion, same_from_all_zip, All-push}
-pub use Rattle.std.proofs.lemmas.List.Elements.{recursion_from_All, All-map}
 pub use Rattle.std.proofs.lemmas.List.Sorted.{sum_by-IsPermutation, searchable_from_sorted, IsPermutation-map}
 pub use Rattle.std.proofs.lemmas.List.Sorted.{IsNonDecreasingBy-from_sort_by_key}
 pub use Rattle.std.proofs.lemmas.List.Sums.{sum_by_push, sum_by-cons}
 pub use Rattle.std.proofs.lemmas.Map.Entries.{option_filter, lookup-filter-values, length-keys_of, lookup_from_place}
-pub use Rattle.std.proofs.lemmas.Map.Entries.{lookup_at_gap, none_past_head}
+pub use Rattle.std.proofs.lemmas.Map.Entries.{lookup_at_gap}
 pub use Rattle.std.proofs.lemmas.Map.Keys.{IsDistinct-from_sorted, sorted_from_strictly_increasing}
-pub use Rattle.std.proofs.lemmas.Map.Keys.{sorted_from_all_adjacent, IsDistinct-from_apart, IsDistinct-tail}
-pub use Rattle.std.proofs.lemmas.Map.Keys.{Less-from_sorted, apart_from_distinct}
-pub use Rattle.std.proofs.lemmas.Map.Made.{lookup-map_values, keys_of-map_values}
+pub use Rattle.std.proofs.lemmas.Map.Made.{lookup-map_values}
 pub use Rattle.dwarf_base_core.specs.declared.error.Error.{Error}
 pub use Rattle.dwarf_base_core.specs.declared.error.Error.TheVariants.{OutOfMemory, UnsupportedOffset}
 pub use Rattle.dwarf_base_core.specs.declared.error.Error.TheVariants.{UnsupportedAddressSize}
@@ -45,7 +40,7 @@ pub use Rattle.dwarf_base_core.specs.declared.error.Error.TheVariants.{Attribute
 pub use Rattle.dwarf_base_core.specs.declared.error.Error.TheVariants.{InvalidAbbreviationChildren}
 pub use Rattle.dwarf_base_core.specs.declared.error.Error.TheVariants.{UnterminatedAbbreviations}
 pub use Rattle.dwarf_reader_core.specs.Appended.{followed_by, IsNoEof}
-pub use Rattle.dwarf_reader_core.specs.Faults.{EndsBefore, end_fault, is_number_size, Lacks, WantsMemory, IsNoOffset}
+pub use Rattle.dwarf_reader_core.specs.Faults.{EndsBefore, end_fault, is_number_size, Lacks, RefusesWord, WantsMemory, IsNoOffset}
 pub use Rattle.dwarf_reader_core.specs.Faults.{RefusesAddress, eof}
 pub use Rattle.dwarf_reader_core.specs.Input.{Input, first, Takes, after, TakesNumber, TakesString, end_of}
 pub use Rattle.dwarf_reader_core.specs.Layout.{Layout, part, fixed, pure, alone, AreItems, none, more}
@@ -81,8 +76,6 @@ pub use Rattle.dwarf_read_core.specs.Grammar.{children_byte, IsCode, IsHead, IsD
 pub use Rattle.dwarf_read_core.specs.Grammar.{attribute_count, AreDeclarations}
 pub use Rattle.dwarf_read_core.specs.Items.{ComesFirst, least_taken}
 pub use Rattle.dwarf_read_core.specs.Lookups.{AnswersBy, StaysBy}
-pub use Rattle.dwarf_read_core.specs.Others.{ArePlaces, at_place, in_order, codes_of, at_code, with_places, code_cmp}
-pub use Rattle.dwarf_read_core.specs.Others.{with_codes, others_entries, AreOthers, Adds}
 pub use Rattle.dwarf_read_core.specs.Reading.{◌>>=◌, Gives, and_others, declaration_of, number_from, specification_of}
 pub use Rattle.dwarf_read_core.specs.Reading.{close_of, and_declared}
 unfoldable pub use Rattle.dwarf_read_core.specs.Reading.{attributes_in, declared_at, tag_at, declaration_at, table_in}

@@ -1,6 +1,5 @@
 -- Proofs about the cache of tables.
 pub mod EntriesInOrder
-pub mod SearchByHalving
 pub mod EntriesAsMap
 pub mod CountingOffsets
 pub mod ExactlyOneCache

@@ -1,20 +1,11 @@
 -- What contracts see of the abbreviations of a table whose codes don't count up from 1.
-use Rattle.std.specs.Prelude.{◌≡◌, ℕ, ◌<◌, Bool, true, false, cond, Option, Some, None, List, [], ◌∷◌, map, reverse, length, slice_index_or}
+use Rattle.std.specs.Prelude.{◌≡◌, ℕ, ◌<◌, false, cond, Option, Some, None, List, [], map, length, slice_index_or}
 use Rattle.std.specs.BTreeMap.{is_at}
 use Rattle.std.specs.List.{All}
 use Rattle.std.specs.List.Sorted.{IsStrictlySortedBy}
 use Rattle.std.specs.Map.{keys_of, values_of, lookup}
-use Rattle.std.specs.Ordering.{nat_cmp, flip_args}
-use Rattle.std.specs.declared.cmp.Ordering.{Ordering}
+use Rattle.std.specs.Ordering.{nat_cmp}
 use Rattle.dwarf_read_core.specs.Grammar.{Declaration}
-
--- the codes of declarations
-abbrev pub codes_of : List Declaration → List ℕ
-codes_of ds = map (λ d. d.code) ds
-
--- declarations with their codes
-abbrev pub with_codes : List Declaration → List (ℕ × Declaration)
-with_codes ds = map (λ d. (d.code, d)) ds
 
 -- the declaration at a place; past the end there is one that no table has
 abbrev pub at_place : List Declaration → ℕ → Declaration
@@ -24,31 +15,11 @@ at_place ds place = slice_index_or ds place (record { code = 0; tag = 0; childre
 abbrev pub with_places : List Declaration → List (ℕ × ℕ) → List (ℕ × Declaration)
 with_places ds ps = map (λ p. (p.0, at_place ds p.1)) ps
 
--- how codes compare in the order in which they fall, or rise
-abbrev pub code_cmp : Bool → ℕ → ℕ → Ordering
-code_cmp true = flip_args nat_cmp
-code_cmp false = nat_cmp
-
--- declarations whose codes fall, or rise, from the lowest code on
-abbrev pub in_order : Bool → List Declaration → List Declaration
-in_order true ds = reverse ds
-in_order false ds = ds
-
--- declarations in order if there are no places, and else by their places
-abbrev pub others_entries : Bool → List Declaration → List (ℕ × ℕ) → List (ℕ × Declaration)
-others_entries falls ds [] = with_codes (in_order falls ds)
-others_entries falls ds (p ∷ ps) = with_places ds (p ∷ ps)
-
 -- codes in order, with as many places as there are declarations, each of them one of theirs
 pub record ArePlaces (ds : List Declaration) (ps : List (ℕ × ℕ)) : Type 0 where
   pub ordered : IsStrictlySortedBy nat_cmp (keys_of ps)
   pub within : All (λ place. place < length ds) (values_of ps)
   pub counted : length ps ≡ length ds
-
--- without places, the codes fall or rise
-abbrev pub AreOthers : Bool → List Declaration → List (ℕ × ℕ) → Type 0
-AreOthers falls ds [] = IsStrictlySortedBy (code_cmp falls) (codes_of ds)
-AreOthers falls ds (p ∷ ps) = ArePlaces ds (p ∷ ps)
 
 -- the declaration that entries have at a code
 abbrev pub at_code : ℕ → List (ℕ × Declaration) → Option Declaration

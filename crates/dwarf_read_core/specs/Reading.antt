@@ -6,7 +6,7 @@ use Rattle.dwarf_base_core.specs.declared.error.Error.{Error}
 use Rattle.dwarf_base_core.specs.declared.error.Error.TheVariants.{AbbreviationTagZero, InvalidAbbreviationChildren, AttributeNameZero, AttributeFormZero, DuplicateAbbreviationCode, OutOfMemory}
 use Rattle.dwarf_reader_core.specs.Leb128.{Kind, Number, unsigned64, unsigned16, signed64, limit, value, is_in_range, refusal}
 use Rattle.dwarf_reader_core.specs.Faults.{eof}
-use Rattle.dwarf_reader_core.specs.Layout.{and_then}
+use Rattle.dwarf_reader_core.specs.Layout.{and_then, with_byte}
 use Rattle.dwarf_read_core.specs.Grammar.{Specification, Declaration, implicit_const, ByCode, Table, closed, Close, by_null, by_end}
 
 infixl 10 ◌>>=◌
@@ -17,10 +17,6 @@ r >>= f = and_then r f
 abbrev pub Gives : {X Y : Type 0} → (X → Y) → Result X Error → Result Y Error → Type 0
 Gives view (Ok x) read = read ≡ Ok (view x)
 Gives view (Err e) read = e ≢ OutOfMemory → read ≡ Err e
-
-abbrev pub with_byte : ℕ → Option (List ℕ × List ℕ) → Option (List ℕ × List ℕ)
-with_byte b None = None
-with_byte b (Some x) = Some (b ∷ x.0, x.1)
 
 -- the bytes up to the first one below 128, at most n of them, and the bytes behind
 unfoldable pub encoding_at : ℕ → List ℕ → Option (List ℕ × List ℕ)

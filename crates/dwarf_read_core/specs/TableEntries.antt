@@ -2,9 +2,9 @@
 use Rattle.std.specs.Prelude.{◌≡◌, ◌≢◌, ◌==◌, ℕ, List, [], ◌∷◌, take, Option, Some, None, ⊤}
 use Rattle.dwarf_read_core.specs.Grammar.{Specification, Declaration}
 use Rattle.dwarf_read_core.specs.Reading.{declaration_of}
-use Rattle.dwarf_read_core.specs.declared.read.abbrev.Head.{Head}
-use Rattle.dwarf_read_core.specs.declared.read.abbrev.TableEntry.{TableEntry}
-use Rattle.dwarf_read_core.specs.declared.read.abbrev.TableEntry.TheVariants.{Declared, NullCode, End}
+use Rattle.dwarf_read_core.specs.declared.read.abbrev.abbreviation.Head.{Head}
+use Rattle.dwarf_read_core.specs.declared.read.abbrev.abbreviation.TableEntry.{TableEntry}
+use Rattle.dwarf_read_core.specs.declared.read.abbrev.abbreviation.TableEntry.TheVariants.{Declared, NullCode, End}
 
 -- the attributes that are collected: those of the second list, or the first ones of the first list if it is empty
 abbrev pub collected : ℕ → List Specification → List Specification → List Specification

@@ -1,18 +1,15 @@
 -- What contracts see of an abbreviation and its parts.
-use Rattle.std.specs.Prelude.{◌≡◌, ◌≢◌, ◌<◌, ◌≤◌, ℕ, suc, ℤ, pos, Bool, true, false, List, [], ◌∷◌, ◌++◌, length, reverse, Some, None, unwrap_or, if◌then◌else◌, ◌==◌, refl}
+use Rattle.std.specs.Prelude.{◌≡◌, ◌≢◌, ◌<◌, ◌≤◌, ℕ, suc, ℤ, pos, Bool, true, false, List, [], ◌∷◌, ◌++◌, length, Some, None, unwrap_or, if◌then◌else◌, ◌==◌, refl}
 use Rattle.std.specs.BTreeMap.{is_at}
 use Rattle.std.specs.FinMap.{from_entries}
 use Rattle.std.specs.Map.{lookup}
 use Rattle.std.specs.Ordering.{nat_cmp}
-use Rattle.std.specs.Slice.Iter.{iter_rest}
 use Rattle.std.proofs.Common.{sym, ap}
 use Rattle.std.proofs.lemmas.Bool.{eqb-false}
 use Rattle.dwarf_read_core.specs.Grammar.{Specification, Declaration, Table, closed, close_from, implicit_const}
-use Rattle.dwarf_read_core.specs.declared.read.abbrev.AttributeSpecification.TheInside.{Inside}
-use Rattle.dwarf_read_core.specs.declared.read.abbrev.Abbreviation.TheInside as abbreviation
-use Rattle.dwarf_read_core.specs.declared.read.abbrev.Abbreviations.TheInside as abbreviations
-use Rattle.dwarf_read_core.specs.declared.read.abbrev.others.OthersIter.{OthersIter}
-use Rattle.dwarf_read_core.specs.declared.read.abbrev.others.OthersIter.TheVariants.{Rising, Falling, ByPlace}
+use Rattle.dwarf_read_core.specs.declared.read.abbrev.attribute.AttributeSpecification.TheInside.{Inside}
+use Rattle.dwarf_read_core.specs.declared.read.abbrev.abbreviation.Abbreviation.TheInside as abbreviation
+use Rattle.dwarf_read_core.specs.declared.read.abbrev.table.Abbreviations.TheInside as abbreviations
 
 abbrev pub specification_view : Inside → Specification
 specification_view a =
@@ -59,12 +56,6 @@ numbered code (d ∷ ds) = (code, d) ∷ numbered (suc code) ds
 -- the declarations of a vector with the codes from 1 on, and then the others with their codes
 abbrev pub entries_of : List Declaration → List (ℕ × Declaration) → List (ℕ × Declaration)
 entries_of ds es = numbered 1 ds ++ es
-
--- what an iterator over others has left
-abbrev pub others_rest : OthersIter → List Declaration
-others_rest (Rising rest) = iter_rest rest
-others_rest (Falling rest) = reverse (iter_rest rest)
-others_rest (ByPlace rest) = rest
 
 -- the table that a vector, the others and a close represent
 abbrev pub abbreviations_view : abbreviations.Inside → Table

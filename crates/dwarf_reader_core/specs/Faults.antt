@@ -57,8 +57,12 @@ abbrev pub RefusesAddress : ℕ → Input → Error → Input → Type 0
 RefusesAddress size old e new =
     IsNoSize UnsupportedAddressSize size old e new ⊎ (IsTrue (is_number_size size) × EndsBefore size old e new)
 
--- no offset of this size is read: offsets don't have this size, bytes are missing, or the number is too great
+-- no word of n bytes is read as an offset: bytes are missing, or the number is too great
+abbrev pub RefusesWord : ℕ → ℕ → Input → Error → Input → Type 0
+RefusesWord greatest n old e new = EndsBefore n old e new ⊎ IsNoOffset greatest n old e new
+
+-- no offset of this size is read: offsets don't have this size, or no word of it is read as one
 abbrev pub RefusesOffset : ℕ → ℕ → Input → Error → Input → Type 0
 RefusesOffset greatest size old e new =
     IsNoSize UnsupportedOffsetSize size old e new
-    ⊎ (IsTrue (is_number_size size) × (EndsBefore size old e new ⊎ IsNoOffset greatest size old e new))
+    ⊎ (IsTrue (is_number_size size) × RefusesWord greatest size old e new)

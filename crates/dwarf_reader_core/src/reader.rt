@@ -7,7 +7,7 @@ ghost use Rattle.std.specs.Str.Lossy.{utf8_lossy};
 ghost use Rattle.dwarf_base_core.specs.declared.error.Error.TheVariants.{BadUtf8, OutOfMemory};
 ghost use Rattle.dwarf_base_core.specs.Format.{word_size};
 ghost use Rattle.dwarf_reader_core.specs.Input.{Input, after, first, IsPartOf, IsBounded, IsFirst, Covers, Takes, TakesByte, TakesNumber, TakesSigned, TakesString};
-ghost use Rattle.dwarf_reader_core.specs.Faults.{EndsBefore, IsNoAddressSize, IsNoOffset, Lacks, RefusesAddress, RefusesOffset, WantsMemory, is_number_size};
+ghost use Rattle.dwarf_reader_core.specs.Faults.{EndsBefore, IsNoAddressSize, Lacks, RefusesAddress, RefusesOffset, RefusesWord, WantsMemory, is_number_size};
 ghost use Rattle.dwarf_reader_core.specs.Leb128.{unsigned64, unsigned16, signed64, IsOver, LacksEncoding, ReadsNumber, RefusesNumber, TakesEncoding};
 ghost use Rattle.dwarf_reader_core.specs.InitialLength.{initial_length};
 ghost use Rattle.dwarf_reader_core.specs.Layout.{read, FailsAt};
@@ -633,8 +633,8 @@ pub trait Reader: Debug + Drop + Sized {
             (view self.old) (Self.Offset.value x) (view self.new)) }
         ensures in_range { IfOk result (λ x. Self.Offset.value x ≤ Self.Offset.GREATEST) }
         ensures err { IfErr result
-            (λ e. EndsBefore (word_size format) (view self.old) e (view self.new) ⊎ IsNoOffset
-            Self.Offset.GREATEST (word_size format) (view self.old) e (view self.new)) }
+            (λ e. RefusesWord Self.Offset.GREATEST (word_size format)
+            (view self.old) e (view self.new)) }
         ensures order { order self.new ≡ order self.old }
     {
         let word = match format {
@@ -656,8 +656,8 @@ pub trait Reader: Debug + Drop + Sized {
             (view self.old) (Self.Offset.value x) (view self.new)) }
         ensures in_range { IfOk result (λ x. Self.Offset.value x ≤ Self.Offset.GREATEST) }
         ensures err { IfErr result
-            (λ e. EndsBefore (word_size format) (view self.old) e (view self.new) ⊎ IsNoOffset
-            Self.Offset.GREATEST (word_size format) (view self.old) e (view self.new)) }
+            (λ e. RefusesWord Self.Offset.GREATEST (word_size format)
+            (view self.old) e (view self.new)) }
         ensures order { order self.new ≡ order self.old }
     {
         self.read_word(format)
@@ -675,8 +675,8 @@ pub trait Reader: Debug + Drop + Sized {
             (view self.old) (Self.Offset.value x) (view self.new)) }
         ensures in_range { IfOk result (λ x. Self.Offset.value x ≤ Self.Offset.GREATEST) }
         ensures err { IfErr result
-            (λ e. EndsBefore (word_size format) (view self.old) e (view self.new) ⊎ IsNoOffset
-            Self.Offset.GREATEST (word_size format) (view self.old) e (view self.new)) }
+            (λ e. RefusesWord Self.Offset.GREATEST (word_size format)
+            (view self.old) e (view self.new)) }
         ensures order { order self.new ≡ order self.old }
     {
         self.read_word(format)

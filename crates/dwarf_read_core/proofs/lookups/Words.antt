@@ -1,5 +1,5 @@
 -- Lookups of numbers by an index, as layouts.
-use Rattle.dwarf_read_core.proofs.Common.{common_steps, ◌≡◌, ℕ, ◌<◌, ◌≤◌, List, Bool, Result, Ok, Err, refl, sym, ◌∙◌, arith, ◌⊎◌, inl, inr, IsTrue, IfOk, IfErr, OnOk, le-leb, lt-leb, Error, UnsupportedOffset, EndsBefore, IsNoOffset, RefusesAddress, is_number_size, Input, after, first, Takes, TakesNumber, followed_by, IsNoEof, read, AnswersBy, At_more, At_value, At_error, then_reads, then_fails, error_is, part_reads, part_fails, number_reads, number_fails, after_part, no_part, after_check, no_check, rest-length, takes-both, StaysBy}
+use Rattle.dwarf_read_core.proofs.Common.{common_steps, ◌≡◌, ℕ, ◌<◌, ◌≤◌, List, Bool, Result, Ok, Err, refl, sym, ◌∙◌, arith, ◌⊎◌, inl, inr, IsTrue, IfOk, IfErr, OnOk, le-leb, lt-leb, Error, UnsupportedOffset, EndsBefore, RefusesAddress, RefusesWord, is_number_size, Input, after, first, Takes, TakesNumber, followed_by, IsNoEof, read, AnswersBy, At_more, At_value, At_error, then_reads, then_fails, error_is, part_reads, part_fails, number_reads, number_fails, after_part, no_part, after_check, no_check, rest-length, takes-both, StaysBy}
 use Rattle.dwarf_reader_core.proofs.Reading.{after-after}
 use Rattle.dwarf_read_core.specs.Words.{Slot, distance, place, IsPlaced, Misplaced, Holds, to_slot, word, address, WordAt, AddressAt}
 use Rattle.dwarf_read_core.proofs.sets.Entries.{offset_reads, offset_fails}
@@ -90,7 +90,7 @@ module _ (greatest : ℕ) (section : Input) (s : Slot) where
     word_taken number fits = At_value _ _ (then_reads _ _ _ slot_reached ∙ offset_reads greatest number fits)
 
     -- if the word is cut, or too great for an offset, that is the error at the slot
-    pub word_fails : {e : Error} {new : Input} → EndsBefore s.width rest e new ⊎ IsNoOffset greatest s.width rest e new
+    pub word_fails : {e : Error} {new : Input} → RefusesWord greatest s.width rest e new
         → WordAt greatest section s (Err e)
     unfolding word
     word_fails failed = At_error _ _ (then_reads _ _ _ slot_reached ∙ offset_fails greatest failed)

@@ -1,5 +1,5 @@
 -- The entries of sets, as layouts, and what `next` returns of them.
-use Rattle.dwarf_read_core.proofs.Common.{◌≡◌, ◌≢◌, ℕ, ◌<◌, ◌≤◌, List, [], length, Result, Ok, Err, sym, ◌∙◌, arith, inl, inr, ◌⊎◌, sum_by, IsTrue, le-leb, lt-leb, Error, is_number_size, EndsBefore, IsNoOffset, RefusesAddress, Input, TakesNumber, HasOne, Entries, StandsForAddresses, StandsForStringOffsets, string_offset, ComesFirst, least_taken, Layout, read, AreItems, more, fixed, TakesLeast, spans_least, number_spans, pure_spans, check_spans, then_spans, number_reads, number_fails, pure_reads, after_number, no_number, after_check, no_check}
+use Rattle.dwarf_read_core.proofs.Common.{◌≡◌, ◌≢◌, ℕ, ◌<◌, ◌≤◌, List, [], length, Result, Ok, Err, sym, ◌∙◌, arith, inl, inr, ◌⊎◌, sum_by, IsTrue, le-leb, lt-leb, Error, is_number_size, RefusesAddress, RefusesWord, Input, TakesNumber, HasOne, Entries, StandsForAddresses, StandsForStringOffsets, string_offset, ComesFirst, least_taken, Layout, read, AreItems, more, fixed, TakesLeast, spans_least, number_spans, pure_spans, check_spans, then_spans, number_reads, number_fails, pure_reads, after_number, no_number, after_check, no_check}
 use Rattle.dwarf_base_core.specs.declared.common.Format.{Format}
 use Rattle.dwarf_base_core.specs.declared.common.Format.TheVariants.{Dwarf32, Dwarf64}
 use Rattle.dwarf_base_core.specs.Format.{word_size}
@@ -67,7 +67,7 @@ module _ (greatest : ℕ) where
 
   -- a string offset fails if bytes are missing, or if the number is too great for an offset
   pub offset_fails : {width : ℕ} {old new : Input} {e : Error}
-      → EndsBefore width old e new ⊎ IsNoOffset greatest width old e new
+      → RefusesWord greatest width old e new
       → read (string_offset greatest width) old ≡ Err e
   unfolding string_offset
   offset_fails (inl short) = no_number _ short
@@ -103,7 +103,7 @@ module _ (greatest : ℕ) where
 
     -- a string offset that is cut or too great is the first item, as an error behind which nothing remains
     pub string_offset_error_first : {e : Error} {left : Input}
-        → EndsBefore (word_size format) old e new ⊎ IsNoOffset greatest (word_size format) old e new
+        → RefusesWord greatest (word_size format) old e new
         → left.bytes ≡ [] → ComesFirst (StandsForStringOffsets greatest) (entries_in (word_size format) old)
         (Err e) (entries_in (word_size format) left)
     string_offset_error_first {e} {left} failed empty = error-first 0 0 old left e some (offset_fails failed) empty

@@ -220,9 +220,9 @@ impl<R: Reader> AddrHeader<R> {
         ensures sized { IsTrue (is_number_size result.address_size) }
     {
         Encoding {
-            address_size: self.encoding.fields.bytes(),
-            format: self.encoding.format,
-            version: self.encoding.version,
+            address_size: self.fields.bytes(),
+            format: self.format,
+            version: VERSION,
         }
     }
 
@@ -239,7 +239,7 @@ impl<R: Reader> AddrHeader<R> {
     {
         Ok(AddrEntryIter {
             input: self.entries.try_clone()?,
-            size: self.encoding.fields.bytes(),
+            size: self.fields.bytes(),
         })
     }
 }

@@ -8,7 +8,7 @@ ghost use Rattle.dwarf_read_core.specs.Equality.{same_set, same_set_per, same_se
 ghost use Rattle.dwarf_read_core.specs.Items.{GivesFirst, StaysFirst};
 ghost use Rattle.dwarf_read_core.specs.Sets.{HasSize, StandsForSets, StandsForSetsBy, followed_headers, remaining_by, seen_by, set};
 
-use dwarf_base_core::{Error, Format, ReaderOffset, Result};
+use dwarf_base_core::{Error, Format, Result};
 use dwarf_reader_core::Reader;
 use std::alloc::AllocError;
 use std::fmt;
@@ -189,17 +189,9 @@ impl<R: Reader + Clone, H: HeaderFields> Clone for SetHeaderIter<R, H> {
 pub struct SetHeader<R: Reader, H: HeaderFields> {
     pub(super) offset: R::Offset,
     length: R::Offset,
-    pub(super) encoding: SetEncoding<H>,
+    pub(super) format: Format,
+    pub(super) fields: H,
     pub(super) entries: R,
-}
-
-// How the entries of a set are encoded. As a struct of its own it is copied at once, with the
-// padding behind it.
-#[derive(Clone, Copy)]
-pub(super) struct SetEncoding<H: HeaderFields> {
-    pub fields: H,
-    pub format: Format,
-    pub version: u16,
 }
 
 impl<R: Reader, H: HeaderFields> Model for SetHeader<R, H> {
@@ -210,13 +202,11 @@ impl<R: Reader, H: HeaderFields> Model for SetHeader<R, H> {
 
     ghost view = { λ a. record {
       offset = R.Offset.value a.offset;
-      format = a.encoding.format;
+      format = a.format;
       unit_length = R.Offset.value a.length;
-      header = a.encoding.fields;
+      header = a.fields;
       entries = a.entries;
     } };
-
-    ghost invariant = { λ a. a.encoding.version ≡ 5 };
 }
 
 /// Two headers are equal if their offsets, lengths, formats, fields and readers are.
@@ -228,8 +218,8 @@ impl<R: Reader + PartialEq, H: HeaderFields + Eq> PartialEq for SetHeader<R, H> 
     fn eq(&self, other: &Self) -> bool {
         self.offset == other.offset
             && self.length == other.length
-            && self.encoding.format == other.encoding.format
-            && self.encoding.fields == other.encoding.fields
+            && self.format == other.format
+            && self.fields == other.fields
             && self.entries == other.entries
     }
 }
@@ -249,7 +239,8 @@ impl<R: Reader + Clone, H: HeaderFields> Clone for SetHeader<R, H> {
             Ok(entries) => Ok(SetHeader {
                 offset: self.offset,
                 length: self.length,
-                encoding: self.encoding,
+                format: self.format,
+                fields: self.fields,
                 entries,
             }),
             Err(_) => Err(AllocError),
@@ -263,8 +254,8 @@ impl<R: Reader, H: HeaderFields> fmt::Debug for SetHeader<R, H> {
         f.debug_struct(H::NAME)
             .field("offset", &self.offset)
             .field("length", &self.length)
-            .field("format", &self.encoding.format)
-            .field("fields", &self.encoding.fields)
+            .field("format", &self.format)
+            .field("fields", &self.fields)
             .field("entries", &self.entries)
             .finish()
     }
@@ -287,20 +278,12 @@ impl<R: Reader, H: HeaderFields> SetHeader<R, H> {
     {
         let (length, format) = input.read_initial_length()?;
         let mut unit = input.split(length)?;
-        // A set without room for its fields is an error, which the call returns. Once that is
-        // excluded, the same call below doesn't test any more where the set ends.
-        if unit.len().into_u64() < H::BYTES {
-            H::parse(&mut unit)?;
-            unreachable!();
-        }
+        let fields = H::parse(&mut unit)?;
         Ok(SetHeader {
             offset,
             length,
-            encoding: SetEncoding {
-                fields: H::parse(&mut unit)?,
-                format,
-                version: VERSION,
-            },
+            format,
+            fields,
             entries: unit,
         })
     }

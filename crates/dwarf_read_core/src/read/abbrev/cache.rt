@@ -15,7 +15,6 @@ use super::{Abbreviations, DebugAbbrev};
 use dwarf_base_core::{DebugAbbrevOffset, Error, ReaderOffset, Result};
 use dwarf_reader_core::Reader;
 use std::alloc::Global;
-use std::cmp::Ordering;
 use std::marker::Model;
 use std::rc::Rc;
 
@@ -60,7 +59,7 @@ type Entry = (u64, Result<Rc<Abbreviations>>);
 /// ```
 #[derive(Debug, Drop)]
 pub struct AbbreviationsCache {
-    // In the order of offsets, so that a search can halve what is left.
+    // In the order of offsets.
     abbreviations: Vec<Entry>,
     mem: Global,
 }
@@ -222,34 +221,11 @@ impl AbbreviationsCache {
 }
 
 // Where an offset stands among entries in order, or where it belongs.
-//
-// The first comparison leaves as many entries as some power of two, and each step halves them. So
-// a step takes one comparison and one shift. The binary search of a slice takes half as many
-// instructions again.
 fn place_of(entries: &[Entry], offset: u64) -> std::result::Result<usize, usize>
     ensures bound { IsSearchInRange result (length entries.now) }
     ensures place { IsBinarySearchResult (λ entry. nat_cmp entry.0 offset) entries.now result }
 {
-    if entries.is_empty() {
-        return Err(0);
-    }
-    let front = 1 << entries.len().ilog2();
-    let mut place = 0;
-    if entries[entries.len() - front].0 <= offset {
-        place = entries.len() - front;
-    }
-    let mut step = front / 2;
-    while step > 0 {
-        if entries[place + step].0 <= offset {
-            place += step;
-        }
-        step /= 2;
-    }
-    match entries[place].0.cmp(&offset) {
-        Ordering::Less => Err(place + 1),
-        Ordering::Equal => Ok(place),
-        Ordering::Greater => Err(place),
-    }
+    entries.binary_search_by_key(&offset, |entry| entry.0)
 }
 
 // Whether appended bytes leave a result unchanged.

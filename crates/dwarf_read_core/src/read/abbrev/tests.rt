@@ -4,7 +4,9 @@
 ghost use Rattle.std.specs.Prelude.{◌≡◌, All, IfOk};
 ghost use Rattle.dwarf_read_core.specs.Equality.{HasValueByForm};
 
-use super::{Abbreviation, Abbreviations, AttributeSpecification, Attributes, Scratch, TableEntry};
+use super::abbreviation::{Abbreviation, Attributes, Scratch, TableEntry};
+use super::attribute::AttributeSpecification;
+use super::table::Abbreviations;
 use dwarf_base_core::{Error, LittleEndian, Result};
 use dwarf_code_core::children::{DW_CHILDREN_no, DW_CHILDREN_yes, DwChildren};
 use dwarf_const_core::attribute::DW_AT_name;

@@ -62,7 +62,7 @@ impl<R: Reader> StrOffsetsHeader<R> {
     pub fn format(&self) -> Format
         ensures { result ≡ self.now.format }
     {
-        self.encoding.format
+        self.format
     }
 
     /// Returns the offsets of the set.
@@ -77,7 +77,7 @@ impl<R: Reader> StrOffsetsHeader<R> {
     {
         Ok(StrOffsetsEntryIter {
             input: self.entries.try_clone()?,
-            format: self.encoding.format,
+            format: self.format,
         })
     }
 }

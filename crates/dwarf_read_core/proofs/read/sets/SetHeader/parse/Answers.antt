@@ -2,8 +2,5 @@ use Rattle.dwarf_read_core.proofs.Common.{arith}
 use Rattle.dwarf_read_core.proofs.sets.Sets.{set_bounds}
 use Rattle.dwarf_read_core.proofs.read.sets.SetHeader.parse.Goals as goal
 
-pub unreachable-requires : goal.unreachable-requires
-unreachable-requires g c = grind (arith, set_bounds)
-
 pub returns-clause-bound : goal.returns-clause-bound
 returns-clause-bound g c = grind (arith, set_bounds)
