@@ -7,7 +7,7 @@ from common import build, must, need
 from measure import counted, what_ran
 
 COUNTS = [10**power for power in range(2, 8)]
-KINDS = {"rising": "that rise from 1", "falling": "that fall", "far": "far apart"}
+KINDS = {"rising": "that rise from 1", "falling": "that fall", "far": "with gaps"}
 PAGE = f"{kit.ROOT}/docs/growth.svg"
 COLORS = {"rising": "#1b7837", "falling": "#b2182b", "far": "#2166ac"}
 WIDTH, HEIGHT, LEFT, TOP = 380, 260, 60, 40

@@ -23,7 +23,7 @@ LISTINGS = [
 ]
 NAMES = {
     "rising": "`abbrev`, codes that rise from 1",
-    "far": "`abbrev`, codes far apart",
+    "far": "`abbrev`, codes that rise with gaps",
     "addresses": "`addr`",
     "string": "`str`, one string of 20 MB",
     "strings": "`str`, a short string at the front",
