@@ -3,6 +3,8 @@
  * an index, sets of addresses and of string offsets, abbreviation tables, names of constants, and texts
  * of errors. The section numbers are those of DWARF 5.
  *
+ * The headers need C99 or C++11, or a later standard.
+ *
  * Link libdwarf_read.a, which `tools/install` installs. It contains all calls, and the three functions
  * of dwarf_read_heap.c that they allocate memory with. A program that defines all three is linked with
  * its own. Without an installation, link libdwarf_read_c.a and dwarf_read_heap.c.
@@ -122,6 +124,15 @@ uint32_t dwarf_address(const uint8_t *section, size_t len, bool is_big, uint8_t 
 
 /*
  * SETS OF ADDRESSES (7.27) AND OF STRING OFFSETS (7.26).
+ *
+ * DWARF 4 has no headers of sets. The split units of its GNU extension (-gsplit-dwarf) have their
+ * addresses in .debug_addr, and their string offsets in .debug_str_offsets.dwo, one behind the other. Don't
+ * call dwarf_address_set or dwarf_str_offset_set there, since they take entries for a header.
+ *
+ *  - Call dwarf_address with the unit's address size. Its `base` is the value of DW_AT_GNU_addr_base in the
+ *    skeleton unit, or 0 if there is no such attribute.
+ *  - Call dwarf_str_offset with 0 as `base`. In a package (.dwp), `base` is the offset that the index of
+ *    units has for the unit. Set `is_64` if the unit is in the 64-bit format.
  */
 
 /* A set of addresses in .debug_addr, or of string offsets in .debug_str_offsets. Its entries are the
@@ -200,7 +211,7 @@ static inline const struct dwarf_abbreviation *
 dwarf_table_find(const struct dwarf_abbreviation *abbreviations, size_t count, uint64_t code) {
     /* The codes before it are smaller, and none is 0. So its index is less than its code. In a table whose
        codes count from 1, the index is the code minus 1. */
-    size_t low = 0, high = code < count ? (size_t)code : count;
+    size_t low = 0, high = code < count ? code : count;
     if (code != 0 && high == code && abbreviations[high - 1].code == code) {
         return &abbreviations[high - 1];
     }
