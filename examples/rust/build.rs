@@ -5,7 +5,7 @@
 //! - where `rt lib` and `tools/static-library` put it in the repository, if this crate is in a clone of it.
 //!
 //! An installed library contains its allocation functions. The other one doesn't, and then this
-//! crate has them.
+//! crate has them. If there is none, `cargo check`, `clippy` and `doc` warn of it, and `cargo build` fails.
 
 use std::env;
 use std::path::{Path, PathBuf};
@@ -26,38 +26,31 @@ fn installed() -> Option<PathBuf> {
     (is_new && is_there(&folder, "dwarf_read")).then_some(folder)
 }
 
-fn find() -> Option<PathBuf> {
-    if let Some(named) = env::var_os("DWARF_READ_LIB") {
-        return Some(named.into());
-    }
-    let built = Path::new(env!("CARGO_MANIFEST_DIR")).join("../../crates/dwarf_read_c/out");
-    installed().or_else(|| is_there(&built, "dwarf_read_c").then_some(built))
+/// The folder where the library is, or should be.
+fn find() -> PathBuf {
+    let built = || Path::new(env!("CARGO_MANIFEST_DIR")).join("../../crates/dwarf_read_c/out");
+    env::var_os("DWARF_READ_LIB").map(PathBuf::from).or_else(installed).unwrap_or_else(built)
 }
 
-/// Prints for cargo how to link, or why that fails.
-fn link() -> Result<(), String> {
-    let target = env::var("TARGET").unwrap_or_default();
-    if !target.starts_with("x86_64-") || !target.contains("-linux-") {
-        return Err(format!("the library is for Linux on x86-64, and not for {target}"));
-    }
-    let folder = find().ok_or(
-        "there is no libdwarf_read.a: install it by `tools/install PREFIX` and let PKG_CONFIG_PATH name \
-         PREFIX/lib/pkgconfig, or let DWARF_READ_LIB name its folder",
-    )?;
-    let library = if is_there(&folder, "dwarf_read") { "dwarf_read" } else { "dwarf_read_c" };
-    if !is_there(&folder, library) {
-        return Err(format!(
-            "{} has neither libdwarf_read.a nor libdwarf_read_c.a",
-            folder.display()
-        ));
-    }
-    if library == "dwarf_read_c" {
+/// Prints for cargo how to link. Nothing is linked by `cargo check` and `cargo doc`, so they need no library.
+fn link() {
+    let folder = find();
+    let is_whole = is_there(&folder, "dwarf_read") || !is_there(&folder, "dwarf_read_c");
+    let library = if is_whole { "dwarf_read" } else { "dwarf_read_c" };
+    if !is_whole {
         println!("cargo::rustc-cfg=has_heap");
+    }
+    if !is_there(&folder, library) {
+        println!(
+            "cargo::warning=there is no libdwarf_read.a in {}: install it by `tools/install PREFIX` and let \
+             PKG_CONFIG_PATH name PREFIX/lib/pkgconfig, or let DWARF_READ_LIB name its folder",
+            folder.display()
+        );
     }
     println!("cargo::rustc-link-search=native={}", folder.display());
     println!("cargo::rustc-link-lib=static={library}");
+    // As long as the file isn't there, cargo runs this script each time.
     println!("cargo::rerun-if-changed={}", folder.join(format!("lib{library}.a")).display());
-    Ok(())
 }
 
 fn main() {
@@ -66,7 +59,10 @@ fn main() {
     }
     println!("cargo::rerun-if-changed=build.rs");
     println!("cargo::rustc-check-cfg=cfg(has_heap)");
-    if let Err(why) = link() {
-        println!("cargo::error={why}");
+    let target = env::var("TARGET").unwrap_or_default();
+    if target.starts_with("x86_64-") && target.contains("-linux-") {
+        link();
+    } else {
+        println!("cargo::error=the library is for Linux on x86-64, and not for {target}");
     }
 }

@@ -24,7 +24,8 @@
 //! # Linking
 //!
 //! `tools/install` of the repository installs the static library. `build.rs` finds it by `pkg-config`, or in the
-//! folder that the environment variable `DWARF_READ_LIB` names. It is for Linux on x86-64.
+//! folder that the environment variable `DWARF_READ_LIB` names. It is for Linux on x86-64. `cargo check` and `cargo doc`
+//! need no library.
 #![warn(missing_docs)]
 
 mod error;
