@@ -25,6 +25,9 @@ def program(name, *launcher):
 
     The launcher looks whether a source is newer than the program, which takes as long as a run.
     """
+    if not (ROOT / "dwarf_list").is_file():
+        # This file is installed, as PREFIX/share/dwarf-read/debug_listing.py.
+        return [ROOT.parent / "bin" / name]
     built = ROOT / "crates" / name / "out" / name
     return [built] if built.is_file() else [ROOT / "dwarf_list", *launcher]
 
