@@ -1,0 +1,58 @@
+"""The checks of a script: a line for each, and how many passed, failed and were skipped."""
+import shutil
+import signal
+import subprocess
+import sys
+
+
+class Checks:
+    """A run of checks of a script, in a scratch folder."""
+
+    def __init__(self, name, work):
+        self.name, self.work, self.passed, self.failed, self.skipped = name, work, 0, 0, 0
+
+    def tell(self, well, what):
+        self.passed, self.failed = self.passed + bool(well), self.failed + (not well)
+        print(f"{self.name}: {what}: {'ok' if well else 'FAILED'}", flush=True)
+        return well
+
+    def skip(self, what, lacking):
+        self.skipped += 1
+        print(f"{self.name}: {what}: skipped, since there is no {lacking}", flush=True)
+
+    def has(self, what, *tools):
+        """Whether all these tools are there. The first that isn't is told."""
+        lacking = [it for it in tools if not shutil.which(it)]
+        if lacking:
+            self.skip(what, lacking[0])
+        return not lacking
+
+    def run(self, what, words, **how):
+        """A check that a command ends with status 0. What it says is shown where it doesn't."""
+        how = {"cwd": self.work, "stdin": subprocess.DEVNULL, "stdout": subprocess.PIPE, **how}
+        ran = subprocess.run(words, **how, stderr=subprocess.STDOUT, text=True, errors="replace", check=False)
+        if ran.returncode:
+            print(ran.stdout.strip()[-4000:])
+        return self.tell(ran.returncode == 0, what)
+
+    def output(self, words, section, **how):
+        """What a program writes of a section, which is a file of the scratch folder, and its status."""
+        with open(f"{self.work}/{section}", "rb") as given:
+            how = {"stdin": given, "stdout": subprocess.PIPE, "stderr": subprocess.STDOUT, **how}
+            ran = subprocess.run(words, **how, check=False)
+        return ran.stdout, ran.returncode
+
+    def end(self):
+        """Prints the counts, and returns the exit status."""
+        print(f"{self.passed} passed, {self.failed} failed, {self.skipped} skipped")
+        return 1 if self.failed or not self.passed + self.skipped else 0
+
+
+def run(main):
+    """Runs a script, and ends with its exit status. If it is interrupted, its scratch folder goes first."""
+    for it in (signal.SIGTERM, signal.SIGHUP):
+        signal.signal(it, lambda number, _: sys.exit(128 + number))
+    try:
+        sys.exit(main(sys.argv[1:]))
+    except KeyboardInterrupt:
+        sys.exit(130)
