@@ -41,9 +41,9 @@
 
 /* The version of this header, which is that of the library too. */
 #define DWARF_READ_VERSION_MAJOR 0
-#define DWARF_READ_VERSION_MINOR 1
+#define DWARF_READ_VERSION_MINOR 2
 #define DWARF_READ_VERSION_PATCH 0
-#define DWARF_READ_VERSION "0.1.0"
+#define DWARF_READ_VERSION "0.2.0"
 
 /* Enough places for every name and every text of an error, with a zero byte behind it. */
 #define DWARF_TEXT_ROOM 64
