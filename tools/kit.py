@@ -23,9 +23,19 @@ TEST = re.compile(r"^ *#\[test\]", re.M)
 FN = re.compile(r"^ *(?:pub(?:\([^)]*\))? )?(?:const )?(?:unsafe )?(?:extern \"C\" )?fn (\w+)", re.M)
 
 
+def of_path(command):
+    """Where a command of the kit is. If it isn't on PATH, a line says so, and the run ends with status 2."""
+    found = shutil.which(command)
+    if not found:
+        who = os.path.basename(sys.argv[0])
+        print(f"{who}: the command {command} of the Rattle kit isn't on PATH", file=sys.stderr, flush=True)
+        sys.exit(2)
+    return os.path.realpath(found)
+
+
 def load_rt():
     """The kit's command `rt`, as a module."""
-    path = os.path.realpath(shutil.which("rt"))
+    path = of_path("rt")
     loader = importlib.machinery.SourceFileLoader("rt", path)
     spec = importlib.util.spec_from_loader("rt", loader)
     made = importlib.util.module_from_spec(spec)
@@ -37,8 +47,14 @@ def load_rt():
 @functools.cache
 def is_known():
     """Whether the kit here is one that these scripts were written for."""
-    ran = subprocess.run(["rt", "version"], capture_output=True, text=True, check=False)
-    return ran.stdout.strip() in KITS
+    return version() in KITS
+
+
+def version():
+    """What the kit here says that it is."""
+    how = {"stdin": subprocess.DEVNULL, "capture_output": True, "text": True, "check": False}
+    ran = subprocess.run([of_path("rt"), "version"], **how)
+    return ran.stdout.strip()
 
 
 def unproved():
@@ -174,7 +190,7 @@ def build_libraries(crates):
     for it in CRATES:
         if any(it in below(crate) for crate in crates) and not is_fresh(f"{library(it)}/format", it):
             how = {"cwd": f"{ROOT}/crates/{it}", "stdin": subprocess.DEVNULL, "stdout": subprocess.PIPE}
-            ran = subprocess.run(["rt", "lib"], **how, stderr=subprocess.STDOUT, errors="replace")
+            ran = subprocess.run([of_path("rt"), "lib"], **how, stderr=subprocess.STDOUT, errors="replace")
             if ran.returncode:
                 return f"{it} is not proved:\n{ran.stdout.strip()[-2000:]}"
     return None
@@ -182,7 +198,7 @@ def build_libraries(crates):
 
 def folder():
     """The folder of the kit."""
-    return os.path.dirname(os.path.dirname(os.path.realpath(shutil.which("rattle"))))
+    return os.path.dirname(os.path.dirname(of_path("rattle")))
 
 
 def root_file(crate):
