@@ -150,15 +150,16 @@ def kept(crate):
     return f"{KEPT}/{crate}" if KEPT and os.path.isdir(f"{KEPT}/{crate}") else None
 
 
-def lanes(memory):
-    """How many commands that take so much memory the machine has processors and room for, at least one."""
+def lanes(memory, others=0):
+    """How many commands that take so much memory the machine has processors and room for, at least one. The second
+    number is what all of them take together beside that."""
     processors = len(os.sched_getaffinity(0))
     try:
         with open("/proc/meminfo", encoding="utf-8") as file:
             free = int(re.search(r"MemAvailable:\s+(\d+) kB", file.read())[1]) * 1024
     except (OSError, TypeError):
         return processors
-    return max(1, min(processors, free // memory))
+    return max(1, min(processors, (free - others) // memory))
 
 
 def measured(step=""):
@@ -173,15 +174,31 @@ def library(crate):
     return f"{ROOT}/crates/{crate}/out/rlib/{crate}.rlib"
 
 
+def programs(crate):
+    """Where the proved program of a crate is once it is built, and the unproved one that ./dwarf_list keeps."""
+    proved = f"{ROOT}/crates/{crate}/out/{crate}"
+    return proved, f"{proved}.unproved"
+
+
+def build_unproved(crate):
+    """Builds the program that ./dwarf_list keeps, unless it is current. Returns whether it is there."""
+    words = [sys.executable, f"{ROOT}/tools/unproved.py", "--build", crate]
+    return subprocess.run(words, stdin=subprocess.DEVNULL, stdout=subprocess.DEVNULL, check=False).returncode == 0
+
+
+def newest(crate):
+    """The time of the newest source of a crate and of those below it."""
+    roots = [f"{ROOT}/crates/{it}/{part}" for it in [*below(crate), crate] for part in PARTS]
+    files = [f"{at}/{name}" for root in roots for at, _, names in os.walk(root) for name in names]
+    return max(os.path.getmtime(file) for file in [f"{ROOT}/crates.txt", *files])
+
+
 def is_fresh(product, crate):
     """Whether a file is there, and none of the sources of a crate and of those below it is newer."""
     try:
-        built = os.path.getmtime(product)
+        return os.path.getmtime(product) >= newest(crate)
     except OSError:
         return False
-    roots = [f"{ROOT}/crates/{it}/{part}" for it in [*below(crate), crate] for part in PARTS]
-    files = [f"{at}/{name}" for root in roots for at, _, names in os.walk(root) for name in names]
-    return all(os.path.getmtime(file) <= built for file in [f"{ROOT}/crates.txt", *files])
 
 
 def build_libraries(crates):

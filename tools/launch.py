@@ -1,0 +1,251 @@
+"""Does for ./dwarf_list what isn't done at once.
+
+    python3 launch.py CRATE WORD..    runs the program of a crate, which is built first if need be
+    python3 launch.py CRATE --path    prints where that program is
+    python3 launch.py --prove         proves and builds both programs
+    python3 launch.py --version       prints the versions, and whether the programs are proved
+
+The proved program is run if it is current: none of the sources of its crate and of the crates below is newer. Else
+tools/unproved.py builds one, unless that is current. Where none can be kept, the kit compiles the sources for each
+result. Without the kit, a program that is there is run, also if it is older than the sources.
+"""
+import signal
+
+# Until there is something to end, an interruption ends the run at once.
+signal.signal(signal.SIGINT, signal.SIG_DFL)
+
+import os
+import shutil
+import subprocess
+import sys
+import threading
+import time
+from contextlib import contextmanager, suppress
+
+sys.dont_write_bytecode = True
+import kit
+from unproved import NOT_HERE
+
+# The programs, and for each the words of a run that prints little.
+PROGRAMS = {"dwarf_list": ["uleb", "0"], "dwarf_list_many": ["str", os.devnull, os.devnull]}
+# The processor minutes that proving and building both programs takes. What a check of the largest crate takes of memory
+# with one job, and what each further job takes.
+PROOF_MINUTES = 45
+CHECK_BYTES, JOB_BYTES = 4_000_000_000, 2_000_000_000
+NO_KIT = "the command rt of the Rattle kit isn't on PATH"
+FAILED = 3
+
+
+def say(text):
+    with suppress(OSError):
+        os.write(2, os.fsencode(f"dwarf_list: {text}\n"))
+
+
+def put(line):
+    """Prints a line, or ends the run if that isn't possible."""
+    try:
+        os.write(1, os.fsencode(f"{line}\n"))
+    except OSError as fault:
+        stop(f"cannot write output: {fault.strerror}")
+
+
+def stop(why):
+    say(why)
+    sys.exit(FAILED)
+
+
+@contextmanager
+def child(words, **how):
+    """Runs a command. If this run is interrupted, the command is told once: a terminal tells only its own session."""
+    with subprocess.Popen(words, start_new_session=True, **how) as it:
+        try:
+            yield it
+            it.wait()
+        except BaseException:
+            with suppress(ProcessLookupError):
+                os.killpg(it.pid, signal.SIGTERM)
+            raise
+
+
+# Running a program.
+
+
+def is_current(program, name):
+    """Whether a program is there and current. If so, it gets this time, by which the launcher sees that at once."""
+    begun = time.time()
+    if not kit.is_fresh(program, name):
+        return False
+    with suppress(OSError):
+        os.utime(program, (begun, max(begun, os.path.getmtime(program))))
+    return True
+
+
+def last_built(name):
+    """The program of a crate that was built last, or None."""
+    there = [it for it in kit.programs(name) if os.path.isfile(it)]
+    return max(there, key=os.path.getmtime) if there else None
+
+
+def find(name):
+    """The program of a crate that is to be run, built if need be, or None if none can be kept."""
+    proved, unproved = kit.programs(name)
+    for it in (proved, unproved):
+        if is_current(it, name):
+            return it
+    if not shutil.which("rt"):
+        there = last_built(name) or stop(f"{NO_KIT}, and no program is there")
+        say(f"the program is older than the sources, and {NO_KIT}")
+        return there
+    words = [sys.executable, f"{kit.ROOT}/tools/unproved.py", "--build", name]
+    with child(words, stdin=subprocess.DEVNULL, stdout=subprocess.DEVNULL) as build:
+        pass
+    if build.returncode not in (0, NOT_HERE):
+        sys.exit(FAILED)
+    return None if build.returncode else unproved
+
+
+def run(name, words):
+    program = find(name)
+    if words == ["--path"]:
+        put(program or stop("there is no program for a script to run"))
+    elif program is None:
+        sys.exit(run_sources(name, words))
+    else:
+        if program.endswith(".unproved"):
+            say("this program is unproved; ./dwarf_list --prove builds a proved one")
+        # Python ignores these, and the program would too.
+        for it in (signal.SIGPIPE, signal.SIGXFSZ):
+            signal.signal(it, signal.SIG_DFL)
+        os.execv(program, [program, *words])
+
+
+def run_sources(name, words):
+    """Compiles and runs the sources. Returns the status, and passes on what the program itself prints."""
+    say("this result comes from the unproved sources, which are compiled for each result")
+    # This run is in the folder of the crate.
+    files = [it if it == "-" else os.path.join(os.getcwd(), it) for it in words[1:]]
+    words = [words[0], *files] if name == "dwarf_list_many" else words
+    how = {"cwd": f"{kit.ROOT}/crates/{name}", "stderr": subprocess.PIPE}
+    with child([*kit.unproved(), "--", *words], **how) as tried:
+        said = tried.stderr.read().decode(errors="replace").splitlines()
+    if any(it.startswith("run=ended status=") for it in said):
+        for it in said:
+            if not it.startswith(("run=ended ", "checked: ended ")):
+                os.write(2, f"{it}\n".encode())
+        return tried.returncode
+    if any("the program wrote more than" in it for it in said):
+        stop("such a result has at most 1 MiB, and this one is longer")
+    os.write(2, "\n".join([*said[-20:], ""]).encode())
+    stop("the sources gave no result")
+
+
+# Proving.
+
+
+def in_words(seconds):
+    return f"{int(seconds) // 60} min {int(seconds) % 60} s"
+
+
+class Proof:
+    """The proof of a program and of the crates below it. It prints every five seconds how far it is."""
+
+    def __init__(self, name, jobs):
+        self.name, self.jobs, self.state = name, jobs, ""
+        self.log = f"{kit.ROOT}/crates/{name}/out/prove.log"
+        self.started, self.ended = time.time(), threading.Event()
+
+    def tell(self):
+        while not self.ended.wait(5):
+            say(f"{in_words(time.time() - self.started)}: {self.state}")
+
+    def step(self, log, crate, verb, *words):
+        """Runs a command of the kit in the folder of a crate. Returns whether it ended well."""
+        self.state = f"{crate}: reading the sources"
+        words = ["rt", verb, "--jobs", str(self.jobs), *words]
+        how = {"cwd": f"{kit.ROOT}/crates/{crate}", "stdin": subprocess.DEVNULL, "stdout": subprocess.PIPE}
+        with child(words, **how, stderr=subprocess.STDOUT, text=True, errors="replace") as step:
+            for line in step.stdout:
+                log.write(line)
+                if line.startswith("so far: "):
+                    self.state = f"{crate}: {line[8:].partition(';')[0].strip()}"
+                elif line.startswith("crate "):
+                    self.state = f"{crate}: compiling"
+        return step.returncode == 0
+
+    def run(self):
+        """Proves and builds. Ends the run if that fails."""
+        program = kit.programs(self.name)[0]
+        os.makedirs(os.path.dirname(program), exist_ok=True)
+        # An edit during the proof makes the program older than its source. The kit leaves one whose text is the same.
+        begun = max(self.started, kit.newest(self.name))
+        count = len(os.sched_getaffinity(0))
+        say(f"proving and building {self.name}, and the libraries below it, by {self.jobs} jobs on {count} processors")
+        threading.Thread(target=self.tell, daemon=True).start()
+        try:
+            with open(self.log, "w", encoding="utf-8", buffering=1) as log:
+                well = all(self.step(log, it, "lib") for it in kit.below(self.name))
+                well = well and self.step(log, self.name, "run", "--", *PROGRAMS[self.name])
+        finally:
+            self.ended.set()
+        if not well or not os.path.isfile(program):
+            with open(self.log, encoding="utf-8") as log:
+                os.write(2, "".join(log.readlines()[-20:]).encode())
+            stop(f"the program wasn't built; the whole log is {self.log}")
+        os.utime(program, (begun, begun))
+        say(f"built in {in_words(time.time() - self.started)}: {program}")
+
+
+def prove():
+    started = time.time()
+    left = [it for it in PROGRAMS if not is_current(kit.programs(it)[0], it)]
+    if left and not shutil.which("rt"):
+        stop(NO_KIT)
+    jobs = kit.lanes(JOB_BYTES, CHECK_BYTES - JOB_BYTES)
+    if [*PROGRAMS][0] in left:
+        say(
+            f"the first time this takes about {PROOF_MINUTES} minutes of processor time, so at least"
+            f" {PROOF_MINUTES // jobs} minutes by {jobs} jobs, and 4 GB of disk"
+        )
+    for it in PROGRAMS:
+        if it in left:
+            Proof(it, jobs).run()
+        else:
+            say(f"built already: {kit.programs(it)[0]}")
+    say(f"done in {in_words(time.time() - started)}")
+
+
+def state(name):
+    """Whether the program of a crate that would be run is proved."""
+    proved, unproved = kit.programs(name)
+    program = next((it for it in (proved, unproved) if kit.is_fresh(it, name)), None) or last_built(name)
+    if not program:
+        return "not built yet"
+    is_old = "" if kit.is_fresh(program, name) else ", and older than the sources"
+    return ("proved" if program == proved else "unproved") + is_old
+
+
+def tell_versions():
+    with open(f"{kit.ROOT}/VERSION", encoding="utf-8") as file:
+        put(f"dwarf_list {file.read().strip()}, a port of the lowest layer of gimli 0.34.0")
+    for it in PROGRAMS:
+        put(f"{it}: {state(it)}")
+    put(f"proofs are for {' or '.join(kit.KITS)}")
+    put(f"kit on PATH: {kit.version() if shutil.which('rt') else 'none'}")
+
+
+def interrupted(number, _frame):
+    sys.exit(128 + number)
+
+
+if __name__ == "__main__":
+    for it in (signal.SIGINT, signal.SIGTERM, signal.SIGHUP):
+        signal.signal(it, interrupted)
+    try:
+        if sys.argv[1] == "--prove":
+            prove()
+        elif sys.argv[1] == "--version":
+            tell_versions()
+        else:
+            run(sys.argv[1], sys.argv[2:])
+    except OSError as fault:
+        stop(fault)
