@@ -20,22 +20,6 @@ SECTIONS = {
 }
 
 
-def program(name, *launcher):
-    """The words that run a program.
-
-    The launcher looks whether a source is newer than the program, which takes as long as a run.
-    """
-    if not (ROOT / "dwarf_list").is_file():
-        # This file is installed, as PREFIX/share/dwarf-read/debug_listing.py.
-        return [ROOT.parent / "bin" / name]
-    built = ROOT / "crates" / name / "out" / name
-    return [built] if built.is_file() else [ROOT / "dwarf_list", *launcher]
-
-
-LIST = program("dwarf_list")
-MANY = program("dwarf_list_many", "--many")
-
-
 class Report:
     """What was told on standard error, each line once, and the exit status by that."""
 
@@ -81,7 +65,21 @@ class Listing:
         self.kind = command.replace("line-", "")
         self.order = "le" if file.order == "little" else "be"
         self.path, self.offsets = f"{folder}/section", f"{folder}/offsets"
-        self.sections = file.named(SECTIONS[command])
+        self.sections, self.programs = file.named(SECTIONS[command]), {}
+
+    def program(self, *option):
+        """Where dwarf_list is, or by `--many` dwarf_list_many. The launcher is asked once, and may have to build it."""
+        if not (ROOT / "dwarf_list").is_file():
+            # This file is installed, as PREFIX/share/dwarf-read/debug_listing.py.
+            return ROOT.parent / "bin" / ("dwarf_list_many" if option else "dwarf_list")
+        if option not in self.programs:
+            ran = subprocess.run([ROOT / "dwarf_list", *option, "--path"], stdout=subprocess.PIPE, text=True)
+            if ran.returncode:
+                sys.exit(ran.returncode)
+            self.programs[option] = ran.stdout.rstrip("\n")
+            if self.programs[option].endswith(".unproved"):
+                self.report.say("the programs are unproved; ./dwarf_list --prove builds proved ones", 0)
+        return self.programs[option]
 
     def list(self, offset):
         """Lists what is at an offset of each section, or everything."""
@@ -115,7 +113,7 @@ class Listing:
         """Lists what is at each of these offsets, up to the first error. Returns the exit status and the error."""
         with open(self.offsets, "w", encoding="ascii") as file:
             file.writelines(f"{it}\n" for it in offsets)
-        return run([*MANY, self.kind, self.path], self.offsets)
+        return run([self.program("--many"), self.kind, self.path], self.offsets)
 
     def list_all(self, section, body, offsets_from):
         """Lists what is at all offsets, and goes on after an error. The function gives the offsets from one on."""
@@ -134,7 +132,7 @@ class Listing:
 
     def list_one(self, section, body, offset):
         self.keep(body)
-        status, error = run([*LIST, self.kind, str(offset)], self.path)
+        status, error = run([self.program(), self.kind, str(offset)], self.path)
         if status:
             self.report.say(f"{section} at 0x{offset:x}: {error}", status)
 
@@ -160,7 +158,7 @@ class Listing:
             self.list_without_headers(section, body, units)
             return
         self.keep(body)
-        if run([*LIST, self.command, self.order], self.path)[0]:
+        if run([self.program(), self.command, self.order], self.path)[0]:
             why = "; the sets of split units of DWARF 4 have no header" if old else ""
             self.list_each_set(section, body, why)
 
@@ -179,7 +177,7 @@ class Listing:
                 return
             self.keep(body[at : begin + length])
             status, error = run(
-                [*LIST, self.command, self.order],
+                [self.program(), self.command, self.order],
                 self.path,
                 lambda line, at=at: line.replace(b"set 0:", b"set %d:" % at, 1),
             )
@@ -235,7 +233,7 @@ class Listing:
         self.keep(length + fields + body)
         last = f"address size {size}" if is_addr else f"{8 * size}-bit"
         line = f"set {start}: no header, {len(body)} bytes, {last}\n".encode()
-        status, error = run([*LIST, self.command, self.order], self.path, lambda _: line)
+        status, error = run([self.program(), self.command, self.order], self.path, lambda _: line)
         if status:
             self.report.say(f"{section}: the set at 0x{start:x}: {error}", status)
 
