@@ -1,13 +1,15 @@
 """The debug sections of an ELF file, and the headers of its units.
 
-pyelftools reads the file and applies the relocations of a relocatable one. What can't be read is told
-by the function that the caller gives, and the rest is read too. An exception `Unlisted` is raised for
-a file or a section of which nothing can be read.
+pyelftools reads the headers of the file. What can't be read is told by the function that the caller gives,
+and the rest is read too. An exception `Unlisted` is raised for a file or a section of which nothing can be read,
+and for bytes with a relocation that isn't known.
 
-The bytes of a section are inflated if they are compressed. A section may inflate to 256 MiB, or to 64 times
-its compressed size if that is more, so that a small file can't take much memory.
+The bytes of a section are read when they are asked for. They are inflated if they are compressed, which takes
+memory: a section may inflate to 256 MiB, or to 64 times its compressed size if that is more.
 """
+import array
 import bisect
+import functools
 import io
 import re
 import struct
@@ -15,7 +17,6 @@ import zlib
 from dataclasses import dataclass, field
 
 from elftools.elf.elffile import ELFFile
-from elftools.elf.relocation import RelocationHandler
 
 INFLATED_BYTES, INFLATED_TIMES = 1 << 28, 64
 # A section's name: of early debug information that an object keeps for link-time optimization, compressed
@@ -25,7 +26,36 @@ UNITS = ("debug_info", "debug_types")
 INDEXES = ("debug_cu_index", "debug_tu_index")
 # The columns of the index of a package: DW_SECT_INFO, DW_SECT_TYPES, DW_SECT_ABBREV, DW_SECT_STR_OFFSETS.
 COLUMNS = {"debug_info": 1, "debug_types": 2, "debug_abbrev": 3, "debug_str_offsets": 6}
-ZEROS = re.compile(rb"\0*")
+# So many bytes are read at a time.
+CHUNK = 1 << 20
+# The relocations that store a symbol's value plus an addend: the bytes of each type, by the machine's number. Those of
+# places of threads are among them, unless a machine counts these from elsewhere.
+ABSOLUTE = {
+    2: {3: 4, 23: 4, 76: 4},  # SPARC
+    3: {1: 4, 32: 4},  # x86
+    4: {1: 4},  # 68000
+    8: {2: 4, 18: 8},  # MIPS
+    18: {3: 4, 23: 4, 76: 4},  # SPARC V8+
+    20: {1: 4, 24: 4},  # PowerPC
+    21: {1: 4, 24: 4, 38: 8, 43: 8},  # PowerPC of 64 bits
+    22: {4: 4, 22: 8, 52: 4, 53: 8},  # S/390
+    40: {2: 4, 106: 4},  # ARM
+    43: {3: 4, 23: 4, 32: 8, 54: 8, 76: 4, 77: 8},  # SPARC V9
+    62: {1: 8, 10: 4, 11: 4, 17: 8, 21: 4},  # x86-64
+    83: {1: 4, 4: 2},  # AVR
+    105: {1: 4, 5: 2},  # MSP430
+    164: {6: 4},  # Hexagon
+    183: {1: 4, 257: 8, 258: 4},  # AArch64
+    224: {3: 8, 6: 4},  # AMD's graphics processors
+    243: {1: 4, 2: 8, 54: 1, 55: 2, 56: 4},  # RISC-V
+    247: {2: 8, 3: 4},  # BPF
+    258: {1: 4, 2: 8},  # LoongArch
+}
+# Those that add this sum to the number that is there, or subtract it.
+ADDED = {243: {33: 1, 34: 2, 35: 4, 36: 8}, 258: {47: 1, 48: 2, 50: 4, 51: 8}}
+SUBTRACTED = {243: {37: 1, 38: 2, 39: 4, 40: 8}, 258: {52: 1, 53: 2, 55: 4, 56: 8}}
+TABLES = ((0, ABSOLUTE), (1, ADDED), (-1, SUBTRACTED))
+MIPS, CREL = 8, 0x40000014
 
 
 class Unlisted(Exception):
@@ -43,6 +73,8 @@ def ask(what, call, *words):
     """Calls the library, which raises exceptions of many types if bytes are malformed."""
     try:
         return call(*words)
+    except OSError:
+        raise
     except Exception as error:
         raise Unlisted(f"{what} can't be read: {reason(error)}") from error
 
@@ -71,14 +103,14 @@ def by_zstd(raw, limit):
 INFLATE = {1: by_zlib, 2: by_zstd}
 
 
-def ask_to_inflate(section, inflate, raw, limit):
+def ask_to_inflate(inflate, raw, limit):
     try:
         return inflate(raw, limit)
     except ImportError as error:
         how = "`apt-get install python3-zstandard` or `pip install zstandard` helps"
-        raise Unlisted(f"{section} is compressed by zstd, which this Python can't inflate: {how}") from error
+        raise Unlisted(f"is compressed by zstd, which this Python can't inflate: {how}") from error
     except Exception as error:
-        raise Unlisted(f"{section} can't be inflated: {reason(error)}") from error
+        raise Unlisted(f"can't be inflated: {reason(error)}") from error
 
 
 @dataclass(eq=False)
@@ -145,22 +177,122 @@ class Package:
         return sorted({row[column] for rows in self.rows.values() for _, _, row in rows if column in row})
 
 
-class Chosen:
-    """Some relocations of a section, by their numbers. The library takes one after the other, and if it fails at
-    one, it can be called again and takes the next."""
+def number_at(body, at, size, order, end=None):
+    """The number at an offset, which has to be before an end."""
+    found = body[at : at + size if end is None else min(at + size, end)]
+    if len(found) < size:
+        raise Unlisted("is too short for its header")
+    return int.from_bytes(found, order)
 
-    def __init__(self, table, numbers):
-        self.table, self.numbers, self.taken, self.place = table, iter(numbers), 0, 0
 
-    def __getitem__(self, name):
-        return self.table[name]
+class Body:
+    """The bytes of a section, with its relocations, of which the parts that are asked for are read from a file."""
 
-    def iter_relocations(self):
-        for number in self.numbers:
-            self.taken += 1
-            relocation = self.table.get_relocation(number)
-            self.place = relocation["r_offset"]
-            yield relocation
+    def __init__(self, file, start, size, tables=tuple):
+        self.file, self.start, self.size, self.tables = file, start, size, tables
+
+    def __len__(self):
+        return self.size
+
+    def __getitem__(self, part):
+        at, end, _ = part.indices(self.size)
+        if at >= end:
+            return b""
+        tables = self.tables()
+        if not tables:
+            return self.stored(at, end)
+        # A relocation has at most eight bytes, and one may begin before the part or end behind it.
+        low = max(0, at - 7)
+        data = bytearray(self.stored(low, min(self.size, end + 7)))
+        for table in tables:
+            table.apply(data, low, at, end)
+        return bytes(data[at - low : end - low])
+
+    def stored(self, at, end):
+        try:
+            self.file.seek(self.start + at)
+            return self.file.read(end - at)
+        except OSError as error:
+            error.filename = self.file.name
+            raise
+
+    def chunks(self, at=0):
+        """The bytes from an offset on, with the offset of each chunk."""
+        for low in range(at, self.size, CHUNK):
+            yield low, self[low : low + CHUNK]
+
+
+class Relocations:
+    """A table of the relocations of a section. A kernel module has hundreds of thousands, of which few are in the
+    headers of units. So only their places are in memory."""
+
+    def __init__(self, file, body, symbols, has_addends):
+        self.machine, self.order, self.is_long = file.machine, file.order, file.elf.elfclass == 64
+        self.body, self.symbols = body, symbols
+        rows = ((kind, size, sign) for sign, it in TABLES for kind, size in it.get(self.machine, {}).items())
+        self.sizes = {kind: (size, sign) for kind, size, sign in rows}
+        word = "q" if self.is_long else "i"
+        self.row = struct.Struct(f"{'<' if self.order == 'little' else '>'}2{word.upper()}{word * has_addends}")
+
+    @functools.cached_property
+    def places(self):
+        """The places in rising order, and the numbers of their rows."""
+        places, size = array.array("Q"), self.row.size
+        for low in range(0, len(self.body), size << 12):
+            part = self.body[low : low + (size << 12)]
+            places.extend(row[0] for row in self.row.iter_unpack(part[: len(part) // size * size]))
+        numbers = range(len(places))
+        if any(places[it - 1] > places[it] for it in numbers[1:]):
+            numbers = sorted(numbers, key=places.__getitem__)
+            places = array.array("Q", (places[it] for it in numbers))
+        return places, numbers
+
+    def between(self, low, end):
+        """The relocations of a part: the place, the symbol's number, the type, and the addend or None."""
+        places, numbers = self.places
+        if places and not self.sizes:
+            raise Unlisted(f"has relocations of the machine {self.machine}, which aren't known here")
+        for number in numbers[bisect.bisect_left(places, low) : bisect.bisect_left(places, end)]:
+            at = number * self.row.size
+            place, info, *addend = self.row.unpack(self.body[at : at + self.row.size])
+            if not self.is_long:
+                symbol, kind = info >> 8, info & 0xFF
+            elif self.machine == MIPS and self.order == "little":
+                # Only the symbol's number is in the file's order, and then come four bytes, the type last.
+                symbol, kind = info & 0xFFFFFFFF, int.from_bytes((info >> 32).to_bytes(4, "little"), "big")
+            else:
+                symbol, kind = info >> 32, info & 0xFFFFFFFF
+            yield place, symbol, kind, addend[0] if addend else None
+
+    def apply(self, data, low, at, end):
+        """Applies the relocations of a part, whose bytes are there from a lower offset on."""
+        for place, symbol, kind, addend in self.between(low, end):
+            size, sign = self.sizes.get(kind, (0, 0))
+            # Type 0 is none, and one before the part may end there.
+            if kind == 0 or place + size <= at and place < at:
+                continue
+            if not size:
+                raise Unlisted(f"has a relocation at 0x{place:x} of type {kind}, which isn't known here")
+            part = slice(place - low, place - low + size)
+            if part.stop > len(data):
+                raise Unlisted(f"has a relocation at 0x{place:x} that is past the end")
+            stored = int.from_bytes(data[part], self.order)
+            value = self.value(symbol) + (stored if addend is None else addend)
+            value = stored + sign * value if sign else value
+            data[part] = (value % (1 << 8 * size)).to_bytes(size, self.order)
+
+    def value(self, symbol):
+        return self.of_symbol(symbol, *((24, 8, 8) if self.is_long else (16, 4, 4)))
+
+    def home(self, symbol):
+        """The number of the section of a symbol."""
+        return self.of_symbol(symbol, *((24, 6, 2) if self.is_long else (16, 14, 2)))
+
+    def of_symbol(self, symbol, row, at, size):
+        try:
+            return number_at(self.symbols, symbol * row + at, size, self.order)
+        except Unlisted:
+            raise Unlisted(f"has a relocation by the symbol {symbol}, which isn't there") from None
 
 
 class DebugFile:
@@ -168,13 +300,16 @@ class DebugFile:
 
     def __init__(self, path, say):
         self.say = say
-        with open(path, "rb") as file:
-            start = file.read(4)
-            if start != b"\x7fELF":
-                raise Unlisted("this isn't an ELF file")
-            self.data = start + file.read()
-        self.elf = ask("the header of the file", ELFFile, io.BytesIO(self.data))
+        file = open(path, "rb")
+        self.file = file if file.seekable() else io.BytesIO(file.read())
+        self.size = self.file.seek(0, io.SEEK_END)
+        whole = Body(self.file, 0, self.size)
+        start = whole[:4]
+        if start != b"\x7fELF":
+            raise Unlisted("this isn't an ELF file")
+        self.elf = ask("the header of the file", ELFFile, self.file)
         self.order = "little" if self.elf.little_endian else "big"
+        self.machine = self.number(whole, 18, 2)
         self.sections, self.relocations = [], {}
         for number in range(self.count()):
             self.add(number)
@@ -187,7 +322,7 @@ class DebugFile:
             raise Unlisted("the file has no section headers")
         if size != self.elf.structs.Elf_Shdr.sizeof():
             raise Unlisted(f"the file says that a section header has {size} bytes")
-        there = max(0, len(self.data) - start) // size
+        there = max(0, self.size - start) // size
         if not there:
             raise Unlisted(f"the section headers at 0x{start:x} are past the end of the file")
         wanted = ask("the number of sections", self.elf.num_sections)
@@ -206,7 +341,7 @@ class DebugFile:
             self.say(error)
             return
         name = NAME.fullmatch(found.name)
-        if found["sh_type"] in ("SHT_REL", "SHT_RELA"):
+        if found["sh_type"] in ("SHT_REL", "SHT_RELA", CREL):
             self.relocations.setdefault(found["sh_info"], []).append(found)
         elif name:
             early, _, base, split = (it or "" for it in name.groups())
@@ -218,10 +353,7 @@ class DebugFile:
         return [it for it in self.sections if it.base in bases]
 
     def number(self, body, at, size, end=None):
-        """The number at an offset, which has to be before an end."""
-        if at + size > (len(body) if end is None else end):
-            raise Unlisted("is too short for its header")
-        return int.from_bytes(body[at : at + size], self.order)
+        return number_at(body, at, size, self.order, end)
 
     # The bytes of sections.
 
@@ -229,86 +361,54 @@ class DebugFile:
         """The bytes of a section, inflated."""
         found = section.found
         if found["sh_type"] == "SHT_NOBITS":
-            raise Unlisted(f"{section} has no bytes in this file (SHT_NOBITS)")
-        start, size = found["sh_offset"], found["sh_size"]
-        raw = self.data[start : start + size]
-        if len(raw) < size:
-            self.say(f"{section} is cut by the end of the file: {len(raw)} of its {size} bytes are there")
+            raise Unlisted("has no bytes in this file (SHT_NOBITS)")
+        raw, tables = self.part(found, section), functools.partial(self.relocations_of, section)
         if found.name.startswith((".zdebug", ".gnu.debuglto_.z")) and raw[:4] == b"ZLIB":
-            return self.inflated(section, raw[12:], int.from_bytes(raw[4:12], "big"))
-        if not found.compressed:
-            return raw
-        kind, raw = int.from_bytes(raw[:4], self.order), raw[self.elf.structs.Elf_Chdr.sizeof() :]
-        if kind not in INFLATE:
-            raise Unlisted(f"{section} can't be inflated: its compression type {kind} is unknown")
-        return self.inflated(section, raw, found.data_size, INFLATE[kind])
+            whole = self.inflated(section, raw[12:], int.from_bytes(raw[4:12], "big"), by_zlib)
+        elif found.compressed:
+            kind, packed = self.number(raw, 0, 4), raw[self.elf.structs.Elf_Chdr.sizeof() :]
+            if kind not in INFLATE:
+                raise Unlisted(f"can't be inflated: its compression type {kind} is unknown")
+            whole = self.inflated(section, packed, found.data_size, INFLATE[kind])
+        else:
+            return Body(self.file, raw.start, len(raw), tables)
+        return Body(io.BytesIO(whole), 0, len(whole), tables)
 
-    def inflated(self, section, raw, size, inflate=by_zlib):
+    def part(self, found, name):
+        """The bytes that the file has of a section, as they are stored."""
+        start, wanted = found["sh_offset"], found["sh_size"]
+        there = min(wanted, max(0, self.size - start))
+        if there < wanted:
+            self.say(f"{name} is cut by the end of the file: {there} of its {wanted} bytes are there")
+        return Body(self.file, start, there)
+
+    @functools.lru_cache(maxsize=None)
+    def relocations_of(self, section):
+        """The relocations of a section. Those that a linker left in an executable are applied already."""
+        found = self.relocations.get(section.number, []) if self.elf["e_type"] == "ET_REL" else []
+        tables = []
+        for table in found:
+            if table["sh_type"] == CREL:
+                raise Unlisted("has compact relocations (SHT_CREL), which aren't read")
+            symbols = ask("has relocations whose table of symbols", self.elf.get_section, table["sh_link"])
+            if symbols["sh_type"] != "SHT_SYMTAB":
+                raise Unlisted(f"has relocations whose symbols are to be in section {table['sh_link']}, and aren't")
+            body = self.part(table, f"the table of the relocations of {section}")
+            symbols = self.part(symbols, "the table of the symbols")
+            tables.append(Relocations(self, body, symbols, table["sh_type"] == "SHT_RELA"))
+        return tables
+
+    def inflated(self, section, raw, size, inflate):
         """The bytes that are compressed, of which there are to be so many."""
         limit = max(INFLATED_BYTES, INFLATED_TIMES * len(raw))
         if size > limit:
-            raise Unlisted(f"{section} claims {size} bytes in {len(raw)} compressed ones, and at most {limit} are read")
+            raise Unlisted(f"claims {size} bytes in {len(raw)} compressed ones, and at most {limit} are read")
         # One byte more, to see whether there are too many.
-        body, is_whole = ask_to_inflate(section, inflate, raw, size + 1)
+        body, is_whole = ask_to_inflate(inflate, raw, size + 1)
         if len(body) != size or not is_whole:
             more = "more" if len(body) > size else "other bytes" if len(body) == size else f"{len(body)}"
             self.say(f"{section} is to inflate to {size} bytes, and inflates to {more}")
         return body[:size]
-
-    # Relocations.
-
-    def relocated(self, section, body, places=None):
-        """The bytes of a section with its relocations, if the file is relocatable: with all, or with those at these
-        places."""
-        tables = self.relocations_of(section)
-        if not tables:
-            return body
-        stream = io.BytesIO(body)
-        for table in tables:
-            self.apply(stream, section, Chosen(table, self.numbers_at(table, places)))
-        return stream.getvalue()
-
-    def relocations_of(self, section):
-        # Those that a linker left in an executable are applied already.
-        return self.relocations.get(section.number, []) if self.elf["e_type"] == "ET_REL" else []
-
-    def numbers_at(self, table, places):
-        """The numbers of the relocations at these places. A relocation begins with its place, and a kernel module has
-        hundreds of thousands, of which few are in the headers of units."""
-        width = self.elf.elfclass // 8
-        rows = struct.Struct(f"{'<' if self.order == 'little' else '>'}{'IQ'[width // 8]}{table.entry_size - width}x")
-        raw = self.data[table["sh_offset"] : table["sh_offset"] + table["sh_size"]]
-        if len(raw) < table["sh_size"] or len(raw) % rows.size:
-            self.say(f"the relocations of section {table['sh_info']} are cut, and the last ones aren't applied")
-        whole = memoryview(raw)[: len(raw) // rows.size * rows.size]
-        for number, (place,) in enumerate(rows.iter_unpack(whole)):
-            if places is None or place in places:
-                yield number
-
-    def apply(self, stream, section, chosen):
-        """Applies relocations, and tells of those that the library doesn't know or can't apply."""
-        handler, failed, first = RelocationHandler(self.elf), 0, ""
-        while True:
-            taken = chosen.taken
-            try:
-                handler.apply_section_relocations(stream, chosen)
-                break
-            except Exception as error:
-                if chosen.taken == taken:
-                    self.say(f"no relocations of {section} are applied, since the symbols aren't read: {reason(error)}")
-                    return
-                failed += 1
-                first = first or f"the first is at 0x{chosen.place:x}: {reason(error)}"
-        if failed:
-            self.say(f"relocations of {section} that aren't applied: {failed}, of which {first}")
-
-    def target(self, section, place):
-        """The number of the section that the relocation at a place leads to, or None."""
-        for table in self.relocations_of(section):
-            for number in self.numbers_at(table, {place}):
-                symbols = self.elf.get_section(table["sh_link"])
-                return symbols.get_symbol(table.get_relocation(number)["r_info_sym"])["st_shndx"]
-        return None
 
     # Units.
 
@@ -323,7 +423,14 @@ class DebugFile:
 
     def zeros(self, section, body, at):
         """How many bytes of value 0 are at an offset, in fours, as padding is. They are told."""
-        found = (ZEROS.match(body, at).end() - at) // 4 * 4
+        found = 0
+        while body[at + found : at + found + 4] == bytes(4):
+            found += 4
+            for _, chunk in body.chunks(at + found):
+                many = (len(chunk) - len(chunk.lstrip(b"\0"))) // 4 * 4
+                found += many
+                if many < len(chunk):
+                    break
         if found:
             self.say(f"the {found} bytes at 0x{at:x} of {section} are zero, and passed over")
         return found
@@ -334,27 +441,21 @@ class DebugFile:
         for section in self.named(*UNITS):
             if section.family == family:
                 try:
-                    body = self.body(section)
+                    found += self.walk(section, self.body(section))
                 except Unlisted as error:
-                    self.say(error)
-                    continue
-                units = self.walk(section, body)
-                body = self.relocated(section, body, {it.table_place for it in units})
-                for unit in units:
-                    unit.table = self.number(body, unit.table_place, unit.word)
-                found += units
+                    self.say(f"{section} {error}")
         return found
 
     def walk(self, section, body):
         """The units of a section, each of which begins where the one before ends."""
         found, at = [], 0
         while at < len(body):
-            padding = self.zeros(section, body, at)
-            if padding:
-                at += padding
-                continue
             unit = Unit(section, at)
             try:
+                padding = self.zeros(section, body, at)
+                if padding:
+                    at += padding
+                    continue
                 length, unit.word, begin = self.initial_length(body, at)
             except Unlisted as error:
                 self.say(f"{unit} {error}, and what follows isn't read")
@@ -378,7 +479,7 @@ class DebugFile:
         is_new = unit.version == 5
         unit.table_place = begin + (4 if is_new else 2)
         unit.address_size = self.number(body, begin + 3 if is_new else begin + 2 + unit.word, 1, end)
-        self.number(body, unit.table_place, unit.word, end)
+        unit.table = self.number(body, unit.table_place, unit.word, end)
 
     def tables(self):
         """The sections of abbreviations, with the offsets of the tables that units name, and the first unit of each."""
@@ -400,13 +501,11 @@ class DebugFile:
             raise Unlisted(f"names a table, but there is no section {early}.debug_abbrev{split}")
         if len(sections) == 1:
             return sections[0]
-        try:
-            number = ask("the relocation", self.target, unit.section, unit.table_place)
-        except Unlisted as error:
-            raise Unlisted(f"doesn't say where its table is: {error}") from error
-        for section in sections:
-            if section.number == number:
-                return section
+        for table in self.relocations_of(unit.section):
+            for _, symbol, _, _ in table.between(unit.table_place, unit.table_place + 1):
+                for section in sections:
+                    if section.number == table.home(symbol):
+                        return section
         raise Unlisted(f"doesn't say in which of {len(sections)} sections its table is")
 
     def place_of_table(self, unit):
@@ -428,14 +527,13 @@ class DebugFile:
         found, package = self.named(*INDEXES), Package()
         for section in found:
             try:
-                self.read_index(section, self.body(section), package)
+                self.read_index(self.body(section)[:], package)
             except Unlisted as error:
-                text = str(error)
-                self.say(text if text.startswith("section ") else f"{section} {text}")
+                self.say(f"{section} {error}")
         package.sort()
         return package if found else None
 
-    def read_index(self, section, body, package):
+    def read_index(self, body, package):
         """Reads the rows of an index. Its hash table isn't needed to list all."""
         version = self.number(body, 0, 4)
         if version != 2:

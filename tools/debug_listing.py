@@ -6,7 +6,7 @@ import subprocess
 import sys
 import tempfile
 
-from debug_file import Unlisted
+from debug_file import CHUNK, Unlisted
 
 ROOT = pathlib.Path(__file__).resolve().parent.parent
 # After so many errors in a section the rest of it isn't listed, since each takes a process.
@@ -89,23 +89,26 @@ class Listing:
         for section in self.sections:
             try:
                 body = self.file.body(section)
+                if len(self.sections) > 1:
+                    put(f"{section}:\n")
+                if offset is not None:
+                    self.list_one(section, body, offset)
+                elif self.command == "abbrev":
+                    self.list_tables(section, body, tables[section])
+                elif self.kind == "str":
+                    self.list_all(section, body, lambda start, body=body: strings(body, start))
+                else:
+                    self.list_sets(section, body)
             except Unlisted as error:
-                self.report.say(error)
-                continue
-            if len(self.sections) > 1:
-                put(f"{section}:\n")
-            if offset is not None:
-                self.list_one(section, body, offset)
-            elif self.command == "abbrev":
-                self.list_tables(section, body, tables[section])
-            elif self.kind == "str":
-                self.list_all(section, body, lambda start, body=body: strings(body, start))
-            else:
-                self.list_sets(section, body)
+                self.report.say(f"{section} {error}")
 
-    def keep(self, body):
+    def keep(self, body, at=0, end=None, before=b""):
+        """Writes bytes of a section into the file that the programs read, a part at a time."""
+        end = len(body) if end is None else end
         with open(self.path, "wb") as file:
-            file.write(body)
+            file.write(before)
+            for low in range(at, end, CHUNK):
+                file.write(body[low : min(low + CHUNK, end)])
 
     # Tables and strings.
 
@@ -151,42 +154,51 @@ class Listing:
 
     def list_sets(self, section, body):
         """Lists the sets of a section, one by one if they aren't all well formed."""
-        body = self.file.relocated(section, body)
         units = self.file.units(section.family)
         old = [it for it in units if it.version < 5]
         if units and len(old) == len(units):
             self.list_without_headers(section, body, units)
-            return
-        self.keep(body)
-        if run([self.program(), self.command, self.order], self.path)[0]:
-            why = "; the sets of split units of DWARF 4 have no header" if old else ""
-            self.list_each_set(section, body, why)
+        elif not self.is_listed(body):
+            self.list_each_set(section, body, "; the sets of split units of DWARF 4 have no header" if old else "")
+
+    def is_listed(self, body):
+        """Whether all sets of a section are listed, by one process. If there is an error, none is."""
+        try:
+            self.keep(body)
+        except Unlisted:
+            return False
+        return not run([self.program(), self.command, self.order], self.path)[0]
 
     def list_each_set(self, section, body, why):
         at = errors = 0
         while at < len(body) and errors < ERRORS:
-            padding = self.file.zeros(section, body, at)
-            if padding:
-                at += padding
-                continue
             name = f"the set at 0x{at:x} of {section}"
             try:
+                padding = self.file.zeros(section, body, at)
+                if padding:
+                    at += padding
+                    continue
                 length, _, begin = self.file.initial_length(body, at)
             except Unlisted as error:
                 self.report.say(f"{name} {error}, and what follows isn't read{why}")
                 return
-            self.keep(body[at : begin + length])
-            status, error = run(
-                [self.program(), self.command, self.order],
-                self.path,
-                lambda line, at=at: line.replace(b"set 0:", b"set %d:" % at, 1),
-            )
-            if status:
-                errors += 1
-                self.report.say(f"{name}: {error}{why}", status)
+            errors += not self.list_set(name, body, at, min(begin + length, len(body)), why)
             at = begin + length
         if errors == ERRORS:
             self.report.say(f"{section}: after {ERRORS} errors the rest isn't listed")
+
+    def list_set(self, name, body, at, end, why):
+        """Lists one set, and returns whether it could."""
+        try:
+            self.keep(body, at, end)
+        except Unlisted as error:
+            self.report.say(f"{name} {error}, and isn't listed")
+            return False
+        words = [self.program(), self.command, self.order]
+        status, error = run(words, self.path, lambda line: line.replace(b"set 0:", b"set %d:" % at, 1))
+        if status:
+            self.report.say(f"{name}: {error}{why}", status)
+        return not status
 
     def list_without_headers(self, section, body, units):
         """Lists the sets of DWARF 4, which have no header: one, or in a package each contribution."""
@@ -207,32 +219,31 @@ class Listing:
                 self.report.say(f"{section}: no row of the index has the bytes from 0x{end:x} to 0x{start:x}")
             if start + size > len(body):
                 self.report.say(f"{section}: the contribution at 0x{start:x} is past the end")
-            self.list_entries(section, start, body[start : start + size], sizes[0])
+            self.list_entries(section, body, start, min(start + size, len(body)), sizes[0])
             end = max(end, start + size)
         if end < len(body):
             self.report.say(f"{section}: no row of the index has the bytes from 0x{end:x} on")
 
-    def list_entries(self, section, start, body, size):
+    def list_entries(self, section, body, start, end, size):
         """Lists entries without a header. The program gets one before them, and its line is replaced."""
-        rest = len(body) % size
+        many, rest = max(0, end - start) // size * size, max(0, end - start) % size
         if rest:
             self.report.say(f"{section}: the last {rest} bytes of the set at 0x{start:x} are no whole entry")
-        body = body[: len(body) - rest]
         is_addr = self.command == "addr"
         fields = (5).to_bytes(2, self.file.order) + (bytes([size, 0]) if is_addr else b"\0\0")
         # The format of a set of addresses says nothing of its entries.
         width = 8 if is_addr else size
-        length = (len(fields) + len(body)).to_bytes(8, self.file.order)
+        length = (len(fields) + many).to_bytes(8, self.file.order)
         if width == 8:
             length = b"\xff\xff\xff\xff" + length
-        elif len(body) < 0xFFFFFF00:
+        elif many < 0xFFFFFF00:
             length = length[:4] if self.order == "le" else length[4:]
         else:
             self.report.say(f"{section}: the set at 0x{start:x} is too long for the 32-bit format, and isn't listed")
             return
-        self.keep(length + fields + body)
+        self.keep(body, start, start + many, length + fields)
         last = f"address size {size}" if is_addr else f"{8 * size}-bit"
-        line = f"set {start}: no header, {len(body)} bytes, {last}\n".encode()
+        line = f"set {start}: no header, {many} bytes, {last}\n".encode()
         status, error = run([self.program(), self.command, self.order], self.path, lambda _: line)
         if status:
             self.report.say(f"{section}: the set at 0x{start:x}: {error}", status)
@@ -240,10 +251,12 @@ class Listing:
 
 def strings(body, start):
     """Where the strings of a section begin, from an offset on."""
-    at = (body.find(b"\0", start - 1) + 1 or len(body)) if start else 0
-    while at < len(body):
-        yield at
-        at = body.find(b"\0", at) + 1 or len(body)
+    if not start and len(body):
+        yield 0
+    for low, chunk in body.chunks(max(start - 1, 0)):
+        for it in re.finditer(rb"\0", chunk):
+            if low + it.end() < len(body):
+                yield low + it.end()
 
 
 def list_sections(file, report):
@@ -252,6 +265,7 @@ def list_sections(file, report):
         try:
             size = len(file.body(section))
         except Unlisted as error:
-            report.say(error)
-            size = 0
+            report.say(f"{section} {error}")
+            # What can't be inflated is listed with the size that its header has.
+            size = section.found.data_size if section.found.compressed else 0
         put(f"{section.name:28} {size:10}\n")
