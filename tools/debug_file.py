@@ -522,6 +522,13 @@ class DebugFile:
 
     # Packages.
 
+    def users(self, section, start, units):
+        """The units that use what is at an offset of a section. In a package the rows say it, and else all do."""
+        if not self.package or not section.family[1]:
+            return units
+        column, rows = COLUMNS[section.base], [(it, self.package.row(it)) for it in units]
+        return [it for it, row in rows if row and row.get(column, (None,))[0] == start]
+
     def indexed(self):
         """The indexes of a package, or None if the file is none."""
         found, package = self.named(*INDEXES), Package()

@@ -110,6 +110,22 @@ class Listing:
             for low in range(at, end, CHUNK):
                 file.write(body[low : min(low + CHUNK, end)])
 
+    def parts(self, section, body):
+        """The contributions that a package's index has to a section, and what is between them, which is told. Of a file
+        that is no package it is the whole section."""
+        if not self.file.package or not section.family[1]:
+            return [(0, len(body))]
+        parts, end = [], 0
+        for start, size in [*self.file.package.contributions(section.base), (len(body), 0)]:
+            if start > end:
+                self.report.say(f"{section}: no row of the index has the bytes from 0x{end:x} to 0x{start:x}")
+                parts.append((end, start))
+            if start + size > len(body):
+                self.report.say(f"{section}: the contribution at 0x{start:x} is past the end")
+            end = max(end, start + size)
+            parts.append((start, min(start + size, len(body))))
+        return parts
+
     # Tables and strings.
 
     def many(self, offsets):
@@ -147,6 +163,7 @@ class Listing:
                 self.report.say(f"{units[offset]} names the table at 0x{offset:x}, {end}")
         if not units:
             self.report.say(f"no unit names a table of {section}")
+        self.parts(section, body)
         inside = sorted(it for it in units if it <= len(body))
         self.list_all(section, body, lambda start: (it for it in inside if it >= start))
 
@@ -155,11 +172,15 @@ class Listing:
     def list_sets(self, section, body):
         """Lists the sets of a section, one by one if they aren't all well formed."""
         units = self.file.units(section.family)
-        old = [it for it in units if it.version < 5]
-        if units and len(old) == len(units):
-            self.list_without_headers(section, body, units)
-        elif not self.is_listed(body):
-            self.list_each_set(section, body, "; the sets of split units of DWARF 4 have no header" if old else "")
+        is_old = [it.version < 5 for it in units]
+        if not (units and all(is_old)) and self.is_listed(body):
+            return
+        for start, end in self.parts(section, body):
+            own = self.file.users(section, start, units)
+            if own and all(it.version < 5 for it in own):
+                self.list_without_header(section, body, start, end, own)
+            elif own or not any(is_old):
+                self.list_with_headers(section, body, start, end, own)
 
     def is_listed(self, body):
         """Whether all sets of a section are listed, by one process. If there is an error, none is."""
@@ -169,9 +190,16 @@ class Listing:
             return False
         return not run([self.program(), self.command, self.order], self.path)[0]
 
-    def list_each_set(self, section, body, why):
-        at = errors = 0
-        while at < len(body) and errors < ERRORS:
+    def list_with_headers(self, section, body, at, end, units):
+        """Lists the sets in a part of a section, one by one."""
+        is_mixed, errors = any(it.version < 5 for it in units), 0
+        while at < end and errors < ERRORS:
+            found = self.next_set(section, body, at, end, {it.address_size for it in units}) if is_mixed else at
+            if found > at:
+                why = "since a unit of DWARF 4 may have them, as a set without a header"
+                self.report.say(f"{section}: the bytes from 0x{at:x} to 0x{found:x} aren't listed, {why}")
+                at = found
+                continue
             name = f"the set at 0x{at:x} of {section}"
             try:
                 padding = self.file.zeros(section, body, at)
@@ -180,14 +208,14 @@ class Listing:
                     continue
                 length, _, begin = self.file.initial_length(body, at)
             except Unlisted as error:
-                self.report.say(f"{name} {error}, and what follows isn't read{why}")
+                self.report.say(f"{name} {error}, and what follows isn't read up to 0x{end:x}")
                 return
-            errors += not self.list_set(name, body, at, min(begin + length, len(body)), why)
+            errors += not self.list_set(name, body, at, min(begin + length, end))
             at = begin + length
         if errors == ERRORS:
             self.report.say(f"{section}: after {ERRORS} errors the rest isn't listed")
 
-    def list_set(self, name, body, at, end, why):
+    def list_set(self, name, body, at, end):
         """Lists one set, and returns whether it could."""
         try:
             self.keep(body, at, end)
@@ -197,11 +225,38 @@ class Listing:
         words = [self.program(), self.command, self.order]
         status, error = run(words, self.path, lambda line: line.replace(b"set 0:", b"set %d:" % at, 1))
         if status:
-            self.report.say(f"{name}: {error}{why}", status)
+            self.report.say(f"{name}: {error}", status)
         return not status
 
-    def list_without_headers(self, section, body, units):
-        """Lists the sets of DWARF 4, which have no header: one, or in a package each contribution."""
+    def next_set(self, section, body, at, end, sizes):
+        """Where the next set with a header begins if others have none, or the end. A header that has the units' address
+        size doesn't look like addresses. One of string offsets looks like others if its version is that of a string."""
+        version = (5).to_bytes(2, self.file.order)
+        forms = [version + bytes([it, 0]) for it in (sizes if self.command == "addr" else [0])]
+        if self.command == "str-offsets":
+            place = int.from_bytes(forms[0], self.file.order)
+            strings = [it for it in self.file.named("debug_str") if it.family == section.family]
+            if any(self.file.body(it)[place - 1 : place] == b"\0" for it in strings):
+                return end
+        pattern = re.compile(b"|".join(map(re.escape, forms)))
+        for last in (min(at + 16, end), end):
+            for found in pattern.finditer(body[at:last]):
+                fields = at + found.start()
+                for place in (fields - 12, fields - 4):
+                    if place >= at and (place - at) % 4 == 0 and self.is_set(body, place, fields, end, found[0][2]):
+                        return place
+        return end
+
+    def is_set(self, body, at, fields, end, size):
+        """Whether a length is that of a set, whose fields are at another offset."""
+        try:
+            length, word, begin = self.file.initial_length(body, at)
+        except Unlisted:
+            return False
+        return begin == fields and 4 <= length <= end - begin and (length - 4) % (size or word) == 0
+
+    def list_without_header(self, section, body, start, end, units):
+        """Lists a set of DWARF 4, which has no header. It is a whole section, or in a package a contribution."""
         is_addr = self.command == "addr"
         sizes = sorted({it.address_size if is_addr else it.word for it in units})
         what = "address size" if is_addr else "format"
@@ -210,19 +265,7 @@ class Listing:
             self.report.say(f"{section} has no headers, and isn't listed: the units' {what} is {names}")
             return
         self.report.say(f"{section} has no headers, as in DWARF 4, and is listed by the units' {what}, {names}", 0)
-        parts = [(0, len(body))]
-        if self.file.package and section.family[1]:
-            parts = self.file.package.contributions(section.base)
-        end = 0
-        for start, size in parts:
-            if start > end:
-                self.report.say(f"{section}: no row of the index has the bytes from 0x{end:x} to 0x{start:x}")
-            if start + size > len(body):
-                self.report.say(f"{section}: the contribution at 0x{start:x} is past the end")
-            self.list_entries(section, body, start, min(start + size, len(body)), sizes[0])
-            end = max(end, start + size)
-        if end < len(body):
-            self.report.say(f"{section}: no row of the index has the bytes from 0x{end:x} on")
+        self.list_entries(section, body, start, end, sizes[0])
 
     def list_entries(self, section, body, start, end, size):
         """Lists entries without a header. The program gets one before them, and its line is replaced."""
