@@ -56,6 +56,17 @@ ADDED = {243: {33: 1, 34: 2, 35: 4, 36: 8}, 258: {47: 1, 48: 2, 50: 4, 51: 8}}
 SUBTRACTED = {243: {37: 1, 38: 2, 39: 4, 40: 8}, 258: {52: 1, 53: 2, 55: 4, 56: 8}}
 TABLES = ((0, ABSOLUTE), (1, ADDED), (-1, SUBTRACTED))
 MIPS, CREL = 8, 0x40000014
+# What a file is that isn't an ELF file, by its first bytes.
+OTHERS = (
+    (b"!<arch>\n", "an archive, whose members are to be extracted first"),
+    (b"!<thin>\n", "a thin archive, which names the files with its members"),
+    (b"MZ", "a PE file"),
+    (b"\xce\xfa\xed\xfe", "a Mach-O file"),
+    (b"\xcf\xfa\xed\xfe", "a Mach-O file"),
+    (b"\xfe\xed\xfa", "a Mach-O file"),
+    (b"\xca\xfe\xba\xbe", "a Mach-O file for several machines, or a Java class"),
+    (b"\0asm", "a WebAssembly file"),
+)
 
 
 class Unlisted(Exception):
@@ -304,9 +315,10 @@ class DebugFile:
         self.file = file if file.seekable() else io.BytesIO(file.read())
         self.size = self.file.seek(0, io.SEEK_END)
         whole = Body(self.file, 0, self.size)
-        start = whole[:4]
-        if start != b"\x7fELF":
-            raise Unlisted("this isn't an ELF file")
+        start = whole[:8]
+        if not start.startswith(b"\x7fELF"):
+            what = next((what for it, what in OTHERS if start.startswith(it)), "" if start else "an empty one")
+            raise Unlisted(f"this isn't an ELF file{', but ' + what if what else ''}")
         self.elf = ask("the header of the file", ELFFile, self.file)
         self.order = "little" if self.elf.little_endian else "big"
         self.machine = self.number(whole, 18, 2)
@@ -319,7 +331,8 @@ class DebugFile:
         """How many section headers the file has."""
         start, size = self.elf["e_shoff"], self.elf["e_shentsize"]
         if not start:
-            raise Unlisted("the file has no section headers")
+            is_core = self.elf["e_type"] == "ET_CORE"
+            raise Unlisted(f"the file {'is a core dump, and ' if is_core else ''}has no section headers")
         if size != self.elf.structs.Elf_Shdr.sizeof():
             raise Unlisted(f"the file says that a section header has {size} bytes")
         there = max(0, self.size - start) // size

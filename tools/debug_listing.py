@@ -20,20 +20,6 @@ SECTIONS = {
 }
 
 
-class Report:
-    """What was told on standard error, each line once, and the exit status by that."""
-
-    def __init__(self):
-        self.status, self.told = 0, set()
-
-    def say(self, text, status=1):
-        self.status = max(self.status, status)
-        if str(text) not in self.told:
-            self.told.add(str(text))
-            sys.stdout.flush()
-            print(f"dwarf_elf: {text}", file=sys.stderr, flush=True)
-
-
 def put(text):
     sys.stdout.buffer.write(text.encode())
 
@@ -304,6 +290,8 @@ def strings(body, start):
 
 def list_sections(file, report):
     """Lists the names and sizes of the sections, and tells of those that can't be read."""
+    if not file.sections:
+        raise Unlisted("the file has no debug sections")
     for section in file.sections:
         try:
             size = len(file.body(section))
