@@ -92,11 +92,6 @@ at_insert k q c (x ∷ ds) d es fs le h = grind (arith, (at_insert (suc k) q c d
 pub none_at : (code : ℕ) (es : Entries) → (length es ≡ 0) ⊎ (is_some (at code es) ≡ false) → at code es ≡ None
 none_at code es h = grind (arith, nil_from_length)
 
--- a reference that is missing is to a declaration that is missing
-pub missed : (o : Option (Bor Declaration)) (code : ℕ) (es : Entries) → option_copied o ≡ at code es
-    → is_some o ≡ false → is_some (at code es) ≡ false
-missed o code es same none = grind arith
-
 -- an insertion among the others above the vector's codes is an insertion into the map that vector and others make
 pub table_put : (ds : List Declaration) (es fs : Entries) (code : ℕ) (d : Declaration) → length ds < code
     → Updates es fs code d → map_of ds fs ≡ insert (map_of ds es) code d

@@ -222,7 +222,7 @@ impl<R: Reader> AddrHeader<R> {
         Encoding {
             address_size: self.fields.bytes(),
             format: self.format,
-            version: VERSION,
+            version: self.version,
         }
     }
 

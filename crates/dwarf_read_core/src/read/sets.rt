@@ -189,8 +189,10 @@ impl<R: Reader + Clone, H: HeaderFields> Clone for SetHeaderIter<R, H> {
 pub struct SetHeader<R: Reader, H: HeaderFields> {
     pub(super) offset: R::Offset,
     length: R::Offset,
-    pub(super) format: Format,
     pub(super) fields: H,
+    pub(super) format: Format,
+    // Always the same. It fills what would be padding, so that a header is copied by larger moves.
+    pub(super) version: u16,
     pub(super) entries: R,
 }
 
@@ -207,6 +209,8 @@ impl<R: Reader, H: HeaderFields> Model for SetHeader<R, H> {
       header = a.fields;
       entries = a.entries;
     } };
+
+    ghost invariant = { λ a. a.version ≡ 5 };
 }
 
 /// Two headers are equal if their offsets, lengths, formats, fields and readers are.
@@ -239,8 +243,9 @@ impl<R: Reader + Clone, H: HeaderFields> Clone for SetHeader<R, H> {
             Ok(entries) => Ok(SetHeader {
                 offset: self.offset,
                 length: self.length,
-                format: self.format,
                 fields: self.fields,
+                format: self.format,
+                version: self.version,
                 entries,
             }),
             Err(_) => Err(AllocError),
@@ -282,8 +287,9 @@ impl<R: Reader, H: HeaderFields> SetHeader<R, H> {
         Ok(SetHeader {
             offset,
             length,
-            format,
             fields,
+            format,
+            version: VERSION,
             entries: unit,
         })
     }

@@ -69,6 +69,14 @@ impl Others {
         self.items.get(place)
     }
 
+    // Whether one has this code. It is a call out of line, as `insert_by_place` is.
+    #[inline(never)]
+    pub(super) fn contains(&self, code: u64) -> bool
+        ensures { IsTrue result ↔ IsSome (at_code code self.now) }
+    {
+        self.get(code).is_some()
+    }
+
     // In the order of their codes.
     #[tactic(auto, using(crate::proofs::tables::OthersByCode::by_place))]
     pub(super) fn iter(&self) -> OthersIter<'_>
@@ -111,7 +119,9 @@ impl Clone for Others {
     }
 }
 
-// Adds an abbreviation at the back, and its place by its code.
+// Adds an abbreviation at the back, and its place by its code. It is a call out of line, since usual
+// tables have no such code, and are read faster without it.
+#[inline(never)]
 fn insert_by_place(
     items: &mut Vec<Abbreviation>,
     places: &mut BTreeMap<Key, usize>,

@@ -95,7 +95,7 @@ impl Abbreviations {
         }
         if index == len {
             // If the code is already among the others, it stays there.
-            if !self.others.is_empty() && self.others.get(code).is_some() {
+            if !self.others.is_empty() && self.others.contains(code) {
                 return Err(Error::DuplicateAbbreviationCode(code));
             }
             push(&mut self.vec, abbreviation)?;
