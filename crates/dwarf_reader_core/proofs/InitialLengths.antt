@@ -62,7 +62,8 @@ module _ (greatest : ℕ) {old : Input} (bytes : All (λ b. b < 256) old.bytes) 
 
   module _ {mid : Input} {first : ℕ} (takes : TakesNumber 4 old first mid) where
     -- the first four bytes are a length, unless they are reserved or announce one
-    short_held : {new : Input} {format : Format} {n : ℕ} (b c : Bool) → ltb first 0xffff_fff0 ≡ b → ltb first 0xffff_ffff ≡ c
+    short_held : {new : Input} {format : Format} {n : ℕ} (b c : Bool) → ltb first 0xffff_fff0 ≡ b
+        → ltb first 0xffff_ffff ≡ c
         → read (when b then pure (Dwarf32, first) else when c then refuse (UnknownReservedLength first) else
         long_length greatest) mid ≡ Ok ((format, n), new) → HasLength greatest old format n new
     unfolding read
@@ -96,7 +97,8 @@ module _ (greatest : ℕ) {old : Input} (bytes : All (λ b. b < 256) old.bytes) 
       short_held (number_read 4 old four.2) _ _ refl refl four.3
 
   -- if no initial length is read, bytes are missing, reserved or too great
-  pub length_none : {new : Input} {e : Error} → FailsAt (initial_length greatest) old e new → HasNoLength greatest old e new
+  pub length_none : {new : Input} {e : Error} → FailsAt (initial_length greatest) old e new
+      → HasNoLength greatest old e new
   unfolding initial_length
   length_none fails =
       elim (then_failed _ _ _ fails) [

@@ -188,7 +188,8 @@ then_failed {A} {B} p f old {e} {new} fails = go (read p old) refl
       },
     )
     go (Err d) is = inl (record {
-      fault = is ∙ (let same = sym (then_fails p f old is) ∙ fails.fault in let error : d ≡ e = cc in λ i. Err (error i));
+      fault = is ∙ (let same = sym (then_fails p f old is) ∙ fails.fault in
+          let error : d ≡ e = cc in λ i. Err (error i));
       left = fails.left ∙ ap (λ (s : Outcome A). remains_behind s (remains p old) (λ y. remains (f y.0) y.1)) is;
     })
 
@@ -207,16 +208,23 @@ pub number_failed : (n : ℕ) (old : Input) {e : Error} {new : Input} → FailsA
     → EndsBefore n old e new
 unfolding fixed
 number_failed n old fails =
-    elim (then_failed _ _ old fails) [ inl short ↦ part_failed n old short | inr there ↦ absurd (pure_failed _ _ there.3) ]
+    elim (then_failed _ _ old fails) [
+      | inl short ↦ part_failed n old short
+      | inr there ↦ absurd (pure_failed _ _ there.3)
+    ]
 
 -- if a byte failed, no byte remains
 pub byte_failed : (old : Input) {e : Error} {new : Input} → FailsAt byte old e new → EndsBefore 1 old e new
 unfolding byte
 byte_failed old fails =
-    elim (then_failed _ _ old fails) [ inl short ↦ part_failed 1 old short | inr there ↦ absurd (pure_failed _ _ there.3) ]
+    elim (then_failed _ _ old fails) [
+      | inl short ↦ part_failed 1 old short
+      | inr there ↦ absurd (pure_failed _ _ there.3)
+    ]
 
 -- if a check failed, its test doesn't hold, and the error is the check's
-pub check_failed : (b : Bool) (error : Error) (old : Input) {e : Error} {new : Input} → FailsAt (check b error) old e new
+pub check_failed : (b : Bool) (error : Error) (old : Input) {e : Error} {new : Input}
+    → FailsAt (check b error) old e new
     → (b ≡ false) × (e ≡ error) × (new ≡ old)
 unfolding read remains check
 check_failed true error old fails = absurd (let is = fails.fault in cc)
@@ -288,7 +296,8 @@ split-stays end [] more = tt
 split-stays end (b ∷ bytes) more = grind (arith, (split-stays end bytes more))
 
 -- the outcome of every layout stays with more bytes behind
-stays : {A : Type 0} (f : Layout A) (more : List ℕ) (old : Input) → Stays more (read f old) (read f (followed_by old more))
+stays : {A : Type 0} (f : Layout A) (more : List ℕ) (old : Input)
+    → Stays more (read f old) (read f (followed_by old more))
 unfolding read
 stays (part n) more old = grind (arith, length-append, take-append-le, drop-append-le)
 stays (ended end) more old = grind (arith, (split-stays end old.bytes more))
@@ -299,8 +308,8 @@ stays (p >>= f) more old =
     then-stays more f (λ x. stays (f x.0) more x.1) (read p old) (read p (followed_by old more)) (stays p more old)
 
 -- a value that is read is still read with more bytes behind
-pub read_more : {A : Type 0} (f : Layout A) (more : List ℕ) (old : Input) {new : Input} {x : A} → read f old ≡ Ok (x, new)
-    → read f (followed_by old more) ≡ Ok (x, followed_by new more)
+pub read_more : {A : Type 0} (f : Layout A) (more : List ℕ) (old : Input) {new : Input} {x : A}
+    → read f old ≡ Ok (x, new) → read f (followed_by old more) ≡ Ok (x, followed_by new more)
 read_more f more old is = subst (λ (r : Outcome _). Stays more r (read f (followed_by old more))) is (stays f more old)
 
 -- an error, unless it is an `UnexpectedEof`, is still the error with more bytes behind

@@ -12,6 +12,7 @@ record ByteBehind (n : ℕ) (unit : Input) (b : ℕ) (new : Input) : Type 0 wher
   is : slice_index unit.bytes n ≡ b
   takes : Takes (n + 1) unit new
 
+-- a byte that is read behind n bytes is the next one
 byte_behind : {n b : ℕ} {unit mid new : Input} → Takes n unit mid → TakesByte mid b new → ByteBehind n unit b new
 byte_behind {n} {b} {unit} {mid} {new} takes byte = grind (arith, common_steps, get_or-drop)
 

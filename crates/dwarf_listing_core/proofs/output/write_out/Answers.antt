@@ -24,7 +24,8 @@ calls-preserved g c =
     let before = c.calls.invariant in
     elim c.match-write.branch [
       | in-Ok w ↦
-          written_more _ _ _ _ _ _ _ before.within w.in-Ok.ensures.bound w.written-is before.appended w.in-Ok.ensures.bytes
+          written_more _ _ _ _ _ _ _ before.within w.in-Ok.ensures.bound w.written-is before.appended
+          w.in-Ok.ensures.bytes
       | in-Err+else-ne w ↦ record {
         within = rw w.written-is before.within;
         appended = rw w.written-is (Appends-kept _ _ _ _ before.appended w.in-Err.ensures.bytes);

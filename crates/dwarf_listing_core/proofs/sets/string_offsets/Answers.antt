@@ -14,4 +14,5 @@ returns-in_err-push_items c =
     let same = rw (c.from-debug_str_offsets.ensures, c.new.ensures.view) at c.in_ok-headers.ensures.ok in
     let p = err_from_is_err_and c.from_residual-in_err-push_items.result c.from_residual-in_err-push_items.ensures.1 in
     rw (p.1, p.2)
-    (λ memory. sets_of_run (offset_listing (2 ^ 64 - 1)) true same (c.in_err-push_items.ensures memory) (λ ran. memory cc))
+    (λ memory. sets_of_run (offset_listing (2 ^ 64 - 1)) true same (c.in_err-push_items.ensures memory)
+    (λ ran. memory cc))

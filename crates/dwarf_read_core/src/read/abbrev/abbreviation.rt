@@ -230,8 +230,8 @@ impl Abbreviation {
     pub(super) fn parse<R: Reader>(input: &mut R, scratch: &mut Scratch) -> Result<TableEntry>
         ensures coded { IfOk result
             (λ entry. IfSome (declared_in scratch.new entry) (λ d. 0 < d.code)) }
-        ensures valued { IfOk result
-            (λ entry. IfSome (declared_in scratch.new entry) (λ d. All HasValueByForm d.attributes)) }
+        ensures valued { IfOk result (λ entry. IfSome (declared_in scratch.new entry)
+            (λ d. All HasValueByForm d.attributes)) }
         ensures closes { IfOk result (ClosesAt (R.view input.old).bytes) }
         ensures ends { (rest : List ℕ)
             → declaration_at (end_of (R.view input.old)) (R.view input.old).bytes ≡ Ok (None, rest)

@@ -14,7 +14,8 @@ pub attributes-preserved : goal.attributes-preserved
 attributes-preserved g c =
     let loop = c.attributes in
     let room = c.if-len-eq-NEAR in
-    let kept : room.far.items ++ take room.len loop.near ≡ loop.far.items ++ take loop.len loop.near = elim room.branch [
+    let kept : room.far.items ++ take room.len loop.near ≡ loop.far.items ++ take loop.len loop.near =
+    elim room.branch [
       | then-len-eq-NEAR+in_ok-gather w ↦ rw (w.far-is, w.len-is, append-nil) w.in_ok-gather.ensures.ok
       | else-len-eq-NEAR w ↦ rw (w.far-is, w.len-is) refl
     ] in

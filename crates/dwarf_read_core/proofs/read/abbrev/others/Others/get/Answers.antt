@@ -4,8 +4,11 @@ use Rattle.dwarf_read_core.proofs.tables.OthersByCode.{place_within, copied_at}
 use Rattle.dwarf_read_core.proofs.read.abbrev.others.Others.get.Goals as goal
 
 pub returns-in_err-place : goal.returns-in_err-place
-returns-in_err-place c = grind
-    (arith, lookup-map_values (at_place c.self.inside.items.items) (is_at (nat_cmp c.args.code)) c.self.inside.places.entries)
+returns-in_err-place c = grind (
+  arith,
+  lookup-map_values (at_place c.self.inside.items.items) (is_at (nat_cmp c.args.code))
+      c.self.inside.places.entries,
+)
 
 pub returns : goal.returns
 returns c =
