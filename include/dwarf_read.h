@@ -141,6 +141,7 @@ struct dwarf_set {
     size_t next;        /* the end of the set, where the next one may begin */
     size_t unit_length; /* how many bytes of the set follow its initial length */
     size_t first_entry; /* the offset of its first entry */
+    size_t entry_count; /* how many whole entries it has; if `next` cuts one, that isn't counted */
     uint8_t word_size;  /* 4 in the 32-bit format, 8 in the 64-bit format */
     uint8_t entry_size; /* 1, 2, 4 or 8 for an address; a string offset has `word_size` bytes */
 };
@@ -149,8 +150,9 @@ struct dwarf_set {
    offset is the section's end.
 
    To read an address of the set, call dwarf_address with `entry_size` as its size and `first_entry` as
-   its base, and pass `next` as the length of the section. Then nothing behind the set is read, and the
-   call returns DWARF_UNEXPECTED_EOF for an address that the set's end cuts. */
+   its base, and pass `next` as the length of the section. Then nothing behind the set is read. The call
+   returns DWARF_OK for each index below `entry_count`, and DWARF_UNEXPECTED_EOF for an address that the
+   set's end cuts. */
 uint32_t dwarf_address_set(const uint8_t *section, size_t len, bool is_big, size_t offset,
                            struct dwarf_set *set, struct dwarf_fault *fault);
 
@@ -159,7 +161,8 @@ uint32_t dwarf_address_set(const uint8_t *section, size_t len, bool is_big, size
 
    To read a string offset of the set, call dwarf_str_offset with `first_entry` as its base, and with
    `is_64` set if `word_size` is 8. Pass `next` as the length of the section. Then nothing behind the set
-   is read, and the call returns DWARF_UNEXPECTED_EOF for a string offset that the set's end cuts. */
+   is read. The call returns DWARF_OK for each index below `entry_count`, and DWARF_UNEXPECTED_EOF for a
+   string offset that the set's end cuts. */
 uint32_t dwarf_str_offset_set(const uint8_t *section, size_t len, bool is_big, size_t offset,
                               struct dwarf_set *set, struct dwarf_fault *fault);
 

@@ -47,7 +47,7 @@ static void check_sets(set_call *call) {
     static const uint8_t reserved[] = {0xf0, 0xff, 0xff, 0xff};
     uint8_t huge[12];
     memset(huge, 0xff, sizeof huge);
-    struct dwarf_set set = {7, 7, 7, 7, 7};
+    struct dwarf_set set = {7, 7, 7, 7, 7, 7};
     struct dwarf_fault fault = {7, 7};
     uint32_t status = call(NULL, 0, true, 0, &set, &fault);
     check(status == DWARF_END && is_fault(fault, 7, 7), "no set");
@@ -59,8 +59,8 @@ static void check_sets(set_call *call) {
     check(status == DWARF_UNKNOWN_RESERVED_LENGTH && is_fault(fault, 9, 0xfffffff0), "a length");
     status = call(huge, sizeof huge, false, 0, &set, &fault);
     check(status == DWARF_UNEXPECTED_EOF && is_fault(fault, 1, 12), "a huge set");
-    check(set.next == 7 && set.unit_length == 7 && set.first_entry == 7 && set.word_size == 7 &&
-              set.entry_size == 7,
+    check(set.next == 7 && set.unit_length == 7 && set.first_entry == 7 && set.entry_count == 7 &&
+              set.word_size == 7 && set.entry_size == 7,
           "outputs of refused sets");
 }
 

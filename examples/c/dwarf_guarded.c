@@ -202,14 +202,25 @@ static void call_lookups(const uint8_t *bytes, size_t len, size_t offset, bool i
     }
 }
 
+/* What follows the counted entries up to the set's end has to be shorter than an entry. */
+static void check_count(uint32_t status, const struct dwarf_set *set) {
+    if (status != DWARF_OK) {
+        return;
+    }
+    size_t len = set->next - set->first_entry, counted = set->entry_count * set->entry_size;
+    if (counted > len || len - counted >= set->entry_size) {
+        die("it didn't count the whole entries");
+    }
+}
+
 static void call_sets(const uint8_t *bytes, size_t len, size_t offset, bool is_big) {
     begin("dwarf_address_set");
     struct dwarf_set *set = (struct dwarf_set *)output(sizeof *set);
-    dwarf_address_set(bytes, len, is_big, offset, set, fault());
+    check_count(dwarf_address_set(bytes, len, is_big, offset, set, fault()), set);
     end();
     begin("dwarf_str_offset_set");
     set = (struct dwarf_set *)output(sizeof *set);
-    dwarf_str_offset_set(bytes, len, is_big, offset, set, fault());
+    check_count(dwarf_str_offset_set(bytes, len, is_big, offset, set, fault()), set);
     end();
 }
 

@@ -162,8 +162,9 @@ static void print_header(const struct set_section *section, size_t offset,
 /* Prints the entries of a set, or only looks for an error. */
 static int go_over_set(const struct set_section *section, const struct dwarf_set *set,
                        bool is_printed) {
-    size_t count = (set->next - set->first_entry + set->entry_size - 1) / set->entry_size;
-    for (size_t i = 0; i < count; i++) {
+    /* An entry that the set's end cuts isn't counted. Reading it returns the error that is printed. */
+    bool is_cut = (set->next - set->first_entry) % set->entry_size != 0;
+    for (size_t i = 0; i < set->entry_count + is_cut; i++) {
         uint64_t entry;
         struct dwarf_fault fault;
         if (read_entry(section, set, i, &entry, &fault) != DWARF_OK) {

@@ -13,6 +13,7 @@ pub record FoundSet {H : Type 0} (header : Layout H) (section : Input) (offset :
   pub within : offset + initial_length_size s.format + s.unit_length ≤ length section.bytes
   pub four : 4 ≤ s.unit_length
   pub first : s.entries.position ≡ offset + initial_length_size s.format + 4
+  pub rest : length s.entries.bytes ≡ s.unit_length - 4
 
 -- the sets from an offset on
 abbrev pub sets_from : ℕ → Input → Headers
@@ -83,6 +84,7 @@ set_found {H} {header} {bytes} {is_big} {offset} {old} {new} {s} has_four start 
       within = omega (arith, whole, taken, within);
       four = omega (arith, parts.of_size, parts.of_length);
       first = omega (arith, parts.place);
+      rest = omega (arith, parts.of_size, parts.of_length);
     }
 
 -- if the first item from an offset on is an error, the section has no set there, with this error
@@ -104,4 +106,4 @@ pub set_told : {H : Type 0} {header : Layout H} {section : Input} {offset : ℕ}
     → FoundSet header section offset s → told ≡ set_from offset s.format s.unit_length width
     → TellsSet header entries_of section offset told
 set_told {offset = offset} {s} entries_of width entries found is =
-    rw is (record { s = record s { offset = offset }; has = found.has; is = rw (entries, found.first) })
+    rw is (record { s = record s { offset = offset }; has = found.has; is = rw (entries, found.first, found.rest) })

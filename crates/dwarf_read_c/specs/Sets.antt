@@ -1,5 +1,5 @@
 -- A set of addresses or of string offsets at an offset of a section, as C sees it.
-use Rattle.std.specs.Prelude.{◌≡◌, ℕ, ◌+◌, ◌-◌, ◌<◌, ◌≤◌, ◌^◌, length, Ok, Err}
+use Rattle.std.specs.Prelude.{◌≡◌, ℕ, ◌+◌, ◌-◌, ◌/◌, ◌<◌, ◌≤◌, ◌^◌, length, Ok, Err}
 use Rattle.dwarf_read_core.specs.declared.Error.{Error}
 use Rattle.dwarf_read_core.specs.declared.Format.{Format}
 use Rattle.dwarf_read_core.specs.Entries.{Entries}
@@ -27,12 +27,13 @@ pub data LacksSet {H : Type 0} (header : Layout H) (section : Input) (offset : �
   faulty : (e : Error) → offset < length section.bytes
       → read (set_at header offset) (after offset section) ≡ Err e → LacksSet header section offset e
 
--- a set as C sees it, with its entries and where the next set may begin
+-- a set as C sees it, with its entries and where the next set may begin. Only whole entries are counted
 abbrev pub shown : {H : Type 0} → Set H → Entries → ℕ → DwarfSet
 shown s entries next = record {
   next = next;
   unit_length = s.unit_length;
   first_entry = entries.rest.position;
+  entry_count = length entries.rest.bytes / entries.width;
   word_size = word_size s.format;
   entry_size = entries.width;
 }
@@ -50,6 +51,7 @@ set_from offset format unit_length entry_size = record {
   next = offset + initial_length_size format + unit_length;
   unit_length = unit_length;
   first_entry = offset + initial_length_size format + 4;
+  entry_count = (unit_length - 4) / entry_size;
   word_size = word_size format;
   entry_size = entry_size;
 }

@@ -27,6 +27,9 @@ pub struct DwarfSet {
     pub unit_length: usize,
     /// The offset of the set's first entry.
     pub first_entry: usize,
+    /// How many whole entries the set has. If `next` is in the middle of an entry, that one is cut
+    /// and isn't counted.
+    pub entry_count: usize,
     /// How many bytes a word of the set's format has: 4 or 8.
     pub word_size: u8,
     /// How many bytes an entry has: 1, 2, 4 or 8. A string offset has as many as a word.
@@ -35,7 +38,7 @@ pub struct DwarfSet {
 
 /// Reads the header of the set of addresses at `offset` of `.debug_addr`. Its addresses are those
 /// that [`dwarf_address`](crate::sections::dwarf_address) reads from `first_entry` on. If `next` is
-/// in the middle of an address, that address is cut.
+/// in the middle of an address, that address is cut, and `entry_count` doesn't count it.
 ///
 /// Returns `DWARF_END`, and writes nothing, if `offset` is the section's end.
 ///
@@ -82,7 +85,7 @@ pub extern "C" fn dwarf_address_set(
 /// Reads the header of the set of string offsets at `offset` of `.debug_str_offsets`. Its string
 /// offsets are those that [`dwarf_str_offset`](crate::sections::dwarf_str_offset) reads from
 /// `first_entry` on, in the format that `word_size` says. If `next` is in the middle of a string
-/// offset, that one is cut.
+/// offset, that one is cut, and `entry_count` doesn't count it.
 ///
 /// Returns `DWARF_END`, and writes nothing, if `offset` is the section's end.
 ///
@@ -181,6 +184,7 @@ fn bytes_from<'input>(
 fn set_from(offset: usize, format: Format, unit_length: usize, entry_size: u8) -> DwarfSet
     requires within { offset + initial_length_size format + unit_length < 2 ^ 64 }
     requires header { 4 ≤ unit_length }
+    requires sized { 0 < entry_size }
     ensures { result ≡ set_from offset format unit_length entry_size }
 {
     let unit = offset + usize::from(format.initial_length_size());
@@ -188,6 +192,7 @@ fn set_from(offset: usize, format: Format, unit_length: usize, entry_size: u8) -
         next: unit + unit_length,
         unit_length,
         first_entry: unit + 4,
+        entry_count: (unit_length - 4) / usize::from(entry_size),
         word_size: format.word_size(),
         entry_size,
     }

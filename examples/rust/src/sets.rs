@@ -119,6 +119,11 @@ impl<'s> Set<'s> {
         self.header.word_size == 8
     }
 
+    /// Returns how many whole entries the set has. One that the set's end cuts isn't counted.
+    pub fn entry_count(&self) -> usize {
+        self.header.entry_count
+    }
+
     /// Returns how many bytes an entry has.
     pub fn entry_size(&self) -> u8 {
         self.header.entry_size

@@ -24,6 +24,7 @@ pub struct Set {
     pub next: usize,
     pub unit_length: usize,
     pub first_entry: usize,
+    pub entry_count: usize,
     pub word_size: u8,
     pub entry_size: u8,
 }

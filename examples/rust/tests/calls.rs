@@ -28,6 +28,7 @@ fn an_error_is_the_last_item() {
     let section = [10, 0, 0, 0, 5, 0, 4, 0, 1, 0, 0, 0, 2, 0, 9];
     let mut sets = address_sets(&section, ByteOrder::Little);
     let set = sets.next().unwrap().unwrap();
+    assert_eq!((set.entry_count(), set.entry_size()), (1, 4));
     let mut entries = set.entries();
     assert_eq!(entries.next(), Some(Ok(1)));
     assert_eq!(entries.next().unwrap().unwrap_err().kind(), ErrorKind::UnexpectedEof);

@@ -7,33 +7,37 @@ const NO_SET: DwarfSet = DwarfSet {
     next: 7,
     unit_length: 7,
     first_entry: 7,
+    entry_count: 7,
     word_size: 7,
     entry_size: 7,
 };
 
-// Two sets of either kind, and one that is only a set of string offsets: 3 isn't a size of
-// addresses.
+// Three sets of either kind, of which the third has three entries and two bytes of a fourth, and
+// one that is only a set of string offsets: 3 isn't a size of addresses.
 const SETS: &[u8] = b"\x0c\x00\x00\x00\x05\x00\x04\x00\x78\x56\x34\x12\xef\xbe\xad\xde\
     \xff\xff\xff\xff\x14\x00\x00\x00\x00\x00\x00\x00\x05\x00\x02\x00\
     \xf0\xde\xbc\x9a\x78\x56\x34\x12\xef\xbe\xad\xde\xef\xbe\xad\xde\
+    \x12\x00\x00\x00\x05\x00\x04\x00\x01\x00\x00\x00\x02\x00\x00\x00\x03\x00\x00\x00\x04\x00\
     \x04\x00\x00\x00\x05\x00\x03\x00";
 
 // The fields of a set.
-type Set = (usize, usize, usize, u8, u8);
+type Set = (usize, usize, usize, usize, u8, u8);
 
 // Whether the set is one of addresses, and its offset; the status, the set and the error.
 static ROWS: &[(bool, usize, (u32, Set, Fault))] = &[
-    (true, 0, (0, (16, 12, 8, 4, 4), (7, 7))),
-    (true, 16, (0, (48, 20, 32, 8, 2), (7, 7))),
-    (true, 48, (12, (7, 7, 7, 7, 7), (12, 3))),
-    (true, 56, (102, (7, 7, 7, 7, 7), (7, 7))),
-    (true, 57, (1, (7, 7, 7, 7, 7), (1, 0))),
-    (true, 54, (1, (7, 7, 7, 7, 7), (1, 54))),
-    (false, 0, (0, (16, 12, 8, 4, 4), (7, 7))),
-    (false, 16, (0, (48, 20, 32, 8, 8), (7, 7))),
-    (false, 48, (0, (56, 4, 56, 4, 4), (7, 7))),
-    (false, 56, (102, (7, 7, 7, 7, 7), (7, 7))),
-    (false, 1, (1, (7, 7, 7, 7, 7), (1, 5))),
+    (true, 0, (0, (16, 12, 8, 2, 4, 4), (7, 7))),
+    (true, 16, (0, (48, 20, 32, 8, 8, 2), (7, 7))),
+    (true, 48, (0, (70, 18, 56, 3, 4, 4), (7, 7))),
+    (true, 70, (12, (7, 7, 7, 7, 7, 7), (12, 3))),
+    (true, 78, (102, (7, 7, 7, 7, 7, 7), (7, 7))),
+    (true, 79, (1, (7, 7, 7, 7, 7, 7), (1, 0))),
+    (true, 76, (1, (7, 7, 7, 7, 7, 7), (1, 76))),
+    (false, 0, (0, (16, 12, 8, 2, 4, 4), (7, 7))),
+    (false, 16, (0, (48, 20, 32, 2, 8, 8), (7, 7))),
+    (false, 48, (0, (70, 18, 56, 3, 4, 4), (7, 7))),
+    (false, 70, (0, (78, 4, 78, 0, 4, 4), (7, 7))),
+    (false, 78, (102, (7, 7, 7, 7, 7, 7), (7, 7))),
+    (false, 1, (1, (7, 7, 7, 7, 7, 7), (1, 5))),
 ];
 
 #[test]
@@ -49,6 +53,7 @@ fn sets_are_found(rt: HostRuntime) {
             s.next,
             s.unit_length,
             s.first_entry,
+            s.entry_count,
             s.word_size,
             s.entry_size,
         );

@@ -14,6 +14,7 @@ set_from-requires c =
     rw (c.encoding-encoding.ensures.is, c.length-length.ensures) (record {
       within = omega (arith, found.within, c.well_formed);
       header = found.four;
+      sized = grind (arith, c.encoding-encoding.ensures.sized);
     })
 
 pub returns-in-Some-clause-found : goal.returns-in-Some-clause-found

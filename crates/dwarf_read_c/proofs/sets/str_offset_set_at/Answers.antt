@@ -14,6 +14,7 @@ set_from-requires c =
     rw (c.format-format.ensures, c.length-length.ensures) (record {
       within = omega (arith, found.within, c.well_formed);
       header = found.four;
+      sized = grind arith;
     })
 
 pub returns-in-Some-clause-found : goal.returns-in-Some-clause-found
