@@ -1,0 +1,96 @@
+//! Prints every entry, attribute, string and address of the sections in a folder by gimli, and counts them on standard
+//! error. `tools/compare client` builds it over both copies of gimli.
+//!
+//! The words are the folder, whose files have the names of the sections, and `le` or `be`.
+
+use gimli::{AttributeValue, EndianSlice, Reader, RunTimeEndian};
+use std::io::{self, BufWriter, Write};
+
+type Section<'a> = EndianSlice<'a, RunTimeEndian>;
+
+struct Dump<'a, W> {
+    dwarf: gimli::Dwarf<Section<'a>>,
+    to: W,
+    entries: u64,
+    strings: u64,
+}
+
+impl<'a, W: Write> Dump<'a, W> {
+    fn attribute(&mut self, unit: &gimli::Unit<Section<'a>>, found: &gimli::Attribute<Section<'a>>) -> io::Result<()> {
+        let value = found.value();
+        write!(self.to, "  {} ", found.name())?;
+        match value {
+            AttributeValue::Exprloc(code) => return writeln!(self.to, "code of {} bytes", code.0.len()),
+            AttributeValue::Block(block) => return writeln!(self.to, "block of {} bytes", block.len()),
+            _ => {}
+        }
+        let raw = found.raw_value();
+        let numbers = (value.udata_value(), value.sdata_value(), value.offset_value(), raw.udata_value());
+        write!(self.to, "{:?} {numbers:?}", std::mem::discriminant(&raw))?;
+        if let Ok(Some(address)) = self.dwarf.attr_address(unit, value) {
+            write!(self.to, " at {address:#x}")?;
+        }
+        if let Ok(string) = self.dwarf.attr_string(unit, value) {
+            self.strings += 1;
+            write!(self.to, " '{}'", string.to_string_lossy())?;
+        }
+        writeln!(self.to)
+    }
+
+    fn unit(&mut self, unit: &gimli::Unit<Section<'a>>) -> io::Result<Result<(), gimli::Error>> {
+        let mut entries = unit.entries();
+        loop {
+            let (depth, entry) = match entries.next_dfs() {
+                Ok(Some(it)) => it,
+                Ok(None) => return Ok(Ok(())),
+                Err(error) => return Ok(Err(error)),
+            };
+            self.entries += 1;
+            let at = entry.offset().0;
+            writeln!(self.to, "{depth} {at} {} {}", entry.tag(), entry.has_children())?;
+            let mut attributes = entry.attrs();
+            loop {
+                match attributes.next() {
+                    Ok(Some(found)) => self.attribute(unit, &found)?,
+                    Ok(None) => break,
+                    Err(error) => return Ok(Err(error)),
+                }
+            }
+        }
+    }
+
+    fn all(&mut self) -> io::Result<()> {
+        let mut units = self.dwarf.units();
+        loop {
+            let header = match units.next() {
+                Ok(Some(header)) => header,
+                Ok(None) => return Ok(()),
+                Err(error) => return writeln!(self.to, "{error}"),
+            };
+            writeln!(self.to, "unit {:?}", header.offset())?;
+            match self.dwarf.unit(header) {
+                Ok(unit) => match self.unit(&unit)? {
+                    Ok(()) => {}
+                    Err(error) => writeln!(self.to, "{error}")?,
+                },
+                Err(error) => writeln!(self.to, "{error}")?,
+            }
+        }
+    }
+}
+
+fn main() -> io::Result<()> {
+    let words: Vec<String> = std::env::args().skip(1).collect();
+    let order = if words[1] == "be" { RunTimeEndian::Big } else { RunTimeEndian::Little };
+    let load = |id: gimli::SectionId| -> Result<Vec<u8>, gimli::Error> {
+        let path = format!("{}/{}", words[0], id.name().trim_start_matches('.'));
+        Ok(std::fs::read(path).unwrap_or_default())
+    };
+    let owned = gimli::Dwarf::load(load).expect("sections that aren't there are empty");
+    let dwarf = owned.borrow(|it| EndianSlice::new(it, order));
+    let mut dump = Dump { dwarf, to: BufWriter::new(io::stdout()), entries: 0, strings: 0 };
+    dump.all()?;
+    dump.to.flush()?;
+    eprintln!("{} entries, {} strings", dump.entries, dump.strings);
+    Ok(())
+}

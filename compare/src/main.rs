@@ -1,0 +1,235 @@
+//! Compares the proved library with gimli and with a second reader, in one process over the same bytes.
+//!
+//! `tools/compare` runs this program, and its documentation says what the words mean.
+
+mod made;
+mod measure;
+mod ours;
+mod piped;
+mod plain;
+mod question;
+mod shrink;
+mod tally;
+mod theirs;
+
+use made::Random;
+use piped::Piped;
+use question::Question;
+use std::process::ExitCode;
+use std::time::{Duration, Instant};
+use tally::Tally;
+
+/// How many inputs are made between two looks at the clock.
+const TURN: u32 = 1000;
+
+/// What is behind the kind of a section of a file with the highest byte first.
+const BIG: &str = ", big";
+
+/// What the words ask for.
+struct Wanted {
+    seconds: f64,
+    seed: u64,
+    /// Sections of files: a name, what is in it, and its bytes.
+    sections: Vec<(String, String, Vec<u8>)>,
+    /// One question to ask alone, and its bytes.
+    alone: Option<(Question, Vec<u8>)>,
+    /// The command that asks a question alone, up to the question.
+    again: String,
+    /// Measure in place of comparing: time, or calls to be counted.
+    measured: Option<bool>,
+    /// The pipes to and from a program that answers in the library's place, until the first difference.
+    trial: Option<(String, String)>,
+}
+
+fn from_hexadecimal(text: &str) -> Option<Vec<u8>> {
+    if text.len() % 2 != 0 || !text.is_ascii() {
+        return None;
+    }
+    (0..text.len() / 2).map(|i| u8::from_str_radix(&text[2 * i..2 * i + 2], 16).ok()).collect()
+}
+
+/// A question as it is printed: its words, and the bytes as the last one.
+fn question_of(text: &str) -> Option<(Question, Vec<u8>)> {
+    let mut words: Vec<&str> = text.split(' ').collect();
+    let bytes = from_hexadecimal(words.pop()?)?;
+    Some((Question::from_words(&words)?, bytes))
+}
+
+fn wanted(words: &mut dyn Iterator<Item = String>) -> Result<Wanted, String> {
+    let mut found = Wanted {
+        seconds: 60.0,
+        seed: 1,
+        sections: vec![],
+        alone: None,
+        again: "compare --case".into(),
+        measured: None,
+        trial: None,
+    };
+    while let Some(word) = words.next() {
+        let mut next = || words.next().ok_or(format!("{word} needs a word behind it"));
+        match word.as_str() {
+            "--seconds" => found.seconds = next()?.parse().map_err(|_| "--seconds needs a number")?,
+            "--seed" => found.seed = next()?.parse().map_err(|_| "--seed needs a number below 2^64")?,
+            "--case" => {
+                let text = next()?;
+                let case = question_of(&text);
+                found.alone = Some(case.ok_or(format!("'{text}' is no question with bytes in hexadecimal behind it"))?);
+            }
+            "--time" => found.measured = Some(true),
+            "--count" => found.measured = Some(false),
+            "--trial" => found.trial = Some((next()?, next()?)),
+            "--again" => found.again = next()?,
+            "--section" => {
+                let (name, kind, path) = (next()?, next()?, next()?);
+                let bytes = std::fs::read(&path).map_err(|error| format!("{path} can't be read: {error}"))?;
+                found.sections.push((name, kind, bytes));
+            }
+            _ => return Err(format!("'{word}' is no word of this program")),
+        }
+    }
+    Ok(found)
+}
+
+/// Asks the questions that a section has at a place.
+fn ask_at(tally: &mut Tally, kind: &str, bytes: &[u8], at: usize, random: &mut Random) {
+    let little = kind.strip_suffix(BIG);
+    let (kind, is_big) = (little.unwrap_or(kind), little.is_some());
+    match kind {
+        "debug_abbrev" => {
+            tally.ask(&Question::Table(at), bytes);
+            tally.ask(&Question::Strict(at), bytes);
+            tally.ask(&Question::Grown { before: random.below(bytes.len() + 1), offset: at }, bytes);
+        }
+        "debug_addr" => {
+            tally.ask(&Question::AddressSet { is_big, offset: at }, bytes);
+            let index = random.below(bytes.len());
+            tally.ask(&Question::Address { is_big, size: 8, base: at, index: index / 8 }, bytes);
+        }
+        "debug_str_offsets" => {
+            tally.ask(&Question::StrOffsetSet { is_big, offset: at }, bytes);
+            let index = random.below(bytes.len());
+            tally.ask(&Question::StrOffset { is_big, is_64: false, base: at, index: index / 4 }, bytes);
+        }
+        _ => tally.ask(&Question::Text(at), bytes),
+    }
+}
+
+/// Asks at each offset of a section, up to one past its end, in an order that leaves none out. Prints how many there
+/// was time for.
+fn ask_everywhere(tally: &mut Tally, section: &(String, String, Vec<u8>), until: Instant, random: &mut Random) {
+    let (name, kind, bytes) = section;
+    let places = bytes.len() + 2;
+    // A step without a common factor comes to each place once.
+    let mut step = places * 5 / 8 + 1;
+    while gcd(step, places) != 1 {
+        step += 1;
+    }
+    let (mut at, mut asked) = (0, 0);
+    while asked < places && Instant::now() < until {
+        ask_at(tally, kind, bytes, at, random);
+        at = (at + step) % places;
+        asked += 1;
+    }
+    println!("{name} .{kind}: {asked} of {places} offsets");
+}
+
+fn gcd(a: usize, b: usize) -> usize {
+    if b == 0 {
+        a
+    } else {
+        gcd(b, a % b)
+    }
+}
+
+/// Asks a program in the library's place what is made, until it differs or the time is over.
+fn try_out(wanted: &Wanted, piped: Piped) -> ExitCode {
+    let (mut tally, mut random) = (Tally::new(&wanted.again, Some(piped)), Random(wanted.seed));
+    let start = Instant::now();
+    while tally.differences == 0 && start.elapsed().as_secs_f64() < wanted.seconds {
+        let (question, bytes) = made::next(&mut random);
+        tally.ask(&question, &bytes);
+    }
+    println!(
+        "{} inputs, {} differences, {:.1} seconds",
+        tally.inputs,
+        tally.differences,
+        start.elapsed().as_secs_f64()
+    );
+    ExitCode::from(u8::from(tally.differences == 0))
+}
+
+fn compare(wanted: &Wanted) -> ExitCode {
+    let mut tally = Tally::new(&wanted.again, None);
+    if let Some((question, bytes)) = &wanted.alone {
+        tally.ask_aloud(question, bytes);
+        return if tally.differences == 0 { ExitCode::SUCCESS } else { ExitCode::from(1) };
+    }
+    println!("seed {}, gimli {}", wanted.seed, env!("GIMLI_VERSION"));
+    let mut random = Random(wanted.seed);
+    let start = Instant::now();
+    let end = start + Duration::from_secs_f64(wanted.seconds);
+    // Half of the time is for real sections, each with an equal part of what is left of it.
+    for (i, section) in wanted.sections.iter().enumerate() {
+        let left = (wanted.seconds / 2.0 - start.elapsed().as_secs_f64()).max(0.0);
+        let part = left / (wanted.sections.len() - i) as f64;
+        ask_everywhere(&mut tally, section, Instant::now() + Duration::from_secs_f64(part), &mut random);
+    }
+    while Instant::now() < end {
+        for _ in 0..TURN {
+            let (question, bytes) = made::next(&mut random);
+            tally.ask(&question, &bytes);
+        }
+    }
+    tally.print();
+    if tally.differences == 0 {
+        ExitCode::SUCCESS
+    } else {
+        ExitCode::from(1)
+    }
+}
+
+fn refused(why: &str) -> ExitCode {
+    eprintln!("compare: {why}");
+    ExitCode::from(2)
+}
+
+fn run(wanted: &Wanted) -> ExitCode {
+    if let Some((to, from)) = &wanted.trial {
+        return match Piped::new(to, from) {
+            Ok(piped) => try_out(wanted, piped),
+            Err(error) => refused(&format!("the pipes can't be opened: {error}")),
+        };
+    }
+    match wanted.measured {
+        None => compare(wanted),
+        Some(is_timed) => match measure::measure(&measure::workloads(&wanted.sections), is_timed) {
+            Ok(()) => ExitCode::SUCCESS,
+            Err(why) => refused(&why),
+        },
+    }
+}
+
+/// Writes a section to be listed into a file.
+fn make(kind: &str, bytes: &str, path: &str) -> Result<(), String> {
+    let bytes = bytes.parse().map_err(|_| "how many bytes is no number")?;
+    let section = made::listed_section(kind, bytes).ok_or("there is no such section")?;
+    std::fs::write(path, section).map_err(|error| format!("{path} can't be written: {error}"))
+}
+
+fn main() -> ExitCode {
+    let words: Vec<String> = std::env::args().skip(1).collect();
+    match words.iter().map(String::as_str).collect::<Vec<_>>()[..] {
+        ["--gimli"] => {
+            println!("{}", env!("GIMLI_VERSION"));
+            return ExitCode::SUCCESS;
+        }
+        ["--make", kind, bytes, path] => {
+            return make(kind, bytes, path).map_or_else(|why| refused(&why), |()| ExitCode::SUCCESS);
+        }
+        _ => {}
+    }
+    match wanted(&mut words.into_iter()) {
+        Ok(wanted) => run(&wanted),
+        Err(why) => refused(&why),
+    }
+}

@@ -1,0 +1,469 @@
+//! Measures the library beside gimli on equal inputs: time by turns, or one call of each side to be counted.
+//!
+//! The library's side is a call of `crates/dwarf_compare` that does the whole loop. What fills a cache from units
+//! is left out, since units belong to gimli's upper layers, and so are written numbers, which another feature has.
+
+use crate::made::{made_sets, put_signed, put_unsigned, shaped_table, Random};
+use gimli::{
+    DebugAbbrev, DebugAbbrevOffset, DebugAddr, DebugAddrBase, DebugAddrIndex, DebugStr, DebugStrOffset,
+    DebugStrOffsets, DebugStrOffsetsBase, DebugStrOffsetsIndex, EndianSlice, Format, LittleEndian, Reader,
+};
+use std::os::raw::c_int;
+
+/// How many codes the tables have that are made.
+const CODES: u64 = 5000;
+const ROUNDS: u64 = 20;
+const NUMBERS: u64 = 1 << 17;
+const LOOKUPS: usize = 1 << 15;
+
+type Bytes = &'static [u8];
+type Places = &'static [usize];
+type Call = Box<dyn Fn() -> u64>;
+
+extern "C" {
+    fn compare_unsigned_sum(bytes: *const u8, len: usize) -> u64;
+    fn compare_signed_sum(bytes: *const u8, len: usize) -> u64;
+    fn compare_short_sum(bytes: *const u8, len: usize) -> u64;
+    fn compare_skipped_count(bytes: *const u8, len: usize) -> u64;
+    fn compare_tables(bytes: *const u8, len: usize, offsets: *const usize, count: usize) -> usize;
+    fn compare_headers(bytes: *const u8, len: usize) -> u64;
+    fn compare_addresses(bytes: *const u8, len: usize) -> u64;
+    fn compare_get_sum(bytes: *const u8, len: usize, offset: usize, codes: u64, rounds: u64) -> u64;
+    fn compare_walk(bytes: *const u8, len: usize, offset: usize) -> u64;
+    fn compare_strings(bytes: *const u8, len: usize, offsets: *const usize, count: usize) -> usize;
+    fn compare_str_offset_lookups(
+        bytes: *const u8, len: usize, base: usize, indices: *const usize, count: usize,
+    ) -> usize;
+    fn compare_address_lookups(bytes: *const u8, len: usize, base: usize, indices: *const usize, count: usize) -> u64;
+}
+
+/// Keeps the compiler from knowing a number. The standard library's function for it came with Rust 1.66.
+#[inline(always)]
+fn hidden(value: u64) -> u64 {
+    unsafe { std::ptr::read_volatile(&value) }
+}
+
+/// What is measured, once each side.
+pub struct Workload {
+    name: String,
+    operations: u64,
+    gimli: Call,
+    ours: Call,
+    /// Whether both sides return the same, which is looked at first.
+    is_same: bool,
+}
+
+fn numbers(name: &str, bytes: Bytes, gimli: fn(Bytes) -> u64, ours: NumberCall) -> Workload {
+    Workload {
+        name: name.into(),
+        operations: NUMBERS,
+        gimli: Box::new(move || gimli(bytes)),
+        ours: Box::new(move || unsafe { ours(bytes.as_ptr(), bytes.len()) }),
+        is_same: true,
+    }
+}
+
+type NumberCall = unsafe extern "C" fn(*const u8, usize) -> u64;
+
+macro_rules! sum_of {
+    ($name:ident, $read:expr) => {
+        #[inline(never)]
+        fn $name(bytes: Bytes) -> u64 {
+            let mut input = EndianSlice::new(bytes, LittleEndian);
+            let mut sum = 0u64;
+            while !Reader::is_empty(&input) {
+                sum = sum.wrapping_add($read(&mut input).unwrap());
+            }
+            sum
+        }
+    };
+}
+
+type Input = EndianSlice<'static, LittleEndian>;
+
+sum_of!(unsigned_sum, |it: &mut Input| gimli::leb128::read::unsigned(it));
+sum_of!(signed_sum, |it: &mut Input| gimli::leb128::read::signed(it).map(|it| it as u64));
+sum_of!(short_sum, |it: &mut Input| gimli::leb128::read::u16(it).map(u64::from));
+sum_of!(skipped_count, |it: &mut Input| gimli::leb128::read::skip(it).map(|()| 1));
+
+/// Reads all tables. How many declarations each has is not told by gimli.
+#[inline(never)]
+fn tables(section: Bytes, offsets: Places) -> u64 {
+    let section = DebugAbbrev::new(section, LittleEndian);
+    offsets.iter().filter(|it| section.abbreviations(DebugAbbrevOffset(**it)).is_ok()).count() as u64
+}
+
+#[inline(never)]
+fn get_sum(section: Bytes) -> u64 {
+    let table = DebugAbbrev::new(section, LittleEndian).abbreviations(DebugAbbrevOffset(0)).unwrap();
+    let mut sum = 0u64;
+    for _ in 0..ROUNDS {
+        for code in 1..=CODES {
+            if let Some(abbreviation) = table.get(hidden(code)) {
+                sum = sum.wrapping_add(abbreviation.tag().0.into());
+            }
+        }
+    }
+    sum
+}
+
+/// Reads a table, and looks at each declaration and each attribute. gimli's tables can't be walked, so each code is
+/// looked up.
+#[inline(never)]
+fn walk(section: Bytes, offset: usize, codes: &[u64]) -> u64 {
+    let table = DebugAbbrev::new(section, LittleEndian).abbreviations(DebugAbbrevOffset(offset)).unwrap();
+    let mut sum = 0u64;
+    for found in codes.iter().filter_map(|it| table.get(*it)) {
+        let head = u64::from(found.tag().0) + u64::from(found.has_children());
+        sum = sum.wrapping_add(found.code()).wrapping_add(head);
+        for it in found.attributes() {
+            let value = it.implicit_const_value().unwrap_or(0) as u64;
+            sum = sum.wrapping_add(u64::from(it.name().0) + u64::from(it.form().0)).wrapping_add(value);
+        }
+    }
+    sum
+}
+
+#[inline(never)]
+fn strings(section: Bytes, offsets: Places) -> u64 {
+    let section = DebugStr::new(section, LittleEndian);
+    let len = |it: &usize| Reader::len(&section.get_str(DebugStrOffset(*it)).unwrap());
+    offsets.iter().fold(0, |sum, it| sum + len(it) as u64)
+}
+
+#[inline(never)]
+fn str_offsets(section: Bytes, indices: Places) -> u64 {
+    let section = DebugStrOffsets::from(EndianSlice::new(section, LittleEndian));
+    let (format, base) = (Format::Dwarf32, DebugStrOffsetsBase(8));
+    let found = |it: &usize| section.get_str_offset(format, base, DebugStrOffsetsIndex(*it)).unwrap().0;
+    indices.iter().fold(0u64, |sum, it| sum.wrapping_add(found(it) as u64))
+}
+
+#[inline(never)]
+fn addresses(section: Bytes, indices: Places) -> u64 {
+    let section = DebugAddr::from(EndianSlice::new(section, LittleEndian));
+    let found = |it: &usize| section.get_address(8, DebugAddrBase(8), DebugAddrIndex(*it)).unwrap();
+    indices.iter().fold(0u64, |sum, it| sum.wrapping_add(found(it)))
+}
+
+/// Where a table is, and its codes as they rise.
+type Table = (usize, Vec<u64>);
+
+fn of_tables(name: &str, section: Vec<u8>, given: Vec<Table>, all: &mut Vec<Workload>) {
+    let offsets: Vec<usize> = given.iter().map(|it| it.0).collect();
+    let (s, o): (Bytes, Places) = (section.leak(), offsets.leak());
+    let count = unsafe { compare_tables(s.as_ptr(), s.len(), o.as_ptr(), o.len()) } as u64;
+    // Nearly all of the codes that `get_sum` looks up are in such a table.
+    let is_dense = matches!(&given[..], [(_, codes)] if codes.last() <= Some(&(CODES + 1)));
+    all.push(Workload {
+        name: format!("a declaration of a table, {name}"),
+        operations: count,
+        gimli: Box::new(move || tables(s, o)),
+        ours: Box::new(move || unsafe { compare_tables(s.as_ptr(), s.len(), o.as_ptr(), o.len()) } as u64),
+        is_same: false,
+    });
+    let added = |sum: u64, one: u64| sum.wrapping_add(one);
+    all.push(Workload {
+        name: format!("a declaration read and looked at, {name}"),
+        operations: count,
+        gimli: Box::new(move || given.iter().map(|it| walk(s, it.0, &it.1)).fold(0, added)),
+        ours: Box::new(move || o.iter().map(|it| unsafe { compare_walk(s.as_ptr(), s.len(), *it) }).fold(0, added)),
+        is_same: true,
+    });
+    if is_dense {
+        all.push(Workload {
+            name: format!("`Abbreviations::get`, {name}"),
+            operations: CODES * ROUNDS,
+            gimli: Box::new(move || get_sum(s)),
+            ours: Box::new(move || unsafe { compare_get_sum(s.as_ptr(), s.len(), 0, CODES, ROUNDS) }),
+            is_same: true,
+        });
+    }
+}
+
+/// The codes from 2 on at random. As code 1 is missing, none of them is in the vector of codes that count up.
+fn at_random(random: &mut Random) -> Vec<u64> {
+    let mut codes: Vec<u64> = (2..CODES + 2).collect();
+    for i in (1..codes.len()).rev() {
+        codes.swap(i, random.below(i + 1));
+    }
+    codes
+}
+
+fn all_of_tables(random: &mut Random, all: &mut Vec<Workload>) {
+    let orders: [(&str, Vec<u64>); 5] = [
+        ("codes that rise from 1", (1..=CODES).collect()),
+        ("codes that fall", (1..=CODES).rev().collect()),
+        ("codes that rise with gaps", (1..=CODES).map(|it| it * 0x1_0000_0001).collect()),
+        ("codes shuffled", (1..=CODES).map(|it| 2 + it * 2089 % CODES).collect()),
+        ("codes at random", at_random(random)),
+    ];
+    for (name, mut codes) in orders {
+        let mut section = vec![];
+        shaped_table(random, codes.iter().copied(), &mut section);
+        codes.sort();
+        of_tables(name, section, vec![(0, codes)], all);
+    }
+    let (mut small, mut tables) = (vec![], vec![]);
+    for _ in 0..400 {
+        let count = 5 + random.below(20) as u64;
+        tables.push((small.len(), (1..=count).collect()));
+        shaped_table(random, 1..=count, &mut small);
+    }
+    of_tables("small tables", small, tables, all);
+}
+
+fn all_of_numbers(random: &mut Random, all: &mut Vec<Workload>) {
+    let (mut any, mut one, mut signed, mut one_signed, mut halves) = (vec![], vec![], vec![], vec![], vec![]);
+    for _ in 0..NUMBERS {
+        let value = random.next() >> random.below(64);
+        put_unsigned(&mut any, value);
+        let bound = if random.below(100) < 85 { 128 } else { 1 << 14 };
+        put_unsigned(&mut one, random.below(bound) as u64);
+        put_signed(&mut one_signed, random.below(bound) as i64 - bound as i64 / 2);
+        put_signed(&mut signed, if random.below(2) == 0 { value as i64 } else { (value as i64).wrapping_neg() });
+        put_unsigned(&mut halves, (random.below(1 << 16) >> random.below(16)) as u64);
+    }
+    let (any, one, halves): (Bytes, Bytes, Bytes) = (any.leak(), one.leak(), halves.leak());
+    let (signed, one_signed): (Bytes, Bytes) = (signed.leak(), one_signed.leak());
+    all.push(numbers("an unsigned number of any length", any, unsigned_sum, compare_unsigned_sum));
+    all.push(numbers("an unsigned number mostly of one byte", one, unsigned_sum, compare_unsigned_sum));
+    all.push(numbers("a signed number of any length", signed, signed_sum, compare_signed_sum));
+    all.push(numbers("a signed number mostly of one byte", one_signed, signed_sum, compare_signed_sum));
+    all.push(numbers("a number of 16 bits of any length", halves, short_sum, compare_short_sum));
+    all.push(numbers("a number of 16 bits mostly of one byte", one, short_sum, compare_short_sum));
+    all.push(numbers("a number skipped, of any length", any, skipped_count, compare_skipped_count));
+    all.push(numbers("a number skipped, mostly of one byte", one, skipped_count, compare_skipped_count));
+}
+
+fn all_of_lookups(random: &mut Random, all: &mut Vec<Workload>) {
+    let words: Vec<u8> = (0..1u32 << 18).flat_map(|it| it.wrapping_mul(2_654_435_761).to_le_bytes()).collect();
+    let s: Bytes = words.leak();
+    let mut indices =
+        |size| -> Places { (0..LOOKUPS).map(|_| random.below((s.len() - 8) / size)).collect::<Vec<_>>().leak() };
+    let (four, eight) = (indices(4), indices(8));
+    all.push(Workload {
+        name: "`get_str_offset`".into(),
+        operations: LOOKUPS as u64,
+        gimli: Box::new(move || str_offsets(s, four)),
+        ours: Box::new(move || unsafe {
+            compare_str_offset_lookups(s.as_ptr(), s.len(), 8, four.as_ptr(), four.len()) as u64
+        }),
+        is_same: true,
+    });
+    all.push(Workload {
+        name: "`get_address`".into(),
+        operations: LOOKUPS as u64,
+        gimli: Box::new(move || addresses(s, eight)),
+        ours: Box::new(move || unsafe { compare_address_lookups(s.as_ptr(), s.len(), 8, eight.as_ptr(), eight.len()) }),
+        is_same: true,
+    });
+}
+
+fn of_strings(name: &str, random: &mut Random, section: Vec<u8>, all: &mut Vec<Workload>) {
+    let s: Bytes = section.leak();
+    let ends = s.iter().enumerate().filter(|it| *it.1 == 0).map(|it| it.0 + 1);
+    let mut starts: Vec<usize> = std::iter::once(0).chain(ends).collect();
+    starts.pop();
+    if starts.is_empty() {
+        return;
+    }
+    let o: Places = (0..50_000).map(|_| starts[random.below(starts.len())]).collect::<Vec<_>>().leak();
+    all.push(Workload {
+        name: format!("`get_str`, {name}"),
+        operations: o.len() as u64,
+        gimli: Box::new(move || strings(s, o)),
+        ours: Box::new(move || unsafe { compare_strings(s.as_ptr(), s.len(), o.as_ptr(), o.len()) as u64 }),
+        is_same: true,
+    });
+}
+
+#[cfg(gimli_0_34)]
+#[inline(never)]
+fn headers_sum(section: Bytes) -> gimli::Result<u64> {
+    let mut sum = 0u64;
+    let mut headers = DebugAddr::from(EndianSlice::new(section, LittleEndian)).headers();
+    while let Some(header) = headers.next()? {
+        let size = header.encoding().address_size;
+        sum = sum.wrapping_add(header.length() as u64 + header.offset().0 as u64 + u64::from(size));
+    }
+    Ok(sum)
+}
+
+#[cfg(gimli_0_34)]
+#[inline(never)]
+fn addresses_sum(section: Bytes) -> gimli::Result<u64> {
+    let mut sum = 0u64;
+    let mut headers = DebugAddr::from(EndianSlice::new(section, LittleEndian)).headers();
+    while let Some(header) = headers.next()? {
+        let mut entries = header.entries();
+        while let Some(address) = entries.next()? {
+            sum = sum.wrapping_add(address);
+        }
+    }
+    Ok(sum)
+}
+
+/// The length, the address size and the addresses of the next set, by gimli's calls for words: this version reads no
+/// sets.
+#[cfg(not(gimli_0_34))]
+fn next_set(left: &mut Input) -> gimli::Result<(usize, u8, Input)> {
+    let (length, _) = left.read_initial_length()?;
+    let mut set = left.split(length)?;
+    if set.read_u16()? != 5 {
+        return Err(gimli::Error::UnknownVersion(0));
+    }
+    let size = set.read_u8()?;
+    match (size, set.read_u8()?) {
+        (1 | 2 | 4 | 8, 0) => Ok((length, size, set)),
+        _ => Err(gimli::Error::UnsupportedAddressSize(size)),
+    }
+}
+
+#[cfg(not(gimli_0_34))]
+#[inline(never)]
+fn headers_sum(section: Bytes) -> gimli::Result<u64> {
+    let (mut left, mut sum) = (EndianSlice::new(section, LittleEndian), 0u64);
+    while !Reader::is_empty(&left) {
+        let offset = section.len() - Reader::len(&left);
+        let (length, size, _) = next_set(&mut left)?;
+        sum = sum.wrapping_add(length as u64 + offset as u64 + u64::from(size));
+    }
+    Ok(sum)
+}
+
+#[cfg(not(gimli_0_34))]
+#[inline(never)]
+fn addresses_sum(section: Bytes) -> gimli::Result<u64> {
+    let (mut left, mut sum) = (EndianSlice::new(section, LittleEndian), 0u64);
+    while !Reader::is_empty(&left) {
+        let (_, size, mut set) = next_set(&mut left)?;
+        while !Reader::is_empty(&set) {
+            sum = sum.wrapping_add(set.read_address(size)?);
+        }
+    }
+    Ok(sum)
+}
+
+fn all_of_sets(random: &mut Random, all: &mut Vec<Workload>) {
+    for (name, count, most) in [("small sets", 20_000, 4), ("large sets", 300, 800)] {
+        let (made, entries) = made_sets(random, count, most);
+        let s: Bytes = made.leak();
+        let mut add = |what: &str, operations, gimli: fn(Bytes) -> gimli::Result<u64>, ours: NumberCall| {
+            all.push(Workload {
+                name: format!("{what}, {name}"),
+                operations,
+                gimli: Box::new(move || gimli(s).unwrap()),
+                ours: Box::new(move || unsafe { ours(s.as_ptr(), s.len()) }),
+                is_same: true,
+            })
+        };
+        add("the header of a set", count as u64, headers_sum, compare_headers);
+        add("an address of a set", entries as u64, addresses_sum, compare_addresses);
+    }
+}
+
+fn made_strings(random: &mut Random) -> Vec<u8> {
+    let mut text = vec![];
+    for _ in 0..40_000 {
+        for _ in 0..[4, 8, 8, 12, 20, 40, 90, 200][random.below(8)] {
+            text.push(b'a' + random.below(26) as u8);
+        }
+        text.push(0);
+    }
+    text
+}
+
+/// The workloads, of inputs that are made and of the string sections that are given.
+pub fn workloads(sections: &[(String, String, Vec<u8>)]) -> Vec<Workload> {
+    let (mut random, mut all) = (Random(88_172_645_463_325_252), vec![]);
+    all_of_tables(&mut random, &mut all);
+    all_of_numbers(&mut random, &mut all);
+    all_of_lookups(&mut random, &mut all);
+    all_of_sets(&mut random, &mut all);
+    let made = made_strings(&mut random);
+    of_strings("made-up strings", &mut random, made, &mut all);
+    for (name, kind, bytes) in sections {
+        if kind == "debug_str" {
+            let name = name.rsplit('/').next().unwrap_or_default();
+            of_strings(&format!("strings of {name}"), &mut random, bytes.clone(), &mut all);
+        }
+    }
+    all
+}
+
+/// The thread's own processor time in nanoseconds, so that other work of the machine isn't counted.
+fn processor_nanos() -> u64 {
+    extern "C" {
+        fn clock_gettime(clock: c_int, time: *mut [i64; 2]) -> c_int;
+    }
+    const CLOCK_THREAD_CPUTIME_ID: c_int = 3;
+    let mut time = [0; 2];
+    assert_eq!(unsafe { clock_gettime(CLOCK_THREAD_CPUTIME_ID, &mut time) }, 0);
+    time[0] as u64 * 1_000_000_000 + time[1] as u64
+}
+
+/// Nanoseconds of a call, which is repeated for three milliseconds.
+fn turn(call: &Call) -> f64 {
+    let (start, mut calls) = (processor_nanos(), 0);
+    loop {
+        hidden(call());
+        calls += 1;
+        let time = processor_nanos() - start;
+        if time >= 3_000_000 {
+            return time as f64 / f64::from(calls);
+        }
+    }
+}
+
+#[no_mangle]
+#[inline(never)]
+extern "C" fn gimli_counted(workload: &Workload) {
+    hidden((workload.gimli)());
+}
+
+#[no_mangle]
+#[inline(never)]
+extern "C" fn ours_counted(workload: &Workload) {
+    hidden((workload.ours)());
+}
+
+/// Nanoseconds of an operation of either side by turns, and the quarters and the middle of the ratios of neighbours.
+fn turns(workload: &Workload) -> String {
+    let (mut left, mut right, mut ratios) = (vec![], vec![], vec![]);
+    for sample in 0..31 {
+        let is_first = sample % 2 == 0;
+        let early = turn(if is_first { &workload.gimli } else { &workload.ours });
+        let late = turn(if is_first { &workload.ours } else { &workload.gimli });
+        let (gimli, ours) = if is_first { (early, late) } else { (late, early) };
+        left.push(gimli / workload.operations as f64);
+        right.push(ours / workload.operations as f64);
+        ratios.push(ours / gimli);
+    }
+    for list in [&mut left, &mut right, &mut ratios] {
+        list.sort_by(f64::total_cmp);
+    }
+    let at = |list: &[f64], part: usize| list[(list.len() - 1) * part / 4];
+    let (low, middle, high) = (at(&ratios, 1), at(&ratios, 2), at(&ratios, 3));
+    format!("{}\t{}\t{low}\t{middle}\t{high}", at(&left, 2), at(&right, 2))
+}
+
+/// Prints a line of each workload: its name, its operations, and if it is timed the nanoseconds of an operation of
+/// either side, and the lower quarter, the middle and the upper quarter of the ratios of neighbouring turns.
+pub fn measure(all: &[Workload], is_timed: bool) -> Result<(), String> {
+    for workload in all {
+        let (name, operations) = (&workload.name, workload.operations);
+        let (gimli, ours) = ((workload.gimli)(), (workload.ours)());
+        if workload.is_same && gimli != ours {
+            return Err(format!("{name}: gimli's sum is {gimli}, and the library's {ours}"));
+        }
+        if !is_timed {
+            gimli_counted(workload);
+            ours_counted(workload);
+            println!("{name}\t{operations}");
+            continue;
+        }
+        println!("{name}\t{operations}\t{}", turns(workload));
+    }
+    Ok(())
+}

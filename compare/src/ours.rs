@@ -1,0 +1,299 @@
+//! The proved library, by the calls of `include/dwarf_read.h` and those of `crates/dwarf_compare`.
+//!
+//! A call is safe if what the header asks of a caller holds. So it does for each call here: a slice is valid for as
+//! many items as its length says, all outputs are initialized, and an output overlaps nothing, since it is borrowed
+//! mutably.
+
+use crate::piped::Piped;
+use crate::question::{Answer, Declaration, Kind, Question, Set};
+
+const OK: u32 = 0;
+const NO_ROOM: u32 = 100;
+const END: u32 = 102;
+
+#[repr(C)]
+#[derive(Default, Clone, Copy)]
+struct RawFault {
+    kind: u32,
+    value: u64,
+}
+
+#[repr(C)]
+#[derive(Default, Clone, Copy)]
+struct RawSet {
+    next: usize,
+    unit_length: usize,
+    first_entry: usize,
+    word_size: u8,
+    entry_size: u8,
+}
+
+#[repr(C)]
+#[derive(Default, Clone, Copy)]
+struct Measure {
+    abbreviations: usize,
+    attributes: usize,
+    closed_by_null: u8,
+}
+
+#[repr(C)]
+#[derive(Default, Clone, Copy)]
+struct RawAbbreviation {
+    code: u64,
+    tag: u16,
+    has_children: u8,
+    first_attribute: usize,
+    attribute_count: usize,
+}
+
+#[repr(C)]
+#[derive(Default, Clone, Copy)]
+struct RawAttribute {
+    name: u16,
+    form: u16,
+    implicit_const: i64,
+}
+
+type Byte = *const u8;
+
+extern "C" {
+    fn dwarf_uleb128_write(value: u64, bytes: *mut u8, room: usize, len: &mut usize) -> u32;
+    fn dwarf_sleb128_write(value: i64, bytes: *mut u8, room: usize, len: &mut usize) -> u32;
+    fn dwarf_string(bytes: Byte, len: usize, offset: usize, string_len: &mut usize, fault: &mut RawFault) -> u32;
+    fn dwarf_str_offset(
+        bytes: Byte, len: usize, is_big: bool, is_64: bool, base: usize, index: usize, offset: &mut usize,
+        fault: &mut RawFault,
+    ) -> u32;
+    fn dwarf_address(
+        bytes: Byte, len: usize, is_big: bool, size: u8, base: usize, index: usize, address: &mut u64,
+        fault: &mut RawFault,
+    ) -> u32;
+    fn dwarf_address_set(
+        bytes: Byte, len: usize, is_big: bool, offset: usize, set: &mut RawSet, fault: &mut RawFault,
+    ) -> u32;
+    fn dwarf_str_offset_set(
+        bytes: Byte, len: usize, is_big: bool, offset: usize, set: &mut RawSet, fault: &mut RawFault,
+    ) -> u32;
+    fn dwarf_table_read(
+        bytes: Byte, len: usize, offset: usize, abbreviations: *mut RawAbbreviation, abbreviation_room: usize,
+        attributes: *mut RawAttribute, attribute_room: usize, measure: &mut Measure, fault: &mut RawFault,
+    ) -> u32;
+
+    fn compare_unsigned(bytes: Byte, len: usize, value: &mut u64, rest: &mut usize, fault: &mut RawFault) -> u32;
+    fn compare_signed(bytes: Byte, len: usize, value: &mut i64, rest: &mut usize, fault: &mut RawFault) -> u32;
+    fn compare_short(bytes: Byte, len: usize, value: &mut u16, rest: &mut usize, fault: &mut RawFault) -> u32;
+    fn compare_skipped(bytes: Byte, len: usize, rest: &mut usize, fault: &mut RawFault) -> u32;
+    fn compare_strict(bytes: Byte, len: usize, offset: usize, count: &mut usize, fault: &mut RawFault) -> u32;
+    fn compare_grown(
+        bytes: Byte, len: usize, before: usize, offset: usize, count: &mut usize, fault: &mut RawFault,
+    ) -> u32;
+    fn compare_found(
+        bytes: Byte, len: usize, offset: usize, codes: *const u64, code_count: usize, tags: *mut u16, tag_count: usize,
+        fault: &mut RawFault,
+    ) -> u32;
+    fn compare_cached(bytes: Byte, len: usize, offsets: *const usize, count: usize, rounds: u64) -> usize;
+    fn compare_addresses(bytes: Byte, len: usize) -> u64;
+}
+
+/// The library, with places for tables that are used again. If there are pipes, it is in another program.
+pub struct Ours {
+    piped: Option<Piped>,
+    abbreviations: Vec<RawAbbreviation>,
+    attributes: Vec<RawAttribute>,
+}
+
+impl Ours {
+    pub fn new(piped: Option<Piped>) -> Ours {
+        Ours { piped, abbreviations: vec![Default::default(); 1024], attributes: vec![Default::default(); 8192] }
+    }
+
+    /// What the library gives.
+    pub fn answer(&mut self, question: &Question, bytes: &[u8]) -> Answer {
+        if let Some(piped) = &mut self.piped {
+            return piped.answer(question, bytes).unwrap_or(Answer::Lost);
+        }
+        match question {
+            Question::Number(kind) => number(*kind, bytes),
+            Question::WrittenUnsigned(value) => {
+                written(|to, room, len| unsafe { dwarf_uleb128_write(*value, to, room, len) })
+            }
+            Question::WrittenSigned(value) => {
+                written(|to, room, len| unsafe { dwarf_sleb128_write(*value, to, room, len) })
+            }
+            Question::Table(offset) => self.table(bytes, *offset),
+            Question::Strict(offset) => strict(bytes, *offset),
+            Question::Grown { before, offset } => count(|count, fault| unsafe {
+                compare_grown(bytes.as_ptr(), bytes.len(), *before, *offset, count, fault)
+            }),
+            Question::Found { offset, codes } => found(bytes, *offset, codes),
+            Question::Cached(offsets) => {
+                Answer::Sum(
+                    unsafe { compare_cached(bytes.as_ptr(), bytes.len(), offsets.as_ptr(), offsets.len(), 2) } as u64
+                )
+            }
+            Question::Addresses => Answer::Sum(unsafe { compare_addresses(bytes.as_ptr(), bytes.len()) }),
+            _ => lookup(question, bytes),
+        }
+    }
+
+    fn table(&mut self, bytes: &[u8], offset: usize) -> Answer {
+        let (mut measure, mut fault) = (Measure::default(), RawFault::default());
+        loop {
+            let (abbreviations, attributes) = (&mut self.abbreviations, &mut self.attributes);
+            let status = unsafe {
+                dwarf_table_read(
+                    bytes.as_ptr(),
+                    bytes.len(),
+                    offset,
+                    abbreviations.as_mut_ptr(),
+                    abbreviations.len(),
+                    attributes.as_mut_ptr(),
+                    attributes.len(),
+                    &mut measure,
+                    &mut fault,
+                )
+            };
+            match status {
+                OK => return self.shown(&measure),
+                NO_ROOM => {
+                    abbreviations.resize(measure.abbreviations.max(abbreviations.len()), Default::default());
+                    attributes.resize(measure.attributes.max(attributes.len()), Default::default());
+                }
+                _ => return refused(status, fault, None),
+            }
+        }
+    }
+
+    fn shown(&self, measure: &Measure) -> Answer {
+        let shown = |it: &RawAbbreviation| Declaration {
+            code: it.code,
+            tag: it.tag,
+            has_children: it.has_children != 0,
+            attributes: self.attributes[it.first_attribute..][..it.attribute_count]
+                .iter()
+                .map(|it| (it.name, it.form, it.implicit_const))
+                .collect(),
+        };
+        let declarations = self.abbreviations[..measure.abbreviations].iter().map(shown).collect();
+        Answer::Table { declarations, closed_by_null: Some(measure.closed_by_null != 0) }
+    }
+}
+
+/// The error of a call. A number that differs from the fault's is told by one that no error has.
+fn refused(status: u32, fault: RawFault, rest: Option<usize>) -> Answer {
+    let kind = if status == fault.kind { status } else { u32::MAX };
+    Answer::Fault { kind, value: Some(fault.value), rest }
+}
+
+fn number(kind: Kind, bytes: &[u8]) -> Answer {
+    let (at, len) = (bytes.as_ptr(), bytes.len());
+    let (mut rest, mut fault) = (usize::MAX, RawFault::default());
+    let (mut unsigned, mut signed, mut short) = (0, 0, 0);
+    let (status, value) = match kind {
+        Kind::Unsigned => {
+            let status = unsafe { compare_unsigned(at, len, &mut unsigned, &mut rest, &mut fault) };
+            (status, i128::from(unsigned))
+        }
+        Kind::Signed => {
+            let status = unsafe { compare_signed(at, len, &mut signed, &mut rest, &mut fault) };
+            (status, i128::from(signed))
+        }
+        Kind::Short => {
+            let status = unsafe { compare_short(at, len, &mut short, &mut rest, &mut fault) };
+            (status, i128::from(short))
+        }
+        Kind::Skipped => (unsafe { compare_skipped(at, len, &mut rest, &mut fault) }, 0),
+    };
+    match (status, kind) {
+        (OK, Kind::Skipped) => Answer::Skipped { rest },
+        (OK, _) => Answer::Number { value, rest },
+        _ => refused(status, fault, Some(rest)),
+    }
+}
+
+fn written(call: impl FnOnce(*mut u8, usize, &mut usize) -> u32) -> Answer {
+    let (mut bytes, mut len) = (vec![0; 16], 0);
+    let status = call(bytes.as_mut_ptr(), bytes.len(), &mut len);
+    if status != OK || len > bytes.len() {
+        return Answer::Fault { kind: status, value: None, rest: None };
+    }
+    bytes.truncate(len);
+    Answer::Written(bytes)
+}
+
+fn count(call: impl FnOnce(&mut usize, &mut RawFault) -> u32) -> Answer {
+    let (mut count, mut fault) = (0, RawFault::default());
+    match call(&mut count, &mut fault) {
+        OK => Answer::Count(count),
+        status => refused(status, fault, None),
+    }
+}
+
+/// The table at an offset, strictly read.
+pub fn strict(bytes: &[u8], offset: usize) -> Answer {
+    count(|count, fault| unsafe { compare_strict(bytes.as_ptr(), bytes.len(), offset, count, fault) })
+}
+
+fn found(bytes: &[u8], offset: usize, codes: &[u64]) -> Answer {
+    let (mut tags, mut fault) = (vec![0; codes.len()], RawFault::default());
+    let status = unsafe {
+        compare_found(
+            bytes.as_ptr(),
+            bytes.len(),
+            offset,
+            codes.as_ptr(),
+            codes.len(),
+            tags.as_mut_ptr(),
+            tags.len(),
+            &mut fault,
+        )
+    };
+    match status {
+        OK => Answer::Tags(tags),
+        _ => refused(status, fault, None),
+    }
+}
+
+/// Strings, words and sets.
+fn lookup(question: &Question, bytes: &[u8]) -> Answer {
+    let (at, len) = (bytes.as_ptr(), bytes.len());
+    let (mut size, mut word, mut set, mut fault) = (0, 0, RawSet::default(), RawFault::default());
+    let (status, answer) = match *question {
+        Question::Text(offset) => {
+            let status = unsafe { dwarf_string(at, len, offset, &mut size, &mut fault) };
+            (status, Answer::Length(size))
+        }
+        Question::StrOffset { is_big, is_64, base, index } => {
+            let status = unsafe { dwarf_str_offset(at, len, is_big, is_64, base, index, &mut size, &mut fault) };
+            (status, Answer::Word(size as u64))
+        }
+        Question::Address { is_big, size, base, index } => {
+            let status = unsafe { dwarf_address(at, len, is_big, size, base, index, &mut word, &mut fault) };
+            (status, Answer::Word(word))
+        }
+        Question::AddressSet { is_big, offset } => {
+            let status = unsafe { dwarf_address_set(at, len, is_big, offset, &mut set, &mut fault) };
+            (status, set_of(&set))
+        }
+        Question::StrOffsetSet { is_big, offset } => {
+            let status = unsafe { dwarf_str_offset_set(at, len, is_big, offset, &mut set, &mut fault) };
+            (status, set_of(&set))
+        }
+        _ => unreachable!("asked elsewhere"),
+    };
+    match status {
+        OK => answer,
+        END => Answer::End,
+        _ => refused(status, fault, None),
+    }
+}
+
+fn set_of(set: &RawSet) -> Answer {
+    Answer::Set(Set {
+        next: set.next,
+        unit_length: set.unit_length,
+        first_entry: set.first_entry,
+        word_size: set.word_size,
+        entry_size: set.entry_size,
+    })
+}

@@ -1,0 +1,158 @@
+//! Asks all readers, counts what they give, and prints where they differ.
+
+use crate::ours::Ours;
+use crate::piped::Piped;
+use crate::plain;
+use crate::question::{Answer, Question};
+use crate::shrink::shrink;
+use crate::theirs::{Theirs, HAS_SETS};
+use std::collections::BTreeMap;
+
+/// So many differences of one question are printed. The others are counted.
+const PRINTED: u64 = 3;
+
+/// What the readers gave.
+struct Given {
+    ours: Answer,
+    plain: Answer,
+    theirs: Option<Answer>,
+    /// What the library gives in the terms of this gimli.
+    wanted: Answer,
+}
+
+impl Given {
+    fn differ(&self) -> bool {
+        !self.ours.agrees(&self.plain) || self.theirs.as_ref().map_or(false, |it| !it.agrees(&self.wanted))
+    }
+}
+
+/// What was asked and given so far.
+pub struct Tally {
+    ours: Ours,
+    theirs: Theirs,
+    /// The command that asks a question alone, up to the question.
+    again: String,
+    pub inputs: u64,
+    /// How many of them gimli was asked too.
+    asked_of_gimli: u64,
+    pub differences: u64,
+    /// How often each question was asked, and how often it differed.
+    questions: BTreeMap<&'static str, (u64, u64)>,
+    reached: BTreeMap<(&'static str, &'static str), u64>,
+}
+
+pub fn hexadecimal(bytes: &[u8]) -> String {
+    bytes.iter().map(|it| format!("{it:02x}")).collect()
+}
+
+impl Tally {
+    pub fn new(again: &str, piped: Option<Piped>) -> Tally {
+        Tally {
+            again: again.into(),
+            ours: Ours::new(piped),
+            theirs: Theirs::new(),
+            inputs: 0,
+            asked_of_gimli: 0,
+            differences: 0,
+            questions: BTreeMap::new(),
+            reached: BTreeMap::new(),
+        }
+    }
+
+    fn given(&mut self, question: &Question, bytes: &[u8]) -> Given {
+        let (plain, ours) = (plain::answer(question, bytes), self.ours.answer(question, bytes));
+        let theirs = self.theirs.answer(question, bytes, &plain);
+        let wanted = match theirs {
+            Some(_) => self.theirs.wanted(question, bytes, ours.clone()),
+            None => ours.clone(),
+        };
+        Given { ours, plain, theirs, wanted }
+    }
+
+    /// Asks a question, and prints the smallest input that is found to differ if this one does.
+    pub fn ask(&mut self, question: &Question, bytes: &[u8]) {
+        let given = self.given(question, bytes);
+        self.inputs += 1;
+        self.asked_of_gimli += u64::from(given.theirs.is_some());
+        let counts = self.questions.entry(question.name()).or_default();
+        counts.0 += 1;
+        *self.reached.entry((question.name(), given.ours.reached())).or_default() += 1;
+        if !given.differ() {
+            return;
+        }
+        counts.1 += 1;
+        self.differences += 1;
+        if counts.1 <= PRINTED {
+            if given.ours == Answer::Lost {
+                // What has ended answers no smaller input.
+                return self.print_all("difference", question, bytes, &given);
+            }
+            let (question, bytes) =
+                shrink(question, bytes, &mut |question, bytes| self.given(question, bytes).differ());
+            let given = self.given(&question, &bytes);
+            self.print_all("difference", &question, &bytes, &given);
+        }
+    }
+
+    /// Asks a question alone, and prints what each reader gives.
+    pub fn ask_aloud(&mut self, question: &Question, bytes: &[u8]) {
+        let given = self.given(question, bytes);
+        let title = if given.differ() { "difference" } else { "equal" };
+        self.print_all(title, question, bytes, &given);
+        self.differences += u64::from(given.differ());
+    }
+
+    /// Prints what was asked and reached, question by question. The last line has all of it together, and counts the
+    /// questions first.
+    pub fn print(&self) {
+        for (name, (asked, differed)) in &self.questions {
+            let reached = self.reached.iter().filter(|it| it.0 .0 == *name);
+            let reached: Vec<String> = reached.map(|((_, what), count)| format!("{what} {count}")).collect();
+            println!("{name}: {asked} inputs, {differed} differences: {}", reached.join(", "));
+        }
+        let mut all: BTreeMap<&str, u64> = BTreeMap::new();
+        for ((_, what), count) in &self.reached {
+            *all.entry(what).or_default() += count;
+        }
+        let all: Vec<String> = all.iter().map(|(what, count)| format!("{what} {count}")).collect();
+        let mut skipped = 0;
+        if !HAS_SETS {
+            println!("left out: this gimli has no sets of addresses, so the second reader alone had them");
+            skipped += 1;
+        }
+        if self.theirs.is_strict {
+            println!("this gimli wants the null code of a table, so it was compared with the strict reading");
+        }
+        println!(
+            "the second reader alone had strict readings, caches, growth, written numbers and sets of string offsets"
+        );
+        let failed = self.questions.values().filter(|it| it.1 != 0).count();
+        println!(
+            "{} passed, {failed} failed, {skipped} skipped: {} inputs, of which gimli {} read {}, and {} differences; \
+             reached: {}",
+            self.questions.len() - failed,
+            self.inputs,
+            env!("GIMLI_VERSION"),
+            self.asked_of_gimli,
+            self.differences,
+            all.join(", ")
+        );
+    }
+
+    /// Prints a question, what each reader gives, and the command that asks it again.
+    fn print_all(&self, title: &str, question: &Question, bytes: &[u8], given: &Given) {
+        let mut words = vec![question.name().to_string()];
+        words.extend(question.words());
+        println!("{title}: {}", words.join(" "));
+        println!("  input: {}", hexadecimal(bytes));
+        println!("  here: {}", given.ours);
+        println!("  second reader: {}", given.plain);
+        if let Some(theirs) = &given.theirs {
+            println!("  gimli {}: {theirs}", env!("GIMLI_VERSION"));
+            if given.wanted != given.ours {
+                println!("  here, as this gimli reads: {}", given.wanted);
+            }
+        }
+        println!("  alone: {} '{} {}'", self.again, words.join(" "), hexadecimal(bytes));
+    }
+}

@@ -1,0 +1,267 @@
+"""A program that nobody here wrote, reading by the library: gimli 0.27 itself, in a scratch copy whose tables, strings,
+lookups and LEB128 numbers come from the library's calls.
+
+No text of gimli's is here: a body is found by the name of its function, and what takes its place is in `client/`.
+"""
+import filecmp
+import glob
+import os
+import re
+import shutil
+import subprocess
+import tempfile
+
+from common import DEBIAN, OUT, PACKAGE, Failed, Missing, decompressed, files_by_default, is_big_endian, link_libraries
+from common import must, need, put, run
+
+MANIFEST = """[package]
+name = "gimli"
+version = "0.27.0"
+edition = "2018"
+
+[dependencies.fallible-iterator]
+path = "FALLIBLE"
+default-features = false
+optional = true
+
+[dependencies.stable_deref_trait]
+path = "STABLE"
+default-features = false
+optional = true
+
+[features]
+default = ["read", "std", "fallible-iterator", "endian-reader"]
+endian-reader = ["read", "stable_deref_trait"]
+read = ["read-core"]
+read-core = []
+std = ["fallible-iterator/std", "stable_deref_trait/std"]
+write = []
+
+[profile.release]
+debug = 2
+
+[workspace]
+"""
+BUILD = """fn main() {
+    println!("cargo:rerun-if-changed=build.rs");
+    println!("cargo:rustc-link-search=native=FOLDER");
+    for library in ["dwarf_read_c", "dwarf_compare", "dwarf_read_heap"] {
+        println!("cargo:rerun-if-changed=FOLDER/lib{}.a", library);
+        println!("cargo:rustc-link-lib=static={}", library);
+    }
+}
+"""
+MODULE = "#[allow(missing_docs, missing_debug_implementations)]\npub mod calls;\n"
+# In which file, behind which words, the body behind which words gets which body.
+TABLE = """
+        let (declarations, attributes) = crate::calls::table(&self.debug_abbrev_section, debug_abbrev_offset.0)?;
+        let mut table = Abbreviations::empty();
+        for it in declarations {
+            let mut list = Attributes::new();
+            for it in &attributes[it.first..][..it.count] {
+                let form = constants::DwForm(it.form);
+                let value = Some(it.value).filter(|_| form == constants::DW_FORM_implicit_const);
+                list.push(AttributeSpecification::new(constants::DwAt(it.name), form, value));
+            }
+            let (tag, children) = (constants::DwTag(it.tag), constants::DwChildren(it.has_children));
+            let _ = table.insert(Abbreviation::new(it.code, tag, children, list));
+        }
+        Ok(table)"""
+BODIES = [
+    ("leb128.rs", "pub mod read", "fn skip<", "crate::calls::skip(r)"),
+    ("leb128.rs", "pub mod read", "fn unsigned<", "crate::calls::unsigned(r)"),
+    ("leb128.rs", "pub mod read", "fn u16<", "crate::calls::short(r)"),
+    ("leb128.rs", "pub mod read", "fn signed<", "crate::calls::signed(r)"),
+    ("read/str.rs", "> DebugStr<", "fn get_str(", "crate::calls::string(&self.debug_str_section, offset.0)"),
+    ("read/str.rs", "> DebugLineStr<", "fn get_str(", "crate::calls::string(&self.section, offset.0)"),
+    (
+        "read/str.rs",
+        "> DebugStrOffsets<",
+        "fn get_str_offset(",
+        "crate::calls::str_offset(&self.section, format, base.0, index.0).map(DebugStrOffset)",
+    ),
+    (
+        "read/addr.rs",
+        "> DebugAddr<",
+        "fn get_address(",
+        "crate::calls::address(&self.section, address_size, base.0, index.0)",
+    ),
+    ("read/abbrev.rs", "> DebugAbbrev<", "fn abbreviations(", TABLE),
+]
+RESULT = re.compile(r"^test result: \w+\. (\d+) passed; (\d+) failed", re.M)
+# What is planted, and whether the dumps or gimli's tests have to show it.
+PLANTED = [("tag", "dumps"), ("string", "dumps"), ("number", "tests")]
+
+
+def source(name):
+    """The folder of a package that Debian installs for cargo."""
+    found = sorted(glob.glob(f"{DEBIAN}/{name}-[0-9]*"))
+    if not found:
+        raise Missing(f"there is no {name}: `apt-get install librust-gimli-dev` installs it")
+    return found[-1]
+
+
+def with_body(text, behind, function, body):
+    """A text in which a function has another body."""
+    at = text.find("{", text.find(function, text.find(behind)))
+    if behind not in text or function not in text[text.find(behind) :]:
+        raise Failed(f"gimli has no `{function}` behind `{behind}`, so this version can't be patched")
+    end, depth = at + 1, 1
+    while depth:
+        depth += (text[end] == "{") - (text[end] == "}")
+        end += 1
+    return f"{text[:at]}{{ {body} }}{text[end:]}"
+
+
+def patched(name, text):
+    """A source file of gimli's that reads by the library."""
+    if name == "lib.rs":
+        return text.replace("pub mod leb128;", f"pub mod leb128;\n{MODULE}", 1)
+    for file, behind, function, body in BODIES:
+        if file == name:
+            text = with_body(text, behind, function, body)
+    return text
+
+
+def write(text, path):
+    with tempfile.NamedTemporaryFile("w", encoding="utf-8") as file:
+        file.write(text)
+        file.flush()
+        put(file.name, path)
+
+
+def copy(gimli, folder, is_patched):
+    """Makes a copy of gimli, with the program that dumps."""
+    for part in ("src", "tests", "fixtures"):
+        for at, _, names in os.walk(f"{gimli}/{part}"):
+            for name in names:
+                path = os.path.relpath(f"{at}/{name}", gimli)
+                if path == "tests/convert_self.rs":
+                    continue
+                if is_patched and part == "src" and name.endswith(".rs"):
+                    with open(f"{at}/{name}", encoding="utf-8") as file:
+                        write(patched(path[len("src/") :], file.read()), f"{folder}/{path}")
+                else:
+                    put(f"{at}/{name}", f"{folder}/{path}")
+    text = MANIFEST.replace("FALLIBLE", source("fallible-iterator")).replace("STABLE", source("stable_deref_trait"))
+    write(text, f"{folder}/Cargo.toml")
+    put(f"{PACKAGE}/client/dump.rs", f"{folder}/examples/dump.rs")
+    # The documentation of gimli has examples that include its page.
+    put(f"{gimli}/README.md", f"{folder}/README.md")
+    if is_patched:
+        write(BUILD.replace("FOLDER", f"{OUT}/lib"), f"{folder}/build.rs")
+        put(f"{PACKAGE}/client/calls.rs", f"{folder}/src/calls.rs")
+
+
+def tests(folder, planted=""):
+    """How many of gimli's own tests pass and fail in a copy: of each kind, and what was printed."""
+    words = ["cargo", "test", "--quiet", "--offline", "--no-fail-fast"]
+    # With an error planted the tests of its modules are enough.
+    words += ["--lib"] if planted else []
+    said, status = run(words, cwd=folder, env={**os.environ, "COMPARE_PLANTED": planted})
+    found = [(int(passed), int(failed)) for passed, failed in RESULT.findall(said)]
+    if not found or status and not sum(failed for _, failed in found):
+        raise Failed(f"gimli's tests don't run:\n{said[-2000:]}")
+    return found
+
+
+def sections_of(path, folder):
+    """Puts the sections of an ELF file into a folder, and returns the word for its byte order."""
+    whole, copied = f"{folder}/whole", f"{folder}/copy"
+    tool = decompressed(path, whole)
+    with open(whole, "rb") as file:
+        names = sorted({it.decode() for it in re.findall(rb"\0\.(debug_\w+)(?=\0)", file.read())})
+    if not names:
+        raise Failed(f"{path} has no debug sections, so there is nothing to dump")
+    for name in names:
+        run([tool, "--dump-section", f".{name}={folder}/{name}", whole, copied])
+    for it in (whole, copied):
+        if os.path.isfile(it):
+            os.unlink(it)
+    return "be" if is_big_endian(path) else "le"
+
+
+def dump(copy_folder, sections, order, to, planted=""):
+    """Writes the dump of a copy, and returns what it counted."""
+    words = [f"{copy_folder}/target/release/examples/dump", sections, order]
+    with open(to, "wb") as file:
+        how = {"stdout": file, "stderr": subprocess.PIPE, "env": {**os.environ, "COMPARE_PLANTED": planted}}
+        ran = subprocess.run(words, stdin=subprocess.DEVNULL, text=True, errors="replace", check=False, **how)
+    if ran.returncode:
+        return f"status {ran.returncode}: {ran.stderr.strip()[-200:]}"
+    return ran.stderr.strip()
+
+
+def first_difference(one, other):
+    """The first line in which two files differ, and both."""
+    how = {"encoding": "utf-8", "errors": "replace"}
+    with open(one, **how) as left, open(other, **how) as right:
+        for number, (a, b) in enumerate(zip(left, right), 1):
+            if a != b:
+                return f"line {number}, gimli: {a.strip()}\n  by the library: {b.strip()}"
+    return "one is the front of the other"
+
+
+class Counts:
+    """How many checks passed and failed."""
+
+    def __init__(self):
+        self.passed = self.failed = 0
+
+    def tell(self, is_good, line):
+        self.passed, self.failed = self.passed + is_good, self.failed + (not is_good)
+        print(f"{'' if is_good else 'FAILED: '}{line}", flush=True)
+
+
+def compare_dumps(counts, files, folders, work):
+    """Compares the dumps of each file, and returns which planted errors they show."""
+    shown = set()
+    for i, path in enumerate(files):
+        sections = f"{work}/{i}"
+        os.mkdir(sections)
+        order = sections_of(path, sections)
+        texts = [f"{work}/gimli", f"{work}/library", f"{work}/planted"]
+        said = [dump(folder, sections, order, text) for folder, text in zip(folders, texts)]
+        is_equal = said[0] == said[1] and filecmp.cmp(*texts[:2], shallow=False)
+        counts.tell(is_equal, f"dump of {path}: {said[1]}")
+        if not is_equal:
+            print(f"  gimli: {said[0]}\n  {first_difference(*texts[:2])}")
+        for what, where in PLANTED:
+            if where == "dumps" and what not in shown:
+                dump(folders[1], sections, order, texts[2], what)
+                if not filecmp.cmp(texts[0], texts[2], shallow=False):
+                    shown.add(what)
+        shutil.rmtree(sections)
+    return shown
+
+
+def client(given):
+    """Runs gimli's tests and the dumps by the library, and returns the exit status."""
+    need("cargo", "cargo")
+    need("gcc", "gcc")
+    need("objcopy", "binutils")
+    gimli = source("gimli")
+    if not gimli.endswith("gimli-0.27.0"):
+        raise Missing(f"the patch is for gimli 0.27.0, and Debian's here is {os.path.basename(gimli)}")
+    link_libraries()
+    folders = [f"{OUT}/client/gimli", f"{OUT}/client/patched"]
+    for folder in folders:
+        copy(gimli, folder, folder is folders[1])
+        words = ["cargo", "build", "--quiet", "--offline", "--release", "--example", "dump"]
+        must(words, f"the program that dumps isn't built in {folder}", cwd=folder)
+    counts = Counts()
+    found = tests(folders[1])
+    kinds = ", ".join(f"{passed} passed, {failed} failed" for passed, failed in found)
+    wanted = tests(folders[0])
+    counts.tell(found == wanted and not sum(it[1] for it in found), f"gimli's own tests by the library: {kinds}")
+    with tempfile.TemporaryDirectory(prefix="compare-") as work:
+        files = given["files"] or files_by_default(f"{folders[1]}/target/release/examples/dump")
+        shown = compare_dumps(counts, files, folders, work)
+    failures = sum(failed for _, failed in tests(folders[1], "number"))
+    if failures:
+        shown.add("number")
+    for what, where in PLANTED:
+        seen = f"{failures} tests fail" if where == "tests" else "a dump differs"
+        counts.tell(what in shown, f"planted {what}: {seen if what in shown else f'the {where} do not show it'}")
+    print(f"{counts.passed} passed, {counts.failed} failed, 0 skipped")
+    return 1 if counts.failed else 0

@@ -1,0 +1,221 @@
+"""What the commands of `tools/compare` share: errors, other programs, the program that compares, and sections."""
+import os
+import re
+import shutil
+import subprocess
+import sys
+
+import kit
+
+PACKAGE, OUT = f"{kit.ROOT}/compare", f"{kit.ROOT}/compare/out"
+LIBRARIES = ("dwarf_read_c", "dwarf_compare")
+DEBIAN = "/usr/share/cargo/registry"
+# How long cargo may try to reach crates.io.
+FETCH_SECONDS = 120
+SECTIONS = ("debug_abbrev", "debug_str", "debug_line_str", "debug_addr", "debug_str_offsets")
+# Those whose words are read in the byte order of the file.
+BY_ORDER = ("debug_addr", "debug_str_offsets")
+
+
+class Missing(Exception):
+    """A tool that isn't installed, and how to install it."""
+
+
+class Failed(Exception):
+    """Why a step can't be done."""
+
+
+def say(text):
+    print(f"compare: {text}", file=sys.stderr, flush=True)
+
+
+def run(words, **how):
+    """Runs a command, and returns what it prints and its status."""
+    how = {"stdin": subprocess.DEVNULL, "stdout": subprocess.PIPE, "stderr": subprocess.STDOUT, **how}
+    ran = subprocess.run(words, **how, text=True, errors="replace", check=False)
+    return ran.stdout.strip(), ran.returncode
+
+
+def must(words, what, **how):
+    said, status = run(words, **how)
+    if status:
+        raise Failed(f"{what}:\n{said[-2000:]}")
+    return said
+
+
+def need(tool, package):
+    if not shutil.which(tool):
+        raise Missing(f"there is no {tool}: `apt-get install {package}` installs it")
+
+
+def need_kit():
+    if not shutil.which("rt") or not shutil.which("rattle"):
+        raise Missing("there is no rt: CONTRIBUTING.md names the kit that has it")
+
+
+def check_files(paths):
+    """Says which of these files can't be read, before anything is built for them."""
+    for path in paths:
+        try:
+            with open(path, "rb") as file:
+                is_elf = file.read(4) == b"\x7fELF"
+        except OSError as error:
+            raise Failed(f"{path} can't be read: {error.strerror}") from None
+        if not is_elf:
+            raise Failed(f"{path} is no ELF file")
+
+
+def put(source, target):
+    """Copies a file, unless it is there already: its date decides what cargo builds again."""
+    with open(source, "rb") as file:
+        text = file.read()
+    try:
+        with open(target, "rb") as file:
+            if file.read() == text:
+                return
+    except OSError:
+        os.makedirs(os.path.dirname(target), exist_ok=True)
+    with open(target, "wb") as file:
+        file.write(text)
+
+
+def put_in_front(count):
+    """Makes the library that is linked in front of the others: so many bytes of code, which nothing calls."""
+    source, made = f"{OUT}/lib/in_front.s", f"{OUT}/lib/libin_front.a"
+    # The R keeps a linker from leaving the section out.
+    text = f'.section .text.in_front, "axR", @progbits\n.balign 64\n.skip {64 + count}, 0x90\n'
+    text += '.section .note.GNU-stack, "", @progbits\n'
+    if os.path.isfile(made):
+        with open(source, encoding="utf-8") as file:
+            if file.read() == text:
+                return
+        os.unlink(made)
+    with open(source, "w", encoding="utf-8") as file:
+        file.write(text)
+    compiler = os.environ.get("CC", "cc")
+    must([compiler, "-c", source, "-o", f"{OUT}/lib/in_front.o"], "the code in front isn't assembled")
+    must(["ar", "rcs", made, f"{OUT}/lib/in_front.o"], "the library of the code in front isn't made")
+
+
+def link_libraries():
+    """Puts both static libraries, and the functions by which they request memory, into one folder."""
+    for crate in LIBRARIES:
+        if not kit.is_fresh(f"{kit.ROOT}/crates/{crate}/out/lib{crate}.a", crate):
+            need_kit()
+        words = [f"{kit.ROOT}/tools/static-library", crate]
+        if subprocess.run(words, stdin=subprocess.DEVNULL, check=False).returncode:
+            raise Failed(f"the static library of {crate} isn't built")
+        put(f"{kit.ROOT}/crates/{crate}/out/lib{crate}.a", f"{OUT}/lib/lib{crate}.a")
+    heap = f"{OUT}/lib/libdwarf_read_heap.a"
+    if not os.path.isfile(heap):
+        compiler, folder = os.environ.get("CC", "cc"), f"{OUT}/lib"
+        source = f"{kit.ROOT}/include/dwarf_read_heap.c"
+        must([compiler, "-O2", "-fPIC", "-c", source, "-o", f"{folder}/heap.o"], "dwarf_read_heap.c isn't compiled")
+        must(["ar", "rcs", heap, f"{folder}/heap.o"], "the library of dwarf_read_heap.c isn't made")
+
+
+def copy_package(folder, is_locked):
+    """Copies the package to where its lock file and what cargo builds may be. A lock file that is there already stays,
+    since cargo has added gimli's checksum to it, unless the package's own is newer."""
+    for name in ("Cargo.toml", "build.rs"):
+        put(f"{PACKAGE}/{name}", f"{folder}/{name}")
+    own, there = f"{PACKAGE}/Cargo.lock", f"{folder}/Cargo.lock"
+    if is_locked and (not os.path.isfile(there) or os.path.getmtime(there) < os.path.getmtime(own)):
+        put(own, there)
+    for at, _, names in os.walk(f"{PACKAGE}/src"):
+        for name in names:
+            put(f"{at}/{name}", f"{folder}/{os.path.relpath(at, PACKAGE)}/{name}")
+
+
+def refusal_of_fetch(folder):
+    """Why cargo can't fetch what the package needs, or None if it can."""
+    try:
+        said, status = run(["cargo", "fetch", "--quiet"], cwd=folder, timeout=FETCH_SECONDS)
+    except subprocess.TimeoutExpired:
+        return f"it didn't come within {FETCH_SECONDS} seconds"
+    last = said.splitlines()[-1].strip() if said else f"status {status}"
+    return last if status else None
+
+
+def sources_of_gimli(is_debian):
+    """Where gimli is taken from: a folder of the package for it, and words for cargo."""
+    if not is_debian:
+        copy_package(f"{OUT}/crates-io", True)
+        why = refusal_of_fetch(f"{OUT}/crates-io")
+        if why is None:
+            return f"{OUT}/crates-io", []
+        say(f"cargo can't fetch gimli from crates.io ({why}), so Debian's is used")
+    if not os.path.isdir(DEBIAN) or not any(it.startswith("gimli-") for it in os.listdir(DEBIAN)):
+        raise Missing("there is no gimli: `apt-get install librust-gimli-dev` installs it")
+    copy_package(f"{OUT}/debian", False)
+    replaced = ['source.crates-io.replace-with="debian"', f'source.debian.directory="{DEBIAN}"']
+    return f"{OUT}/debian", ["--offline", *(word for it in replaced for word in ("--config", it))]
+
+
+def build(is_debian, in_front=0):
+    """Builds the program that compares, and returns where it is. The library's code has so many bytes in front of it."""
+    need("cargo", "cargo")
+    need(os.environ.get("CC", "cc"), "gcc")
+    need("objcopy", "binutils")
+    folder, words = sources_of_gimli(is_debian)
+    link_libraries()
+    put_in_front(in_front)
+    # The processor that the kit compiles for.
+    flags = os.environ.get("RUSTFLAGS", "") + " -C target-cpu=x86-64-v2"
+    environment = {**os.environ, "COMPARE_LIB": f"{OUT}/lib", "RUSTFLAGS": flags.strip()}
+    words = ["cargo", "build", "--quiet", "--release", "--target-dir", f"{folder}/target", *words]
+    must(words, "the program that compares isn't built", cwd=folder, env=environment)
+    return f"{folder}/target/release/compare"
+
+
+def files_by_default(program):
+    """The debug file of the C library, if it is installed, and a program."""
+    libc = debug_file_of_libc()
+    if not libc:
+        say("the debug file of the C library is left out: `apt-get install libc6-dbg` installs it")
+    return [*([libc] if libc else []), program]
+
+
+def debug_file_of_libc():
+    """The debug file of the C library of this Python, or None."""
+    with open("/proc/self/maps", encoding="utf-8") as file:
+        found = re.search(r"/\S*/libc\.so\.6$|/\S*/libc-[\d.]+\.so$", file.read(), re.M)
+    if not found or not shutil.which("readelf"):
+        return None
+    build_id = re.search(r"Build ID: (\w\w)(\w+)", run(["readelf", "-n", found[0]])[0])
+    path = build_id and f"/usr/lib/debug/.build-id/{build_id[1]}/{build_id[2]}.debug"
+    return path if path and os.path.isfile(path) else None
+
+
+def decompressed(path, whole):
+    """Copies an ELF file with its debug sections inflated, and returns the tool that reads such files."""
+    said = "there is no objcopy"
+    # (GNU's objcopy reads the machine's own files alone)
+    for tool in ("objcopy", "llvm-objcopy"):
+        if shutil.which(tool):
+            said, status = run([tool, "--decompress-debug-sections", path, whole])
+            if status == 0:
+                return tool
+    raise Failed(f"{path} can't be read as an ELF file: {' '.join(said.split())}")
+
+
+def is_big_endian(path):
+    with open(path, "rb") as file:
+        return file.read(6)[5:] == b"\x02"
+
+
+def sections(path, folder):
+    """The words for the program about the sections of an ELF file, whose bytes are put into the folder."""
+    whole, copy, words = f"{folder}/whole", f"{folder}/copy", []
+    tool, is_big = decompressed(path, whole), is_big_endian(path)
+    for name in SECTIONS:
+        at = f"{folder}/{name}"
+        _, status = run([tool, "--dump-section", f".{name}={at}", whole, copy])
+        if status == 0 and os.path.isfile(at) and os.path.getsize(at):
+            words += ["--section", path, f"{name}, big" if is_big and name in BY_ORDER else name, at]
+    for it in (whole, copy):
+        if os.path.isfile(it):
+            os.unlink(it)
+    if not words:
+        say(f"{path} has none of the sections {', '.join(SECTIONS)}")
+    return words

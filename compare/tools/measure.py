@@ -1,0 +1,93 @@
+"""Measures calls of the library beside gimli's."""
+import os
+import re
+import statistics
+import subprocess
+import tempfile
+
+from common import Failed, build, must, need, run, sections
+
+# The C library copies a large block by one instruction that valgrind counts once a byte. With this setting it copies by
+# moves of 32 bytes, as it does small blocks.
+COUNTED_COPIES = {"GLIBC_TUNABLES": "glibc.cpu.x86_rep_movsb_threshold=1073741824"}
+# A processor runs the same code faster or slower by where it lies, so the library is timed with so many bytes in front.
+PLACES = (0, 16, 32, 48)
+
+
+def what_ran():
+    """The processor, and the compiler of gimli's side."""
+    with open("/proc/cpuinfo", encoding="utf-8") as file:
+        model = re.search(r"^model name\s*: (.*)$", file.read(), re.M)
+    return f"{model[1] if model else 'a processor without a name'}; {run(['rustc', '--version'])[0]}"
+
+
+def timed(is_debian, words):
+    """The rows of the table of `time`: means of the places, and the least and the greatest ratio."""
+    found = {}
+    for place in PLACES:
+        said = must([build(is_debian, place), "--time", *words], "it can't be timed")
+        for line in said.splitlines():
+            name, _, gimli, here, _, middle, _ = line.split("\t")
+            found.setdefault(name, []).append((float(gimli), float(here), float(middle)))
+    for name, rows in found.items():
+        gimli, here, ratio = (statistics.mean(it) for it in zip(*rows))
+        ratios = [middle for _, _, middle in rows]
+        yield f"| {name} | {gimli:.1f} | {here:.1f} | {ratio:.2f} | {min(ratios):.2f} to {max(ratios):.2f} |"
+
+
+def counted(program, words):
+    """What a program counts by `--count`: names, and the instructions of one operation of gimli's and of the library.
+    They are in the parts that callgrind writes behind each counted call."""
+    found = {"gimli_counted": [], "ours_counted": []}
+    with tempfile.TemporaryDirectory(prefix="compare-") as work:
+        flags = ["--tool=callgrind", f"--callgrind-out-file={work}/part"]
+        flags += [f"--{what}={side}" for side in found for what in ("toggle-collect", "dump-after")]
+        how = {"stderr": subprocess.PIPE, "env": {**os.environ, **COUNTED_COPIES}}
+        said = must(["valgrind", "-q", *flags, program, "--count", *words], "it can't be counted", **how)
+        for name in sorted(os.listdir(work), key=lambda it: int(it.rpartition(".")[2] if "." in it else 0)):
+            with open(f"{work}/{name}", encoding="utf-8") as file:
+                text = file.read()
+            side = re.search(r"^desc: Trigger: --dump-after=(\w+)", text, re.M)
+            if side:
+                found[side[1]].append(int(re.search(r"^(?:summary|totals): (\d+)", text, re.M)[1]))
+    lines = said.splitlines()
+    if {len(it) for it in found.values()} != {len(lines)}:
+        raise Failed("callgrind didn't count each call")
+    for line, gimli, here in zip(lines, *found.values()):
+        name, operations = line.split("\t")
+        yield name, gimli / int(operations), here / int(operations)
+
+
+def counted_rows(program, words):
+    """The rows of the table of `count`."""
+    for name, gimli, here in counted(program, words):
+        yield f"| {name} | {gimli:,.0f} | {here:,.0f} | {here / gimli:.2f} |"
+
+
+def time(given):
+    """Prints the table of `time`."""
+    return measure(given, True)
+
+
+def count(given):
+    """Prints the table of `count`."""
+    return measure(given, False)
+
+
+def measure(given, is_timed):
+    """Prints the table of `time` or of `count`."""
+    if not is_timed:
+        need("valgrind", "valgrind")
+    program = build(given["debian"])
+    what = must([program, "--gimli"], "the program is another one")
+    with tempfile.TemporaryDirectory(prefix="compare-") as work:
+        words = []
+        for i, path in enumerate(given["files"]):
+            os.mkdir(f"{work}/{i}")
+            words += sections(path, f"{work}/{i}")
+        rows = list(timed(given["debian"], words) if is_timed else counted_rows(program, words))
+    print(f"gimli {what}; {what_ran()}\n")
+    heads = ["nanoseconds of one operation", "gimli", "here", "ratio", "at four places"]
+    heads = heads if is_timed else ["instructions of one operation", *heads[1:4]]
+    print("\n".join([f"| {' | '.join(heads)} |", "|---" * len(heads) + "|", *rows]))
+    return 0

@@ -1,0 +1,257 @@
+//! One result, with its error.
+
+ghost use Rattle.std.specs.Prelude.{◌≡◌, ◌≢◌, ◌≤◌, Ok, Err, length, map, IfOk, IfErr};
+ghost use Rattle.std.specs.FinMap as finite;
+ghost use Rattle.dwarf_read_core.specs.Answer.{Answer, Answers, AnswersStrictly, StrictAnswer};
+ghost use Rattle.dwarf_read_core.specs.Cache.{IsFaithful, answer_of};
+ghost use Rattle.dwarf_read_core.specs.Grammar.{Table};
+ghost use Rattle.dwarf_read_core.specs.Leb128.{unsigned64, unsigned16, signed64};
+ghost use Rattle.dwarf_compare.specs.Fault.{Refuses};
+ghost use Rattle.dwarf_compare.specs.Sections.{HasLength, Lacks, LacksEnd, Reads, Skips, section_of, tag_in};
+
+use crate::fault::{Fault, told};
+use dwarf_read_core::{
+    Abbreviations, AbbreviationsCache, AbbreviationsCacheStrategy, DebugAbbrev, DebugAbbrevOffset,
+    EndianSlice, Error, LittleEndian, Reader, Result,
+};
+use std::alloc::Global;
+use std::rc::Rc;
+
+// There are fewer or more places than items.
+const NO_ROOM: u32 = 100;
+
+/// Reads the unsigned number of at most 64 bits that `bytes` begin with. Returns 0 or the number of
+/// the error. `rest` is how many bytes aren't consumed, also by an error.
+#[unsafe(no_mangle)]
+pub extern "C" fn compare_unsigned(
+    bytes: &[u8],
+    value: &mut u64,
+    rest: &mut usize,
+    fault: &mut Fault,
+) -> u32
+    ensures read { result ≡ 0 → Reads unsigned64 bytes.now value.new rest.new }
+    ensures refused { result ≢ 0 → Refuses (Lacks unsigned64 bytes.now rest.new) result fault.new }
+{
+    let mut input = EndianSlice::new(bytes, LittleEndian);
+    let found = input.read_uleb128();
+    *rest = input.len();
+    match found {
+        Ok(number) => {
+            *value = number;
+            0
+        }
+        Err(error) => told(error, fault),
+    }
+}
+
+/// Reads the signed number of at most 64 bits that `bytes` begin with, otherwise as
+/// [`compare_unsigned`].
+#[unsafe(no_mangle)]
+pub extern "C" fn compare_signed(
+    bytes: &[u8],
+    value: &mut i64,
+    rest: &mut usize,
+    fault: &mut Fault,
+) -> u32
+    ensures read { result ≡ 0 → Reads signed64 bytes.now value.new rest.new }
+    ensures refused { result ≢ 0 → Refuses (Lacks signed64 bytes.now rest.new) result fault.new }
+{
+    let mut input = EndianSlice::new(bytes, LittleEndian);
+    let found = input.read_sleb128();
+    *rest = input.len();
+    match found {
+        Ok(number) => {
+            *value = number;
+            0
+        }
+        Err(error) => told(error, fault),
+    }
+}
+
+/// Reads the unsigned number of at most 16 bits that `bytes` begin with, otherwise as
+/// [`compare_unsigned`].
+#[unsafe(no_mangle)]
+pub extern "C" fn compare_short(
+    bytes: &[u8],
+    value: &mut u16,
+    rest: &mut usize,
+    fault: &mut Fault,
+) -> u32
+    ensures read { result ≡ 0 → Reads unsigned16 bytes.now value.new rest.new }
+    ensures refused { result ≢ 0 → Refuses (Lacks unsigned16 bytes.now rest.new) result fault.new }
+{
+    let mut input = EndianSlice::new(bytes, LittleEndian);
+    let found = input.read_uleb128_u16();
+    *rest = input.len();
+    match found {
+        Ok(number) => {
+            *value = number;
+            0
+        }
+        Err(error) => told(error, fault),
+    }
+}
+
+/// Skips the number of any length that `bytes` begin with, otherwise as [`compare_unsigned`].
+#[unsafe(no_mangle)]
+pub extern "C" fn compare_skipped(bytes: &[u8], rest: &mut usize, fault: &mut Fault) -> u32
+    ensures read { result ≡ 0 → Skips bytes.now rest.new }
+    ensures refused { result ≢ 0 → Refuses (LacksEnd bytes.now rest.new) result fault.new }
+{
+    let mut input = EndianSlice::new(bytes, LittleEndian);
+    let found = input.skip_leb128();
+    *rest = input.len();
+    match found {
+        Ok(()) => 0,
+        Err(error) => told(error, fault),
+    }
+}
+
+/// Reads the table at `offset` of `.debug_abbrev` strictly. Returns 0 if a code of value 0 closes
+/// it, and then `count` is how many abbreviations it has. Otherwise it returns the number of the
+/// error.
+#[unsafe(no_mangle)]
+pub extern "C" fn compare_strict(
+    mem: Global,
+    section: &[u8],
+    offset: usize,
+    count: &mut usize,
+    fault: &mut Fault,
+) -> u32
+    ensures read { let s = section_of section.now in result ≡ 0
+        → (t : Table) × StrictAnswer s offset (Ok t) × (count.new ≡ finite.len t.by_code) }
+    ensures refused { let s = section_of section.now in
+        result ≢ 0 → Refuses (λ e. AnswersStrictly (Err e) s offset) result fault.new }
+{
+    match strict_at(mem, section, offset) {
+        Ok(table) => {
+            *count = table.len();
+            0
+        }
+        Err(error) => told(error, fault),
+    }
+}
+
+// The table at an offset, strictly read.
+fn strict_at(mem: Global, section: &[u8], offset: usize) -> Result<Abbreviations>
+    ensures { AnswersStrictly result (section_of section.now) offset }
+{
+    DebugAbbrev::new(section, LittleEndian).abbreviations_strict(mem, DebugAbbrevOffset(offset))
+}
+
+/// Fills a cache with the table at `offset` of the first `before` bytes of `.debug_abbrev`, tells
+/// it that the section grew, and returns what it then has at that offset of the whole section: 0,
+/// and in `count` how many abbreviations, or the number of the error. If there are fewer bytes than
+/// `before`, the section has grown by none.
+#[unsafe(no_mangle)]
+pub extern "C" fn compare_grown(
+    mem: Global,
+    section: &[u8],
+    before: usize,
+    offset: usize,
+    count: &mut usize,
+    fault: &mut Fault,
+) -> u32
+    ensures read { let s = section_of section.now in result ≡ 0 → HasLength s offset count.new }
+    ensures refused { let s = section_of section.now in
+        result ≢ 0 → Refuses (λ e. Answers (Err e) s offset) result fault.new }
+{
+    match grown_at(mem, section, before, offset) {
+        Ok(table) => {
+            *count = table.len();
+            0
+        }
+        Err(error) => told(error, fault),
+    }
+}
+
+// What a cache has at an offset that was filled before the section grew.
+fn grown_at(mem: Global, section: &[u8], before: usize, offset: usize) -> Result<Rc<Abbreviations>>
+    ensures { Answers (answer_of result) (section_of section.now) offset }
+{
+    let cache = filled_before(mem, section, before.min(section.len()), offset)?;
+    cache.get(
+        &DebugAbbrev::new(section, LittleEndian),
+        DebugAbbrevOffset(offset),
+    )
+}
+
+// A cache that was filled at an offset of the first bytes of a section, and told that the section
+// grew.
+fn filled_before(
+    mem: Global,
+    section: &[u8],
+    before: usize,
+    offset: usize,
+) -> Result<AbbreviationsCache>
+    requires { before ≤ length section.now }
+    ensures ok { IfOk result (λ cache. IsFaithful cache (section_of section.now)) }
+    ensures err { IfErr result (λ e. e ≡ Error.OutOfMemory) }
+{
+    let mut cache = AbbreviationsCache::new(mem);
+    let shorter = DebugAbbrev::new(&section[..before], LittleEndian);
+    let offsets = [offset];
+    let units = offsets
+        .iter()
+        .map(|offset| Ok::<_, Error>(DebugAbbrevOffset(*offset)));
+    cache.populate(AbbreviationsCacheStrategy::All, &shorter, units)?;
+    cache.section_grew();
+    Ok(cache)
+}
+
+/// Writes to `tags` the tag of the abbreviation with each code of `codes` in the table at `offset`
+/// of `.debug_abbrev`, or 0 if there is none. Returns 0, or the number of the error if no table is
+/// there, or 100 if there aren't as many places as codes.
+#[unsafe(no_mangle)]
+pub extern "C" fn compare_found(
+    mem: Global,
+    section: &[u8],
+    offset: usize,
+    codes: &[u64],
+    tags: &mut [u16],
+    fault: &mut Fault,
+) -> u32
+    ensures found { let s = section_of section.now in result ≡ 0
+        → (t : Table) × Answer s offset (Ok t) × (tags.new ≡ map (tag_in t) codes.now) }
+    ensures refused { let s = section_of section.now in result ≢ 0 → result ≢ NO_ROOM
+        → Refuses (λ e. Answers (Err e) s offset) result fault.new }
+    ensures full { result ≡ NO_ROOM → length tags.old ≢ length codes.now }
+{
+    if tags.len() != codes.len() {
+        return NO_ROOM;
+    }
+    match table_at(mem, section, offset) {
+        Ok(table) => {
+            find_each(&table, codes, tags);
+            0
+        }
+        Err(error) => told(error, fault),
+    }
+}
+
+// The table at an offset.
+pub(crate) fn table_at(mem: Global, section: &[u8], offset: usize) -> Result<Abbreviations>
+    ensures { Answers result (section_of section.now) offset }
+{
+    DebugAbbrev::new(section, LittleEndian).abbreviations(mem, DebugAbbrevOffset(offset))
+}
+
+// Writes the tag of each code's abbreviation, or 0.
+fn find_each(table: &Abbreviations, codes: &[u64], tags: &mut [u16])
+    requires { length codes.now ≡ length tags.old }
+    ensures { tags.new ≡ map (tag_in table.now) codes.now }
+{
+    for (i, code) in codes.iter().enumerate() {
+        tags[i] = tag_of(table, *code);
+    }
+}
+
+// The tag of the abbreviation with a code, or 0.
+pub(crate) fn tag_of(table: &Abbreviations, code: u64) -> u16
+    ensures { result ≡ tag_in table.now code }
+{
+    match table.get(code) {
+        Some(abbreviation) => abbreviation.tag().0,
+        None => 0,
+    }
+}
