@@ -5,7 +5,6 @@
 mod made;
 mod measure;
 mod ours;
-mod piped;
 mod plain;
 mod question;
 mod shrink;
@@ -13,7 +12,7 @@ mod tally;
 mod theirs;
 
 use made::Random;
-use piped::Piped;
+use plain::PLANTS;
 use question::Question;
 use std::process::ExitCode;
 use std::time::{Duration, Instant};
@@ -21,6 +20,9 @@ use tally::Tally;
 
 /// How many inputs are made between two looks at the clock.
 const TURN: u32 = 1000;
+
+/// How long a planted error is looked for.
+const PLANT_TIME: Duration = Duration::from_secs(10);
 
 /// What is behind the kind of a section of a file with the highest byte first.
 const BIG: &str = ", big";
@@ -37,8 +39,8 @@ struct Wanted {
     again: String,
     /// Measure in place of comparing: time, or calls to be counted.
     measured: Option<bool>,
-    /// The pipes to and from a program that answers in the library's place, until the first difference.
-    trial: Option<(String, String)>,
+    /// The errors to plant in the second reader, by their places in its list.
+    plants: Vec<usize>,
 }
 
 fn from_hexadecimal(text: &str) -> Option<Vec<u8>> {
@@ -63,7 +65,7 @@ fn wanted(words: &mut dyn Iterator<Item = String>) -> Result<Wanted, String> {
         alone: None,
         again: "compare --case".into(),
         measured: None,
-        trial: None,
+        plants: vec![],
     };
     while let Some(word) = words.next() {
         let mut next = || words.next().ok_or(format!("{word} needs a word behind it"));
@@ -77,7 +79,12 @@ fn wanted(words: &mut dyn Iterator<Item = String>) -> Result<Wanted, String> {
             }
             "--time" => found.measured = Some(true),
             "--count" => found.measured = Some(false),
-            "--trial" => found.trial = Some((next()?, next()?)),
+            "--plants" => found.plants = (0..PLANTS.len()).collect(),
+            "--plant" => {
+                let name = next()?;
+                let place = PLANTS.iter().position(|it| *it == name);
+                found.plants.push(place.ok_or(format!("'{name}' is none of {}", PLANTS.join(", ")))?);
+            }
             "--again" => found.again = next()?,
             "--section" => {
                 let (name, kind, path) = (next()?, next()?, next()?);
@@ -141,30 +148,34 @@ fn gcd(a: usize, b: usize) -> usize {
     }
 }
 
-/// Asks a program in the library's place what is made, until it differs or the time is over.
-fn try_out(wanted: &Wanted, piped: Piped) -> ExitCode {
-    let (mut tally, mut random) = (Tally::new(&wanted.again, Some(piped)), Random(wanted.seed));
+/// Plants an error in the second reader, and asks what is made until it is found or the time is over.
+fn is_found(plant: usize, wanted: &Wanted) -> bool {
+    let name = PLANTS[plant];
+    let again = wanted.again.replace("--case", &format!("--plant {name} --case"));
+    let (mut tally, mut random) = (Tally::new(&again), Random(wanted.seed));
+    tally.title = format!("planted {name}");
     let start = Instant::now();
-    while tally.differences == 0 && start.elapsed().as_secs_f64() < wanted.seconds {
+    plain::plant(plant + 1);
+    while tally.differences == 0 && start.elapsed() < PLANT_TIME {
         let (question, bytes) = made::next(&mut random);
         tally.ask(&question, &bytes);
     }
-    println!(
-        "{} inputs, {} differences, {:.1} seconds",
-        tally.inputs,
-        tally.differences,
-        start.elapsed().as_secs_f64()
-    );
-    ExitCode::from(u8::from(tally.differences == 0))
+    plain::plant(0);
+    let (found, time) = (if tally.differences == 0 { "not found" } else { "found" }, start.elapsed().as_secs_f64());
+    println!("{}: {found} in {} inputs and {time:.2} seconds", tally.title, tally.inputs);
+    tally.differences != 0
 }
 
 fn compare(wanted: &Wanted) -> ExitCode {
-    let mut tally = Tally::new(&wanted.again, None);
+    let mut tally = Tally::new(&wanted.again);
     if let Some((question, bytes)) = &wanted.alone {
+        plain::plant(wanted.plants.first().map_or(0, |it| it + 1));
         tally.ask_aloud(question, bytes);
         return if tally.differences == 0 { ExitCode::SUCCESS } else { ExitCode::from(1) };
     }
     println!("seed {}, gimli {}", wanted.seed, env!("GIMLI_VERSION"));
+    let found = wanted.plants.iter().filter(|it| is_found(**it, wanted)).count();
+    let lost = wanted.plants.len() - found;
     let mut random = Random(wanted.seed);
     let start = Instant::now();
     let end = start + Duration::from_secs_f64(wanted.seconds);
@@ -180,8 +191,8 @@ fn compare(wanted: &Wanted) -> ExitCode {
             tally.ask(&question, &bytes);
         }
     }
-    tally.print();
-    if tally.differences == 0 {
+    tally.print(found, lost);
+    if tally.differences == 0 && lost == 0 {
         ExitCode::SUCCESS
     } else {
         ExitCode::from(1)
@@ -194,12 +205,6 @@ fn refused(why: &str) -> ExitCode {
 }
 
 fn run(wanted: &Wanted) -> ExitCode {
-    if let Some((to, from)) = &wanted.trial {
-        return match Piped::new(to, from) {
-            Ok(piped) => try_out(wanted, piped),
-            Err(error) => refused(&format!("the pipes can't be opened: {error}")),
-        };
-    }
     match wanted.measured {
         None => compare(wanted),
         Some(is_timed) => match measure::measure(&measure::workloads(&wanted.sections), is_timed) {

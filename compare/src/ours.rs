@@ -4,7 +4,6 @@
 //! many items as its length says, all outputs are initialized, and an output overlaps nothing, since it is borrowed
 //! mutably.
 
-use crate::piped::Piped;
 use crate::question::{Answer, Declaration, Kind, Question, Set};
 
 const OK: u32 = 0;
@@ -95,23 +94,19 @@ extern "C" {
     fn compare_addresses(bytes: Byte, len: usize) -> u64;
 }
 
-/// The library, with places for tables that are used again. If there are pipes, it is in another program.
+/// The library, with places for tables that are used again.
 pub struct Ours {
-    piped: Option<Piped>,
     abbreviations: Vec<RawAbbreviation>,
     attributes: Vec<RawAttribute>,
 }
 
 impl Ours {
-    pub fn new(piped: Option<Piped>) -> Ours {
-        Ours { piped, abbreviations: vec![Default::default(); 1024], attributes: vec![Default::default(); 8192] }
+    pub fn new() -> Ours {
+        Ours { abbreviations: vec![Default::default(); 1024], attributes: vec![Default::default(); 8192] }
     }
 
     /// What the library gives.
     pub fn answer(&mut self, question: &Question, bytes: &[u8]) -> Answer {
-        if let Some(piped) = &mut self.piped {
-            return piped.answer(question, bytes).unwrap_or(Answer::Lost);
-        }
         match question {
             Question::Number(kind) => number(*kind, bytes),
             Question::WrittenUnsigned(value) => {

@@ -5,6 +5,7 @@
 
 use crate::question::{Answer, Declaration, Kind, Question, Set};
 use std::collections::BTreeMap;
+use std::sync::atomic::{AtomicUsize, Ordering::Relaxed};
 
 const UNEXPECTED_EOF: u32 = 1;
 const BAD_UNSIGNED: u32 = 2;
@@ -22,6 +23,47 @@ const SEGMENT_SIZE: u32 = 13;
 const UNTERMINATED: u32 = 19;
 
 const DW_FORM_IMPLICIT_CONST: u16 = 0x21;
+
+/// The errors that can be planted here, so that the comparison has to find them.
+#[derive(Clone, Copy)]
+pub enum Plant {
+    /// A number that isn't whole is missed at the end of the bytes, and not where it begins.
+    Position = 1,
+    /// A number of ten bytes lacks its bit 63.
+    Value,
+    /// A wrong size of addresses is seen before it is known that a word isn't there.
+    Order,
+    /// A number that is too long takes a byte too many.
+    Consumed,
+    /// A table that the section's end closes has no error when it is read strictly.
+    Missing,
+    /// A repeated code passes if it is greater than the number of declarations.
+    Duplicate,
+    /// The next set begins eight bytes too early behind one of 64 bits.
+    Length,
+    /// The section's end ends a string.
+    String,
+    /// The product of an index and a size wraps.
+    Product,
+    /// Addresses may have 3, 5, 6 or 7 bytes.
+    Size,
+}
+
+/// Their names, in this order.
+pub const PLANTS: [&str; 10] =
+    ["position", "value", "order", "consumed", "missing", "duplicate", "length", "string", "product", "size"];
+
+/// The number of the one that is planted, or 0.
+static PLANTED: AtomicUsize = AtomicUsize::new(0);
+
+/// Plants the error of this number, or none for 0.
+pub fn plant(number: usize) {
+    PLANTED.store(number, Relaxed);
+}
+
+fn has(plant: Plant) -> bool {
+    PLANTED.load(Relaxed) == plant as usize
+}
 
 /// An error by its number, with its value or position.
 type Fault = (u32, u64);
@@ -54,8 +96,11 @@ impl Input<'_> {
             let byte = self.byte()?;
             digits.push(byte);
             if byte < 128 {
-                break;
+                return Ok(digits);
             }
+        }
+        if has(Plant::Consumed) {
+            let _ = self.byte();
         }
         Ok(digits)
     }
@@ -66,6 +111,9 @@ impl Input<'_> {
         let mut value: u128 = 0;
         for (i, digit) in digits.iter().enumerate() {
             value += u128::from(digit & 0x7f) << (7 * i);
+        }
+        if digits.len() == 10 && has(Plant::Value) {
+            value &= !(1 << 63);
         }
         let is_ended = digits.last().map_or(false, |it| *it < 128);
         if is_ended && value < 1 << bits {
@@ -105,7 +153,7 @@ impl Input<'_> {
     /// The number of so many bytes.
     fn fixed(&mut self, size: usize, is_big: bool) -> Result<u64, Fault> {
         if self.bytes.len() - self.at < size {
-            return Err(eof(self.at));
+            return Err(eof(if has(Plant::Position) { self.bytes.len() } else { self.at }));
         }
         let mut value = 0;
         for i in 0..size {
@@ -135,7 +183,7 @@ pub fn answer(question: &Question, bytes: &[u8]) -> Answer {
             closed_by_null: Some(is_null),
         })),
         Question::Strict(offset) => shown(table(bytes, *offset).and_then(|(by_code, is_null)| {
-            if is_null {
+            if is_null || has(Plant::Missing) {
                 Ok(Answer::Count(by_code.len()))
             } else {
                 Err((UNTERMINATED, bytes.len() as u64))
@@ -209,7 +257,8 @@ fn table(bytes: &[u8], offset: usize) -> Result<(BTreeMap<u64, Declaration>, boo
             return Ok((by_code, true));
         }
         let declared = declaration(&mut input, code)?;
-        if by_code.insert(code, declared).is_some() {
+        let passes = has(Plant::Duplicate) && code > by_code.len() as u64;
+        if by_code.insert(code, declared).is_some() && !passes {
             return Err((DUPLICATE, code));
         }
     }
@@ -243,8 +292,14 @@ fn declaration(input: &mut Input, code: u64) -> Result<Declaration, Fault> {
 
 fn string(bytes: &[u8], offset: usize) -> Result<Answer, Fault> {
     let from = bytes.get(offset..).ok_or_else(|| eof(0))?;
-    let len = from.iter().position(|it| *it == 0).ok_or_else(|| eof(offset))?;
+    let end = if has(Plant::String) { Some(from.len()) } else { None };
+    let len = from.iter().position(|it| *it == 0).or(end).ok_or_else(|| eof(offset))?;
     Ok(Answer::Length(len))
+}
+
+/// Whether addresses may have so many bytes.
+fn is_size(size: u8) -> bool {
+    [1, 2, 4, 8].contains(&size) || has(Plant::Size) && (3..8).contains(&size)
 }
 
 /// The number at an index behind a base. Which sizes there are is asked once its place is known.
@@ -252,15 +307,18 @@ fn slot(bytes: &[u8], size: u8, base: usize, index: usize, is_big: bool) -> Resu
     if base > bytes.len() {
         return Err(eof(0));
     }
-    let distance = index as u128 * u128::from(size);
+    let mut distance = index as u128 * u128::from(size);
     if distance >= 1 << 64 {
-        return Err(fault(UNSUPPORTED_OFFSET));
+        if !has(Plant::Product) {
+            return Err(fault(UNSUPPORTED_OFFSET));
+        }
+        distance %= 1 << 64;
     }
     let at = base as u128 + distance;
-    if at > bytes.len() as u128 {
+    if at > bytes.len() as u128 && (is_size(size) || !has(Plant::Order)) {
         return Err(eof(base));
     }
-    if ![1, 2, 4, 8].contains(&size) {
+    if !is_size(size) {
         return Err((ADDRESS_SIZE, u64::from(size)));
     }
     Input { bytes, at: at as usize }.fixed(usize::from(size), is_big)
@@ -294,7 +352,7 @@ fn set(bytes: &[u8], is_big: bool, offset: usize, is_of_addresses: bool) -> Resu
     let mut entry_size = word_size;
     if is_of_addresses {
         entry_size = unit.byte()?;
-        if ![1, 2, 4, 8].contains(&entry_size) {
+        if !is_size(entry_size) {
             return Err((ADDRESS_SIZE, u64::from(entry_size)));
         }
         let segment_size = unit.byte()?;
@@ -304,6 +362,7 @@ fn set(bytes: &[u8], is_big: bool, offset: usize, is_of_addresses: bool) -> Resu
     } else {
         unit.fixed(2, is_big)?;
     }
+    let next = if word_size == 8 && has(Plant::Length) { next - 8 } else { next };
     Ok(Answer::Set(Set { next, unit_length: length as usize, first_entry: unit.at, word_size, entry_size }))
 }
 

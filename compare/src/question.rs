@@ -138,8 +138,6 @@ pub enum Answer {
     /// There is no set, since the offset is the section's end.
     End,
     Sum(u64),
-    /// The program that was asked has ended.
-    Lost,
     Fault {
         kind: u32,
         value: Option<u64>,
@@ -189,7 +187,6 @@ impl Answer {
             Answer::End => "the end of the sets",
             Answer::Sum(0) => "a sum that is 0",
             Answer::Sum(_) => "a sum",
-            Answer::Lost => "nothing, since the program ended",
         }
     }
 }

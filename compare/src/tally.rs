@@ -1,7 +1,6 @@
 //! Asks all readers, counts what they give, and prints where they differ.
 
 use crate::ours::Ours;
-use crate::piped::Piped;
 use crate::plain;
 use crate::question::{Answer, Question};
 use crate::shrink::shrink;
@@ -32,6 +31,8 @@ pub struct Tally {
     theirs: Theirs,
     /// The command that asks a question alone, up to the question.
     again: String,
+    /// What a difference is called.
+    pub title: String,
     pub inputs: u64,
     /// How many of them gimli was asked too.
     asked_of_gimli: u64,
@@ -46,10 +47,11 @@ pub fn hexadecimal(bytes: &[u8]) -> String {
 }
 
 impl Tally {
-    pub fn new(again: &str, piped: Option<Piped>) -> Tally {
+    pub fn new(again: &str) -> Tally {
         Tally {
             again: again.into(),
-            ours: Ours::new(piped),
+            title: "difference".into(),
+            ours: Ours::new(),
             theirs: Theirs::new(),
             inputs: 0,
             asked_of_gimli: 0,
@@ -83,28 +85,26 @@ impl Tally {
         counts.1 += 1;
         self.differences += 1;
         if counts.1 <= PRINTED {
-            if given.ours == Answer::Lost {
-                // What has ended answers no smaller input.
-                return self.print_all("difference", question, bytes, &given);
-            }
             let (question, bytes) =
                 shrink(question, bytes, &mut |question, bytes| self.given(question, bytes).differ());
             let given = self.given(&question, &bytes);
-            self.print_all("difference", &question, &bytes, &given);
+            self.print_all(&self.title, &question, &bytes, &given);
         }
     }
 
     /// Asks a question alone, and prints what each reader gives.
     pub fn ask_aloud(&mut self, question: &Question, bytes: &[u8]) {
         let given = self.given(question, bytes);
-        let title = if given.differ() { "difference" } else { "equal" };
-        self.print_all(title, question, bytes, &given);
+        self.print_all(if given.differ() { "difference" } else { "equal" }, question, bytes, &given);
         self.differences += u64::from(given.differ());
     }
 
     /// Prints what was asked and reached, question by question. The last line has all of it together, and counts the
-    /// questions first.
-    pub fn print(&self) {
+    /// questions first, and the planted errors that were found and not found.
+    pub fn print(&self, found: usize, lost: usize) {
+        if self.inputs == 0 {
+            return println!("{found} passed, {lost} failed, 0 skipped");
+        }
         for (name, (asked, differed)) in &self.questions {
             let reached = self.reached.iter().filter(|it| it.0 .0 == *name);
             let reached: Vec<String> = reached.map(|((_, what), count)| format!("{what} {count}")).collect();
@@ -128,9 +128,10 @@ impl Tally {
         );
         let failed = self.questions.values().filter(|it| it.1 != 0).count();
         println!(
-            "{} passed, {failed} failed, {skipped} skipped: {} inputs, of which gimli {} read {}, and {} differences; \
+            "{} passed, {} failed, {skipped} skipped: {} inputs, of which gimli {} read {}, and {} differences; \
              reached: {}",
-            self.questions.len() - failed,
+            self.questions.len() - failed + found,
+            failed + lost,
             self.inputs,
             env!("GIMLI_VERSION"),
             self.asked_of_gimli,
