@@ -2,6 +2,7 @@
 //!
 //! `tools/compare` runs this program, and its documentation says what the words mean.
 
+mod all;
 mod made;
 mod measure;
 mod ours;
@@ -39,6 +40,8 @@ struct Wanted {
     again: String,
     /// Measure in place of comparing: time, or calls to be counted.
     measured: Option<bool>,
+    /// Whether all short inputs are asked.
+    is_all: bool,
     /// The errors to plant in the second reader, by their places in its list.
     plants: Vec<usize>,
 }
@@ -65,6 +68,7 @@ fn wanted(words: &mut dyn Iterator<Item = String>) -> Result<Wanted, String> {
         alone: None,
         again: "compare --case".into(),
         measured: None,
+        is_all: false,
         plants: vec![],
     };
     while let Some(word) = words.next() {
@@ -79,6 +83,7 @@ fn wanted(words: &mut dyn Iterator<Item = String>) -> Result<Wanted, String> {
             }
             "--time" => found.measured = Some(true),
             "--count" => found.measured = Some(false),
+            "--all" => found.is_all = true,
             "--plants" => found.plants = (0..PLANTS.len()).collect(),
             "--plant" => {
                 let name = next()?;
@@ -176,6 +181,11 @@ fn compare(wanted: &Wanted) -> ExitCode {
     println!("seed {}, gimli {}", wanted.seed, env!("GIMLI_VERSION"));
     let found = wanted.plants.iter().filter(|it| is_found(**it, wanted)).count();
     let lost = wanted.plants.len() - found;
+    if wanted.is_all {
+        let start = Instant::now();
+        all::ask(&mut tally);
+        println!("all short inputs: {} in {:.1} seconds", tally.inputs, start.elapsed().as_secs_f64());
+    }
     let mut random = Random(wanted.seed);
     let start = Instant::now();
     let end = start + Duration::from_secs_f64(wanted.seconds);

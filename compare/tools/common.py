@@ -153,7 +153,7 @@ def sources_of_gimli(is_debian):
 
 
 def build(is_debian, in_front=0):
-    """Builds the program that compares, and returns where it is. The library's code has so many bytes in front of it."""
+    """Builds the program that compares, and returns where it is. So many bytes of code are in front of the library."""
     need("cargo", "cargo")
     need(os.environ.get("CC", "cc"), "gcc")
     need("objcopy", "binutils")
