@@ -127,16 +127,23 @@ def worked_cases():
     return found
 
 
+def wrong_bodies():
+    """The files of wrong bodies, each behind its CRATE/NAME.edit: those that `rt ci` tries too, and the others."""
+    for folder in (f"{ROOT}/crates/*/must-fail", f"{ROOT}/wrong-bodies"):
+        for path in sorted(filter(os.path.isfile, glob.glob(f"{folder}/**", recursive=True))):
+            yield re.sub("^(?:crates|wrong-bodies)/|must-fail/", "", os.path.relpath(path, ROOT)), path
+
+
+@functools.cache
 def wrong_bodies_of_the_gate():
-    """The edits in wrong-bodies that say that the gate tries them, as CRATE/NAME. Those of one function are neighbours."""
+    """Those that say that the gate tries them, by CRATE/NAME. Those of one function are neighbours."""
     found = []
-    for path in glob.glob(f"{ROOT}/wrong-bodies/**/*", recursive=True):
-        if os.path.isfile(path):
-            with open(path, encoding="utf-8", errors="replace") as file:
-                first = file.readline()
-            if first.startswith("# refused in the gate by "):
-                found.append((first, os.path.relpath(path, f"{ROOT}/wrong-bodies").removesuffix(".edit")))
-    return [name for _, name in sorted(found)]
+    for name, path in wrong_bodies():
+        with open(path, encoding="utf-8", errors="replace") as file:
+            first = file.readline()
+        if first.startswith("# refused in the gate by "):
+            found.append((first, name.removesuffix(".edit"), path))
+    return {name: path for _, name, path in sorted(found)}
 
 
 def is_taken_over(crate):
