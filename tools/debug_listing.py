@@ -24,15 +24,16 @@ def put(text):
     sys.stdout.buffer.write(text.encode())
 
 
-def run(words, source, first=None):
-    """Runs a program with a file as its standard input, and passes its output on. A function may give another first
-    line. Returns the exit status, and the errors as one line."""
+def run(words, source, change=None):
+    """Runs a program with a file as its standard input, and passes its output on. A function may change each line.
+    Returns the exit status, and the errors as one line."""
     with open(source, "rb") as file, tempfile.TemporaryFile() as errors:
         with subprocess.Popen(words, stdin=file, stdout=subprocess.PIPE, stderr=errors) as child:
             try:
-                line = child.stdout.readline() if first else b""
-                sys.stdout.buffer.write(first(line) if line else b"")
-                shutil.copyfileobj(child.stdout, sys.stdout.buffer, 1 << 16)
+                if change:
+                    sys.stdout.buffer.writelines(map(change, child.stdout))
+                else:
+                    shutil.copyfileobj(child.stdout, sys.stdout.buffer, 1 << 16)
             except BaseException:
                 child.kill()
                 raise
@@ -51,7 +52,7 @@ class Listing:
         self.kind = command.replace("line-", "")
         self.order = "le" if file.order == "little" else "be"
         self.path, self.offsets = f"{folder}/section", f"{folder}/offsets"
-        self.sections, self.programs = file.named(SECTIONS[command]), {}
+        self.sections, self.programs, self.errors = file.named(SECTIONS[command]), {}, 0
 
     def program(self, *option):
         """Where dwarf_list is, or by `--many` dwarf_list_many. The launcher is asked once, and may have to build it."""
@@ -177,42 +178,53 @@ class Listing:
         return not run([self.program(), self.command, self.order], self.path)[0]
 
     def list_with_headers(self, section, body, at, end, units):
-        """Lists the sets in a part of a section, one by one."""
-        is_mixed, errors = any(it.version < 5 for it in units), 0
-        while at < end and errors < ERRORS:
+        """Lists the sets in a part of a section. Those that follow each other are listed together."""
+        is_mixed, sets, self.errors = any(it.version < 5 for it in units), [], 0
+        while at < end:
             found = self.next_set(section, body, at, end, {it.address_size for it in units}) if is_mixed else at
             if found > at:
+                self.list_together(section, body, sets)
                 why = "since a unit of DWARF 4 may have them, as a set without a header"
                 self.report.say(f"{section}: the bytes from 0x{at:x} to 0x{found:x} aren't listed, {why}")
-                at = found
+                at, sets = found, []
                 continue
-            name = f"the set at 0x{at:x} of {section}"
             try:
                 padding = self.file.zeros(section, body, at)
                 if padding:
-                    at += padding
+                    self.list_together(section, body, sets)
+                    at, sets = at + padding, []
                     continue
                 length, _, begin = self.file.initial_length(body, at)
             except Unlisted as error:
+                self.list_together(section, body, sets)
+                name = f"the set at 0x{at:x} of {section}"
                 self.report.say(f"{name} {error}, and what follows isn't read up to 0x{end:x}")
                 return
-            errors += not self.list_set(name, body, at, min(begin + length, end))
+            sets.append((at, min(begin + length, end)))
             at = begin + length
-        if errors == ERRORS:
-            self.report.say(f"{section}: after {ERRORS} errors the rest isn't listed")
+        self.list_together(section, body, sets)
 
-    def list_set(self, name, body, at, end):
-        """Lists one set, and returns whether it could."""
+    def list_together(self, section, body, sets):
+        """Lists sets that follow each other by one process. If one of them has an error, it prints nothing, and each
+        half is listed by itself."""
+        if not sets or self.errors == ERRORS:
+            return
+        at, end = sets[0][0], sets[-1][1]
         try:
             self.keep(body, at, end)
-        except Unlisted as error:
-            self.report.say(f"{name} {error}, and isn't listed")
-            return False
-        words = [self.program(), self.command, self.order]
-        status, error = run(words, self.path, lambda line: line.replace(b"set 0:", b"set %d:" % at, 1))
-        if status:
-            self.report.say(f"{name}: {error}", status)
-        return not status
+            moved = lambda line: b"set %d:%b" % (at + int(line[4 : line.index(b":")]), line[line.index(b":") + 1 :])
+            words = [self.program(), self.command, self.order]
+            status, error = run(words, self.path, lambda line: moved(line) if line.startswith(b"set ") else line)
+        except Unlisted as fault:
+            status, error = 1, f"{fault}, and isn't listed"
+        if status and len(sets) > 1:
+            self.list_together(section, body, sets[: len(sets) // 2])
+            self.list_together(section, body, sets[len(sets) // 2 :])
+        elif status:
+            self.report.say(f"the set at 0x{at:x} of {section}: {error}", status)
+            self.errors += 1
+            if self.errors == ERRORS:
+                self.report.say(f"{section}: after {ERRORS} errors the rest isn't listed")
 
     def next_set(self, section, body, at, end, sizes):
         """Where the next set with a header begins if others have none, or the end. A header that has the units' address
@@ -273,7 +285,7 @@ class Listing:
         self.keep(body, start, start + many, length + fields)
         last = f"address size {size}" if is_addr else f"{8 * size}-bit"
         line = f"set {start}: no header, {many} bytes, {last}\n".encode()
-        status, error = run([self.program(), self.command, self.order], self.path, lambda _: line)
+        status, error = run([self.program(), self.command, self.order], self.path, lambda it: line if it.startswith(b"set ") else it)
         if status:
             self.report.say(f"{section}: the set at 0x{start:x}: {error}", status)
 
