@@ -1,4 +1,4 @@
-"""The checks of a script: a line for each, and how many passed, failed and were skipped."""
+"""What scripts have in common: checks, with a line for each and their counts, and how a script begins and ends."""
 import shutil
 import signal
 import subprocess
@@ -46,6 +46,13 @@ class Checks:
         """Prints the counts, and returns the exit status."""
         print(f"{self.passed} passed, {self.failed} failed, {self.skipped} skipped")
         return 1 if self.failed or not self.passed + self.skipped else 0
+
+
+def usage(text, words):
+    """Prints what a script does, as was asked for or since its command line is wrong. Returns the exit status."""
+    is_help = words[:1] in (["-h"], ["--help"])
+    print(text.strip(), file=sys.stdout if is_help else sys.stderr)
+    return 0 if is_help else 2
 
 
 def run(main):

@@ -91,31 +91,23 @@ def below(crate):
     return found
 
 
-def sources(crate):
-    """The texts of a crate's source files."""
+def sources(crate, of_tests=None):
+    """The texts of a crate's source files, each behind its path: all of them, or those of its tests or the others."""
     for path in sorted(glob.glob(f"{ROOT}/crates/{crate}/src/**/*.rt", recursive=True)):
-        with open(path, encoding="utf-8") as file:
-            yield file.read()
-
-
-def has_text(crate, text):
-    """Whether a text is in a source of a crate."""
-    return any(text in it for it in sources(crate))
+        name = os.path.relpath(path, ROOT)
+        if of_tests in (None, bool(re.search(r"/tests(\.rt|/)", name))):
+            with open(path, encoding="utf-8") as file:
+                yield name, file.read()
 
 
 def functions_in(crate, of_tests):
     """How many functions the files of a crate have, those of its tests or the others."""
-    found = 0
-    for path in glob.glob(f"{ROOT}/crates/{crate}/src/**/*.rt", recursive=True):
-        if bool(re.search(r"/tests(\.rt|/)", os.path.relpath(path, ROOT))) == of_tests:
-            with open(path, encoding="utf-8") as file:
-                found += len(FN.findall(file.read()))
-    return found
+    return sum(len(FN.findall(text)) for _, text in sources(crate, of_tests))
 
 
 def tests_in(crate):
     """How many tests the sources of a crate have."""
-    return sum(len(TEST.findall(it)) for it in sources(crate))
+    return sum(len(TEST.findall(text)) for _, text in sources(crate))
 
 
 def worked_cases():
@@ -170,8 +162,8 @@ def lanes(memory, others=0):
 
 
 def measured(step=""):
-    """The words to put before a command, so that it adds a line to the file $GATE_STEPS with the processor seconds that
-    it took. Without a name the step is that of the crate which the command checks. No words if there is no such file."""
+    """The words to put before a command, so that it adds a line to the file $GATE_STEPS with the processor seconds
+    that it took. Without a name the step is that of the crate which the command checks. No words without that file."""
     file = os.environ.get("GATE_STEPS")
     return [sys.executable, "-IS", f"{ROOT}/tools/measured.py", file, step] if file else []
 
