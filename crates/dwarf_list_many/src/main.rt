@@ -9,12 +9,16 @@
 //! The first error ends the run. The lines before an error at an offset are written, and the error
 //! is printed to standard error with its offset. Nothing is written if a line isn't an offset. The
 //! exit statuses are those of `dwarf_list`.
+//!
+//! With `--keep-going` in front of the arguments an error at an offset is a line of the output,
+//! `error at 0xOFFSET, status 1: TEXT`, where the lines of that offset would be, and the run goes on.
+//! The exit status is 1 if there is such a line.
 
 #![tactic(auto)]
 
 use dwarf_listing_core::arguments::{STANDARD_INPUT, parse_arguments};
 use dwarf_listing_core::fault::Fault;
-use dwarf_listing_core::many::fault::ManyFault;
+use dwarf_listing_core::many::fault::{ManyFault, many_exit_code};
 use dwarf_listing_core::many::run_many;
 use dwarf_listing_core::words::command_line;
 use std::fs::File;
@@ -48,7 +52,7 @@ fn open(rt: &HostRuntime, name: &str, fault: ManyFault) -> Result<Input, ManyFau
     }
 }
 
-fn list(rt: &HostRuntime) -> Result<(), ManyFault> {
+fn list(rt: &HostRuntime) -> Result<bool, ManyFault> {
     let mem = rt.alloc();
     let words = command_line(mem, rt)?;
     let named = parse_arguments(&words).ok_or(Fault::Usage)?;
@@ -56,6 +60,7 @@ fn list(rt: &HostRuntime) -> Result<(), ManyFault> {
     let mut offsets = open(rt, named.offsets, ManyFault::ReadOffsets)?;
     run_many(
         mem,
+        named.on_error,
         named.kind,
         &mut section,
         &mut offsets,
@@ -64,12 +69,10 @@ fn list(rt: &HostRuntime) -> Result<(), ManyFault> {
 }
 
 fn main(rt: HostRuntime) -> ExitCode {
-    match list(&rt) {
-        Ok(()) => ExitCode::from(0),
-        Err(fault) => {
-            // If standard error can't be written either, the status still reports the error.
-            let _ = eprintln!(rt; "{fault}");
-            ExitCode::from(fault.status())
-        }
+    let outcome = list(&rt);
+    if let Err(fault) = outcome {
+        // If standard error can't be written either, the status still reports the error.
+        let _ = eprintln!(rt; "{fault}");
     }
+    many_exit_code(outcome)
 }

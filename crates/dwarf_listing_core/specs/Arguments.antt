@@ -4,6 +4,8 @@ use Rattle.std.specs.Option.{option_map}
 use Rattle.std.specs.Str.{bytes_eq}
 use Rattle.dwarf_listing_core.specs.declared.arguments.Kind.{Kind}
 use Rattle.dwarf_listing_core.specs.declared.arguments.Kind.TheVariants.{Tables, Strings}
+use Rattle.dwarf_listing_core.specs.declared.arguments.OnError.{OnError}
+use Rattle.dwarf_listing_core.specs.declared.arguments.OnError.TheVariants.{Stop, GoOn}
 
 -- the kind that a name means
 abbrev pub kind_of : List ℕ → Option Kind
@@ -17,13 +19,19 @@ abbrev pub standard_input : List ℕ
 standard_input = codes "-"
 
 -- a kind and the names of the section and of the offsets, unless both are standard input
-abbrev pub named_arguments : List ℕ → List ℕ → List ℕ → Option (Kind × List ℕ × List ℕ)
-named_arguments name section offsets =
+abbrev pub named_inputs : OnError → List ℕ → List ℕ → List ℕ → Option (OnError × Kind × List ℕ × List ℕ)
+named_inputs on_error name section offsets =
     if bytes_eq section standard_input && bytes_eq offsets standard_input then None
-    else option_map (λ kind. (kind, section, offsets)) (kind_of name)
+    else option_map (λ kind. (on_error, kind, section, offsets)) (kind_of name)
 
--- what the arguments name; without a third argument the offsets are standard input
-abbrev pub arguments_of : List (List ℕ) → Option (Kind × List ℕ × List ℕ)
-arguments_of (name ∷ section ∷ []) = named_arguments name section standard_input
-arguments_of (name ∷ section ∷ offsets ∷ []) = named_arguments name section offsets
-arguments_of _ = None
+-- what the arguments behind the option name; without a third one the offsets are standard input
+abbrev pub inputs_of : OnError → List (List ℕ) → Option (OnError × Kind × List ℕ × List ℕ)
+inputs_of on_error (name ∷ section ∷ []) = named_inputs on_error name section standard_input
+inputs_of on_error (name ∷ section ∷ offsets ∷ []) = named_inputs on_error name section offsets
+inputs_of on_error _ = None
+
+-- what the arguments name, and what is done about an error at an offset
+abbrev pub arguments_of : List (List ℕ) → Option (OnError × Kind × List ℕ × List ℕ)
+arguments_of (option ∷ rest) =
+    if bytes_eq option (codes "--keep-going") then inputs_of GoOn rest else inputs_of Stop (option ∷ rest)
+arguments_of [] = None

@@ -1,49 +1,65 @@
 -- What the program that takes many offsets writes.
-use Rattle.std.specs.Prelude.{◌≡◌, ℕ, List, [], ◌∷◌, ◌++◌, Option, IfSome, Result, Ok, Err, codes}
+use Rattle.std.specs.Prelude.{◌≡◌, ◌||◌, ℕ, Bool, true, false, List, [], ◌∷◌, ◌++◌, Option, IfSome, Result, Ok, Err, codes}
 use Rattle.dwarf_read_core.specs.declared.Error.{Error}
-use Rattle.dwarf_read_core.specs.ErrorText.{hexadecimal}
+use Rattle.dwarf_read_core.specs.ErrorText.{error_text, hexadecimal}
 use Rattle.dwarf_listing_core.specs.Lines.{ListsString, line}
 use Rattle.dwarf_listing_core.specs.Offsets.{AreOffsets}
 use Rattle.dwarf_listing_core.specs.Tables.{ListsTable}
 use Rattle.dwarf_listing_core.specs.declared.arguments.Kind.{Kind}
 use Rattle.dwarf_listing_core.specs.declared.arguments.Kind.TheVariants.{Tables, Strings}
+use Rattle.dwarf_listing_core.specs.declared.arguments.OnError.{OnError}
+use Rattle.dwarf_listing_core.specs.declared.arguments.OnError.TheVariants.{Stop, GoOn}
 
 -- the title of an offset, in front of its lines
 abbrev pub title : Kind → ℕ → List ℕ
 title Tables offset = line (codes "table 0x" ++ hexadecimal offset ++ codes ":")
 title Strings offset = codes "0x" ++ hexadecimal offset ++ codes ": "
 
+-- the line of an error at an offset, in the output of a run that goes on
+abbrev pub error_line : ℕ → Error → List ℕ
+error_line offset error =
+    line (codes "error at 0x" ++ hexadecimal offset ++ codes ", status 1: " ++ error_text error)
+
 -- the lines at an offset of a section, or the error there
 abbrev pub ListsOne : Kind → List ℕ → ℕ → Result (List ℕ) Error → Type 0
 ListsOne Tables = ListsTable
 ListsOne Strings = ListsString
 
--- the lines at each of these offsets, each below its title
-pub data ListsAll (kind : Kind) (section : List ℕ) : List ℕ → List ℕ → Type 0 where
-  nothing : ListsAll kind section [] []
-  one_more : (offsets text lines : List ℕ) (offset : ℕ) → ListsAll kind section offsets text
-      → ListsOne kind section offset (Ok lines)
-      → ListsAll kind section (offsets ++ offset ∷ []) (text ++ (title kind offset ++ lines))
+-- the text of an offset: its lines below their title, or the line of its error if the run goes on
+abbrev pub ListsAt : OnError → Kind → List ℕ → ℕ → List ℕ → Bool → Type 0
+ListsAt _ kind section offset text false =
+    (lines : List ℕ) × ListsOne kind section offset (Ok lines) × (text ≡ title kind offset ++ lines)
+ListsAt GoOn kind section offset text true =
+    (error : Error) × ListsOne kind section offset (Err error) × (text ≡ error_line offset error)
+ListsAt Stop kind section offset text true = ⊥
+
+-- the texts of these offsets, one behind the other, and whether one of them is an error
+pub data ListsAll (on_error : OnError) (kind : Kind) (section : List ℕ) : List ℕ → List ℕ → Bool → Type 0 where
+  nothing : ListsAll on_error kind section [] [] false
+  one_more : (offsets text more : List ℕ) (offset : ℕ) (failed fails : Bool)
+      → ListsAll on_error kind section offsets text failed → ListsAt on_error kind section offset more fails
+      → ListsAll on_error kind section (offsets ++ offset ∷ []) (text ++ more) (failed || fails)
 
 -- the first error is at this offset, and the text is that of the offsets before it
 pub record EndsAt (kind : Kind) (section offsets : List ℕ) (offset : ℕ) (error : Error) (text : List ℕ) : Type 0 where
   pub before : List ℕ
   pub after : List ℕ
   pub place : offsets ≡ before ++ offset ∷ after
-  pub listed : ListsAll kind section before text
+  pub listed : ListsAll Stop kind section before text false
   pub fails : ListsOne kind section offset (Err error)
 
 -- the text is that of the first offsets, however many these are
-pub record ListsFirst (kind : Kind) (section offsets text : List ℕ) : Type 0 where
+pub record ListsFirst (on_error : OnError) (kind : Kind) (section offsets text : List ℕ) : Type 0 where
   pub before : List ℕ
   pub after : List ℕ
   pub place : offsets ≡ before ++ after
-  pub listed : ListsAll kind section before text
+  pub failed : Bool
+  pub listed : ListsAll on_error kind section before text failed
 
--- the text that a section has for the offsets on these lines
-abbrev pub IsManyText : Kind → List ℕ → List (List ℕ) → List ℕ → Type 0
-IsManyText kind section lines text =
-    (offsets : List ℕ) × AreOffsets lines offsets × ListsAll kind section offsets text
+-- the text that a section has for the offsets on these lines, and whether one of them has an error
+abbrev pub IsManyText : OnError → Kind → List ℕ → List (List ℕ) → List ℕ → Bool → Type 0
+IsManyText on_error kind section lines text failed =
+    (offsets : List ℕ) × AreOffsets lines offsets × ListsAll on_error kind section offsets text failed
 
 -- the first offset on these lines that has an error, and the text of the offsets before it
 abbrev pub EndsManyAt : Kind → List ℕ → List (List ℕ) → ℕ → Error → List ℕ → Type 0
@@ -51,9 +67,9 @@ EndsManyAt kind section lines offset error text =
     (offsets : List ℕ) × AreOffsets lines offsets × EndsAt kind section offsets offset error text
 
 -- the text that a section has for the first of the offsets on these lines
-abbrev pub ListsManyFirst : Kind → List ℕ → List (List ℕ) → List ℕ → Type 0
-ListsManyFirst kind section lines text =
-    (offsets : List ℕ) × AreOffsets lines offsets × ListsFirst kind section offsets text
+abbrev pub ListsManyFirst : OnError → Kind → List ℕ → List (List ℕ) → List ℕ → Type 0
+ListsManyFirst on_error kind section lines text =
+    (offsets : List ℕ) × AreOffsets lines offsets × ListsFirst on_error kind section offsets text
 
 -- the bytes of a section and of its offsets have this property, if both are known
 abbrev pub IfKnown : Option (List ℕ) → Option (List ℕ) → (List ℕ → List ℕ → Type 0) → Type 0

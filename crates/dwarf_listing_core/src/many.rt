@@ -1,14 +1,14 @@
 //! A run over many offsets of one section: the lines at each offset, below their title.
 
-ghost use Rattle.std.specs.Prelude.{◌≡◌, ◌≢◌, ◌⊎◌, ◌++◌, ℕ, List, Ok, Err, IfErr, IfSome, OnOk};
+ghost use Rattle.std.specs.Prelude.{◌≡◌, ◌≢◌, ◌⊎◌, ◌++◌, ℕ, true, List, Ok, Err, IfErr, IfOk, IfSome, OnOk};
 ghost use Rattle.std.specs.Io.KnownBytes.{Appends, IsAtEnd};
 ghost use Rattle.dwarf_listing_core.specs.Fault.{IsMemoryFault};
-ghost use Rattle.dwarf_listing_core.specs.Many.{EndsAt, EndsManyAt, IfKnown, IsManyText, ListsAll, ListsFirst, ListsManyFirst, ListsOne, title};
+ghost use Rattle.dwarf_listing_core.specs.Many.{EndsAt, EndsManyAt, IfKnown, IsManyText, ListsAll, ListsAt, ListsFirst, ListsManyFirst, ListsOne, error_line, title};
 ghost use Rattle.dwarf_listing_core.specs.ManyFault.{IsListingFault};
 ghost use Rattle.dwarf_listing_core.specs.Offsets.{IsBadLine, lines_of};
 ghost use Rattle.dwarf_listing_core.specs.Text.{ReturnsListing};
 
-use crate::arguments::Kind;
+use crate::arguments::{Kind, OnError};
 use crate::fault::Fault;
 use crate::input::read_input;
 use crate::lines::string;
@@ -31,33 +31,38 @@ mod tests;
 /// Both inputs are read to their ends, and all offsets are parsed: decimal numbers, one a line.
 /// Then what each offset names is read whole, and its lines are written through a buffer. The output
 /// is flushed at the end, and before an error at an offset is returned, also if memory ran out there.
+/// With `GoOn` an error at an offset is a line of the output, and the run goes on. What is returned is
+/// whether there is such a line.
 ///
 /// # Errors
 ///
 /// - `ReadSection` and `ReadOffsets` if an input can't be read, and `Line` if a line isn't an
 ///   offset. Nothing is written then.
-/// - `At` if the section is malformed at an offset, with the first error. The lines before it are
-///   written.
+/// - `At` with `Stop` if the section is malformed at an offset, with the first error. The lines
+///   before it are written.
 /// - `Other` with `OutOfMemory` if memory runs out. The lines before the offset where that happens
 ///   are written, or nothing if it happens earlier.
 /// - `Other` with `Write` if the output can't be written. A part of the text may be written then.
 pub fn run_many<S: Read, I: Read, O: Write>(
     mem: Global,
+    on_error: OnError,
     kind: Kind,
     section: &mut S,
     offsets: &mut I,
     output: &mut O,
-) -> Result<(), ManyFault>
+) -> Result<bool, ManyFault>
     // What was written, and nothing else.
-    ensures written { OnOk result (IfKnown (S.remaining section.old) (I.remaining offsets.old)
-        (λ bytes input. (text : List ℕ) × IsManyText kind bytes (lines_of input) text
+    ensures written { IfOk result (λ failed.
+        IfKnown (S.remaining section.old) (I.remaining offsets.old) (λ bytes input.
+        (text : List ℕ) × IsManyText on_error kind bytes (lines_of input) text failed
         × Appends (O.contents output.old) (O.contents output.new) text)) }
+    ensures stops { on_error ≡ OnError.Stop → result ≢ Ok true }
     ensures end { OnOk result
         (IsAtEnd (S.remaining section.new) × IsAtEnd (I.remaining offsets.new)) }
 
     // When each error is returned.
     ensures first { (offset : ℕ) (error : _) → result ≡ Err (ManyFault.At offset error)
-        → IfKnown (S.remaining section.old) (I.remaining offsets.old)
+        → (on_error ≡ OnError.Stop) × IfKnown (S.remaining section.old) (I.remaining offsets.old)
         (λ bytes input. (text : List ℕ) × EndsManyAt kind bytes (lines_of input) offset error text
         × Appends (O.contents output.old) (O.contents output.new) text) }
     ensures line { (number : ℕ) → result ≡ Err (ManyFault.Line number)
@@ -69,7 +74,7 @@ pub fn run_many<S: Read, I: Read, O: Write>(
         → (fault ≡ Fault.Write) ⊎ IsMemoryFault fault }
     ensures stopped { (fault : _) → result ≡ Err (ManyFault.Other fault) → fault ≢ Fault.Write
         → (output.new ≡ output.old) ⊎ IfKnown (S.remaining section.old) (I.remaining offsets.old)
-        (λ bytes input. (text : List ℕ) × ListsManyFirst kind bytes (lines_of input) text
+        (λ bytes input. (text : List ℕ) × ListsManyFirst on_error kind bytes (lines_of input) text
         × Appends (O.contents output.old) (O.contents output.new) text) }
 {
     let section = match read_input(mem, section) {
@@ -81,35 +86,40 @@ pub fn run_many<S: Read, I: Read, O: Write>(
         Err(error) => return Err(ManyFault::of_reading(error, ManyFault::ReadOffsets)),
     };
     let offsets = parse_offsets(mem, &input)?;
-    write_all_at(mem, kind, &section, &offsets, output)
+    write_all_at(mem, on_error, kind, &section, &offsets, output)
 }
 
 /// Writes what is listed at these offsets of a section, each below its title, through a buffer, and
-/// flushes the output.
+/// flushes the output. With `GoOn` an error at an offset is a line of the output. Returns whether there
+/// is such a line.
 ///
 /// # Errors
 ///
-/// The first error. Unless it is one of the output, the lines before it are written.
+/// The first other error. Unless it is one of the output, the lines before it are written.
 pub fn write_all_at<O: Write>(
     mem: Global,
+    on_error: OnError,
     kind: Kind,
     section: &[u8],
     offsets: &[u64],
     output: &mut O,
-) -> Result<(), ManyFault>
-    ensures ok { OnOk result ((text : List ℕ) × ListsAll kind section.now offsets.now text
+) -> Result<bool, ManyFault>
+    ensures ok { IfOk result (λ failed. (text : List ℕ)
+        × ListsAll on_error kind section.now offsets.now text failed
         × Appends (O.contents output.old) (O.contents output.new) text) }
+    ensures stops { on_error ≡ OnError.Stop → result ≢ Ok true }
     ensures first { (offset : ℕ) (error : _) → result ≡ Err (ManyFault.At offset error)
-        → (text : List ℕ) × EndsAt kind section.now offsets.now offset error text
+        → (on_error ≡ OnError.Stop)
+        × (text : List ℕ) × EndsAt kind section.now offsets.now offset error text
         × Appends (O.contents output.old) (O.contents output.new) text }
     ensures stopped { (fault : _) → result ≡ Err (ManyFault.Other fault) → fault ≢ Fault.Write
-        → (text : List ℕ) × ListsFirst kind section.now offsets.now text
+        → (text : List ℕ) × ListsFirst on_error kind section.now offsets.now text
         × Appends (O.contents output.old) (O.contents output.new) text }
     ensures err { IfErr result IsListingFault }
 {
     let buffer = Vec::with_capacity(mem, BUFFER_SIZE)?;
     let mut buffered = Buffered::new(output, buffer);
-    let listed = write_each_at(mem, kind, section, offsets, &mut buffered);
+    let listed = write_each_at(mem, on_error, kind, section, offsets, &mut buffered);
     let write_failed = listed == Err(ManyFault::Other(Fault::Write));
     // The text before any other error is written too.
     if write_failed || buffered.flush().is_err() {
@@ -123,38 +133,46 @@ pub fn write_all_at<O: Write>(
 
 fn write_each_at<O: Write>(
     mem: Global,
+    on_error: OnError,
     kind: Kind,
     section: &[u8],
     offsets: &[u64],
     output: &mut O,
-) -> Result<(), ManyFault>
-    ensures ok { OnOk result ((text : List ℕ) × ListsAll kind section.now offsets.now text
+) -> Result<bool, ManyFault>
+    ensures ok { IfOk result (λ failed. (text : List ℕ)
+        × ListsAll on_error kind section.now offsets.now text failed
         × Appends (O.contents output.old) (O.contents output.new) text) }
+    ensures stops { on_error ≡ OnError.Stop → result ≢ Ok true }
     ensures first { (offset : ℕ) (error : _) → result ≡ Err (ManyFault.At offset error)
-        → (text : List ℕ) × EndsAt kind section.now offsets.now offset error text
+        → (on_error ≡ OnError.Stop)
+        × (text : List ℕ) × EndsAt kind section.now offsets.now offset error text
         × Appends (O.contents output.old) (O.contents output.new) text }
     ensures stopped { (fault : _) → result ≡ Err (ManyFault.Other fault) → fault ≢ Fault.Write
-        → (text : List ℕ) × ListsFirst kind section.now offsets.now text
+        → (text : List ℕ) × ListsFirst on_error kind section.now offsets.now text
         × Appends (O.contents output.old) (O.contents output.new) text }
     ensures err { IfErr result IsListingFault }
 {
+    let mut failed = false;
     for offset in offsets {
-        write_at(mem, kind, section, *offset, output)?;
+        failed |= write_at(mem, on_error, kind, section, *offset, output)?;
     }
-    Ok(())
+    Ok(failed)
 }
 
+// Writes the text of an offset, and returns whether that is the line of an error.
 fn write_at<O: Write>(
     mem: Global,
+    on_error: OnError,
     kind: Kind,
     section: &[u8],
     offset: u64,
     output: &mut O,
-) -> Result<(), ManyFault>
-    ensures ok { OnOk result ((lines : List ℕ) × ListsOne kind section.now offset (Ok lines)
-        × Appends (O.contents output.old) (O.contents output.new) (title kind offset ++ lines)) }
+) -> Result<bool, ManyFault>
+    ensures ok { IfOk result (λ fails. (text : List ℕ)
+        × ListsAt on_error kind section.now offset text fails
+        × Appends (O.contents output.old) (O.contents output.new) text) }
     ensures at { (place : ℕ) (error : _) → result ≡ Err (ManyFault.At place error)
-        → (place ≡ offset) × (output.new ≡ output.old)
+        → (on_error ≡ OnError.Stop) × (place ≡ offset) × (output.new ≡ output.old)
         × ListsOne kind section.now offset (Err error) }
     ensures stopped { (fault : _) → result ≡ Err (ManyFault.Other fault) → fault ≢ Fault.Write
         → output.new ≡ output.old }
@@ -163,12 +181,20 @@ fn write_at<O: Write>(
     let text = match text_at(mem, kind, section, offset) {
         Ok(text) => text,
         Err(Error::OutOfMemory) => return Err(ManyFault::Other(Fault::out_of_memory())),
-        Err(error) => return Err(ManyFault::At(offset, error)),
+        Err(error) => {
+            if on_error == OnError::Stop {
+                return Err(ManyFault::At(offset, error));
+            }
+            if write_error(output, offset, error).is_err() {
+                return Err(ManyFault::Other(Fault::Write));
+            }
+            return Ok(true);
+        }
     };
     if write_title(output, kind, offset).is_err() || text.write_to(output).is_err() {
         return Err(ManyFault::Other(Fault::Write));
     }
-    Ok(())
+    Ok(false)
 }
 
 fn text_at(mem: Global, kind: Kind, section: &[u8], offset: u64) -> Result<Text, Error>
@@ -188,4 +214,11 @@ fn write_title<O: Write>(output: &mut O, kind: Kind, offset: u64) -> io::Result<
         Kind::Tables => writeln!(output, "table 0x{offset:x}:"),
         Kind::Strings => write!(output, "0x{offset:x}: "),
     }
+}
+
+fn write_error<O: Write>(output: &mut O, offset: u64, error: Error) -> io::Result<()>
+    ensures { OnOk result
+        (Appends (O.contents output.old) (O.contents output.new) (error_line offset error)) }
+{
+    writeln!(output, "error at 0x{offset:x}, status 1: {error}")
 }

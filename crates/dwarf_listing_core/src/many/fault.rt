@@ -1,13 +1,15 @@
 //! The errors of a run over many offsets.
 
-ghost use Rattle.std.specs.Prelude.{◌≡◌, ◌≢◌};
+ghost use Rattle.std.specs.Prelude.{◌≡◌, ◌≢◌, IfErr, IfOk, if◌then◌else◌};
 ghost use Rattle.std.specs.IoError.{error_kind};
+ghost use Rattle.std.specs.Process.{exit_status};
 ghost use Rattle.dwarf_listing_core.specs.ManyFault.{many_fault_status};
 
 use crate::fault::Fault;
 use dwarf_read_core::Error;
 use std::alloc::{AllocError, AllocFailed};
 use std::io::ErrorKind;
+use std::process::ExitCode;
 use std::{fmt, io};
 
 /// Why a run over many offsets failed.
@@ -23,6 +25,18 @@ pub enum ManyFault {
     ReadOffsets,
     /// Any other error.
     Other(Fault),
+}
+
+/// Returns the status that the program ends with. Without an error that ends the run, it is 1 if
+/// there was an error at an offset, and otherwise 0.
+pub fn many_exit_code(outcome: Result<bool, ManyFault>) -> ExitCode
+    ensures ok { IfOk outcome (λ failed. exit_status result ≡ if failed then 1 else 0) }
+    ensures err { IfErr outcome (λ fault. exit_status result ≡ many_fault_status fault) }
+{
+    match outcome {
+        Ok(failed) => ExitCode::from(u8::from(failed)),
+        Err(fault) => ExitCode::from(fault.status()),
+    }
 }
 
 impl ManyFault {
@@ -80,7 +94,10 @@ impl fmt::Display for ManyFault {
             ManyFault::ReadSection => write!(f, "error: cannot read the section"),
             ManyFault::ReadOffsets => write!(f, "error: cannot read the offsets"),
             ManyFault::Other(Fault::Usage) => {
-                write!(f, "usage: dwarf_list_many abbrev|str SECTION [OFFSETS]")
+                write!(
+                    f,
+                    "usage: dwarf_list_many [--keep-going] abbrev|str SECTION [OFFSETS]"
+                )
             }
             ManyFault::Other(fault) => write!(f, "{fault}"),
         }
