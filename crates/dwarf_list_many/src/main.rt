@@ -8,7 +8,8 @@
 //!
 //! The first error ends the run. The lines before an error at an offset are written, and the error
 //! is printed to standard error with its offset. Nothing is written if a line isn't an offset. The
-//! exit statuses are those of `dwarf_list`.
+//! exit statuses are those of `dwarf_list`. The error of a file that can't be read begins with its
+//! name.
 //!
 //! With `--keep-going` in front of the arguments an error at an offset is a line of the output,
 //! `error at 0xOFFSET, status 1: TEXT`, where the lines of that offset would be, and the run goes on.
@@ -16,7 +17,7 @@
 
 #![tactic(auto)]
 
-use dwarf_listing_core::arguments::{STANDARD_INPUT, parse_arguments};
+use dwarf_listing_core::arguments::{Arguments, STANDARD_INPUT, parse_arguments};
 use dwarf_listing_core::fault::Fault;
 use dwarf_listing_core::many::fault::{ManyFault, many_exit_code};
 use dwarf_listing_core::many::run_many;
@@ -52,20 +53,31 @@ fn open(rt: &HostRuntime, name: &str, fault: ManyFault) -> Result<Input, ManyFau
     }
 }
 
-fn list(rt: &HostRuntime) -> Result<bool, ManyFault> {
-    let mem = rt.alloc();
-    let words = command_line(mem, rt)?;
-    let named = parse_arguments(&words).ok_or(Fault::Usage)?;
+fn list_named(rt: &HostRuntime, named: &Arguments<'_>) -> Result<bool, ManyFault> {
     let mut section = open(rt, named.section, ManyFault::ReadSection)?;
     let mut offsets = open(rt, named.offsets, ManyFault::ReadOffsets)?;
     run_many(
-        mem,
+        rt.alloc(),
         named.on_error,
         named.kind,
         &mut section,
         &mut offsets,
         &mut rt.stdout(),
     )
+}
+
+fn list(rt: &HostRuntime) -> Result<bool, ManyFault> {
+    let words = command_line(rt.alloc(), rt)?;
+    let named = parse_arguments(&words).ok_or(Fault::Usage)?;
+    let outcome = list_named(rt, &named);
+    let unread = match outcome {
+        Err(ManyFault::ReadSection) => named.section,
+        Err(ManyFault::ReadOffsets) => named.offsets,
+        _ => return outcome,
+    };
+    // The line begins with the name of the input, and `main` prints the rest of it.
+    let _ = eprint!(rt; "{unread}: ");
+    outcome
 }
 
 fn main(rt: HostRuntime) -> ExitCode {

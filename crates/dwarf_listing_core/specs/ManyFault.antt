@@ -6,7 +6,7 @@ use Rattle.dwarf_listing_core.specs.declared.fault.Fault.TheVariants.{Section, U
 use Rattle.dwarf_listing_core.specs.declared.many.fault.ManyFault.{ManyFault}
 use Rattle.dwarf_listing_core.specs.declared.many.fault.ManyFault.TheVariants.{At, Line, ReadSection, ReadOffsets, Other}
 
--- the line on standard error, without its line end
+-- the line on standard error, without its line end and the name of an input in front of it
 abbrev pub many_fault_text : ManyFault → List ℕ
 many_fault_text (At offset error) = codes "error at 0x" ++ hexadecimal offset ++ codes ": " ++ error_text error
 many_fault_text (Line number) = codes "error: line " ++ decimal number ++ codes " of the offsets is no offset"

@@ -78,7 +78,8 @@ impl ManyFault {
     }
 }
 
-/// Writes the line on standard error, without its line end.
+/// Writes the line on standard error, without its line end. The program writes the name of an input
+/// that can't be read in front of it.
 impl fmt::Display for ManyFault {
     ghost use Rattle.std.specs.Prelude.{Some};
     ghost use Rattle.dwarf_listing_core.specs.ManyFault.{many_fault_text};
