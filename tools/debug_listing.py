@@ -11,6 +11,8 @@ from debug_file import CHUNK, Unlisted
 ROOT = pathlib.Path(__file__).resolve().parent.parent
 # After so many errors in a section the rest of it isn't listed, since each takes a process.
 ERRORS = 1000
+# What is told of a program that ended with a status and said nothing.
+ENDED = "the program ended with status {}"
 SECTIONS = {
     "abbrev": "debug_abbrev",
     "str": "debug_str",
@@ -41,7 +43,7 @@ def run(words, source, change=None):
         said = errors.read().decode(errors="replace").splitlines()
     # A program that a signal ended couldn't tell why.
     status = child.returncode if child.returncode >= 0 else 3
-    return status, "; ".join(said) or (f"the program ended with status {child.returncode}" if status else "")
+    return status, "; ".join(said) or (ENDED.format(child.returncode) if status else "")
 
 
 class Listing:
@@ -83,7 +85,7 @@ class Listing:
                 elif self.command == "abbrev":
                     self.list_tables(section, body, tables[section])
                 elif self.kind == "str":
-                    self.list_all(section, body, lambda start, body=body: strings(body, start))
+                    self.list_strings(section, body)
                 else:
                     self.list_sets(section, body)
             except Unlisted as error:
@@ -115,26 +117,18 @@ class Listing:
 
     # Tables and strings.
 
-    def many(self, offsets):
-        """Lists what is at each of these offsets, up to the first error. Returns the exit status and the error."""
+    def many(self, offsets, *option, change=None):
+        """Lists what is at each of these offsets. Returns the exit status and the error."""
         with open(self.offsets, "w", encoding="ascii") as file:
             file.writelines(f"{it}\n" for it in offsets)
-        return run([self.program("--many"), self.kind, self.path], self.offsets)
+        return run([self.program("--many"), *option, self.kind, self.path], self.offsets, change)
 
-    def list_all(self, section, body, offsets_from):
-        """Lists what is at all offsets, and goes on after an error. The function gives the offsets from one on."""
+    def list_strings(self, section, body):
+        """Lists all strings of a section. Only the last can have an error, since a zero byte ends each other one."""
         self.keep(body)
-        start = 0
-        for _ in range(ERRORS):
-            status, error = self.many(offsets_from(start))
-            if not status:
-                return
+        status, error = self.many(strings(body))
+        if status:
             self.report.say(f"{section}: {error}", status)
-            place = re.search(r"error at 0x([0-9a-f]+): ", error)
-            if not place:
-                return
-            start = int(place[1], 16) + 1
-        self.report.say(f"{section}: after {ERRORS} errors the rest isn't listed")
 
     def list_one(self, section, body, offset):
         self.keep(body)
@@ -151,8 +145,21 @@ class Listing:
         if not units:
             self.report.say(f"no unit names a table of {section}")
         self.parts(section, body)
+        self.keep(body)
         inside = sorted(it for it in units if it <= len(body))
-        self.list_all(section, body, lambda start: (it for it in inside if it >= start))
+        status, error = self.many(inside, "--keep-going", change=lambda line: self.without_error(section, line))
+        # The errors at offsets are told already.
+        if status and not (self.errors and error == ENDED.format(1)):
+            self.report.say(f"{section}: {error}", status)
+
+    def without_error(self, section, line):
+        """A line of the tables. If it tells of an error at an offset, that is told, and nothing is left of the line."""
+        found = re.match(rb"(error at 0x[0-9a-f]+), status (\d): (.*)", line)
+        if not found:
+            return line
+        self.report.say(f"{section}: {found[1].decode()}: {found[3].decode()}", int(found[2]))
+        self.errors += 1
+        return b""
 
     # Sets.
 
@@ -290,11 +297,11 @@ class Listing:
             self.report.say(f"{section}: the set at 0x{start:x}: {error}", status)
 
 
-def strings(body, start):
-    """Where the strings of a section begin, from an offset on."""
-    if not start and len(body):
+def strings(body):
+    """Where the strings of a section begin."""
+    if len(body):
         yield 0
-    for low, chunk in body.chunks(max(start - 1, 0)):
+    for low, chunk in body.chunks():
         for it in re.finditer(rb"\0", chunk):
             if low + it.end() < len(body):
                 yield low + it.end()

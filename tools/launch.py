@@ -122,9 +122,10 @@ def run(name, words):
 def run_sources(name, words):
     """Compiles and runs the sources. Returns the status, and passes on what the program itself prints."""
     say("this result comes from the unproved sources, which are compiled for each result")
-    # This run is in the folder of the crate.
-    files = [it if it == "-" else os.path.join(os.getcwd(), it) for it in words[1:]]
-    words = [words[0], *files] if name == "dwarf_list_many" else words
+    if name == "dwarf_list_many":
+        # This run is in the folder of the crate. Files are named behind the kind, and that may be behind an option.
+        first = 2 if words[0].startswith("--") else 1
+        words = words[:first] + [it if it == "-" else os.path.join(os.getcwd(), it) for it in words[first:]]
     how = {"cwd": f"{kit.ROOT}/crates/{name}", "stderr": subprocess.PIPE}
     with child([*kit.unproved(), "--", *words], **how) as tried:
         said = tried.stderr.read().decode(errors="replace").splitlines()
