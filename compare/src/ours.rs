@@ -4,7 +4,7 @@
 //! many items as its length says, all outputs are initialized, and an output overlaps nothing, since it is borrowed
 //! mutably.
 
-use crate::question::{Answer, Declaration, Kind, Question, Set};
+use crate::question::{fault_of_text, Answer, Declaration, Kind, Question, Set};
 
 const OK: u32 = 0;
 const NO_ROOM: u32 = 100;
@@ -53,6 +53,17 @@ struct RawAttribute {
     implicit_const: i64,
 }
 
+/// What one of `READERS` is asked.
+#[repr(C)]
+struct Asked {
+    reader: u32,
+    question: u32,
+    is_big: u32,
+    size: u32,
+    base: usize,
+    index: usize,
+}
+
 type Byte = *const u8;
 
 extern "C" {
@@ -92,6 +103,9 @@ extern "C" {
     ) -> u32;
     fn compare_cached(bytes: Byte, len: usize, offsets: *const usize, count: usize, rounds: u64) -> usize;
     fn compare_addresses(bytes: Byte, len: usize) -> u64;
+    fn compare_readers(
+        bytes: Byte, len: usize, asked: &Asked, found: &mut [u64; 4], text: *mut u8, room: usize,
+    ) -> usize;
 }
 
 /// The library, with places for tables that are used again.
@@ -290,5 +304,54 @@ fn set_of(set: &RawSet) -> Answer {
         first_entry: set.first_entry,
         word_size: set.word_size,
         entry_size: set.entry_size,
+    })
+}
+
+/// The readers that are asked now and then: slices whose byte order is their type's or known at run time, and the
+/// readers of `crates/dwarf_uses`.
+const READERS: [&str; 4] = ["EndianSlice<BigEndian>", "EndianSlice<RunTimeEndian>", OWNED, "SharedReader"];
+const OWNED: &str = "OwnedReader";
+const UNSUPPORTED_OFFSET: u32 = 10;
+
+/// What each of them finds that doesn't find the same. Offsets of `OwnedReader` have 32 bits, and it says so of longer
+/// ones.
+pub fn by_readers(question: &Question, bytes: &[u8], ours: &Answer) -> Vec<(&'static str, Answer)> {
+    let (mut differing, wanted) = (vec![], ours.in_parts());
+    for (reader, name) in READERS.iter().enumerate() {
+        if let Some(found) = by_reader(reader as u32, question, bytes) {
+            let is_beyond = matches!(found, Answer::Fault { kind: UNSUPPORTED_OFFSET, .. });
+            if !found.agrees(&wanted) && !(is_beyond && *name == OWNED) {
+                differing.push((*name, found));
+            }
+        }
+    }
+    differing
+}
+
+/// What a reader finds, or `None` if it isn't asked that. Where the order of bytes doesn't matter, it is big.
+fn by_reader(reader: u32, question: &Question, bytes: &[u8]) -> Option<Answer> {
+    let (number, is_big, size, base, index) = match *question {
+        Question::Number(kind) => (kind as u32, true, 0, 0, 0),
+        Question::Table(offset) => (4, true, 0, offset, 0),
+        Question::Strict(offset) => (5, true, 0, offset, 0),
+        Question::Text(offset) => (6, true, 0, offset, 0),
+        Question::StrOffset { is_big, is_64, base, index } => (7, is_big, if is_64 { 8 } else { 4 }, base, index),
+        Question::Address { is_big, size, base, index } => (8, is_big, size.into(), base, index),
+        Question::AddressSet { is_big, offset } => (9, is_big, 0, offset, 0),
+        Question::StrOffsetSet { is_big, offset } => (10, is_big, 0, offset, 0),
+        Question::Addresses => (11, false, 0, 0, 0),
+        _ => return None,
+    };
+    let asked = Asked { reader, question: number, is_big: is_big.into(), size, base, index };
+    let (mut found, mut text) = ([0; 4], [0; 100]);
+    let (at, to) = (bytes.as_ptr(), text.as_mut_ptr());
+    let len = unsafe { compare_readers(at, bytes.len(), &asked, &mut found, to, text.len()) };
+    let is_number = matches!(question, Question::Number(_));
+    Some(match (len, question) {
+        (0, _) | (_, Question::Addresses) => Answer::Parts(found),
+        _ => {
+            let text = String::from_utf8_lossy(text.get(..len).unwrap_or_default());
+            fault_of_text(&text, is_number.then(|| found[3] as usize))
+        }
     })
 }

@@ -31,6 +31,20 @@ pub fn error_name(kind: u32) -> &'static str {
     ERRORS.get(kind as usize).copied().unwrap_or("an error without a number")
 }
 
+/// The names of errors that older versions of gimli have, and today's.
+const OLD_NAMES: [(&str, &str); 2] =
+    [("BadHasChildren", "InvalidAbbreviationChildren"), ("ExpectedZero", "AttributeNameZero")];
+
+/// An error as its debug text tells it: its name, and the number in it, if there is one.
+pub fn fault_of_text(text: &str, rest: Option<usize>) -> Answer {
+    let mut parts = text.split('(');
+    let name = parts.next().unwrap_or_default();
+    let name = OLD_NAMES.iter().find(|it| it.0 == name).map_or(name, |it| it.1);
+    let kind = ERRORS.iter().position(|it| *it == name).map_or(u32::MAX, |it| it as u32);
+    let digits = parts.last().map(|it| it.trim_end_matches(')'));
+    Answer::Fault { kind, value: digits.and_then(|it| it.parse().ok()), rest }
+}
+
 /// The kinds of number that are read.
 #[derive(Debug, Clone, Copy, PartialEq)]
 pub enum Kind {
@@ -103,6 +117,15 @@ pub struct Declaration {
     pub attributes: Vec<(u16, u16, i64)>,
 }
 
+impl Declaration {
+    /// All of its numbers, added up.
+    fn sum(&self) -> u64 {
+        let of_attribute = |it: &(u16, u16, i64)| (u64::from(it.0) + u64::from(it.1)).wrapping_add(it.2 as u64);
+        let head = self.code.wrapping_add(u64::from(self.tag) + u64::from(self.has_children));
+        self.attributes.iter().map(of_attribute).fold(head, u64::wrapping_add)
+    }
+}
+
 /// The header of a set.
 #[derive(Debug, Clone, PartialEq)]
 pub struct Set {
@@ -138,6 +161,8 @@ pub enum Answer {
     /// There is no set, since the offset is the section's end.
     End,
     Sum(u64),
+    /// Any of these as four numbers, which a caller can have of each reader.
+    Parts([u64; 4]),
     Fault {
         kind: u32,
         value: Option<u64>,
@@ -165,6 +190,24 @@ impl Answer {
         }
     }
 
+    /// The same as four numbers, unless it is an error. A table is the sum of its parts, its length and its close.
+    pub fn in_parts(&self) -> Answer {
+        Answer::Parts(match self {
+            Answer::Number { value, rest } => [*value as u64, 0, 0, *rest as u64],
+            Answer::Skipped { rest } => [0, 0, 0, *rest as u64],
+            Answer::Table { declarations, closed_by_null } => {
+                let sum = declarations.iter().map(Declaration::sum).fold(0, u64::wrapping_add);
+                [sum, declarations.len() as u64, u64::from(*closed_by_null == Some(true)), 0]
+            }
+            Answer::Count(count) => [0, *count as u64, 0, 0],
+            Answer::Length(len) => [*len as u64, 0, 0, 0],
+            Answer::Word(value) | Answer::Sum(value) => [*value, 0, 0, 0],
+            Answer::Set(set) => [set.unit_length as u64, set.entry_size.into(), set.word_size.into(), 0],
+            Answer::End => [0, 0, 0, 1],
+            _ => return self.clone(),
+        })
+    }
+
     /// What was reached: the error's name, or the kind of value.
     pub fn reached(&self) -> &'static str {
         match self {
@@ -187,6 +230,7 @@ impl Answer {
             Answer::End => "the end of the sets",
             Answer::Sum(0) => "a sum that is 0",
             Answer::Sum(_) => "a sum",
+            Answer::Parts(_) => "parts",
         }
     }
 }

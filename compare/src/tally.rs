@@ -1,6 +1,6 @@
 //! Asks all readers, counts what they give, and prints where they differ.
 
-use crate::ours::Ours;
+use crate::ours::{by_readers, Ours};
 use crate::plain;
 use crate::question::{Answer, Question};
 use crate::shrink::shrink;
@@ -17,11 +17,15 @@ struct Given {
     theirs: Option<Answer>,
     /// What the library gives in the terms of this gimli.
     wanted: Answer,
+    /// What other readers of the library give, if it isn't the same.
+    others: Vec<(&'static str, Answer)>,
 }
 
 impl Given {
     fn differ(&self) -> bool {
-        !self.ours.agrees(&self.plain) || self.theirs.as_ref().map_or(false, |it| !it.agrees(&self.wanted))
+        !self.others.is_empty()
+            || !self.ours.agrees(&self.plain)
+            || self.theirs.as_ref().map_or(false, |it| !it.agrees(&self.wanted))
     }
 }
 
@@ -36,6 +40,8 @@ pub struct Tally {
     pub inputs: u64,
     /// How many of them gimli was asked too.
     asked_of_gimli: u64,
+    /// How many of them all readers of the library were asked.
+    by_all: u64,
     pub differences: u64,
     /// How often each question was asked, and how often it differed.
     questions: BTreeMap<&'static str, (u64, u64)>,
@@ -55,26 +61,32 @@ impl Tally {
             theirs: Theirs::new(),
             inputs: 0,
             asked_of_gimli: 0,
+            by_all: 0,
             differences: 0,
             questions: BTreeMap::new(),
             reached: BTreeMap::new(),
         }
     }
 
-    fn given(&mut self, question: &Question, bytes: &[u8]) -> Given {
+    fn given(&mut self, question: &Question, bytes: &[u8], is_by_all: bool) -> Given {
         let (plain, ours) = (plain::answer(question, bytes), self.ours.answer(question, bytes));
         let theirs = self.theirs.answer(question, bytes, &plain);
         let wanted = match theirs {
             Some(_) => self.theirs.wanted(question, bytes, ours.clone()),
             None => ours.clone(),
         };
-        Given { ours, plain, theirs, wanted }
+        let others = if is_by_all { by_readers(question, bytes, &ours) } else { vec![] };
+        Given { ours, plain, theirs, wanted, others }
     }
 
     /// Asks a question, and prints the smallest input that is found to differ if this one does.
     pub fn ask(&mut self, question: &Question, bytes: &[u8]) {
-        let given = self.given(question, bytes);
+        // About every sixteenth, but not of each sixteen the same, and fewer of long ones, which two readers copy.
+        let bits = if bytes.len() < 4096 { 4 } else { 14 };
+        let is_by_all = self.inputs.wrapping_mul(0x9e37_79b9_7f4a_7c15) >> (64 - bits) == 0;
+        let given = self.given(question, bytes, is_by_all);
         self.inputs += 1;
+        self.by_all += u64::from(is_by_all);
         self.asked_of_gimli += u64::from(given.theirs.is_some());
         let counts = self.questions.entry(question.name()).or_default();
         counts.0 += 1;
@@ -86,15 +98,15 @@ impl Tally {
         self.differences += 1;
         if counts.1 <= PRINTED {
             let (question, bytes) =
-                shrink(question, bytes, &mut |question, bytes| self.given(question, bytes).differ());
-            let given = self.given(&question, &bytes);
+                shrink(question, bytes, &mut |question, bytes| self.given(question, bytes, is_by_all).differ());
+            let given = self.given(&question, &bytes, is_by_all);
             self.print_all(&self.title, &question, &bytes, &given);
         }
     }
 
     /// Asks a question alone, and prints what each reader gives.
     pub fn ask_aloud(&mut self, question: &Question, bytes: &[u8]) {
-        let given = self.given(question, bytes);
+        let given = self.given(question, bytes, true);
         self.print_all(if given.differ() { "difference" } else { "equal" }, question, bytes, &given);
         self.differences += u64::from(given.differ());
     }
@@ -123,6 +135,7 @@ impl Tally {
         if self.theirs.is_strict {
             println!("this gimli wants the null code of a table, so it was compared with the strict reading");
         }
+        println!("{} inputs were read by four other readers of the library too", self.by_all);
         println!(
             "the second reader alone had strict readings, caches, growth, written numbers and sets of string offsets"
         );
@@ -153,6 +166,9 @@ impl Tally {
             if given.wanted != given.ours {
                 println!("  here, as this gimli reads: {}", given.wanted);
             }
+        }
+        for (name, other) in &given.others {
+            println!("  here, by {name}: {other}");
         }
         println!("  alone: {} '{} {}'", self.again, words.join(" "), hexadecimal(bytes));
     }

@@ -2,16 +2,12 @@
 
 #[cfg(gimli_0_34)]
 use crate::question::Set;
-use crate::question::{Answer, Declaration, Kind, Question, ERRORS};
+use crate::question::{fault_of_text, Answer, Declaration, Kind, Question};
 use gimli::{
     DebugAbbrev, DebugAbbrevOffset, DebugAddr, DebugAddrBase, DebugAddrIndex, DebugStr, DebugStrOffset,
     DebugStrOffsets, DebugStrOffsetsBase, DebugStrOffsetsIndex, EndianSlice, Error, Format, LittleEndian, Reader,
     RunTimeEndian,
 };
-
-/// The names of errors that older versions have, and today's.
-const OLD_NAMES: [(&str, &str); 2] =
-    [("BadHasChildren", "InvalidAbbreviationChildren"), ("ExpectedZero", "AttributeNameZero")];
 
 /// gimli, and what its version reads otherwise.
 pub struct Theirs {
@@ -115,14 +111,7 @@ fn fault(error: Error, bytes: &[u8], rest: Option<usize>) -> Answer {
         return Answer::Fault { kind: 1, value, rest };
     }
     // The names of the other errors, and which of them have values, differ from version to version.
-    let text = format!("{error:?}");
-    let mut parts = text.split('(');
-    let name = parts.next().unwrap_or_default();
-    let name = OLD_NAMES.iter().find(|it| it.0 == name).map_or(name, |it| it.1);
-    let kind = ERRORS.iter().position(|it| *it == name).map_or(u32::MAX, |it| it as u32);
-    let digits = parts.last().map(|it| it.trim_end_matches(')'));
-    let value = digits.and_then(|it| it.parse().ok());
-    Answer::Fault { kind, value, rest }
+    fault_of_text(&format!("{error:?}"), rest)
 }
 
 fn number(kind: Kind, bytes: &[u8]) -> Answer {

@@ -10,6 +10,7 @@
 
 pub mod fault;
 pub mod numbers;
+pub mod readers;
 pub mod sections;
 pub mod sets;
 pub mod single;

@@ -12,8 +12,7 @@ fn sum_of_set<R: Reader>(header: &AddrHeader<R>) -> Result<u64> {
 }
 
 // The sum of all addresses of all sets.
-fn sum_of_sets(section: &[u8]) -> Result<u64> {
-    let section = DebugAddr::from(EndianSlice::new(section, LittleEndian));
+pub(crate) fn sum_of_sets<R: Reader>(section: &DebugAddr<R>) -> Result<u64> {
     let mut sum: u64 = 0;
     for header in section.headers()? {
         let header = header?;
@@ -25,7 +24,7 @@ fn sum_of_sets(section: &[u8]) -> Result<u64> {
 /// Returns the sum of all addresses of all sets modulo 2^64, or 0 for an error.
 #[unsafe(no_mangle)]
 pub extern "C" fn compare_addresses(section: &[u8]) -> u64 {
-    sum_of_sets(section).unwrap_or(0)
+    sum_of_sets(&DebugAddr::from(EndianSlice::new(section, LittleEndian))).unwrap_or(0)
 }
 
 // A sum of what each header has.

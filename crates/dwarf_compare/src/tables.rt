@@ -82,7 +82,7 @@ fn of_abbreviation(abbreviation: &Abbreviation) -> u64 {
 }
 
 // The sum over all abbreviations of a table.
-fn walked(table: &Abbreviations) -> u64 {
+pub(crate) fn walked(table: &Abbreviations) -> u64 {
     let mut sum: u64 = 0;
     for abbreviation in table.iter() {
         sum = sum.wrapping_add(of_abbreviation(abbreviation));

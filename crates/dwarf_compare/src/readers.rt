@@ -1,0 +1,239 @@
+//! What each reader of the library reads of the same bytes.
+
+use crate::sets::sum_of_sets;
+use crate::tables::walked;
+use dwarf_read_core::{
+    AddrHeader, BigEndian, DebugAbbrev, DebugAbbrevOffset, DebugAddr, DebugAddrBase,
+    DebugAddrIndex, DebugStr, DebugStrOffset, DebugStrOffsets, DebugStrOffsetsBase,
+    DebugStrOffsetsIndex, EndianSlice, Format, LittleEndian, Reader, ReaderOffset, Result,
+    RunTimeEndian, StrOffsetsHeader,
+};
+use dwarf_uses::{OwnedReader, SharedReader};
+use std::alloc::Global;
+
+/// What is asked. `reader` is 0 for a slice whose byte order is its type's, 1 for a slice that has
+/// it at run time, 2 for [`OwnedReader`], and otherwise [`SharedReader`].
+#[repr(C)]
+#[derive(Clone, Copy)]
+pub struct Asked {
+    pub reader: u32,
+    pub question: u32,
+    pub is_big: u32,
+    pub size: u32,
+    pub base: u64,
+    pub index: u64,
+}
+
+/// What is found. `rest` is how many bytes a number leaves, also by an error, and of a set whether
+/// there is none.
+#[repr(C)]
+#[derive(Clone, Copy)]
+pub struct Found {
+    pub value: u64,
+    pub size: u64,
+    pub more: u64,
+    pub rest: u64,
+}
+
+/// Answers a question by a reader. Returns how many bytes the text of the error has, which is
+/// written to `text` as far as there is room, or 0 if there is no error.
+#[unsafe(no_mangle)]
+pub extern "C" fn compare_readers(
+    mem: Global,
+    section: &[u8],
+    asked: &Asked,
+    found: &mut Found,
+    text: &mut [u8],
+) -> usize {
+    match by_reader(mem, section, *asked, found) {
+        Ok(()) => 0,
+        Err(error) => match format!(in mem; "{error:?}") {
+            Ok(shown) => put(shown.as_bytes(), text),
+            Err(_) => usize::MAX,
+        },
+    }
+}
+
+// Writes as many bytes as there is room for, and returns how many there are.
+fn put(bytes: &[u8], to: &mut [u8]) -> usize {
+    let count = bytes.len().min(to.len());
+    to[..count].copy_from_slice(&bytes[..count]);
+    bytes.len()
+}
+
+fn by_reader(mem: Global, section: &[u8], asked: Asked, found: &mut Found) -> Result<()> {
+    let order = match asked.is_big {
+        0 => RunTimeEndian::Little,
+        _ => RunTimeEndian::Big,
+    };
+    match asked.reader {
+        0 => by_slice(mem, section, asked, found),
+        1 => read(mem, EndianSlice::new(section, order), asked, found),
+        2 => by_owned(mem, Vec::from_slice(mem, section)?, order, asked, found),
+        _ => by_shared(mem, Vec::from_slice(mem, section)?, order, asked, found),
+    }
+}
+
+fn by_slice(mem: Global, section: &[u8], asked: Asked, found: &mut Found) -> Result<()> {
+    match asked.is_big {
+        0 => read(mem, EndianSlice::new(section, LittleEndian), asked, found),
+        _ => read(mem, EndianSlice::new(section, BigEndian), asked, found),
+    }
+}
+
+fn by_owned(
+    mem: Global,
+    section: Vec<u8>,
+    order: RunTimeEndian,
+    asked: Asked,
+    found: &mut Found,
+) -> Result<()> {
+    let input = OwnedReader::new(mem, section, order, u8::MAX)?;
+    read(mem, input, asked, found)
+}
+
+fn by_shared(
+    mem: Global,
+    section: Vec<u8>,
+    order: RunTimeEndian,
+    asked: Asked,
+    found: &mut Found,
+) -> Result<()> {
+    read(mem, SharedReader::new(section, order)?, asked, found)
+}
+
+// What a reader finds. The questions are those of `compare/src/ours.rs`.
+fn read<R: Reader>(mem: Global, input: R, asked: Asked, found: &mut Found) -> Result<()> {
+    match asked.question {
+        4 => table(mem, &input.into(), asked, found),
+        5 => strict(mem, &input.into(), asked, found),
+        6 => string(&input.into(), asked, found),
+        7 => str_offset(&input.into(), asked, found),
+        8 => address(&input.into(), asked, found),
+        9 => address_set(input, asked, found),
+        10 => str_offset_set(input, asked, found),
+        11 => addresses(&input.into(), found),
+        _ => number(input, asked, found),
+    }
+}
+
+fn number<R: Reader>(mut input: R, asked: Asked, found: &mut Found) -> Result<()> {
+    let number = number_of(&mut input, asked.question);
+    found.rest = input.len().into_u64();
+    found.value = number?;
+    Ok(())
+}
+
+fn number_of<R: Reader>(input: &mut R, kind: u32) -> Result<u64> {
+    match kind {
+        0 => input.read_uleb128(),
+        1 => Ok(input.read_sleb128()?.cast_unsigned()),
+        2 => Ok(u64::from(input.read_uleb128_u16()?)),
+        _ => {
+            input.skip_leb128()?;
+            Ok(0)
+        }
+    }
+}
+
+// The sum of all parts of a table, how many declarations it has, and what closes it.
+fn table<R: Reader>(
+    mem: Global,
+    section: &DebugAbbrev<R>,
+    asked: Asked,
+    found: &mut Found,
+) -> Result<()> {
+    let offset = DebugAbbrevOffset(R::Offset::from_u64(asked.base)?);
+    let table = section.abbreviations(mem, offset)?;
+    found.value = walked(&table);
+    found.size = table.len() as u64;
+    found.more = u64::from(table.closed_by_null());
+    Ok(())
+}
+
+fn strict<R: Reader>(
+    mem: Global,
+    section: &DebugAbbrev<R>,
+    asked: Asked,
+    found: &mut Found,
+) -> Result<()> {
+    let offset = DebugAbbrevOffset(R::Offset::from_u64(asked.base)?);
+    found.size = section.abbreviations_strict(mem, offset)?.len() as u64;
+    Ok(())
+}
+
+fn string<R: Reader>(section: &DebugStr<R>, asked: Asked, found: &mut Found) -> Result<()> {
+    let offset = DebugStrOffset(R::Offset::from_u64(asked.base)?);
+    found.value = section.get_str(offset)?.len().into_u64();
+    Ok(())
+}
+
+fn str_offset<R: Reader>(
+    section: &DebugStrOffsets<R>,
+    asked: Asked,
+    found: &mut Found,
+) -> Result<()> {
+    let format = match asked.size {
+        8 => Format::Dwarf64,
+        _ => Format::Dwarf32,
+    };
+    let base = DebugStrOffsetsBase(R::Offset::from_u64(asked.base)?);
+    let index = DebugStrOffsetsIndex(R::Offset::from_u64(asked.index)?);
+    let offset = section.get_str_offset(format, base, index)?;
+    found.value = offset.0.into_u64();
+    Ok(())
+}
+
+fn address<R: Reader>(section: &DebugAddr<R>, asked: Asked, found: &mut Found) -> Result<()> {
+    let size = (asked.size & 0xff) as u8;
+    let base = DebugAddrBase(R::Offset::from_u64(asked.base)?);
+    let index = DebugAddrIndex(R::Offset::from_u64(asked.index)?);
+    found.value = section.get_address(size, base, index)?;
+    Ok(())
+}
+
+fn address_set<R: Reader>(mut input: R, asked: Asked, found: &mut Found) -> Result<()> {
+    input.skip(R::Offset::from_u64(asked.base)?)?;
+    match first_of_addresses(&input.into())? {
+        Some(header) => of_addresses(&header, found),
+        None => found.rest = 1,
+    }
+    Ok(())
+}
+
+fn first_of_addresses<R: Reader>(section: &DebugAddr<R>) -> Result<Option<AddrHeader<R>>> {
+    section.headers()?.next()
+}
+
+fn of_addresses<R: Reader>(header: &AddrHeader<R>, found: &mut Found) {
+    let encoding = header.encoding();
+    found.value = header.length().into_u64();
+    found.size = u64::from(encoding.address_size);
+    found.more = u64::from(encoding.format.word_size());
+}
+
+fn str_offset_set<R: Reader>(mut input: R, asked: Asked, found: &mut Found) -> Result<()> {
+    input.skip(R::Offset::from_u64(asked.base)?)?;
+    match first_of_offsets(&input.into())? {
+        Some(header) => of_offsets(&header, found),
+        None => found.rest = 1,
+    }
+    Ok(())
+}
+
+fn first_of_offsets<R: Reader>(
+    section: &DebugStrOffsets<R>,
+) -> Result<Option<StrOffsetsHeader<R>>> {
+    section.headers()?.next()
+}
+
+fn of_offsets<R: Reader>(header: &StrOffsetsHeader<R>, found: &mut Found) {
+    found.value = header.length().into_u64();
+    found.size = u64::from(header.format().word_size());
+    found.more = found.size;
+}
+
+fn addresses<R: Reader>(section: &DebugAddr<R>, found: &mut Found) -> Result<()> {
+    found.value = sum_of_sets(section)?;
+    Ok(())
+}
