@@ -67,6 +67,8 @@ struct Asked {
 type Byte = *const u8;
 
 extern "C" {
+    fn dwarf_uleb128(bytes: Byte, len: usize, value: &mut u64, size: &mut usize, fault: &mut RawFault) -> u32;
+    fn dwarf_sleb128(bytes: Byte, len: usize, value: &mut i64, size: &mut usize, fault: &mut RawFault) -> u32;
     fn dwarf_uleb128_write(value: u64, bytes: *mut u8, room: usize, len: &mut usize) -> u32;
     fn dwarf_sleb128_write(value: i64, bytes: *mut u8, room: usize, len: &mut usize) -> u32;
     fn dwarf_string(bytes: Byte, len: usize, offset: usize, string_len: &mut usize, fault: &mut RawFault) -> u32;
@@ -89,8 +91,6 @@ extern "C" {
         attributes: *mut RawAttribute, attribute_room: usize, measure: &mut Measure, fault: &mut RawFault,
     ) -> u32;
 
-    fn compare_unsigned(bytes: Byte, len: usize, value: &mut u64, rest: &mut usize, fault: &mut RawFault) -> u32;
-    fn compare_signed(bytes: Byte, len: usize, value: &mut i64, rest: &mut usize, fault: &mut RawFault) -> u32;
     fn compare_short(bytes: Byte, len: usize, value: &mut u16, rest: &mut usize, fault: &mut RawFault) -> u32;
     fn compare_skipped(bytes: Byte, len: usize, rest: &mut usize, fault: &mut RawFault) -> u32;
     fn compare_strict(bytes: Byte, len: usize, offset: usize, count: &mut usize, fault: &mut RawFault) -> u32;
@@ -196,28 +196,31 @@ fn refused(status: u32, fault: RawFault, rest: Option<usize>) -> Answer {
 
 fn number(kind: Kind, bytes: &[u8]) -> Answer {
     let (at, len) = (bytes.as_ptr(), bytes.len());
-    let (mut rest, mut fault) = (usize::MAX, RawFault::default());
+    let (mut size, mut rest, mut fault) = (0, usize::MAX, RawFault::default());
     let (mut unsigned, mut signed, mut short) = (0, 0, 0);
-    let (status, value) = match kind {
-        Kind::Unsigned => {
-            let status = unsafe { compare_unsigned(at, len, &mut unsigned, &mut rest, &mut fault) };
-            (status, i128::from(unsigned))
-        }
-        Kind::Signed => {
-            let status = unsafe { compare_signed(at, len, &mut signed, &mut rest, &mut fault) };
-            (status, i128::from(signed))
-        }
-        Kind::Short => {
-            let status = unsafe { compare_short(at, len, &mut short, &mut rest, &mut fault) };
-            (status, i128::from(short))
-        }
-        Kind::Skipped => (unsafe { compare_skipped(at, len, &mut rest, &mut fault) }, 0),
+    let status = match kind {
+        Kind::Unsigned => unsafe { dwarf_uleb128(at, len, &mut unsigned, &mut size, &mut fault) },
+        Kind::Signed => unsafe { dwarf_sleb128(at, len, &mut signed, &mut size, &mut fault) },
+        Kind::Short => unsafe { compare_short(at, len, &mut short, &mut rest, &mut fault) },
+        Kind::Skipped => unsafe { compare_skipped(at, len, &mut rest, &mut fault) },
     };
+    if matches!(kind, Kind::Unsigned | Kind::Signed) {
+        rest = if status == OK { len - size } else { rest_of_error(kind, bytes) };
+    }
     match (status, kind) {
         (OK, Kind::Skipped) => Answer::Skipped { rest },
-        (OK, _) => Answer::Number { value, rest },
+        // (two of the three are 0)
+        (OK, _) => Answer::Number { value: i128::from(unsigned) + i128::from(signed) + i128::from(short), rest },
         _ => refused(status, fault, Some(rest)),
     }
+}
+
+/// How many bytes remain behind an error, which the calls for C don't tell.
+fn rest_of_error(kind: Kind, bytes: &[u8]) -> usize {
+    let asked = Asked { reader: 0, question: kind as u32, is_big: 0, size: 0, base: 0, index: 0 };
+    let (mut found, mut text) = ([u64::MAX; 4], [0; 1]);
+    unsafe { compare_readers(bytes.as_ptr(), bytes.len(), &asked, &mut found, text.as_mut_ptr(), 1) };
+    found[3] as usize
 }
 
 fn written(call: impl FnOnce(*mut u8, usize, &mut usize) -> u32) -> Answer {

@@ -1,6 +1,6 @@
 //! Loops over LEB128 numbers (DWARF 5, 7.6), to be measured.
 
-use dwarf_read_core::leb128::{read, write};
+use dwarf_read_core::leb128::read;
 use dwarf_read_core::{EndianSlice, LittleEndian, Reader};
 
 /// Reads the unsigned numbers that `bytes` are one after the other, and returns their sum modulo
@@ -59,14 +59,4 @@ pub extern "C" fn compare_skipped_count(bytes: &[u8]) -> u64 {
         }
     }
     count
-}
-
-/// Writes each number, and returns how many bytes they have together, modulo 2^64.
-#[unsafe(no_mangle)]
-pub extern "C" fn compare_written_sum(values: &[u64]) -> usize {
-    let mut sum: usize = 0;
-    for value in values {
-        sum = sum.wrapping_add(write::Leb128::unsigned(*value).len());
-    }
-    sum
 }

@@ -5,7 +5,7 @@ ghost use Rattle.std.specs.FinMap as finite;
 ghost use Rattle.dwarf_read_core.specs.Answer.{Answer, Answers, AnswersStrictly, StrictAnswer};
 ghost use Rattle.dwarf_read_core.specs.Cache.{IsFaithful, answer_of};
 ghost use Rattle.dwarf_read_core.specs.Grammar.{Table};
-ghost use Rattle.dwarf_read_core.specs.Leb128.{unsigned64, unsigned16, signed64};
+ghost use Rattle.dwarf_read_core.specs.Leb128.{unsigned16};
 ghost use Rattle.dwarf_compare.specs.Fault.{Refuses};
 ghost use Rattle.dwarf_compare.specs.Sections.{HasLength, Lacks, LacksEnd, Reads, Skips, section_of, tag_in};
 
@@ -20,56 +20,8 @@ use std::rc::Rc;
 // There are fewer or more places than items.
 const NO_ROOM: u32 = 100;
 
-/// Reads the unsigned number of at most 64 bits that `bytes` begin with. Returns 0 or the number of
+/// Reads the unsigned number of at most 16 bits that `bytes` begin with. Returns 0 or the number of
 /// the error. `rest` is how many bytes aren't consumed, also by an error.
-#[unsafe(no_mangle)]
-pub extern "C" fn compare_unsigned(
-    bytes: &[u8],
-    value: &mut u64,
-    rest: &mut usize,
-    fault: &mut Fault,
-) -> u32
-    ensures read { result ≡ 0 → Reads unsigned64 bytes.now value.new rest.new }
-    ensures refused { result ≢ 0 → Refuses (Lacks unsigned64 bytes.now rest.new) result fault.new }
-{
-    let mut input = EndianSlice::new(bytes, LittleEndian);
-    let found = input.read_uleb128();
-    *rest = input.len();
-    match found {
-        Ok(number) => {
-            *value = number;
-            0
-        }
-        Err(error) => told(error, fault),
-    }
-}
-
-/// Reads the signed number of at most 64 bits that `bytes` begin with, otherwise as
-/// [`compare_unsigned`].
-#[unsafe(no_mangle)]
-pub extern "C" fn compare_signed(
-    bytes: &[u8],
-    value: &mut i64,
-    rest: &mut usize,
-    fault: &mut Fault,
-) -> u32
-    ensures read { result ≡ 0 → Reads signed64 bytes.now value.new rest.new }
-    ensures refused { result ≢ 0 → Refuses (Lacks signed64 bytes.now rest.new) result fault.new }
-{
-    let mut input = EndianSlice::new(bytes, LittleEndian);
-    let found = input.read_sleb128();
-    *rest = input.len();
-    match found {
-        Ok(number) => {
-            *value = number;
-            0
-        }
-        Err(error) => told(error, fault),
-    }
-}
-
-/// Reads the unsigned number of at most 16 bits that `bytes` begin with, otherwise as
-/// [`compare_unsigned`].
 #[unsafe(no_mangle)]
 pub extern "C" fn compare_short(
     bytes: &[u8],
@@ -92,7 +44,7 @@ pub extern "C" fn compare_short(
     }
 }
 
-/// Skips the number of any length that `bytes` begin with, otherwise as [`compare_unsigned`].
+/// Skips the number of any length that `bytes` begin with, otherwise as [`compare_short`].
 #[unsafe(no_mangle)]
 pub extern "C" fn compare_skipped(bytes: &[u8], rest: &mut usize, fault: &mut Fault) -> u32
     ensures read { result ≡ 0 → Skips bytes.now rest.new }

@@ -112,15 +112,6 @@ fn filled(mem: Global, section: &[u8], offsets: &[usize]) -> Result<Abbreviation
     Ok(cache)
 }
 
-/// Fills a cache with the tables at these offsets. Returns 1, or 2^32 if memory runs out.
-#[unsafe(no_mangle)]
-pub extern "C" fn compare_populate(mem: Global, section: &[u8], offsets: &[usize]) -> usize {
-    match filled(mem, section, offsets) {
-        Ok(_) => 1,
-        Err(_) => FAILED,
-    }
-}
-
 // How many abbreviations the table has that a cache returns, or what an error counts as.
 fn count_cached(cache: &AbbreviationsCache, section: &[u8], offset: usize) -> usize {
     let section = DebugAbbrev::new(section, LittleEndian);
