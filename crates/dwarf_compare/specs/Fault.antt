@@ -30,8 +30,8 @@ abbrev pub fault_of : Error → Fault
 fault_of error = record { kind = kind_of error; value = value_of error }
 
 -- a call returns an error of which this holds: the status is its number, and `fault` has its number and value
-pub record Refuses (Is : Error → Type 0) (status : ℕ) (fault : Fault) : Type 0 where
+pub record Rejects (Is : Error → Type 0) (status : ℕ) (fault : Fault) : Type 0 where
   pub error : Error
   pub is : Is error
   pub numbered : status ≡ kind_of error
-  pub told : fault ≡ fault_of error
+  pub reported : fault ≡ fault_of error

@@ -5,7 +5,7 @@ use Rattle.dwarf_read_core.specs.declared.Error.{Error}
 use Rattle.dwarf_read_core.specs.Answer.{Answer}
 use Rattle.dwarf_read_core.specs.Grammar.{Declaration, Table}
 use Rattle.dwarf_read_core.specs.Input.{Input}
-use Rattle.dwarf_read_core.specs.Leb128.{Kind, Number, ReadsNumber, RefusesNumber, TakesEncoding, LacksEncoding}
+use Rattle.dwarf_read_core.specs.Leb128.{Kind, Number, ReadsNumber, RejectsNumber, TakesEncoding, LacksEncoding}
 
 -- the bytes of a section, the first of which has position 0
 abbrev pub section_of : List ℕ → Input
@@ -20,7 +20,7 @@ pub record Reads (k : Kind) (bytes : List ℕ) (number : Number k) (rest : ℕ) 
 -- they begin with no number of the kind, and so many are left by the error
 pub record Lacks (k : Kind) (bytes : List ℕ) (rest : ℕ) (e : Error) : Type 0 where
   pub left : Input
-  pub is : RefusesNumber k (section_of bytes) e left
+  pub is : RejectsNumber k (section_of bytes) e left
   pub counted : rest ≡ length left.bytes
 
 -- the bytes begin with an encoding of any length, and so many follow it

@@ -16,7 +16,7 @@ pub struct Fault {
 
 // The error by its number and its value.
 fn fault_of(error: Error) -> Fault
-    ensures told { result ≡ fault_of error }
+    ensures reported { result ≡ fault_of error }
     ensures counted { 0 < result.kind }
 {
     let (kind, value) = match error {
@@ -36,8 +36,8 @@ fn fault_of(error: Error) -> Fault
 }
 
 // Writes an error, and returns its number.
-pub(crate) fn told(error: Error, fault: &mut Fault) -> u32
-    ensures told { fault.new ≡ fault_of error }
+pub(crate) fn reported(error: Error, fault: &mut Fault) -> u32
+    ensures reported { fault.new ≡ fault_of error }
     ensures status { result ≡ kind_of error }
     ensures counted { 0 < result }
 {

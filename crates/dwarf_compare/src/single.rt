@@ -6,10 +6,10 @@ ghost use Rattle.dwarf_read_core.specs.Answer.{Answer, Answers, AnswersStrictly,
 ghost use Rattle.dwarf_read_core.specs.Cache.{IsFaithful, answer_of};
 ghost use Rattle.dwarf_read_core.specs.Grammar.{Table};
 ghost use Rattle.dwarf_read_core.specs.Leb128.{unsigned16};
-ghost use Rattle.dwarf_compare.specs.Fault.{Refuses};
+ghost use Rattle.dwarf_compare.specs.Fault.{Rejects};
 ghost use Rattle.dwarf_compare.specs.Sections.{HasLength, Lacks, LacksEnd, Reads, Skips, section_of, tag_in};
 
-use crate::fault::{Fault, told};
+use crate::fault::{Fault, reported};
 use dwarf_read_core::{
     Abbreviations, AbbreviationsCache, AbbreviationsCacheStrategy, DebugAbbrev, DebugAbbrevOffset,
     EndianSlice, Error, LittleEndian, Reader, Result,
@@ -30,7 +30,7 @@ pub extern "C" fn compare_short(
     fault: &mut Fault,
 ) -> u32
     ensures read { result ≡ 0 → Reads unsigned16 bytes.now value.new rest.new }
-    ensures refused { result ≢ 0 → Refuses (Lacks unsigned16 bytes.now rest.new) result fault.new }
+    ensures refused { result ≢ 0 → Rejects (Lacks unsigned16 bytes.now rest.new) result fault.new }
 {
     let mut input = EndianSlice::new(bytes, LittleEndian);
     let found = input.read_uleb128_u16();
@@ -40,7 +40,7 @@ pub extern "C" fn compare_short(
             *value = number;
             0
         }
-        Err(error) => told(error, fault),
+        Err(error) => reported(error, fault),
     }
 }
 
@@ -48,14 +48,14 @@ pub extern "C" fn compare_short(
 #[unsafe(no_mangle)]
 pub extern "C" fn compare_skipped(bytes: &[u8], rest: &mut usize, fault: &mut Fault) -> u32
     ensures read { result ≡ 0 → Skips bytes.now rest.new }
-    ensures refused { result ≢ 0 → Refuses (LacksEnd bytes.now rest.new) result fault.new }
+    ensures refused { result ≢ 0 → Rejects (LacksEnd bytes.now rest.new) result fault.new }
 {
     let mut input = EndianSlice::new(bytes, LittleEndian);
     let found = input.skip_leb128();
     *rest = input.len();
     match found {
         Ok(()) => 0,
-        Err(error) => told(error, fault),
+        Err(error) => reported(error, fault),
     }
 }
 
@@ -73,14 +73,14 @@ pub extern "C" fn compare_strict(
     ensures read { let s = section_of section.now in result ≡ 0
         → (t : Table) × StrictAnswer s offset (Ok t) × (count.new ≡ finite.len t.by_code) }
     ensures refused { let s = section_of section.now in
-        result ≢ 0 → Refuses (λ e. AnswersStrictly (Err e) s offset) result fault.new }
+        result ≢ 0 → Rejects (λ e. AnswersStrictly (Err e) s offset) result fault.new }
 {
     match strict_at(mem, section, offset) {
         Ok(table) => {
             *count = table.len();
             0
         }
-        Err(error) => told(error, fault),
+        Err(error) => reported(error, fault),
     }
 }
 
@@ -106,14 +106,14 @@ pub extern "C" fn compare_grown(
 ) -> u32
     ensures read { let s = section_of section.now in result ≡ 0 → HasLength s offset count.new }
     ensures refused { let s = section_of section.now in
-        result ≢ 0 → Refuses (λ e. Answers (Err e) s offset) result fault.new }
+        result ≢ 0 → Rejects (λ e. Answers (Err e) s offset) result fault.new }
 {
     match grown_at(mem, section, before, offset) {
         Ok(table) => {
             *count = table.len();
             0
         }
-        Err(error) => told(error, fault),
+        Err(error) => reported(error, fault),
     }
 }
 
@@ -166,7 +166,7 @@ pub extern "C" fn compare_found(
     ensures found { let s = section_of section.now in result ≡ 0
         → (t : Table) × Answer s offset (Ok t) × (tags.new ≡ map (tag_in t) codes.now) }
     ensures refused { let s = section_of section.now in result ≢ 0 → result ≢ NO_ROOM
-        → Refuses (λ e. Answers (Err e) s offset) result fault.new }
+        → Rejects (λ e. Answers (Err e) s offset) result fault.new }
     ensures full { result ≡ NO_ROOM → length tags.old ≢ length codes.now }
 {
     if tags.len() != codes.len() {
@@ -177,7 +177,7 @@ pub extern "C" fn compare_found(
             find_each(&table, codes, tags);
             0
         }
-        Err(error) => told(error, fault),
+        Err(error) => reported(error, fault),
     }
 }
 

@@ -23,7 +23,7 @@ pub use Rattle.std.specs.Fmt.{digit_glyph, digits_onto}
 pub use Rattle.std.proofs.lemmas.Bool.Decides.{nat_tests}
 pub use Rattle.dwarf_listing_core.specs.Number.{is_all_digits, number_below, signed_of, unsigned_of, without_minus}
 pub use Rattle.dwarf_read_core.specs.declared.Error.TheVariants.{OutOfMemory}
-pub use Rattle.dwarf_read_core.specs.Entries.{StandsForEntries}
+pub use Rattle.dwarf_read_core.specs.Entries.{RepresentsEntries}
 pub use Rattle.std.specs.List.{join_with_byte, after_first, before_first, position}
 pub use Rattle.dwarf_read_core.specs.Input.{Input}
 pub use Rattle.dwarf_listing_core.specs.Command.{command_of}

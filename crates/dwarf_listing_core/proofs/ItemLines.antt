@@ -1,5 +1,5 @@
 -- The texts of items that are read one after the other.
-use Rattle.dwarf_listing_core.proofs.Common.{arith, ◌≡◌, ℕ, ◌-◌, length, Bool, List, [], ◌∷◌, ◌++◌, Result, Ok, Err, refl, ap, ◌∙◌, append_assoc, inl, inr, Error, OutOfMemory, StandsForEntries, Set, AppendsText, ListsItemsOf, ListsRun, nothing, bad_item, bad_text, item, in_front, SetListing, HasSets, ListsLine, ListsSection, ListsSet}
+use Rattle.dwarf_listing_core.proofs.Common.{arith, ◌≡◌, ℕ, ◌-◌, length, Bool, List, [], ◌∷◌, ◌++◌, Result, Ok, Err, refl, ap, ◌∙◌, append_assoc, inl, inr, Error, OutOfMemory, RepresentsEntries, Set, AppendsText, ListsItemsOf, ListsRun, nothing, bad_item, bad_text, item, in_front, SetListing, HasSets, ListsLine, ListsSection, ListsSet}
 use Rattle.std.proofs.Common.{subst}
 use Rattle.std.specs.Prelude.{◌≢◌}
 use Rattle.std.specs.declared.cmp.PartialEq.{Ghosts as PartialEq}
@@ -74,15 +74,15 @@ whole_text Lists old added new none appended h = grind arith
 -- the line of a set and the lines that its entries append are those of the set
 pub set_appended : {H X : Type 0} (listing : SetListing H) (s : Set H) (view : X → ℕ) (is_free : Bool)
     (old between new : List ℕ) (r : Result (Unit {0}) Error) → between ≡ old ++ listing.header_line s
-    → AppendsText (ListsRun (GivesFirst (StandsForEntries listing.entry) view is_free)
+    → AppendsText (ListsRun (GivesFirst (RepresentsEntries listing.entry) view is_free)
     (λ x. ListsLine listing.entry_line (view x)) (listing.entries s)) between new r
     → AppendsText (ListsSet listing s) old new r
 set_appended listing s view is_free old between new (Ok x) line h = (
   listing.header_line s ++ h.0,
-  (Ok h.0, items_of_run (StandsForEntries listing.entry) view (ListsLine listing.entry_line) h.1 (λ ran. cc), refl),
+  (Ok h.0, items_of_run (RepresentsEntries listing.entry) view (ListsLine listing.entry_line) h.1 (λ ran. cc), refl),
   h.2 ∙ ap (λ t. t ++ h.0) line ∙ append_assoc old (listing.header_line s) h.0,
 )
 set_appended listing s view is_free old between new (Err e) line h = λ memory.
-    let lines = items_of_run (StandsForEntries listing.entry) view (ListsLine listing.entry_line) (h memory)
+    let lines = items_of_run (RepresentsEntries listing.entry) view (ListsLine listing.entry_line) (h memory)
     (λ ran. memory cc) in
     (Err e, lines, refl)

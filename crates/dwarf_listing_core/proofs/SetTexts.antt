@@ -1,10 +1,10 @@
 -- Sets have exactly one text or error.
-use Rattle.dwarf_listing_core.proofs.Common.{◌≡◌, ◌-◌, ◌^◌, ◌<◌, ℕ, List, [], Result, Ok, Err, refl, arith, IsTrue, Error, StandsForEntries, Input, HasOne, Headers, Set, ListsItems, SetListing, HasSets, ListsLine, ListsSection, ListsSet}
+use Rattle.dwarf_listing_core.proofs.Common.{◌≡◌, ◌-◌, ◌^◌, ◌<◌, ℕ, List, [], Result, Ok, Err, refl, arith, IsTrue, Error, RepresentsEntries, Input, HasOne, Headers, Set, ListsItems, SetListing, HasSets, ListsLine, ListsSection, ListsSet}
 use Rattle.dwarf_read_core.specs.declared.Format.{Format}
 use Rattle.dwarf_read_core.specs.declared.Format.TheVariants.{Dwarf32, Dwarf64}
 use Rattle.dwarf_read_core.specs.Faults.{is_number_size}
 use Rattle.dwarf_read_core.specs.Format.{word_size}
-use Rattle.dwarf_read_core.specs.Layout.{Layout, AreItems, none, more, fault, read}
+use Rattle.dwarf_read_core.specs.Layout.{Layout, AreItems, none, more, first_error, read}
 use Rattle.dwarf_read_core.proofs.Layouts.{then_read, check_read, inside_read, pure_read}
 use Rattle.dwarf_read_core.specs.Sets.{set, address_header}
 use Rattle.dwarf_listing_core.proofs.OneText.{one_behind, one_joined}
@@ -15,14 +15,14 @@ one_of_items : {A : Type 0} (Lists : A → Result (List ℕ) Error → Type 0) {
     → ((offset : ℕ) (old new : Input) (x : A) → read (item offset) old ≡ Ok (x, new) → HasOne (Lists x))
     → AreItems item offset old items → HasOne (ListsItems Lists items)
 one_of_items Lists law (none empty) = (Ok [], refl, λ other h. h)
-one_of_items Lists law (fault {e = e} some h) = (Err e, refl, λ other h. h)
+one_of_items Lists law (first_error {e = e} some h) = (Err e, refl, λ other h. h)
 one_of_items Lists {offset = offset} {old = old} law (more {new = new} {x = x} some h rest) =
     one_behind (law offset old new x h) (λ own is. one_joined own (one_of_items Lists law rest))
 
 -- a section of sets has exactly one text or error if each set that is read has exactly one list of entries
 pub one_section : {H : Type 0} (listing : SetListing H) (headers : Headers)
     → ((offset : ℕ) (old new : Input) (s : Set H) → read (set listing.header (2 ^ 64 - 1) offset) old ≡ Ok (s, new)
-    → HasOne (StandsForEntries listing.entry (listing.entries s)))
+    → HasOne (RepresentsEntries listing.entry (listing.entries s)))
     → HasOne (HasSets listing headers) → HasOne (ListsSection listing headers)
 one_section {H} listing headers entries sets =
     one_behind sets (λ items are. one_of_items (ListsSet listing) one_set are)

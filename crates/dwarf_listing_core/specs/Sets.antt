@@ -3,11 +3,11 @@ use Rattle.std.specs.Prelude.{◌≡◌, ℕ, ◌*◌, ◌-◌, ◌^◌, List, �
 use Rattle.dwarf_read_core.specs.declared.Error.{Error}
 use Rattle.dwarf_read_core.specs.declared.RunTimeEndian.{RunTimeEndian}
 use Rattle.dwarf_read_core.specs.Endian.{is_big_at_run_time}
-use Rattle.dwarf_read_core.specs.Entries.{Entries, StandsForEntries, string_offset}
+use Rattle.dwarf_read_core.specs.Entries.{Entries, RepresentsEntries, string_offset}
 use Rattle.dwarf_read_core.specs.ErrorText.{hexadecimal}
 use Rattle.dwarf_read_core.specs.Format.{word_size}
 use Rattle.dwarf_read_core.specs.Layout.{Layout, fixed}
-use Rattle.dwarf_read_core.specs.Sets.{Headers, Set, StandsForSets, address_header, addresses_of, string_offsets_header, string_offsets_of}
+use Rattle.dwarf_read_core.specs.Sets.{Headers, Set, RepresentsSets, address_header, addresses_of, string_offsets_header, string_offsets_of}
 use Rattle.dwarf_listing_core.specs.Items.{Joins, ListsItemsOf}
 use Rattle.dwarf_listing_core.specs.Lines.{line}
 
@@ -73,7 +73,7 @@ ListsLine line_of number listed = listed ≡ Ok (line_of number)
 abbrev pub ListsSet : {H : Type 0} → SetListing H → Set H → Result (List ℕ) Error → Type 0
 ListsSet listing s listed =
     Joins (Ok (listing.header_line s))
-    (ListsItemsOf (StandsForEntries listing.entry) (ListsLine listing.entry_line) (listing.entries s)) listed
+    (ListsItemsOf (RepresentsEntries listing.entry) (ListsLine listing.entry_line) (listing.entries s)) listed
 
 -- the sets of a whole section: the first one is at its start
 abbrev pub sets_section : RunTimeEndian → List ℕ → Headers
@@ -82,7 +82,7 @@ sets_section endian section =
 
 -- the items of the sets that remain, whose offsets have 64 bits
 abbrev pub HasSets : {H : Type 0} → SetListing H → Headers → List (Result (Set H) Error) → Type 0
-HasSets listing headers items = StandsForSets listing.header (2 ^ 64 - 1) headers items
+HasSets listing headers items = RepresentsSets listing.header (2 ^ 64 - 1) headers items
 
 -- the lines of all sets of a section, or its first error: that of a header, or that of a set's entries before the next
 -- header

@@ -23,7 +23,7 @@ pub fn exactly_one_listing()
     laws::exactly_one_answer();
     laws::exactly_one_strict_answer();
     laws::exactly_one_list_of_sets::<AddressSize>();
-    laws::exactly_one_list_of_entries();
+    laws::exactly_one_list_of_addresses();
     laws::exactly_one_list_of_sets::<()>();
     laws::exactly_one_list_of_string_offsets();
 }

@@ -7,16 +7,16 @@ pub use Rattle.std.proofs.lemmas.Result.{err_from_is_err_and}
 pub use Rattle.std.specs.FinMap.{entries, len, values, len-entries}
 pub use Rattle.dwarf_read_core.proofs.sets.SetBytes.{set-joined}
 pub use Rattle.dwarf_read_core.proofs.sets.Sets.{set-spans}
-pub use Rattle.dwarf_read_core.specs.Faults.{EndsBefore, WantsMemory, eof}
+pub use Rattle.dwarf_read_core.specs.Faults.{IsTooShort, CloneRanOutOfMemory, eof}
 pub use Rattle.dwarf_read_core.specs.Grammar.{Declaration, ByCode}
 pub use Rattle.dwarf_read_core.specs.Input.{Input, after}
-pub use Rattle.dwarf_read_core.specs.Leb128.{Kind, RefusesNumber}
-pub use Rattle.dwarf_read_core.specs.Sets.{HasSize, Headers, Set, StandsForSets, addresses_of, string_offsets_of}
+pub use Rattle.dwarf_read_core.specs.Leb128.{Kind, RejectsNumber}
+pub use Rattle.dwarf_read_core.specs.Sets.{HasSize, Headers, Set, RepresentsSets, addresses_of, string_offsets_of}
 pub use Rattle.dwarf_read_core.specs.Sets.{address_header-size, string_offsets_header-size}
 unfoldable pub use Rattle.dwarf_read_core.specs.Sets.{address_header, set, string_offsets_header}
 unfoldable pub use Rattle.dwarf_read_core.specs.Strings.{StringAt, string_at}
 pub use Rattle.dwarf_read_core.specs.declared.Error.{Error}
-pub use Rattle.dwarf_read_c.specs.Fault.{Refuses, fault_of, kind_of, IsKnown}
+pub use Rattle.dwarf_read_c.specs.Fault.{Rejects, fault_of, kind_of, IsKnown}
 pub use Rattle.dwarf_read_c.specs.Numbers.{LacksNumber, cut, bad}
 pub use Rattle.dwarf_read_c.specs.Sections.{section_of, part_of}
 pub use Rattle.dwarf_read_c.specs.Sets.{HasSet, LacksSet, TellsSet, set_at, set_from, outside, faulty}

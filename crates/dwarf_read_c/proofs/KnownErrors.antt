@@ -1,11 +1,11 @@
 -- The errors that a call for C can return have numbers of their own.
-use Rattle.dwarf_read_core.specs.Answer.{Answers, IsFault}
+use Rattle.dwarf_read_core.specs.Answer.{Answers, IsFirstError}
 use Rattle.dwarf_read_core.specs.Entries.{string_offset}
 use Rattle.dwarf_read_core.specs.InitialLength.{initial_length, long_length}
 use Rattle.dwarf_read_core.specs.Layout.{Layout}
 use Rattle.dwarf_read_core.specs.Words.{Slot, WordAt, AddressAt, to_slot, word, address}
 use Rattle.dwarf_read_core.proofs.LayoutErrors.{Names, At_error_has, error_has, number_names, byte_names, when_names, check_names}
-use Rattle.dwarf_read_c.proofs.Common.{◌≡◌, ℕ, List, Err, arith, Error, eof, Input, Kind, address_header, set, string_offsets_header, StringAt, string_at, DwarfFault, IsKnown, Refuses, fault_of, kind_of, LacksNumber, LacksSet, set_at, outside, faulty}
+use Rattle.dwarf_read_c.proofs.Common.{◌≡◌, ℕ, List, Err, arith, Error, eof, Input, Kind, address_header, set, string_offsets_header, StringAt, string_at, DwarfFault, IsKnown, Rejects, fault_of, kind_of, LacksNumber, LacksSet, set_at, outside, faulty}
 
 -- the error of bytes that begin with no number has a number of its own
 pub known_number : {k : Kind} {bytes : List ℕ} {e : Error} → LacksNumber k bytes e → IsKnown e
@@ -28,20 +28,20 @@ known_string section offset e is = At_error_has IsKnown known_end (string_at off
 -- a call that writes the error of a lookup of a word refuses the lookup
 pub word_refused : (greatest : ℕ) (s : Slot) (section : Input) {e : Error} {status : ℕ} {fault : DwarfFault}
     → WordAt greatest section s (Err e) → status ≡ kind_of e → fault ≡ fault_of e
-    → Refuses (λ e. WordAt greatest section s (Err e)) status fault
+    → Rejects (λ e. WordAt greatest section s (Err e)) status fault
 unfolding word to_slot string_offset
-word_refused greatest s section {e} is numbered told =
+word_refused greatest s section {e} is numbered reported =
     let known = At_error_has IsKnown known_end (word greatest s) (search (arith, names) depth 20) section is in
-    record { error = e; is = is; known = known; numbered = numbered; told = told }
+    record { error = e; is = is; known = known; numbered = numbered; reported = reported }
 
 -- a call that writes the error of a lookup of an address refuses the lookup
 pub address_refused : (greatest : ℕ) (s : Slot) (section : Input) {e : Error} {status : ℕ} {fault : DwarfFault}
     → AddressAt greatest section s (Err e) → status ≡ kind_of e → fault ≡ fault_of e
-    → Refuses (λ e. AddressAt greatest section s (Err e)) status fault
+    → Rejects (λ e. AddressAt greatest section s (Err e)) status fault
 unfolding address to_slot
-address_refused greatest s section {e} is numbered told =
+address_refused greatest s section {e} is numbered reported =
     let known = At_error_has IsKnown known_end (address greatest s) (search (arith, names) depth 20) section is in
-    record { error = e; is = is; known = known; numbered = numbered; told = told }
+    record { error = e; is = is; known = known; numbered = numbered; reported = reported }
 
 -- the error in place of a set has a number of its own, if each error of the header has
 known_set : {H : Type 0} {header : Layout H} {section : Input} {offset : ℕ} {e : Error} → Names IsKnown header
@@ -66,7 +66,7 @@ known_str_offset_set lacks = known_set (search (arith, names) depth 20) lacks
 -- ---- tables
 
 -- the first error of bytes that don't begin with a table has a number of its own
-known_first_error : {end : ℕ} {bytes : List ℕ} {e : Error} → IsFault end bytes e → IsKnown e
+known_first_error : {end : ℕ} {bytes : List ℕ} {e : Error} → IsFirstError end bytes e → IsKnown e
 known_first_error error = grind arith
 
 -- the error that a call returns in place of a table has a number of its own, also `OutOfMemory`

@@ -1,9 +1,9 @@
 -- Bytes that are read as an error, in place of a number, begin with no number.
-use Rattle.dwarf_read_c.proofs.Common.{◌≡◌, ℕ, List, length, arith, inl, inr, false, Error, eof, Input, Kind, RefusesNumber, DwarfFault, Refuses, fault_of, kind_of, LacksNumber, cut, bad, section_of}
+use Rattle.dwarf_read_c.proofs.Common.{◌≡◌, ℕ, List, length, arith, inl, inr, false, Error, eof, Input, Kind, RejectsNumber, DwarfFault, Rejects, fault_of, kind_of, LacksNumber, cut, bad, section_of}
 use Rattle.dwarf_read_c.proofs.KnownErrors.{known_number}
 
 -- the error of reading a number is the one that the bytes have in its place
-lacks_number : {k : Kind} {bytes : List ℕ} {e : Error} {new : Input} → RefusesNumber k (section_of bytes false) e new
+lacks_number : {k : Kind} {bytes : List ℕ} {e : Error} {new : Input} → RejectsNumber k (section_of bytes false) e new
     → LacksNumber k bytes e
 lacks_number {bytes = bytes} {e} (inl ends) =
     let same : e ≡ eof (length bytes) = grind arith in rw same (cut ends.cut)
@@ -11,8 +11,8 @@ lacks_number (inr no_number) = rw no_number.fault (bad no_number.bad)
 
 -- a call that writes the error of reading a number refuses the bytes
 pub number_refused : {k : Kind} {bytes : List ℕ} {e : Error} {new : Input} {status : ℕ} {fault : DwarfFault}
-    → RefusesNumber k (section_of bytes false) e new → status ≡ kind_of e → fault ≡ fault_of e
-    → Refuses (LacksNumber k bytes) status fault
-number_refused {e = e} refuses numbered told =
+    → RejectsNumber k (section_of bytes false) e new → status ≡ kind_of e → fault ≡ fault_of e
+    → Rejects (LacksNumber k bytes) status fault
+number_refused {e = e} refuses numbered reported =
     let is = lacks_number refuses in
-    record { error = e; is = is; known = known_number is; numbered = numbered; told = told }
+    record { error = e; is = is; known = known_number is; numbered = numbered; reported = reported }

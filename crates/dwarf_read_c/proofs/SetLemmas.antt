@@ -2,9 +2,9 @@
 use Rattle.dwarf_read_core.specs.Entries.{Entries}
 use Rattle.dwarf_read_core.specs.Format.{initial_length_size}
 use Rattle.dwarf_read_core.specs.Items.{ComesFirst}
-use Rattle.dwarf_read_core.specs.Layout.{AreItems, Layout, and_then, fault, more, none, read}
+use Rattle.dwarf_read_core.specs.Layout.{AreItems, Layout, and_then, first_error, more, none, read}
 use Rattle.dwarf_read_c.specs.declared.sets.DwarfSet.{DwarfSet}
-use Rattle.dwarf_read_c.proofs.Common.{◌≡◌, ◌≢◌, Bool, true, ℕ, ◌+◌, ◌-◌, ◌<◌, ◌≤◌, ◌^◌, List, [], ◌∷◌, length, drop, Result, Ok, Err, ap, subst, arith, ◌⊎◌, inl, inr, length-drop, common_steps, Error, EndsBefore, WantsMemory, Input, after, Headers, Set, StandsForSets, set, HasSize, set-joined, set-spans, section_of, HasSet, LacksSet, TellsSet, set_at, set_from, outside, faulty}
+use Rattle.dwarf_read_c.proofs.Common.{◌≡◌, ◌≢◌, Bool, true, ℕ, ◌+◌, ◌-◌, ◌<◌, ◌≤◌, ◌^◌, List, [], ◌∷◌, length, drop, Result, Ok, Err, ap, subst, arith, ◌⊎◌, inl, inr, length-drop, common_steps, Error, IsTooShort, CloneRanOutOfMemory, Input, after, Headers, Set, RepresentsSets, set, HasSize, set-joined, set-spans, section_of, HasSet, LacksSet, TellsSet, set_at, set_from, outside, faulty}
 
 -- what is known of a set that was found at an offset
 pub record FoundSet {H : Type 0} (header : Layout H) (section : Input) (offset : ℕ) (s : Set H) : Type 0 where
@@ -21,7 +21,7 @@ sets_from offset section = record { offset = 0; rest = after offset section }
 
 -- no set is at an offset past the end, and the error is that of missing bytes
 pub set_outside : {H : Type 0} {header : Layout H} {section : Input} {offset : ℕ} {e : Error} {new : Input}
-    → EndsBefore offset section e new → LacksSet header section offset e
+    → IsTooShort offset section e new → LacksSet header section offset e
 set_outside short = grind (arith, outside)
 
 -- if bytes remain from an offset on, the offset is below the length
@@ -44,7 +44,7 @@ first_reads (more {new = new} some reads others) = (some, new, reads)
 -- a first item that is an error is that of reading, and bytes remain before it
 first_fails : {A : Type 0} {item : ℕ → Layout A} {offset : ℕ} {old : Input} {e : Error} {items : List (Result A Error)}
     → AreItems item offset old (Err e ∷ items) → (old.bytes ≢ []) × (read (item offset) old ≡ Err e)
-first_fails (fault some fails) = (some, fails)
+first_fails (first_error some fails) = (some, fails)
 
 -- where there is no item, there are no bytes
 none_first : {A : Type 0} {item : ℕ → Layout A} {offset : ℕ} {old : Input} → AreItems item offset old []
@@ -54,20 +54,20 @@ none_first (none empty) = empty
 -- an offset from which on there is no item is the length of the section
 pub set_ended : {H : Type 0} (header : Layout H) (bytes : List ℕ) (is_big : Bool) {offset : ℕ} {old : Headers}
     → offset ≤ length bytes → old ≡ sets_from offset (section_of bytes is_big)
-    → StandsForSets header (2 ^ 64 - 1) old [] → offset ≡ length bytes
+    → RepresentsSets header (2 ^ 64 - 1) old [] → offset ≡ length bytes
 set_ended header bytes is_big {offset} {old} within start ended =
-    let empty = none_first (subst (λ (h : Headers). StandsForSets header (2 ^ 64 - 1) h []) start ended) in
+    let empty = none_first (subst (λ (h : Headers). RepresentsSets header (2 ^ 64 - 1) h []) start ended) in
     omega (arith, within, length-drop offset bytes, ap length empty)
 
 -- if the first item from an offset on is a set, the section has this set there
 pub set_found : {H : Type 0} {header : Layout H} {bytes : List ℕ} {is_big : Bool} {offset : ℕ} {old new : Headers}
     {s : Set H}
     → HasSize 4 header → old ≡ sets_from offset (section_of bytes is_big)
-    → ComesFirst (StandsForSets header (2 ^ 64 - 1)) old (Ok s) new
+    → ComesFirst (RepresentsSets header (2 ^ 64 - 1)) old (Ok s) new
     → FoundSet header (section_of bytes is_big) offset s
 set_found {H} {header} {bytes} {is_big} {offset} {old} {new} {s} has_four start given =
     let rest = after offset (section_of bytes is_big) in
-    let there = subst (λ (h : Headers). StandsForSets header (2 ^ 64 - 1) h (Ok s ∷ given.0.0)) start
+    let there = subst (λ (h : Headers). RepresentsSets header (2 ^ 64 - 1) h (Ok s ∷ given.0.0)) start
     (given.1 given.0.0 given.0.1) in
     let begins = first_reads there in
     let within = some_left bytes offset begins.0 in
@@ -90,20 +90,20 @@ set_found {H} {header} {bytes} {is_big} {offset} {old} {new} {s} has_four start 
 -- if the first item from an offset on is an error, the section has no set there, with this error
 pub set_lacked : {H P : Type 0} {header : Layout H} {bytes : List ℕ} {is_big : Bool} {offset : ℕ} {old new : Headers}
     {e : Error} → old ≡ sets_from offset (section_of bytes is_big)
-    → ComesFirst (StandsForSets header (2 ^ 64 - 1)) old (Err e) new ⊎ (WantsMemory true e × P)
+    → ComesFirst (RepresentsSets header (2 ^ 64 - 1)) old (Err e) new ⊎ (CloneRanOutOfMemory true e × P)
     → LacksSet header (section_of bytes is_big) offset e
 set_lacked {header = header} {bytes} {is_big} {offset} {old} {new} {e} start (inl given) =
-    let there = subst (λ (h : Headers). StandsForSets header (2 ^ 64 - 1) h (Err e ∷ given.0.0)) start
+    let there = subst (λ (h : Headers). RepresentsSets header (2 ^ 64 - 1) h (Err e ∷ given.0.0)) start
     (given.1 given.0.0 given.0.1) in
     let begins = first_fails there in
     faulty e (some_left bytes offset begins.0) (rw (set-elsewhere header offset, begins.1))
 set_lacked start (inr want) = let costs = want.0.costs in absurd (cc)
 
 -- what is written for C describes a set that was found
-pub set_told : {H : Type 0} {header : Layout H} {section : Input} {offset : ℕ} {s : Set H} {told : DwarfSet}
+pub set_told : {H : Type 0} {header : Layout H} {section : Input} {offset : ℕ} {s : Set H} {reported : DwarfSet}
     (entries_of : Set H → Entries) (width : ℕ)
     → entries_of (record s { offset = offset }) ≡ record { width = width; rest = s.entries }
-    → FoundSet header section offset s → told ≡ set_from offset s.format s.unit_length width
-    → TellsSet header entries_of section offset told
+    → FoundSet header section offset s → reported ≡ set_from offset s.format s.unit_length width
+    → TellsSet header entries_of section offset reported
 set_told {offset = offset} {s} entries_of width entries found is =
     rw is (record { s = record s { offset = offset }; has = found.has; is = rw (entries, found.first, found.rest) })

@@ -50,12 +50,12 @@ abbrev pub IsKnown : Error → Type 0
 IsKnown error = kind_of error ≤ 19
 
 -- a call returns an error with the property: the status is its number, and `fault` has its number and value
-pub record Refuses (Is : Error → Type 0) (status : ℕ) (fault : DwarfFault) : Type 0 where
+pub record Rejects (Is : Error → Type 0) (status : ℕ) (fault : DwarfFault) : Type 0 where
   pub error : Error
   pub is : Is error
   pub known : IsKnown error
   pub numbered : status ≡ kind_of error
-  pub told : fault ≡ fault_of error
+  pub reported : fault ≡ fault_of error
 
 -- the error with a value, if the value is below a bound
 abbrev pub with_value_below : ℕ → (ℕ → Error) → ℕ → Option Error

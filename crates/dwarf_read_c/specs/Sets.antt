@@ -40,10 +40,10 @@ shown s entries next = record {
 
 -- what is written for C describes a set that begins at an offset, and its entries
 pub record TellsSet {H : Type 0} (header : Layout H) (entries_of : Set H → Entries) (section : Input) (offset : ℕ)
-    (told : DwarfSet) : Type 0 where
+    (reported : DwarfSet) : Type 0 where
   pub s : Set H
-  pub has : HasSet header section offset told.next s
-  pub is : told ≡ shown s (entries_of s) told.next
+  pub has : HasSet header section offset reported.next s
+  pub is : reported ≡ shown s (entries_of s) reported.next
 
 -- a set whose header has four bytes, by its offset, format, length and size of entries
 abbrev pub set_from : ℕ → Format → ℕ → ℕ → DwarfSet

@@ -18,7 +18,7 @@ pub struct DwarfFault {
 
 // Returns the number and the value of an error. The header has the list of numbers.
 fn fault_of(error: Error) -> DwarfFault
-    ensures told { result ≡ fault_of error }
+    ensures reported { result ≡ fault_of error }
     ensures refused { 0 < result.kind }
 {
     let (kind, value) = match error {
@@ -48,7 +48,7 @@ fn fault_of(error: Error) -> DwarfFault
 
 // Writes the error of a call, and returns its number.
 pub(crate) fn refuse(error: Error, fault: &mut DwarfFault) -> u32
-    ensures told { fault.new ≡ fault_of error }
+    ensures reported { fault.new ≡ fault_of error }
     ensures status { result ≡ kind_of error }
     ensures refused { 0 < result }
 {

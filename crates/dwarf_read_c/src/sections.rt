@@ -4,7 +4,7 @@ ghost use Rattle.std.specs.Prelude.{◌≡◌, ◌≢◌, ◌^◌, ◌-◌, fals
 ghost use Rattle.dwarf_read_core.specs.Endian.{is_big_at_run_time};
 ghost use Rattle.dwarf_read_core.specs.Strings.{StringAt};
 ghost use Rattle.dwarf_read_core.specs.Words.{AddressAt, WordAt, slot};
-ghost use Rattle.dwarf_read_c.specs.Fault.{Refuses};
+ghost use Rattle.dwarf_read_c.specs.Fault.{Rejects};
 ghost use Rattle.dwarf_read_c.specs.Sections.{offset_size, part_of, section_of};
 
 use crate::fault::{DwarfFault, refuse};
@@ -32,7 +32,7 @@ pub extern "C" fn dwarf_string(
     ensures found { let s = section_of section.now false in
         result ≡ DWARF_OK → StringAt s offset (Ok (part_of s offset len.new)) }
     ensures refused { let s = section_of section.now false in
-        result ≢ DWARF_OK → Refuses (λ e. StringAt s offset (Err e)) result fault.new }
+        result ≢ DWARF_OK → Rejects (λ e. StringAt s offset (Err e)) result fault.new }
     ensures no_length { result ≢ DWARF_OK → len.new ≡ len.old }
     ensures no_fault { result ≡ DWARF_OK → fault.new ≡ fault.old }
 {
@@ -71,7 +71,7 @@ pub extern "C" fn dwarf_str_offset(
         result ≡ DWARF_OK → WordAt (2 ^ 64 - 1) s place (Ok offset.new) }
     ensures refused { let s = section_of section.now is_big in
         let place = slot base index (offset_size is_64) in
-        result ≢ DWARF_OK → Refuses (λ e. WordAt (2 ^ 64 - 1) s place (Err e)) result fault.new }
+        result ≢ DWARF_OK → Rejects (λ e. WordAt (2 ^ 64 - 1) s place (Err e)) result fault.new }
     ensures no_offset { result ≢ DWARF_OK → offset.new ≡ offset.old }
     ensures no_fault { result ≡ DWARF_OK → fault.new ≡ fault.old }
 {
@@ -116,7 +116,7 @@ pub extern "C" fn dwarf_address(
     ensures found { let s = section_of section.now is_big in
         result ≡ DWARF_OK → AddressAt (2 ^ 64 - 1) s (slot base index size) (Ok address.new) }
     ensures refused { let s = section_of section.now is_big in result ≢ DWARF_OK
-        → Refuses (λ e. AddressAt (2 ^ 64 - 1) s (slot base index size) (Err e)) result fault.new }
+        → Rejects (λ e. AddressAt (2 ^ 64 - 1) s (slot base index size) (Err e)) result fault.new }
     ensures no_address { result ≢ DWARF_OK → address.new ≡ address.old }
     ensures no_fault { result ≡ DWARF_OK → fault.new ≡ fault.old }
 {

@@ -1,11 +1,11 @@
 //! Sets of addresses (DWARF 5, 7.27) and of string offsets (7.26).
 
 ghost use Rattle.std.specs.Prelude.{◌≡◌, ◌≢◌, ◌+◌, ◌<◌, ◌≤◌, ◌^◌, length, IfOk, IfErr, IfSome, IfNone};
-ghost use Rattle.dwarf_read_core.specs.Faults.{EndsBefore};
+ghost use Rattle.dwarf_read_core.specs.Faults.{IsTooShort};
 ghost use Rattle.dwarf_read_core.specs.Format.{initial_length_size};
 ghost use Rattle.dwarf_read_core.specs.Input.{Takes};
 ghost use Rattle.dwarf_read_core.specs.Sets.{address_header, addresses_of, string_offsets_header, string_offsets_of};
-ghost use Rattle.dwarf_read_c.specs.Fault.{Refuses};
+ghost use Rattle.dwarf_read_c.specs.Fault.{Rejects};
 ghost use Rattle.dwarf_read_c.specs.Sections.{section_of};
 ghost use Rattle.dwarf_read_c.specs.Sets.{LacksSet, TellsSet, set_from};
 
@@ -68,7 +68,7 @@ pub extern "C" fn dwarf_address_set(
         result ≡ DWARF_OK → TellsSet address_header addresses_of s offset set.new }
     ensures end { result ≡ DWARF_END → (offset ≡ length section.now) × (fault.new ≡ fault.old) }
     ensures refused { let s = section_of section.now is_big in result ≢ DWARF_OK
-        → result ≢ DWARF_END → Refuses (LacksSet address_header s offset) result fault.new }
+        → result ≢ DWARF_END → Rejects (LacksSet address_header s offset) result fault.new }
     ensures no_set { result ≢ DWARF_OK → set.new ≡ set.old }
     ensures no_fault { result ≡ DWARF_OK → fault.new ≡ fault.old }
 {
@@ -113,7 +113,7 @@ pub extern "C" fn dwarf_str_offset_set(
         result ≡ DWARF_OK → TellsSet string_offsets_header string_offsets_of s offset set.new }
     ensures end { result ≡ DWARF_END → (offset ≡ length section.now) × (fault.new ≡ fault.old) }
     ensures refused { let s = section_of section.now is_big in result ≢ DWARF_OK
-        → result ≢ DWARF_END → Refuses (LacksSet string_offsets_header s offset) result fault.new }
+        → result ≢ DWARF_END → Rejects (LacksSet string_offsets_header s offset) result fault.new }
     ensures no_set { result ≢ DWARF_OK → set.new ≡ set.old }
     ensures no_fault { result ≡ DWARF_OK → fault.new ≡ fault.old }
 {
@@ -173,7 +173,7 @@ fn bytes_from<'input>(
     ensures ok { let reader = ⟦<EndianSlice<'input, RunTimeEndian> as Reader>⟧ in IfOk result
         (λ rest. Takes offset (section_of section.now is_big) (reader.view rest)) }
     ensures err { let s = section_of section.now is_big in
-        IfErr result (λ e. EndsBefore offset s e s) }
+        IfErr result (λ e. IsTooShort offset s e s) }
 {
     let mut bytes = EndianSlice::new(section, order(is_big));
     bytes.skip(offset)?;

@@ -4,7 +4,7 @@ ghost use Rattle.std.specs.Prelude.{◌≡◌, ◌≢◌, ◌≤◌, ◌<◌, �
 ghost use Rattle.std.specs.FinMap as finite;
 ghost use Rattle.dwarf_read_core.specs.Answer.{Answer, Answers};
 ghost use Rattle.dwarf_read_core.specs.Grammar.{Table, attribute_count};
-ghost use Rattle.dwarf_read_c.specs.Fault.{Refuses};
+ghost use Rattle.dwarf_read_c.specs.Fault.{Rejects};
 ghost use Rattle.dwarf_read_c.specs.Room.{Fills};
 ghost use Rattle.dwarf_read_c.specs.Sections.{section_of};
 ghost use Rattle.dwarf_read_c.specs.Tables.{LacksRoom, abbreviations_of, attribute_of, attributes_of, bit_of, measure_of};
@@ -82,7 +82,7 @@ pub extern "C" fn dwarf_table_measure(
     ensures measured { let s = section_of section.now false in result ≡ DWARF_OK
         → (t : Table) × Answer s offset (Ok t) × (measure.new ≡ measure_of t) }
     ensures refused { let s = section_of section.now false in result ≢ DWARF_OK
-        → Refuses (λ e. Answers (Err e) s offset) result fault.new }
+        → Rejects (λ e. Answers (Err e) s offset) result fault.new }
     ensures no_measure { result ≢ DWARF_OK → measure.new ≡ measure.old }
     ensures no_fault { result ≡ DWARF_OK → fault.new ≡ fault.old }
 {
@@ -126,7 +126,7 @@ pub extern "C" fn dwarf_table_read(
         × (fault.new ≡ fault.old) }
     ensures refused { let s = section_of section.now false in
         result ≢ DWARF_OK → result ≢ DWARF_NO_ROOM
-        → Refuses (λ e. Answers (Err e) s offset) result fault.new × (measure.new ≡ measure.old) }
+        → Rejects (λ e. Answers (Err e) s offset) result fault.new × (measure.new ≡ measure.old) }
     ensures no_items { result ≢ DWARF_OK
         → (abbreviations.new ≡ abbreviations.old) × (attributes.new ≡ attributes.old) }
     ensures no_fault { result ≡ DWARF_OK → fault.new ≡ fault.old }

@@ -23,7 +23,7 @@ pub extern "C" fn dwarf_fault_text(
     text: &mut [u8],
     len: &mut usize,
 ) -> u32
-    ensures told { let error = error_from fault.now.kind fault.now.value in
+    ensures reported { let error = error_from fault.now.kind fault.now.value in
         result ≢ DWARF_OUT_OF_MEMORY
         → PutsName (option_map error_text error) text.old text.new len.old len.new result }
     ensures no_text { result ≡ DWARF_OUT_OF_MEMORY → (text.new ≡ text.old) × (len.new ≡ len.old) }

@@ -3,7 +3,7 @@ use Rattle.std.proofs.Common.{arith, Bool, true, false, cond, refl, ◌≡◌, �
 use Rattle.dwarf_base_core.specs.declared.error.Error.TheVariants.{OutOfMemory}
 use Rattle.dwarf_base_core.specs.declared.error.Error.{Error}
 use Rattle.dwarf_read_core.specs.Lookups.{AnswersBy}
-use Rattle.dwarf_read_core.specs.Reading.{◌>>=◌, Gives}
+use Rattle.dwarf_read_core.specs.Reading.{◌>>=◌, ReturnsUnlessOutOfMemory}
 
 -- a result is a value with one property, or an error with another
 pub data HasOutcome {A : Type 0} (Good : A → Type 0) (Bad : Error → Type 0) : Result A Error → Type 0 where
@@ -36,7 +36,7 @@ outcome-ok h x e = grind arith
 
 -- an error that `?` propagates is the one that the function reads, unless memory ran out
 pub gives_err : {X Y : Type 0} (view : X → Y) {read : Result Y Error} {e : Error} (result : Result X Error)
-    → IsErrAnd result (λ x. x ≡ e) → (e ≢ OutOfMemory → read ≡ Err e) → Gives view result read
+    → IsErrAnd result (λ x. x ≡ e) → (e ≢ OutOfMemory → read ≡ Err e) → ReturnsUnlessOutOfMemory view result read
 gives_err view result h step = grind arith
 
 -- an error that `?` propagates is the result of the lookup

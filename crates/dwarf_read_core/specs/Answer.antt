@@ -2,10 +2,10 @@
 use Rattle.std.specs.Prelude.{◌≡◌, ◌≢◌, ℕ, ◌<◌, ◌≤◌, ◌⊎◌, List, [], ◌∷◌, ◌++◌, length, drop, Result, Ok, Err, ⊤, if◌then◌else◌}
 use Rattle.dwarf_base_core.specs.declared.error.Error.{Error}
 use Rattle.dwarf_base_core.specs.declared.error.Error.TheVariants.{AbbreviationTagZero, InvalidAbbreviationChildren, AttributeNameZero, AttributeFormZero, DuplicateAbbreviationCode, OutOfMemory, UnterminatedAbbreviations}
-use Rattle.dwarf_reader_core.specs.Leb128.{Kind, unsigned64, unsigned16, signed64, refusal, IsNumber, IsCut, IsBad}
+use Rattle.dwarf_reader_core.specs.Leb128.{Kind, unsigned64, unsigned16, signed64, overflow_error, IsNumber, IsTruncated, IsMalformed}
 use Rattle.dwarf_reader_core.specs.Faults.{eof, end_fault}
 use Rattle.dwarf_reader_core.specs.Input.{Input, end_of}
-use Rattle.dwarf_reader_core.specs.Appended.{IsNoEof}
+use Rattle.dwarf_reader_core.specs.Appended.{IsNotEof}
 use Rattle.dwarf_read_core.specs.Grammar.{Declaration, implicit_const, Table, by_null, is_by_null, IsCode, IsHead, IsFront, IsDeclaration, Declares, AreDeclarations, IsTable}
 
 -- the beginning of a declaration, up to a number of this kind
@@ -20,37 +20,38 @@ pub data IsBeginning : List ℕ → Kind → Type 0 where
       → IsBeginning (bytes ++ name ++ form) signed64
 
 -- bytes that begin like a declaration, and then have this error
-pub data IsFaulty (end : ℕ) : List ℕ → Error → Type 0 where
-  number_cut : (front bytes : List ℕ) (k : Kind) → IsBeginning front k → IsCut k bytes
-      → IsFaulty end (front ++ bytes) (eof end)
-  number_bad : (front bytes : List ℕ) (k : Kind) → IsBeginning front k → IsBad k bytes
-      → IsFaulty end (front ++ bytes) (refusal k)
-  children_cut : (front : List ℕ) (code tag : ℕ) → IsHead front code tag → IsFaulty end front (eof end)
+pub data HasError (end : ℕ) : List ℕ → Error → Type 0 where
+  number_cut : (front bytes : List ℕ) (k : Kind) → IsBeginning front k → IsTruncated k bytes
+      → HasError end (front ++ bytes) (eof end)
+  number_bad : (front bytes : List ℕ) (k : Kind) → IsBeginning front k → IsMalformed k bytes
+      → HasError end (front ++ bytes) (overflow_error k)
+  children_cut : (front : List ℕ) (code tag : ℕ) → IsHead front code tag → HasError end front (eof end)
   tag_zero : (front tag rest : List ℕ) (code : ℕ) → IsCode front code → IsNumber unsigned16 tag 0
-      → IsFaulty end (front ++ tag ++ rest) AbbreviationTagZero
+      → HasError end (front ++ tag ++ rest) AbbreviationTagZero
   children_bad : (front rest : List ℕ) (code tag byte : ℕ) → IsHead front code tag → 1 < byte
-      → IsFaulty end (front ++ byte ∷ rest) (InvalidAbbreviationChildren (record { 0 = byte }))
+      → HasError end (front ++ byte ∷ rest) (InvalidAbbreviationChildren (record { 0 = byte }))
   name_zero : (front name form rest : List ℕ) (d : Declaration) (f : ℕ) → IsFront front d
       → IsNumber unsigned16 name 0 → IsNumber unsigned16 form f → 0 < f
-      → IsFaulty end (front ++ name ++ form ++ rest) AttributeNameZero
+      → HasError end (front ++ name ++ form ++ rest) AttributeNameZero
   form_zero : (front name form rest : List ℕ) (d : Declaration) (n : ℕ) → IsFront front d
       → IsNumber unsigned16 name n → 0 < n → IsNumber unsigned16 form 0
-      → IsFaulty end (front ++ name ++ form ++ rest) AttributeFormZero
+      → HasError end (front ++ name ++ form ++ rest) AttributeFormZero
 
 -- the first error of bytes that don't begin with a table
-pub data IsFault (end : ℕ) : List ℕ → Error → Type 0 where
+pub data IsFirstError (end : ℕ) : List ℕ → Error → Type 0 where
   in_declaration : (bytes rest : List ℕ) (ds : List Declaration) (e : Error) → AreDeclarations bytes ds → rest ≢ []
-      → IsFaulty end rest e → IsFault end (bytes ++ rest) e
+      → HasError end rest e → IsFirstError end (bytes ++ rest) e
   repeated : (bytes declaration rest : List ℕ) (ds : List Declaration) (d : Declaration) → AreDeclarations bytes ds
       → IsDeclaration declaration d → Declares ds d.code
-      → IsFault end (bytes ++ declaration ++ rest) (DuplicateAbbreviationCode d.code)
+      → IsFirstError end (bytes ++ declaration ++ rest) (DuplicateAbbreviationCode d.code)
 
 -- the result for a section and an offset: the table there, or the first error
 pub data Answer (section : Input) (offset : ℕ) : Result Table Error → Type 0 where
   outside : length section.bytes < offset → Answer section offset (Err (end_fault section))
   table : (t : Table) → offset ≤ length section.bytes → IsTable (drop offset section.bytes) t
       → Answer section offset (Ok t)
-  fault : (e : Error) → offset ≤ length section.bytes → IsFault (end_of section) (drop offset section.bytes) e
+  first_error : (e : Error) → offset ≤ length section.bytes
+      → IsFirstError (end_of section) (drop offset section.bytes) e
       → Answer section offset (Err e)
 
 -- what a call returned is the section's result at the offset, unless memory ran out
@@ -61,7 +62,7 @@ Answers (Err e) section offset = e ≢ OutOfMemory → Answer section offset (Er
 -- a result that doesn't depend on where the section ends
 abbrev pub IsFinal : Result Table Error → Type 0
 IsFinal (Ok t) = t.close ≡ by_null
-IsFinal (Err e) = IsNoEof e
+IsFinal (Err e) = IsNotEof e
 
 -- the offsets at which no memory is needed: past the end, at the end, or at a code of value 0
 abbrev pub TakesNoMemory : Input → ℕ → Type 0
@@ -92,4 +93,4 @@ AnswersStrictly (Err e) section offset = e ≢ OutOfMemory → StrictAnswer sect
 -- and `UnterminatedAbbreviations`
 abbrev pub IsStrictlyFinal : Result Table Error → Type 0
 IsStrictlyFinal (Ok t) = ⊤
-IsStrictlyFinal (Err e) = IsNoEof e × ((position : ℕ) → e ≢ unterminated position)
+IsStrictlyFinal (Err e) = IsNotEof e × ((position : ℕ) → e ≢ unterminated position)

@@ -37,8 +37,8 @@ abbrev pub Cache : Type 0
 Cache = finite.FinMap nat_cmp (Result Table Error)
 
 -- the cache keeps no `OutOfMemory`
-abbrev pub KeepsNoWant : Cache → Type 0
-KeepsNoWant cache = (key : ℕ) → finite.get cache key ≢ Some (Err OutOfMemory)
+abbrev pub KeepsNoOutOfMemory : Cache → Type 0
+KeepsNoOutOfMemory cache = (key : ℕ) → finite.get cache key ≢ Some (Err OutOfMemory)
 
 -- how often an offset has to occur to be kept
 abbrev pub least_count : AbbreviationsCacheStrategy → ℕ
@@ -74,8 +74,8 @@ pub record GivesBeforeError {S T : Type 0} (steps : S → Option (Result T Error
   pub ends : EndsItems last
 
 -- the first call of `next` yields an item, or `OutOfMemory`
-abbrev pub GivesSome : {S T : Type 0} → (S → Option (Result T Error) → S → Type 0) → S → Type 0
-GivesSome {S = S} {T = T} steps from =
+abbrev pub HasFirstItem : {S T : Type 0} → (S → Option (Result T Error) → S → Type 0) → S → Type 0
+HasFirstItem {S = S} {T = T} steps from =
     (first : Result T Error) × (left : S) × steps from (Some first) left
     × MatchResult first (λ _. ⊤) (λ e. e ≡ OutOfMemory)
 
@@ -88,8 +88,8 @@ pub record NamesOffsets {S T : Type 0} (steps : S → Option (Result T Error) �
 
 -- a kept table is returned shared, unless memory to share it runs out; a kept error is returned unchanged, and isn't
 -- `OutOfMemory`
-abbrev pub HandsOut : {Z : Type 0} → Result Table Error → Result (Rc Table Z) Error → Type 0
-HandsOut kept result =
+abbrev pub ReturnsKept : {Z : Type 0} → Result Table Error → Result (Rc Table Z) Error → Type 0
+ReturnsKept kept result =
     MatchResult kept (λ table. MatchResult result (λ shared. shared.value ≡ table) (λ e. e ≡ OutOfMemory))
     (λ e. (result ≡ Err e) × (e ≢ OutOfMemory))
 

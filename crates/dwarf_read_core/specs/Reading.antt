@@ -4,7 +4,7 @@ use Rattle.std.specs.Prelude.{◌≡◌, ◌≢◌, ℕ, zero, suc, ◌+◌, Boo
 use Rattle.std.specs.FinMap.{contains_key, insert}
 use Rattle.dwarf_base_core.specs.declared.error.Error.{Error}
 use Rattle.dwarf_base_core.specs.declared.error.Error.TheVariants.{AbbreviationTagZero, InvalidAbbreviationChildren, AttributeNameZero, AttributeFormZero, DuplicateAbbreviationCode, OutOfMemory}
-use Rattle.dwarf_reader_core.specs.Leb128.{Kind, Number, unsigned64, unsigned16, signed64, limit, value, is_in_range, refusal}
+use Rattle.dwarf_reader_core.specs.Leb128.{Kind, Number, unsigned64, unsigned16, signed64, limit, value, is_in_range, overflow_error}
 use Rattle.dwarf_reader_core.specs.Faults.{eof}
 use Rattle.dwarf_reader_core.specs.Layout.{and_then, with_byte}
 use Rattle.dwarf_read_core.specs.Grammar.{Specification, Declaration, implicit_const, ByCode, Table, closed, Close, by_null, by_end}
@@ -14,9 +14,9 @@ abbrev pub ◌>>=◌ : {A B : Type 0} → Result A Error → (A → Result B Err
 r >>= f = and_then r f
 
 -- what a call returned, seen by a view, is what the function reads, unless memory ran out
-abbrev pub Gives : {X Y : Type 0} → (X → Y) → Result X Error → Result Y Error → Type 0
-Gives view (Ok x) read = read ≡ Ok (view x)
-Gives view (Err e) read = e ≢ OutOfMemory → read ≡ Err e
+abbrev pub ReturnsUnlessOutOfMemory : {X Y : Type 0} → (X → Y) → Result X Error → Result Y Error → Type 0
+ReturnsUnlessOutOfMemory view (Ok x) read = read ≡ Ok (view x)
+ReturnsUnlessOutOfMemory view (Err e) read = e ≢ OutOfMemory → read ≡ Err e
 
 -- the bytes up to the first one below 128, at most n of them, and the bytes behind
 unfoldable pub encoding_at : ℕ → List ℕ → Option (List ℕ × List ℕ)
@@ -25,8 +25,8 @@ encoding_at (suc n) [] = None
 encoding_at (suc n) (b ∷ bytes) = if nat_lt b 128 then Some (b ∷ [], bytes) else with_byte b (encoding_at n bytes)
 
 abbrev pub number_from : (k : Kind) → ℕ → List ℕ → Option (List ℕ × List ℕ) → Result (Number k × List ℕ) Error
-number_from k end bytes None = if nat_lt (length bytes) (limit k) then Err (eof end) else Err (refusal k)
-number_from k end bytes (Some x) = if is_in_range k (value k x.0) then Ok (value k x.0, x.1) else Err (refusal k)
+number_from k end bytes None = if nat_lt (length bytes) (limit k) then Err (eof end) else Err (overflow_error k)
+number_from k end bytes (Some x) = if is_in_range k (value k x.0) then Ok (value k x.0, x.1) else Err (overflow_error k)
 
 unfoldable pub number_at : (k : Kind) → ℕ → List ℕ → Result (Number k × List ℕ) Error
 number_at k end bytes = number_from k end bytes (encoding_at (limit k) bytes)

@@ -8,8 +8,8 @@ use Rattle.dwarf_read_core.specs.declared.read.abbrev.abbreviation.TableEntry.Th
 
 -- the attributes that are collected: those of the second list, or the first ones of the first list if it is empty
 abbrev pub collected : ℕ → List Specification → List Specification → List Specification
-collected n near [] = take n near
-collected n near (s ∷ far) = s ∷ far
+collected n scratch [] = take n scratch
+collected n scratch (s ∷ overflow) = s ∷ overflow
 
 -- the declaration with this head and these attributes
 abbrev pub with_attributes : List Specification → Head → Declaration

@@ -6,7 +6,7 @@ use Rattle.dwarf_base_core.specs.Number.{number_of}
 use Rattle.dwarf_reader_core.specs.Faults.{end_fault, is_number_size}
 use Rattle.dwarf_reader_core.specs.Input.{Input, after}
 use Rattle.dwarf_read_core.specs.Entries.{string_offset}
-use Rattle.dwarf_reader_core.specs.Layout.{Layout, read, At, fixed, part, check, ◌>>=◌}
+use Rattle.dwarf_reader_core.specs.Layout.{Layout, read, ReadsAs, fixed, part, check, ◌>>=◌}
 
 -- one of the numbers that follow each other from a base on, each of `width` bytes
 pub record Slot : Type 0 where
@@ -86,8 +86,8 @@ address greatest s = do
 
 -- the word of a slot of a section, or the first error
 abbrev pub WordAt : ℕ → Input → Slot → Result ℕ Error → Type 0
-WordAt greatest section s answer = At (word greatest s) section answer
+WordAt greatest section s answer = ReadsAs (word greatest s) section answer
 
 -- the address of a slot of a section, or the first error
 abbrev pub AddressAt : ℕ → Input → Slot → Result ℕ Error → Type 0
-AddressAt greatest section s answer = At (address greatest s) section answer
+AddressAt greatest section s answer = ReadsAs (address greatest s) section answer

@@ -8,17 +8,17 @@ ghost use Rattle.dwarf_base_core.specs.Format.{initial_length_size};
 ghost use Rattle.dwarf_reader_core.specs.Input.{Input, Takes, after};
 ghost use Rattle.dwarf_reader_core.specs.InitialLength.{HasLength};
 ghost use Rattle.dwarf_reader_core.specs.Once.{HasOne};
-ghost use Rattle.dwarf_reader_core.specs.Appended.{followed_by, IsNoEof};
+ghost use Rattle.dwarf_reader_core.specs.Appended.{followed_by, IsNotEof};
 ghost use Rattle.dwarf_read_core.specs.Answer.{Answer, IsFinal, IsStrictlyFinal, StrictAnswer};
 ghost use Rattle.dwarf_read_core.specs.Cache.{KeepsAnswers};
 ghost use Rattle.dwarf_read_core.specs.Equality.{HasValueByForm, same_declaration};
 ghost use Rattle.dwarf_read_core.specs.Grammar.{Declaration, Table};
-ghost use Rattle.dwarf_read_core.specs.Entries.{Entries, StandsForAddresses, StandsForStringOffsets};
+ghost use Rattle.dwarf_read_core.specs.Entries.{Entries, RepresentsAddresses, RepresentsStringOffsets};
 ghost use Rattle.dwarf_read_core.specs.Items.{least_taken};
 ghost use Rattle.dwarf_reader_core.specs.Layout.{read};
 ghost use Rattle.dwarf_read_core.specs.Ranges.{HasNoRange, HoldsRange, RangeAt};
 ghost use Rattle.dwarf_read_core.specs.SetBytes.{AreNumbers, HasAddressHeader, HasNoAddressHeader, HasNoSet, HasNoStringOffsetsHeader, HasStringOffsetsHeader, IsJoined};
-ghost use Rattle.dwarf_read_core.specs.Sets.{Headers, Set, StandsForSets, address_header, followed_headers, set, string_offsets_header};
+ghost use Rattle.dwarf_read_core.specs.Sets.{Headers, Set, RepresentsSets, address_header, followed_headers, set, string_offsets_header};
 ghost use Rattle.dwarf_read_core.specs.Strings.{HasNoString, HoldsString, StringAt};
 ghost use Rattle.dwarf_read_core.specs.Words.{AddressAt, HasNoAddress, HasNoWord, Holds, Slot, WordAt};
 
@@ -119,7 +119,7 @@ pub fn slots_hold_numbers()
 #[tactic(auto, using(crate::proofs::lookups::Words::word_more))]
 pub fn appended_bytes_change_no_word()
     ensures { (greatest : ℕ) (section : Input) (s : Slot) (answer : Result ℕ Error) (more : List ℕ)
-        → WordAt greatest section s answer → IfErr answer IsNoEof
+        → WordAt greatest section s answer → IfErr answer IsNotEof
         → WordAt greatest (followed_by section more) s answer }
 {}
 
@@ -128,7 +128,7 @@ pub fn appended_bytes_change_no_word()
 #[tactic(auto, using(crate::proofs::lookups::Words::address_more))]
 pub fn appended_bytes_change_no_address()
     ensures { (greatest : ℕ) (section : Input) (s : Slot) (answer : Result ℕ Error) (more : List ℕ)
-        → AddressAt greatest section s answer → IfErr answer IsNoEof
+        → AddressAt greatest section s answer → IfErr answer IsNotEof
         → AddressAt greatest (followed_by section more) s answer }
 {}
 
@@ -147,9 +147,9 @@ pub fn ranges_are_parts()
 /// one byte.
 pub fn exactly_one_list_of_sets<H: HeaderFields>()
     ensures one { (greatest : ℕ) (headers : Headers)
-        → HasOne (StandsForSets H.layout greatest headers) }
+        → HasOne (RepresentsSets H.layout greatest headers) }
     ensures bound { (greatest : ℕ) (headers : Headers) (items : List (Result (Set H) Error))
-        → StandsForSets H.layout greatest headers items
+        → RepresentsSets H.layout greatest headers items
         → sum_by (least_taken (4 + H.BYTES)) items ≤ length headers.rest.bytes }
 {}
 
@@ -204,19 +204,19 @@ pub fn string_offsets_headers_have_fields()
 #[tactic(auto, using(crate::proofs::sets::EntryBytes::addresses_are_numbers, crate::proofs::sets::EntryBytes::string_offsets_are_numbers))]
 pub fn entries_are_numbers()
     ensures address { (entries : Entries) (items : List (Result ℕ Error))
-        → StandsForAddresses entries items → AreNumbers (λ x. true) entries 0 items }
+        → RepresentsAddresses entries items → AreNumbers (λ x. true) entries 0 items }
     ensures string_offset { (greatest : ℕ) (entries : Entries) (items : List (Result ℕ Error))
-        → StandsForStringOffsets greatest entries items
+        → RepresentsStringOffsets greatest entries items
         → AreNumbers (λ x. nat_le x greatest) entries 0 items }
 {}
 
 /// The bytes that remain of a set have exactly one list of addresses, and then at most one error.
 /// An address has as many bytes as its size, and an error takes up at least one byte.
 #[tactic(auto, using(crate::proofs::sets::Entries::addresses_exactly_one, crate::proofs::sets::Entries::addresses_bounded))]
-pub fn exactly_one_list_of_entries()
-    ensures one { (entries : Entries) → 0 < entries.width → HasOne (StandsForAddresses entries) }
+pub fn exactly_one_list_of_addresses()
+    ensures one { (entries : Entries) → 0 < entries.width → HasOne (RepresentsAddresses entries) }
     ensures bound { (entries : Entries) (items : List (Result ℕ Error))
-        → StandsForAddresses entries items
+        → RepresentsAddresses entries items
         → sum_by (least_taken entries.width) items ≤ length entries.rest.bytes }
 {}
 
@@ -225,9 +225,9 @@ pub fn exactly_one_list_of_entries()
 #[tactic(auto, using(crate::proofs::sets::Entries::string_offsets_exactly_one, crate::proofs::sets::Entries::string_offsets_bounded))]
 pub fn exactly_one_list_of_string_offsets()
     ensures one { (greatest : ℕ) (entries : Entries) → 0 < entries.width
-        → HasOne (StandsForStringOffsets greatest entries) }
+        → HasOne (RepresentsStringOffsets greatest entries) }
     ensures bound { (greatest : ℕ) (entries : Entries) (items : List (Result ℕ Error))
-        → StandsForStringOffsets greatest entries items
+        → RepresentsStringOffsets greatest entries items
         → sum_by (least_taken entries.width) items ≤ length entries.rest.bytes }
 {}
 
@@ -237,10 +237,10 @@ pub fn exactly_one_list_of_string_offsets()
 pub fn appended_bytes_change_no_set<H: HeaderFields>()
     ensures set { (greatest : ℕ) (headers : Headers) (s : Set H)
         (items others : List (Result (Set H) Error)) (more : List ℕ)
-        → StandsForSets H.layout greatest headers (Ok s ∷ items)
-        → StandsForSets H.layout greatest (followed_headers more headers) others
+        → RepresentsSets H.layout greatest headers (Ok s ∷ items)
+        → RepresentsSets H.layout greatest (followed_headers more headers) others
         → (rest : List (Result (Set H) Error)) × (others ≡ Ok s ∷ rest) }
     ensures error { (greatest : ℕ) (headers : Headers) (e : Error) (more : List ℕ)
-        → StandsForSets H.layout greatest headers (Err e ∷ []) → IsNoEof e
-        → StandsForSets H.layout greatest (followed_headers more headers) (Err e ∷ []) }
+        → RepresentsSets H.layout greatest headers (Err e ∷ []) → IsNotEof e
+        → RepresentsSets H.layout greatest (followed_headers more headers) (Err e ∷ []) }
 {}

@@ -6,7 +6,7 @@ pub use Rattle.std.proofs.Common.{◌-ℤ◌, nat_le, if◌then◌else◌, lt-lt
 pub use Rattle.std.proofs.Common.{⊎_elim, true, false, take_all, length-take-le, take-append-drop, cond, Option, None}
 pub use Rattle.std.proofs.Common.{Some, Result, Err, bit_and, IfErr, IsErrAnd, ◌/◌, rules, length-take}
 pub use Rattle.dwarf_reader_core.specs.Leb128.{Kind, Number, value, signed_value, is_in_range, signed64, IsEncoding}
-pub use Rattle.dwarf_reader_core.specs.Leb128.{NoneIsLast, limit, Outcome, Value, End, Bad, HasNumber, IsCut}
+pub use Rattle.dwarf_reader_core.specs.Leb128.{NoneIsLast, limit, Outcome, Value, End, Bad, HasNumber, IsTruncated}
 pub use Rattle.dwarf_reader_core.specs.Leb128.{HasOutcome, unsigned64, unsigned16, unsigned_value, is_negative}
 pub use Rattle.dwarf_reader_core.specs.Input.{Input, after, first, IsFirst, TakesString, Takes, TakesNumber, TakesByte}
 pub use Rattle.std.proofs.lemmas.Grind.{common_steps}
@@ -17,9 +17,9 @@ pub use Rattle.std.proofs.lemmas.List.{length-set, length-append, take-append-le
 pub use Rattle.std.proofs.Math.Nat.{add_assoc, add-zero, add_comm, pow-suc, mul_comm, mul-sub, pow-le-pow_right}
 pub use Rattle.std.proofs.lemmas.Bool.{cases_lt, lt-leb, false≢true}
 pub use Rattle.std.proofs.lemmas.List.Elements.{All-nil, All-cons, All-head, All-tail}
-pub use Rattle.dwarf_reader_core.specs.Faults.{Lacks, end_fault, EndsBefore, eof}
-pub use Rattle.dwarf_reader_core.specs.Layout.{ended, Layout, and_then, split_at, part, pure, refuse, when◌then◌else◌}
-pub use Rattle.dwarf_reader_core.specs.Layout.{◌>>=◌, inside, At, alone}
+pub use Rattle.dwarf_reader_core.specs.Faults.{HasNoByte, end_fault, IsTooShort, eof}
+pub use Rattle.dwarf_reader_core.specs.Layout.{until, Layout, and_then, split_at, part, pure, fail, when◌then◌else◌}
+pub use Rattle.dwarf_reader_core.specs.Layout.{◌>>=◌, inside, ReadsAs, without_rest}
 pub use Rattle.dwarf_reader_core.specs.Shortest.{IsPadded, IsShortest, Encodes}
 pub use Rattle.dwarf_reader_core.specs.Once.{HasOne}
 pub use Rattle.std.proofs.lemmas.Nat.{shl_whole, pow-add, and_mask}

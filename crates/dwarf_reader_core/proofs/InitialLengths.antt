@@ -1,5 +1,5 @@
 -- An initial length is a number of four or eight bytes, and without one bytes are missing, reserved or too great.
-use Rattle.dwarf_reader_core.proofs.Common.{◌≡◌, ◌∙◌, ℕ, ◌<◌, ◌≤◌, length, Bool, true, false, Ok, refl, sym, subst, arith, inl, inr, All, take, length-take-le, Error, Input, TakesNumber, if◌then◌else◌, when◌then◌else◌, pure, refuse}
+use Rattle.dwarf_reader_core.proofs.Common.{◌≡◌, ◌∙◌, ℕ, ◌<◌, ◌≤◌, length, Bool, true, false, Ok, refl, sym, subst, arith, inl, inr, All, take, length-take-le, Error, Input, TakesNumber, if◌then◌else◌, when◌then◌else◌, pure, fail}
 use Rattle.std.proofs.Common.{ltb, ltb-true, leb-true, leb-false}
 use Rattle.std.proofs.lemmas.Bool.{ltb-false}
 use Rattle.std.proofs.lemmas.List.Elements.{All-take}
@@ -64,7 +64,7 @@ module _ (greatest : ℕ) {old : Input} (bytes : All (λ b. b < 256) old.bytes) 
     -- the first four bytes are a length, unless they are reserved or announce one
     short_held : {new : Input} {format : Format} {n : ℕ} (b c : Bool) → ltb first 0xffff_fff0 ≡ b
         → ltb first 0xffff_ffff ≡ c
-        → read (when b then pure (Dwarf32, first) else when c then refuse (UnknownReservedLength first) else
+        → read (when b then pure (Dwarf32, first) else when c then fail (UnknownReservedLength first) else
         long_length greatest) mid ≡ Ok ((format, n), new) → HasLength greatest old format n new
     unfolding read
     short_held {new} true c low q is =
@@ -77,7 +77,7 @@ module _ (greatest : ℕ) {old : Input} (bytes : All (λ b. b < 256) old.bytes) 
 
     -- without a length in the first four bytes or behind them, they are reserved, or there is none behind them
     short_none : {new : Input} {e : Error} (b c : Bool) → ltb first 0xffff_fff0 ≡ b → ltb first 0xffff_ffff ≡ c
-        → FailsAt (when b then pure (Dwarf32, first) else when c then refuse (UnknownReservedLength first) else
+        → FailsAt (when b then pure (Dwarf32, first) else when c then fail (UnknownReservedLength first) else
         long_length greatest) mid e new → HasNoLength greatest old e new
     unfolding read remains
     short_none true c low q fails = absurd (pure_failed _ _ fails)

@@ -1,14 +1,14 @@
 -- Every error of a layout has a property if the errors that the layout contains have it.
-use Rattle.dwarf_reader_core.proofs.Common.{arith, ℕ, Bool, true, false, Result, Ok, Err, ◌≡◌, subst, ⊤, IfErr, Error, eof, Input, Layout, part, ended, pure, refuse, inside, ◌>>=◌, when◌then◌else◌, At}
+use Rattle.dwarf_reader_core.proofs.Common.{arith, ℕ, Bool, true, false, Result, Ok, Err, ◌≡◌, subst, ⊤, IfErr, Error, eof, Input, Layout, part, until, pure, fail, inside, ◌>>=◌, when◌then◌else◌, ReadsAs}
 use Rattle.dwarf_reader_core.specs.Layout.{read, fixed, byte, check}
 use Rattle.dwarf_reader_core.proofs.Layouts.{Outcome}
 
 -- every error that the layout itself contains has the property
 abbrev pub Names : {A : Type 0} → (Error → Type 0) → Layout A → Type 0
 Names P (part n) = ⊤
-Names P (ended end) = ⊤
+Names P (until end) = ⊤
 Names P (pure a) = ⊤
-Names P (refuse e) = P e
+Names P (fail e) = P e
 Names P (inside unit f) = Names P f
 Names P (p >>= f) = Names P p × ((x : _) → Names P (f x))
 
@@ -22,9 +22,9 @@ module _ (P : Error → Type 0) (ends : (position : ℕ) → P (eof position)) w
   pub errors : {A : Type 0} (f : Layout A) → Names P f → (old : Input) → IfFails P (read f old)
   unfolding read
   errors (part n) h old = grind (arith, ends)
-  errors (ended end) h old = grind (arith, ends)
+  errors (until end) h old = grind (arith, ends)
   errors (pure a) h old = tt
-  errors (refuse e) h old = h
+  errors (fail e) h old = h
   errors (inside unit f) h old = grind (arith, (errors f h unit))
   errors (p >>= f) h old = grind (arith, (errors p h.0 old), (λ (x : _ × Input). errors (f x.0) (h.1 x.0) x.1))
 
@@ -34,7 +34,7 @@ module _ (P : Error → Type 0) (ends : (position : ℕ) → P (eof position)) w
 
   -- the error at the front of a section has the property
   pub At_error_has : {A : Type 0} (f : Layout A) → Names P f → (section : Input) {answer : Result A Error}
-      → At f section answer → IfErr answer P
+      → ReadsAs f section answer → IfErr answer P
   At_error_has {A} f h section {answer} is = grind (arith, errors)
 
 module _ (P : Error → Type 0) where
@@ -56,4 +56,4 @@ module _ (P : Error → Type 0) where
   -- a check contains its error
   pub check_names : (b : Bool) (e : Error) → P e → Names P (check b e)
   unfolding check
-  check_names b e is = when_names b (pure tt) (refuse e) tt is
+  check_names b e is = when_names b (pure tt) (fail e) tt is

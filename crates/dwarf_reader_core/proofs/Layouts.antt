@@ -1,8 +1,8 @@
 -- Laws of layouts: steps of reading, exactly one outcome, appended bytes, the front of the bytes, and how many are
 -- consumed.
-use Rattle.dwarf_reader_core.proofs.Common.{common_steps, inl, inr, ◌⊎◌, ◌≡◌, ℕ, zero, suc, ◌+◌, ◌-◌, ◌≤◌, take, drop, Bool, true, false, List, [], ◌∷◌, ◌++◌, length, Option, None, Some, Result, Ok, Err, refl, sym, ap, subst, ◌∙◌, arith, lt-leb, length-append, length-drop, length-take-le, take-append-le, drop-append-le, All-head, All-tail, IfErr, ⊤, ◌≢◌, All, Error, EndsBefore, Lacks, Input, first, Takes, TakesByte, TakesNumber, TakesString, IsFirst, Layout, and_then, split_at, part, ended, pure, refuse, when◌then◌else◌, ◌>>=◌, inside, At, alone, HasOne}
+use Rattle.dwarf_reader_core.proofs.Common.{common_steps, inl, inr, ◌⊎◌, ◌≡◌, ℕ, zero, suc, ◌+◌, ◌-◌, ◌≤◌, take, drop, Bool, true, false, List, [], ◌∷◌, ◌++◌, length, Option, None, Some, Result, Ok, Err, refl, sym, ap, subst, ◌∙◌, arith, lt-leb, length-append, length-drop, length-take-le, take-append-le, drop-append-le, All-head, All-tail, IfErr, ⊤, ◌≢◌, All, Error, IsTooShort, HasNoByte, Input, first, Takes, TakesByte, TakesNumber, TakesString, IsFirst, Layout, and_then, split_at, part, until, pure, fail, when◌then◌else◌, ◌>>=◌, inside, ReadsAs, without_rest, HasOne}
 use Rattle.std.proofs.Math.Seq.{drop-append-add}
-use Rattle.dwarf_reader_core.specs.Appended.{followed_by, IsNoEof}
+use Rattle.dwarf_reader_core.specs.Appended.{followed_by, IsNotEof}
 use Rattle.dwarf_reader_core.specs.Layout.{FailsAt, read, remains, remains_behind, fixed, byte, check}
 
 -- ---- steps of reading
@@ -38,7 +38,7 @@ unfolding read
 part_reads {n} {old} is takes = grind arith
 
 -- a part fails with `UnexpectedEof` if the input has fewer bytes
-pub part_fails : {n : ℕ} {old new : Input} {e : Error} → EndsBefore n old e new → read (part n) old ≡ Err e
+pub part_fails : {n : ℕ} {old new : Input} {e : Error} → IsTooShort n old e new → read (part n) old ≡ Err e
 unfolding read
 part_fails {n} {old} short = rw (lt-leb n (length old.bytes) short.short) (λ i. Err ((sym short.fault) i))
 
@@ -48,7 +48,7 @@ unfolding read fixed
 number_reads {n} {old} takes = grind arith
 
 -- a number fails with `UnexpectedEof` if the input has fewer bytes
-pub number_fails : {n : ℕ} {old new : Input} {e : Error} → EndsBefore n old e new → read (fixed n) old ≡ Err e
+pub number_fails : {n : ℕ} {old new : Input} {e : Error} → IsTooShort n old e new → read (fixed n) old ≡ Err e
 unfolding fixed
 number_fails short = then_fails _ _ _ (part_fails short)
 
@@ -73,12 +73,12 @@ split-none end (b ∷ bytes) none =
     grind (arith, (All-head (λ x. x ≢ end) b bytes none))
 
 -- a string that a reader reads is read by its layout
-pub string_reads : {old string new : Input} → TakesString old string new → read (ended 0) old ≡ Ok (string, new)
+pub string_reads : {old string new : Input} → TakesString old string new → read (until 0) old ≡ Ok (string, new)
 unfolding read
 string_reads {old} {string} {new} t = rw (split-first 0 old.bytes t.len t.ends) (grind (arith, length-take-le))
 
 -- a string fails with `UnexpectedEof` if no byte is zero
-pub string_fails : {old : Input} {e : Error} → Lacks 0 old e → read (ended 0) old ≡ Err e
+pub string_fails : {old : Input} {e : Error} → HasNoByte 0 old e → read (until 0) old ≡ Err e
 unfolding read
 string_fails {old} none = grind (arith, split-none)
 
@@ -89,7 +89,7 @@ module _ {B : Type 0} where
   after_number f takes rest = then_reads _ f _ (number_reads takes) ∙ rest
 
   -- a number and what follows it fail with the error of the number
-  pub no_number : {n : ℕ} {old new : Input} {e : Error} (f : ℕ → Layout B) → EndsBefore n old e new
+  pub no_number : {n : ℕ} {old new : Input} {e : Error} (f : ℕ → Layout B) → IsTooShort n old e new
       → read (fixed n >>= f) old ≡ Err e
   no_number f short = then_fails _ f _ (number_fails short)
 
@@ -99,7 +99,7 @@ module _ {B : Type 0} where
   after_part f is takes rest = then_reads _ f _ (part_reads is takes) ∙ rest
 
   -- a part and what follows it fail with the error of the part
-  pub no_part : {n : ℕ} {old new : Input} {e : Error} (f : Input → Layout B) → EndsBefore n old e new
+  pub no_part : {n : ℕ} {old new : Input} {e : Error} (f : Input → Layout B) → IsTooShort n old e new
       → read (part n >>= f) old ≡ Err e
   no_part f short = then_fails _ f _ (part_fails short)
 
@@ -194,7 +194,7 @@ then_failed {A} {B} p f old {e} {new} fails = go (read p old) refl
     })
 
 -- if a part failed, fewer bytes remain
-pub part_failed : (n : ℕ) (old : Input) {e : Error} {new : Input} → FailsAt (part n) old e new → EndsBefore n old e new
+pub part_failed : (n : ℕ) (old : Input) {e : Error} {new : Input} → FailsAt (part n) old e new → IsTooShort n old e new
 unfolding read remains
 part_failed n old {e} {new} fails = grind arith
 
@@ -205,7 +205,7 @@ pure_failed a old fails = let is = fails.fault in cc
 
 -- if a number failed, fewer bytes remain
 pub number_failed : (n : ℕ) (old : Input) {e : Error} {new : Input} → FailsAt (fixed n) old e new
-    → EndsBefore n old e new
+    → IsTooShort n old e new
 unfolding fixed
 number_failed n old fails =
     elim (then_failed _ _ old fails) [
@@ -214,7 +214,7 @@ number_failed n old fails =
     ]
 
 -- if a byte failed, no byte remains
-pub byte_failed : (old : Input) {e : Error} {new : Input} → FailsAt byte old e new → EndsBefore 1 old e new
+pub byte_failed : (old : Input) {e : Error} {new : Input} → FailsAt byte old e new → IsTooShort 1 old e new
 unfolding byte
 byte_failed old fails =
     elim (then_failed _ _ old fails) [
@@ -239,35 +239,35 @@ inside_failed {A} unit f old {e} {new} fails = grind arith
 -- ---- exactly one outcome
 
 -- a section has exactly one value or error at its front
-pub At_one : {A : Type 0} (f : Layout A) (section : Input) → HasOne (At f section)
-At_one f section = (alone (read f section), refl, λ other is. is)
+pub ReadsAs_one : {A : Type 0} (f : Layout A) (section : Input) → HasOne (ReadsAs f section)
+ReadsAs_one f section = (without_rest (read f section), refl, λ other is. is)
 
 -- a value that is read at the front of a section is its result there
-pub At_value : {A : Type 0} (f : Layout A) (section : Input) {new : Input} {x : A} → read f section ≡ Ok (x, new)
-    → At f section (Ok x)
-At_value f section is = sym (ap alone is)
+pub ReadsAs_value : {A : Type 0} (f : Layout A) (section : Input) {new : Input} {x : A} → read f section ≡ Ok (x, new)
+    → ReadsAs f section (Ok x)
+ReadsAs_value f section is = sym (ap without_rest is)
 
 -- an error at the front of a section is its result there
-pub At_error : {A : Type 0} (f : Layout A) (section : Input) {e : Error} → read f section ≡ Err e
-    → At f section (Err e)
-At_error f section is = sym (ap alone is)
+pub ReadsAs_error : {A : Type 0} (f : Layout A) (section : Input) {e : Error} → read f section ≡ Err e
+    → ReadsAs f section (Err e)
+ReadsAs_error f section is = sym (ap without_rest is)
 
 -- if the result at the front of a section is a value, that value was read
-pub At_read : {A : Type 0} (f : Layout A) (section : Input) {x : A} → At f section (Ok x)
+pub At_read : {A : Type 0} (f : Layout A) (section : Input) {x : A} → ReadsAs f section (Ok x)
     → (new : Input) × (read f section ≡ Ok (x, new))
 At_read {A} f section {x} is = go (read f section) refl is
   where
-    go : (r : Outcome A) → read f section ≡ r → ◌≡◌ {A = Result A Error} (Ok x) (alone r)
+    go : (r : Outcome A) → read f section ≡ r → ◌≡◌ {A = Result A Error} (Ok x) (without_rest r)
         → (new : Input) × (read f section ≡ Ok (x, new))
     go (Ok (y, new)) q h = let same : x ≡ y = cc in (new, q ∙ λ i. Ok ((sym same) i, new))
     go (Err e) q h = absurd cc
 
 -- if the result at the front of a section is an error, reading fails with it
-pub At_failed : {A : Type 0} (f : Layout A) (section : Input) {e : Error} → At f section (Err e)
+pub At_failed : {A : Type 0} (f : Layout A) (section : Input) {e : Error} → ReadsAs f section (Err e)
     → FailsAt f section e (remains f section)
 At_failed {A} f section {e} is = record { fault = go (read f section) is; left = refl }
   where
-    go : (r : Outcome A) → ◌≡◌ {A = Result A Error} (Err e) (alone r) → r ≡ Err e
+    go : (r : Outcome A) → ◌≡◌ {A = Result A Error} (Err e) (without_rest r) → r ≡ Err e
     go (Ok x) h = absurd cc
     go (Err d) h = let same : d ≡ e = cc in λ i. Err (same i)
 
@@ -276,7 +276,7 @@ At_failed {A} f section {e} is = record { fault = go (read f section) is; left =
 -- a result with more bytes behind is the same value, or the same error unless that is an `UnexpectedEof`
 abbrev Stays : {A : Type 0} → List ℕ → Outcome A → Outcome A → Type 0
 Stays more (Ok x) longer = longer ≡ Ok (x.0, followed_by x.1 more)
-Stays more (Err e) longer = IsNoEof e → longer ≡ Err e
+Stays more (Err e) longer = IsNotEof e → longer ≡ Err e
 
 -- the outcome of two layouts in a row stays if the outcome of each does
 then-stays : {A B : Type 0} (more : List ℕ) (f : A → Layout B)
@@ -300,9 +300,9 @@ stays : {A : Type 0} (f : Layout A) (more : List ℕ) (old : Input)
     → Stays more (read f old) (read f (followed_by old more))
 unfolding read
 stays (part n) more old = grind (arith, length-append, take-append-le, drop-append-le)
-stays (ended end) more old = grind (arith, (split-stays end old.bytes more))
+stays (until end) more old = grind (arith, (split-stays end old.bytes more))
 stays (pure a) more old = refl
-stays (refuse e) more old = λ settled. refl
+stays (fail e) more old = λ settled. refl
 stays (inside unit f) more old = grind arith
 stays (p >>= f) more old =
     then-stays more f (λ x. stays (f x.0) more x.1) (read p old) (read p (followed_by old more)) (stays p more old)
@@ -313,21 +313,21 @@ pub read_more : {A : Type 0} (f : Layout A) (more : List ℕ) (old : Input) {new
 read_more f more old is = subst (λ (r : Outcome _). Stays more r (read f (followed_by old more))) is (stays f more old)
 
 -- an error, unless it is an `UnexpectedEof`, is still the error with more bytes behind
-pub error_more : {A : Type 0} (f : Layout A) (more : List ℕ) (old : Input) {e : Error} → IsNoEof e
+pub error_more : {A : Type 0} (f : Layout A) (more : List ℕ) (old : Input) {e : Error} → IsNotEof e
     → read f old ≡ Err e → read f (followed_by old more) ≡ Err e
 error_more f more old settled is =
     subst (λ (r : Outcome _). Stays more r (read f (followed_by old more))) is (stays f more old) settled
 
 -- more bytes behind a section don't change the result at its front, unless that is an `UnexpectedEof`
-pub At_more : {A : Type 0} (f : Layout A) (section : Input) (answer : Result A Error) (more : List ℕ)
-    → At f section answer → IfErr answer IsNoEof → At f (followed_by section more) answer
-At_more {A} f section answer more is settled =
-    is ∙ sym (go (read f section) (stays f more section) (subst (λ (a : Result A Error). IfErr a IsNoEof) is settled))
+pub ReadsAs_more : {A : Type 0} (f : Layout A) (section : Input) (answer : Result A Error) (more : List ℕ)
+    → ReadsAs f section answer → IfErr answer IsNotEof → ReadsAs f (followed_by section more) answer
+ReadsAs_more {A} f section answer more is settled =
+    is ∙ sym (go (read f section) (stays f more section) (subst (λ (a : Result A Error). IfErr a IsNotEof) is settled))
   where
-    go : (r : Outcome A) → Stays more r (read f (followed_by section more)) → IfErr (alone r) IsNoEof
-        → alone (read f (followed_by section more)) ≡ alone r
-    go (Ok x) same settled = ap alone same
-    go (Err e) same settled = ap alone (same settled)
+    go : (r : Outcome A) → Stays more r (read f (followed_by section more)) → IfErr (without_rest r) IsNotEof
+        → without_rest (read f (followed_by section more)) ≡ without_rest r
+    go (Ok x) same settled = ap without_rest same
+    go (Err e) same settled = ap without_rest (same settled)
 
 -- ---- the front of the bytes
 
@@ -358,10 +358,10 @@ pub read_front : {A : Type 0} (f : Layout A) (old : Input) {new : Input} {x : A}
     → (n : ℕ) × Takes n old new
 unfolding read
 read_front (part n) old is = (n, (part_read n old is).1)
-read_front (ended end) old {new} {x} is =
+read_front (until end) old {new} {x} is =
     (length x.bytes + 1, grind (arith, split-parts, length-append, drop-append-add))
 read_front (pure a) old is = (0, subst (Takes 0 old) (sym (pure_read a old is).1) (takes-nothing old))
-read_front (refuse e) old is = absurd cc
+read_front (fail e) old is = absurd cc
 read_front (inside unit f) old is = (0, subst (Takes 0 old) (sym (inside_read unit f old is).1) (takes-nothing old))
 read_front (p >>= f) old is =
     let h = then_read p f old is in
@@ -408,9 +408,9 @@ module _ {A : Type 0} {credit : ℕ} {size : A → ℕ} where
   }
 
   -- an error spans any size, as it returns no value
-  pub refuse_spans : {e : Error} → Spans credit size (refuse e)
+  pub fail_spans : {e : Error} → Spans credit size (fail e)
   unfolding read
-  refuse_spans = record { by = λ old new x is. absurd cc }
+  fail_spans = record { by = λ old new x is. absurd cc }
 
   -- a choice between two layouts spans the size of its value
   pub when_spans : {f g : Layout A} (b : Bool) → Spans credit size f → Spans credit size g
@@ -439,7 +439,7 @@ byte_spans = then_spans (part_spans 1) (λ i. pure_spans (omega arith))
 -- a check consumes no bytes
 pub check_spans : (b : Bool) (e : Error) → Spans 0 (λ _. 0) (check b e)
 unfolding check
-check_spans b e = when_spans b (pure_spans refl) refuse_spans
+check_spans b e = when_spans b (pure_spans refl) fail_spans
 
 -- a layout inside a part consumes no bytes behind the part
 pub inside_spans : {A : Type 0} (unit : Input) (f : Layout A) → Spans 0 (λ _. 0) (inside unit f)

@@ -1,5 +1,5 @@
 -- Bytes have exactly one outcome as a string.
-use Rattle.dwarf_reader_core.proofs.Common.{◌≡◌, ◌≢◌, ℕ, zero, suc, ◌+◌, take, refl, sym, subst, ◌∙◌, arith, ◌⊎◌, inl, inr, Ok, List, [], ◌∷◌, All, All-nil, All-cons, Error, Input, after, first, IsFirst, TakesString, Lacks, end_fault, ended}
+use Rattle.dwarf_reader_core.proofs.Common.{◌≡◌, ◌≢◌, ℕ, zero, suc, ◌+◌, take, refl, sym, subst, ◌∙◌, arith, ◌⊎◌, inl, inr, Ok, List, [], ◌∷◌, All, All-nil, All-cons, Error, Input, after, first, IsFirst, TakesString, HasNoByte, end_fault, until}
 use Rattle.dwarf_reader_core.specs.Layout.{FailsAt, read}
 use Rattle.dwarf_reader_core.proofs.Layouts.{string_reads, string_fails}
 
@@ -11,7 +11,7 @@ one_string old s t x y a b =
     (λ i. (same i).0, λ i. (same i).1)
 
 -- bytes that begin with a string have a zero byte
-pub string_or_none : (old s x : Input) (e : Error) → TakesString old s x → Lacks 0 old e → ⊥
+pub string_or_none : (old s x : Input) (e : Error) → TakesString old s x → HasNoByte 0 old e → ⊥
 string_or_none old s x e a b = let both = sym (string_reads a) ∙ string_fails b in cc
 
 -- bytes have no zero byte, or a first zero byte at some index
@@ -34,7 +34,7 @@ zero_or_none (suc b ∷ bytes) =
 
 -- bytes begin with a string, or have no zero byte
 abbrev pub HasString : Input → Type 0
-HasString old = ((s : Input) × (x : Input) × TakesString old s x) ⊎ ((e : Error) × Lacks 0 old e)
+HasString old = ((s : Input) × (x : Input) × TakesString old s x) ⊎ ((e : Error) × HasNoByte 0 old e)
 
 -- every input begins with a string, or has no zero byte
 pub some_string : (old : Input) → HasString old
@@ -48,7 +48,7 @@ some_string old =
     ]
 
 -- a string that is read is the bytes before the first zero byte
-pub string_was_read : {old string new : Input} → read (ended 0) old ≡ Ok (string, new) → TakesString old string new
+pub string_was_read : {old string new : Input} → read (until 0) old ≡ Ok (string, new) → TakesString old string new
 string_was_read {old} {string} {new} is =
     elim (some_string old) [
       | inl found ↦
@@ -59,12 +59,12 @@ string_was_read {old} {string} {new} is =
     ]
 
 -- if no string is read, no byte is zero
-pub string_failed : {old new : Input} {e : Error} → FailsAt (ended 0) old e new → Lacks 0 old e
+pub string_failed : {old new : Input} {e : Error} → FailsAt (until 0) old e new → HasNoByte 0 old e
 string_failed {old} {new} {e} fails =
     elim (some_string old) [
       | inl found ↦ absurd (let both = sym (string_reads found.2) ∙ fails.fault in cc)
       | inr none ↦
           let both = sym (string_fails none.1) ∙ fails.fault in
           let same : none.0 ≡ e = cc in
-          subst (Lacks 0 old) same none.1
+          subst (HasNoByte 0 old) same none.1
     ]

@@ -1,5 +1,5 @@
 -- Every list of bytes has exactly one outcome.
-use Rattle.dwarf_reader_core.proofs.Common.{◌≡◌, ℕ, zero, suc, ◌<◌, ◌≤◌, List, [], ◌∷◌, length, take, drop, refl, sym, ap, ◌∙◌, arith, inl, inr, ◌⊎◌, Bool, true, false, take_all, length-take-le, take-append-drop, cases_lt, IsEncoding, NoneIsLast, Kind, Number, value, limit, is_in_range, Outcome, Value, End, Bad, HasNumber, IsCut, HasOutcome, HasOne}
+use Rattle.dwarf_reader_core.proofs.Common.{◌≡◌, ℕ, zero, suc, ◌<◌, ◌≤◌, List, [], ◌∷◌, length, take, drop, refl, sym, ap, ◌∙◌, arith, inl, inr, ◌⊎◌, Bool, true, false, take_all, length-take-le, take-append-drop, cases_lt, IsEncoding, NoneIsLast, Kind, Number, value, limit, is_in_range, Outcome, Value, End, Bad, HasNumber, IsTruncated, HasOutcome, HasOne}
 use Rattle.dwarf_reader_core.proofs.Encodings.{IsEncoding-cons, past_none, same_encoding}
 
 -- an encoding at the front ends within the bound
@@ -48,7 +48,7 @@ same_length bytes m n p q s t =
 
 module _ (k : Kind) (bytes : List ℕ) where
   -- bytes that begin with an encoding aren't cut
-  cut_apart : (n : ℕ) → n ≤ length bytes → IsEncoding (take n bytes) → IsCut k bytes → ⊥
+  cut_apart : (n : ℕ) → n ≤ length bytes → IsEncoding (take n bytes) → IsTruncated k bytes → ⊥
   cut_apart n enough encoding cut =
       let none : NoneIsLast (take (length bytes) bytes) =
       rw (take_all (length bytes) bytes (omega arith)) cut.unended in

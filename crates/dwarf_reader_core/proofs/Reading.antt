@@ -1,7 +1,7 @@
 -- Reading a LEB128 number, one byte after the other.
-use Rattle.dwarf_reader_core.proofs.Common.{common_steps, List, ◌-◌, ◌≡◌, ℕ, ◌+◌, ◌*◌, ◌%◌, ◌^◌, ◌<◌, ◌≤◌, [], ◌∷◌, ◌++◌, length, get_or, take, refl, sym, ap, ◌∙◌, arith, inl, inr, IsTrue, ◌↔◌, ◌≢◌, Bool, ℤ, pos, ◌-ℤ◌, nat_le, if◌then◌else◌, lt-ltb, ltb-true, bit_or, to_z, of_z, w64, FitsSigned, add_assoc, add-zero, length-take-le, drop-drop, take_all, Error, EndsBefore, IsFirst, length-drop, Input, after, Takes, TakesByte, ints, to_z-of_z}
+use Rattle.dwarf_reader_core.proofs.Common.{common_steps, List, ◌-◌, ◌≡◌, ℕ, ◌+◌, ◌*◌, ◌%◌, ◌^◌, ◌<◌, ◌≤◌, [], ◌∷◌, ◌++◌, length, get_or, take, refl, sym, ap, ◌∙◌, arith, inl, inr, IsTrue, ◌↔◌, ◌≢◌, Bool, ℤ, pos, ◌-ℤ◌, nat_le, if◌then◌else◌, lt-ltb, ltb-true, bit_or, to_z, of_z, w64, FitsSigned, add_assoc, add-zero, length-take-le, drop-drop, take_all, Error, IsTooShort, IsFirst, length-drop, Input, after, Takes, TakesByte, ints, to_z-of_z}
 use Rattle.dwarf_base_core.specs.declared.error.Error.TheVariants.{BadUnsignedLeb128, BadSignedLeb128}
-use Rattle.dwarf_reader_core.specs.Leb128.{unsigned64, unsigned16, signed64, IsEncoding, NoneIsLast, unsigned_value, signed_value, is_negative, Kind, Number, value as value_of, limit, is_in_range, refusal, HasNumber, IsCut, ReadsNumber, RefusesNumber, LacksEncoding, TakesEncoding}
+use Rattle.dwarf_reader_core.specs.Leb128.{unsigned64, unsigned16, signed64, IsEncoding, NoneIsLast, unsigned_value, signed_value, is_negative, Kind, Number, value as value_of, limit, is_in_range, overflow_error, HasNumber, IsTruncated, ReadsNumber, RejectsNumber, LacksEncoding, TakesEncoding}
 use Rattle.dwarf_reader_core.proofs.Encodings.{in_range_i64, IsEncoding-cons, NoneIsLast-push, IsEncoding-push, IsEncoding-last, unsigned_value-push, worth_below, past_none, is_negative-push}
 use Rattle.dwarf_reader_core.proofs.Bits.{pow_digits, or_digit, tenth_out}
 
@@ -42,7 +42,7 @@ pub begun_below_nine : {old mid : Input} {k value : ℕ} → Begun old k mid val
 begun_below_nine b nine = rw nine at (begun_below b)
 
 -- without a byte behind the first k, all bytes are consumed and no encoding ends in them
-pub begun_cut : {old mid new : Input} {k value : ℕ} {e : Error} → Begun old k mid value → EndsBefore 1 mid e new
+pub begun_cut : {old mid new : Input} {k value : ℕ} {e : Error} → Begun old k mid value → IsTooShort 1 mid e new
     → LacksEncoding old e new × (k ≡ length old.bytes)
 begun_cut {old} {k = k} b ends =
     let all : k ≡ length old.bytes = grind (arith, common_steps) in
@@ -57,10 +57,10 @@ begun_cut {old} {k = k} b ends =
 
 -- a number that bytes are missing for, within the limit of its kind, is refused
 pub cut_refuses : {old mid new : Input} {k value : ℕ} {e : Error} (kind : Kind) → Begun old k mid value
-    → k < limit kind → EndsBefore 1 mid e new → RefusesNumber kind old e new
+    → k < limit kind → IsTooShort 1 mid e new → RejectsNumber kind old e new
 cut_refuses kind b within ends =
     let cut = begun_cut b ends in
-    let short : IsCut kind _ = record { short = rw (cut.1) at within; unended = cut.0.none } in
+    let short : IsTruncated kind _ = record { short = rw (cut.1) at within; unended = cut.0.none } in
     inl (record { cut = short; left = cut.0.left; fault = cut.0.fault })
 
 module _ {old mid new : Input} {k value byte : ℕ} (b : Begun old k mid value) (t : TakesByte mid byte new) where
@@ -103,14 +103,14 @@ module _ {old mid new : Input} {k value byte : ℕ} (b : Begun old k mid value) 
   -- reading fails at the limit if no encoding that ends there has a value in range
   next_refuses : (kind : Kind) → k + 1 ≡ limit kind
       → (byte < 128 → IsTrue (is_in_range kind (value_of kind (take (k + 1) old.bytes))) → ⊥)
-      → RefusesNumber kind old (refusal kind) new
+      → RejectsNumber kind old (overflow_error kind) new
   next_refuses kind whole out =
       let none : (v : Number kind) (m : ℕ) → HasNumber kind old.bytes v m → ⊥ = λ v m found.
       let past = past_none old.bytes k m b.enough b.none found.is_number.encoding in
       let m_is : m ≡ k + 1 = omega (arith, past, found.is_number.within, length-take-le m old.bytes found.enough) in
       let has = rw m_is at found.is_number in
       out (IsEncoding-last (take k old.bytes) byte (rw (next.1) at has.encoding)) (rw has.means has.in_range) in
-      let cut : IsCut kind old.bytes → ⊥ = λ h. omega (arith, next.0, h.short) in
+      let cut : IsTruncated kind old.bytes → ⊥ = λ h. omega (arith, next.0, h.short) in
       inr (record { bad = record { no_number = none; not_cut = cut }; left = rw (← whole) next.2; fault = refl })
 
   -- the signed value is that of the digits, less the next place if the last digit is at least 64
@@ -139,7 +139,7 @@ module _ {old mid new : Input} {k value byte : ℕ} (b : Begun old k mid value) 
       (lt-ltb _ _ (omega (arith, sum)))
 
   -- ten bytes are no unsigned number if the tenth is above 1
-  pub refuses_tenth_unsigned : k ≡ 9 → 1 < byte → RefusesNumber unsigned64 old BadUnsignedLeb128 new
+  pub refuses_tenth_unsigned : k ≡ 9 → 1 < byte → RejectsNumber unsigned64 old BadUnsignedLeb128 new
   refuses_tenth_unsigned nine large =
       let worth = rw nine at next_worth in
       next_refuses unsigned64 (omega arith) (λ last has. omega (arith, worth, ltb-true _ _ (rw nine at has)))
@@ -150,7 +150,7 @@ module _ {old mid new : Input} {k value byte : ℕ} (b : Begun old k mid value) 
   reads_short worth last short is fits = next_reads unsigned16 worth last short (next_worth ∙ sym is) (lt-ltb _ _ fits)
 
   -- three bytes are no short unsigned number if the third is above 3
-  pub refuses_third_short : k ≡ 2 → 3 < byte → RefusesNumber unsigned16 old BadUnsignedLeb128 new
+  pub refuses_third_short : k ≡ 2 → 3 < byte → RejectsNumber unsigned16 old BadUnsignedLeb128 new
   refuses_third_short two large =
       let worth = rw two at next_worth in
       next_refuses unsigned16 (omega arith) (λ last has. omega (arith, worth, ltb-true _ _ (rw two at has)))
@@ -174,7 +174,7 @@ module _ {old mid new : Input} {k value byte : ℕ} (b : Begun old k mid value) 
       rw to_z-of_z (next_reads signed64 v (grind arith) (omega arith) value_is (in_range_i64 v fits))
 
   -- ten bytes are no signed number if the tenth is neither 0 nor 127
-  pub refuses_tenth_signed : k ≡ 9 → byte ≢ 0 → byte ≢ 127 → RefusesNumber signed64 old BadSignedLeb128 new
+  pub refuses_tenth_signed : k ≡ 9 → byte ≢ 0 → byte ≢ 127 → RejectsNumber signed64 old BadSignedLeb128 new
   refuses_tenth_signed nine nonzero other = next_refuses signed64 (omega arith) (λ last has.
       tenth_out value (byte % 128) _ (begun_below_nine b nine) (omega arith) (omega arith) (omega arith)
       (next_signed _ 70 (nat_le 64 (byte % 128)) (rw nine refl) (omega arith) (grind arith)) has)

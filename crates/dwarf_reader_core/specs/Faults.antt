@@ -13,23 +13,23 @@ abbrev pub end_fault : Input → Error
 end_fault input = eof input.position
 
 -- fewer than n bytes remain: the error is that of missing bytes, and nothing is consumed
-pub record EndsBefore (n : ℕ) (old : Input) (e : Error) (new : Input) : Type 0 where
+pub record IsTooShort (n : ℕ) (old : Input) (e : Error) (new : Input) : Type 0 where
   pub short : length old.bytes < n
   pub fault : e ≡ end_fault old
   pub left : new ≡ old
 
 -- none of the bytes that remain has this value: the error is that of missing bytes
-pub record Lacks (byte : ℕ) (input : Input) (e : Error) : Type 0 where
+pub record HasNoByte (byte : ℕ) (input : Input) (e : Error) : Type 0 where
   pub none : All (λ b. b ≢ byte) input.bytes
   pub fault : e ≡ end_fault input
 
 -- a clone ran out of memory, which can only happen if clones allocate
-pub record WantsMemory (clone_is_free : Bool) (e : Error) : Type 0 where
+pub record CloneRanOutOfMemory (clone_is_free : Bool) (e : Error) : Type 0 where
   pub costs : clone_is_free ≡ false
   pub fault : e ≡ OutOfMemory
 
 -- a number of n bytes is consumed, and it is too great for an offset
-pub record IsNoOffset (greatest n : ℕ) (old : Input) (e : Error) (new : Input) : Type 0 where
+pub record ExceedsOffset (greatest n : ℕ) (old : Input) (e : Error) (new : Input) : Type 0 where
   pub number : ℕ
   pub taken : TakesNumber n old number new
   pub over : greatest < number
@@ -40,29 +40,29 @@ abbrev pub is_number_size : ℕ → Bool
 is_number_size size = size == 1 || size == 2 || size == 4 || size == 8
 
 -- a byte is consumed, and it is none of the sizes of addresses
-pub record IsNoAddressSize (old : Input) (e : Error) (new : Input) : Type 0 where
+pub record IsUnsupportedAddressSize (old : Input) (e : Error) (new : Input) : Type 0 where
   pub size : ℕ
   pub taken : TakesByte old size new
   pub none : is_number_size size ≡ false
   pub fault : e ≡ UnsupportedAddressSize size
 
 -- the size is none of those that numbers have, and nothing is consumed
-pub record IsNoSize (refusal : ℕ → Error) (size : ℕ) (old : Input) (e : Error) (new : Input) : Type 0 where
+pub record IsUnsupportedSize (refusal : ℕ → Error) (size : ℕ) (old : Input) (e : Error) (new : Input) : Type 0 where
   pub none : is_number_size size ≡ false
   pub fault : e ≡ refusal size
   pub left : new ≡ old
 
 -- no address of this size is read: addresses don't have this size, or bytes are missing
-abbrev pub RefusesAddress : ℕ → Input → Error → Input → Type 0
-RefusesAddress size old e new =
-    IsNoSize UnsupportedAddressSize size old e new ⊎ (IsTrue (is_number_size size) × EndsBefore size old e new)
+abbrev pub RejectsAddress : ℕ → Input → Error → Input → Type 0
+RejectsAddress size old e new =
+    IsUnsupportedSize UnsupportedAddressSize size old e new ⊎ (IsTrue (is_number_size size) × IsTooShort size old e new)
 
 -- no word of n bytes is read as an offset: bytes are missing, or the number is too great
-abbrev pub RefusesWord : ℕ → ℕ → Input → Error → Input → Type 0
-RefusesWord greatest n old e new = EndsBefore n old e new ⊎ IsNoOffset greatest n old e new
+abbrev pub RejectsWord : ℕ → ℕ → Input → Error → Input → Type 0
+RejectsWord greatest n old e new = IsTooShort n old e new ⊎ ExceedsOffset greatest n old e new
 
 -- no offset of this size is read: offsets don't have this size, or no word of it is read as one
-abbrev pub RefusesOffset : ℕ → ℕ → Input → Error → Input → Type 0
-RefusesOffset greatest size old e new =
-    IsNoSize UnsupportedOffsetSize size old e new
-    ⊎ (IsTrue (is_number_size size) × RefusesWord greatest size old e new)
+abbrev pub RejectsOffset : ℕ → ℕ → Input → Error → Input → Type 0
+RejectsOffset greatest size old e new =
+    IsUnsupportedSize UnsupportedOffsetSize size old e new
+    ⊎ (IsTrue (is_number_size size) × RejectsWord greatest size old e new)

@@ -4,9 +4,9 @@ use Rattle.dwarf_base_core.specs.declared.common.Format.{Format}
 use Rattle.dwarf_base_core.specs.declared.common.Format.TheVariants.{Dwarf32, Dwarf64}
 use Rattle.dwarf_base_core.specs.declared.error.Error.{Error}
 use Rattle.dwarf_base_core.specs.declared.error.Error.TheVariants.{UnknownReservedLength, UnsupportedOffset}
-use Rattle.dwarf_reader_core.specs.Faults.{EndsBefore}
+use Rattle.dwarf_reader_core.specs.Faults.{IsTooShort}
 use Rattle.dwarf_reader_core.specs.Input.{Input, TakesNumber}
-use Rattle.dwarf_reader_core.specs.Layout.{Layout, fixed, pure, refuse, when◌then◌else◌, check, ◌>>=◌}
+use Rattle.dwarf_reader_core.specs.Layout.{Layout, fixed, pure, fail, when◌then◌else◌, check, ◌>>=◌}
 
 -- a length of eight bytes, which has to be an offset
 unfoldable pub long_length : ℕ → Layout (Format × ℕ)
@@ -20,7 +20,7 @@ long_length greatest = do
 unfoldable pub initial_length : ℕ → Layout (Format × ℕ)
 initial_length greatest = do
   short ← fixed 4
-  when nat_lt short 0xffff_fff0 then pure (Dwarf32, short) else when nat_lt short 0xffff_ffff then refuse
+  when nat_lt short 0xffff_fff0 then pure (Dwarf32, short) else when nat_lt short 0xffff_ffff then fail
       (UnknownReservedLength short) else long_length greatest
 
 -- the front of an input is an initial length of this format
@@ -32,10 +32,10 @@ pub data HasLength (greatest : ℕ) (old : Input) : Format → ℕ → Input →
 
 -- the front of an input is no initial length, with the first error and what remains then
 pub data HasNoLength (greatest : ℕ) (old : Input) : Error → Input → Type 0 where
-  four_cut : {e : Error} {new : Input} → EndsBefore 4 old e new → HasNoLength greatest old e new
+  four_cut : {e : Error} {new : Input} → IsTooShort 4 old e new → HasNoLength greatest old e new
   reserved : {n : ℕ} {new : Input} → TakesNumber 4 old n new → 0xffff_fff0 ≤ n → n < 0xffff_ffff
       → HasNoLength greatest old (UnknownReservedLength n) new
-  eight_cut : {mid new : Input} {e : Error} → TakesNumber 4 old 0xffff_ffff mid → EndsBefore 8 mid e new
+  eight_cut : {mid new : Input} {e : Error} → TakesNumber 4 old 0xffff_ffff mid → IsTooShort 8 mid e new
       → HasNoLength greatest old e new
   too_great : {n : ℕ} {mid new : Input} → TakesNumber 4 old 0xffff_ffff mid → TakesNumber 8 mid n new → greatest < n
       → HasNoLength greatest old UnsupportedOffset new

@@ -10,11 +10,11 @@ pub data Layout : Type 0 → Type 1 where
   -- the next bytes, as many as the number says, as an input of their own
   part : ℕ → Layout Input
   -- the bytes before the first byte with this value, which is consumed with them
-  ended : ℕ → Layout Input
+  until : ℕ → Layout Input
   -- this value, without any bytes
   pure : {A : Type 0} → A → Layout A
   -- this error, in place of a value
-  refuse : {A : Type 0} → Error → Layout A
+  fail : {A : Type 0} → Error → Layout A
   -- a value at the front of a part that was read before, and what remains of that part
   inside : {A : Type 0} → Input → Layout A → Layout (A × Input)
   -- a layout and, behind it, a second one that depends on the value of the first
@@ -44,9 +44,9 @@ before_end old (Some x) =
 -- the value at the front of an input and what remains behind it, or the first error
 unfoldable pub read : {A : Type 0} → Layout A → Input → Result (A × Input) Error
 read (part n) old = if nat_le n (length old.bytes) then Ok (first n old, after n old) else Err (end_fault old)
-read (ended end) old = before_end old (split_at end old.bytes)
+read (until end) old = before_end old (split_at end old.bytes)
 read (pure a) old = Ok (a, old)
-read (refuse e) old = Err e
+read (fail e) old = Err e
 read (inside unit f) old = and_then (read f unit) (λ x. Ok (x, old))
 read (p >>= f) old = and_then (read p old) (λ x. read (f x.0) x.1)
 
@@ -63,9 +63,9 @@ or_unread (Err e) old = old
 -- what remains of an input: the bytes behind the last field, or those from the first field on that fails
 unfoldable pub remains : {A : Type 0} → Layout A → Input → Input
 remains (part n) old = or_unread (read (part n) old) old
-remains (ended end) old = or_unread (read (ended end) old) old
+remains (until end) old = or_unread (read (until end) old) old
 remains (pure a) old = old
-remains (refuse e) old = old
+remains (fail e) old = old
 remains (inside unit f) old = old
 remains (p >>= f) old = remains_behind (read p old) (remains p old) (λ x. remains (f x.0) x.1)
 
@@ -90,7 +90,7 @@ when false then f else g = g
 
 -- nothing is read, and the error is returned unless the test holds
 unfoldable pub check : Bool → Error → Layout (Unit {0})
-check holds error = when holds then pure tt else refuse error
+check holds error = when holds then pure tt else fail error
 
 -- the items of an input, the first of which is at the offset: values up to the end of the bytes, or up to one error,
 -- which is the last item
@@ -100,14 +100,14 @@ pub data AreItems {A : Type 0} (item : ℕ → Layout A) : ℕ → Input → Lis
       → read (item offset) old ≡ Ok (x, new)
       → AreItems item (offset + (length old.bytes - length new.bytes)) new items
       → AreItems item offset old (Ok x ∷ items)
-  fault : {offset : ℕ} {old : Input} {e : Error} → old.bytes ≢ [] → read (item offset) old ≡ Err e
+  first_error : {offset : ℕ} {old : Input} {e : Error} → old.bytes ≢ [] → read (item offset) old ≡ Err e
       → AreItems item offset old (Err e ∷ [])
 
 -- the value without what remains behind it, or the error
-abbrev pub alone : {A : Type 0} → Result (A × Input) Error → Result A Error
-alone (Ok x) = Ok x.0
-alone (Err e) = Err e
+abbrev pub without_rest : {A : Type 0} → Result (A × Input) Error → Result A Error
+without_rest (Ok x) = Ok x.0
+without_rest (Err e) = Err e
 
 -- the value at the front of an input, whatever remains behind it, or the first error
-abbrev pub At : {A : Type 0} → Layout A → Input → Result A Error → Type 0
-At f section answer = answer ≡ alone (read f section)
+abbrev pub ReadsAs : {A : Type 0} → Layout A → Input → Result A Error → Type 0
+ReadsAs f section answer = answer ≡ without_rest (read f section)

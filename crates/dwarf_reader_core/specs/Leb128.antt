@@ -60,10 +60,10 @@ is_in_range unsigned16 n = nat_lt n (2 ^ 16)
 is_in_range signed64 n = int_le (negsuc (2 ^ 63 - 1)) n && int_le n (pos (2 ^ 63 - 1))
 
 -- the error for bytes that are no number of the kind
-abbrev pub refusal : Kind → Error
-refusal unsigned64 = BadUnsignedLeb128
-refusal unsigned16 = BadUnsignedLeb128
-refusal signed64 = BadSignedLeb128
+abbrev pub overflow_error : Kind → Error
+overflow_error unsigned64 = BadUnsignedLeb128
+overflow_error unsigned16 = BadUnsignedLeb128
+overflow_error signed64 = BadSignedLeb128
 
 -- the bytes encode this number of the kind, within its limit
 pub record IsNumber (k : Kind) (bytes : List ℕ) (number : Number k) : Type 0 where
@@ -78,14 +78,14 @@ pub record HasNumber (k : Kind) (bytes : List ℕ) (number : Number k) (n : ℕ)
   pub is_number : IsNumber k (take n bytes) number
 
 -- the bytes end before the limit of the kind, and none of them is the last of an encoding
-pub record IsCut (k : Kind) (bytes : List ℕ) : Type 0 where
+pub record IsTruncated (k : Kind) (bytes : List ℕ) : Type 0 where
   pub short : length bytes < limit k
   pub unended : NoneIsLast bytes
 
 -- the bytes begin with no number of the kind, and not just because they end too early
-pub record IsBad (k : Kind) (bytes : List ℕ) : Type 0 where
+pub record IsMalformed (k : Kind) (bytes : List ℕ) : Type 0 where
   pub no_number : (number : Number k) (n : ℕ) → HasNumber k bytes number n → ⊥
-  pub not_cut : IsCut k bytes → ⊥
+  pub not_cut : IsTruncated k bytes → ⊥
 
 -- what is read from bytes
 pub data Outcome (k : Kind) : Type 0 where
@@ -98,8 +98,8 @@ pub data Outcome (k : Kind) : Type 0 where
 
 abbrev pub HasOutcome : (k : Kind) → List ℕ → Outcome k → Type 0
 HasOutcome k bytes (Value number n) = HasNumber k bytes number n
-HasOutcome k bytes End = IsCut k bytes
-HasOutcome k bytes Bad = IsBad k bytes
+HasOutcome k bytes End = IsTruncated k bytes
+HasOutcome k bytes Bad = IsMalformed k bytes
 
 -- a number is read, and its bytes are consumed
 pub record ReadsNumber (k : Kind) (old : Input) (number : Number k) (new : Input) : Type 0 where
@@ -108,20 +108,20 @@ pub record ReadsNumber (k : Kind) (old : Input) (number : Number k) (new : Input
   pub left : new ≡ after len old
 
 -- the bytes end before the number does, and all are consumed
-pub record EndsInNumber (k : Kind) (old : Input) (e : Error) (new : Input) : Type 0 where
-  pub cut : IsCut k old.bytes
+pub record IsTruncatedNumber (k : Kind) (old : Input) (e : Error) (new : Input) : Type 0 where
+  pub cut : IsTruncated k old.bytes
   pub left : new ≡ after (length old.bytes) old
   pub fault : e ≡ end_fault new
 
 -- the bytes are bad, and as many as the limit of the kind are consumed
-pub record IsNoNumber (k : Kind) (old : Input) (e : Error) (new : Input) : Type 0 where
-  pub bad : IsBad k old.bytes
+pub record IsMalformedNumber (k : Kind) (old : Input) (e : Error) (new : Input) : Type 0 where
+  pub bad : IsMalformed k old.bytes
   pub left : new ≡ after (limit k) old
-  pub fault : e ≡ refusal k
+  pub fault : e ≡ overflow_error k
 
 -- no number is read, with one of two errors
-abbrev pub RefusesNumber : Kind → Input → Error → Input → Type 0
-RefusesNumber k old e new = EndsInNumber k old e new ⊎ IsNoNumber k old e new
+abbrev pub RejectsNumber : Kind → Input → Error → Input → Type 0
+RejectsNumber k old e new = IsTruncatedNumber k old e new ⊎ IsMalformedNumber k old e new
 
 -- an encoding of any length is consumed
 pub record TakesEncoding (old new : Input) : Type 0 where

@@ -4,7 +4,7 @@ ghost use Rattle.std.specs.Prelude.{◌≡◌, ◌<◌, ◌≤◌, ◌⊎◌, �
 ghost use Rattle.dwarf_base_core.specs.declared.common.Format.{Format};
 ghost use Rattle.dwarf_base_core.specs.declared.error.Error.{Error};
 ghost use Rattle.dwarf_reader_core.specs.Input.{Input, TakesString};
-ghost use Rattle.dwarf_reader_core.specs.Faults.{Lacks};
+ghost use Rattle.dwarf_reader_core.specs.Faults.{HasNoByte};
 ghost use Rattle.dwarf_reader_core.specs.InitialLength.{HasLength, HasNoLength, initial_length};
 ghost use Rattle.dwarf_reader_core.specs.Layout.{FailsAt, read};
 ghost use Rattle.dwarf_reader_core.specs.Leb128.{unsigned64, unsigned16, signed64, HasNumber, HasOutcome, IsEncoding, Kind, Number, is_in_range, limit};
@@ -46,9 +46,9 @@ pub fn written_is_read()
 pub fn one_string()
     ensures taken { (old s t x y : Input) → TakesString old s x → TakesString old t y
         → (s ≡ t) × (x ≡ y) }
-    ensures either { (old s x : Input) (e : Error) → TakesString old s x → Lacks 0 old e → ⊥ }
+    ensures either { (old s x : Input) (e : Error) → TakesString old s x → HasNoByte 0 old e → ⊥ }
     ensures some { (old : Input) → ((s : Input) × (x : Input) × TakesString old s x)
-        ⊎ ((e : Error) × Lacks 0 old e) }
+        ⊎ ((e : Error) × HasNoByte 0 old e) }
 {}
 
 /// An initial length is the number of the first four bytes, if that is below 0xfffffff0. Behind the

@@ -7,8 +7,8 @@ ghost use Rattle.std.specs.Str.Lossy.{utf8_lossy};
 ghost use Rattle.dwarf_base_core.specs.declared.error.Error.TheVariants.{BadUtf8, OutOfMemory};
 ghost use Rattle.dwarf_base_core.specs.Format.{word_size};
 ghost use Rattle.dwarf_reader_core.specs.Input.{Input, after, first, IsPartOf, IsBounded, IsFirst, Covers, Takes, TakesByte, TakesNumber, TakesSigned, TakesString};
-ghost use Rattle.dwarf_reader_core.specs.Faults.{EndsBefore, IsNoAddressSize, Lacks, RefusesAddress, RefusesOffset, RefusesWord, WantsMemory, is_number_size};
-ghost use Rattle.dwarf_reader_core.specs.Leb128.{unsigned64, unsigned16, signed64, IsOver, LacksEncoding, ReadsNumber, RefusesNumber, TakesEncoding};
+ghost use Rattle.dwarf_reader_core.specs.Faults.{IsTooShort, IsUnsupportedAddressSize, HasNoByte, RejectsAddress, RejectsOffset, RejectsWord, CloneRanOutOfMemory, is_number_size};
+ghost use Rattle.dwarf_reader_core.specs.Leb128.{unsigned64, unsigned16, signed64, IsOver, LacksEncoding, ReadsNumber, RejectsNumber, TakesEncoding};
 ghost use Rattle.dwarf_reader_core.specs.InitialLength.{initial_length};
 ghost use Rattle.dwarf_reader_core.specs.Layout.{read, FailsAt};
 
@@ -73,7 +73,7 @@ pub trait Reader: Debug + Drop + Sized {
     /// [`Error::OutOfMemory`] if memory runs out.
     fn try_clone(&self) -> Result<Self>
         ensures ok { IfOk result (λ clone. view clone ≡ view self.now) }
-        ensures err { IfErr result (WantsMemory clone_is_free) }
+        ensures err { IfErr result (CloneRanOutOfMemory clone_is_free) }
         ensures order { IfOk result (λ clone. order clone ≡ order self.now) };
 
     /// Returns the byte order.
@@ -99,7 +99,7 @@ pub trait Reader: Debug + Drop + Sized {
         ensures ok { OnOk result (view self.new ≡ first (Self.Offset.value len) (view self.old)) }
         ensures enough { OnOk result (Self.Offset.value len ≤ length (view self.old).bytes) }
         ensures err { IfErr result
-            (λ e. EndsBefore (Self.Offset.value len) (view self.old) e (view self.new)) }
+            (λ e. IsTooShort (Self.Offset.value len) (view self.old) e (view self.new)) }
         ensures order { order self.new ≡ order self.old };
 
     /// Returns how many bytes the position is behind that of `base`.
@@ -129,7 +129,7 @@ pub trait Reader: Debug + Drop + Sized {
     fn find(&self, byte: u8) -> Result<Self::Offset>
         ensures ok { IfOk result
             (λ index. IsFirst byte (view self.now).bytes (Self.Offset.value index)) }
-        ensures err { IfErr result (Lacks byte (view self.now)) };
+        ensures err { IfErr result (HasNoByte byte (view self.now)) };
 
     /// Consumes `len` bytes.
     ///
@@ -139,7 +139,7 @@ pub trait Reader: Debug + Drop + Sized {
     fn skip(&mut self, len: Self::Offset) -> Result<()>
         ensures ok { OnOk result (Takes (Self.Offset.value len) (view self.old) (view self.new)) }
         ensures err { IfErr result
-            (λ e. EndsBefore (Self.Offset.value len) (view self.old) e (view self.new)) }
+            (λ e. IsTooShort (Self.Offset.value len) (view self.old) e (view self.new)) }
         ensures order { order self.new ≡ order self.old };
 
     /// Consumes `len` bytes, and returns a reader of them that begins at their position.
@@ -155,8 +155,8 @@ pub trait Reader: Debug + Drop + Sized {
             (λ part. view part ≡ first (Self.Offset.value len) (view self.old)) }
         ensures ok { OnOk result (Takes (Self.Offset.value len) (view self.old) (view self.new)) }
         ensures err { IfErr result
-            (λ e. EndsBefore (Self.Offset.value len) (view self.old) e (view self.new)
-            ⊎ (WantsMemory clone_is_free e × (view self.new ≡ view self.old))) }
+            (λ e. IsTooShort (Self.Offset.value len) (view self.old) e (view self.new)
+            ⊎ (CloneRanOutOfMemory clone_is_free e × (view self.new ≡ view self.old))) }
         ensures part_order { IfOk result (λ part. order part ≡ order self.old) }
         ensures order { order self.new ≡ order self.old };
 
@@ -203,7 +203,7 @@ pub trait Reader: Debug + Drop + Sized {
         ensures filled { OnOk result (buf.new ≡ take (length buf.old) (view self.old).bytes) }
         ensures ok { OnOk result (Takes (length buf.old) (view self.old) (view self.new)) }
         ensures err { IfErr result
-            (λ e. EndsBefore (length buf.old) (view self.old) e (view self.new)) }
+            (λ e. IsTooShort (length buf.old) (view self.old) e (view self.new)) }
         ensures unchanged { OnErr result (buf.new ≡ buf.old) }
         ensures order { order self.new ≡ order self.old };
 
@@ -224,7 +224,7 @@ pub trait Reader: Debug + Drop + Sized {
     #[inline]
     fn read_u8(&mut self) -> Result<u8>
         ensures ok { IfOk result (λ byte. TakesByte (view self.old) byte (view self.new)) }
-        ensures err { IfErr result (λ e. EndsBefore 1 (view self.old) e (view self.new)) }
+        ensures err { IfErr result (λ e. IsTooShort 1 (view self.old) e (view self.new)) }
         ensures order { order self.new ≡ order self.old }
     {
         let mut bytes = [0; 1];
@@ -240,7 +240,7 @@ pub trait Reader: Debug + Drop + Sized {
     #[inline]
     fn read_i8(&mut self) -> Result<i8>
         ensures ok { IfOk result (λ x. TakesSigned 1 (view self.old) x (view self.new)) }
-        ensures err { IfErr result (λ e. EndsBefore 1 (view self.old) e (view self.new)) }
+        ensures err { IfErr result (λ e. IsTooShort 1 (view self.old) e (view self.new)) }
         ensures order { order self.new ≡ order self.old }
     {
         Ok(self.read_u8()?.cast_signed())
@@ -254,7 +254,7 @@ pub trait Reader: Debug + Drop + Sized {
     #[inline]
     fn read_u16(&mut self) -> Result<u16>
         ensures ok { IfOk result (λ x. TakesNumber 2 (view self.old) x (view self.new)) }
-        ensures err { IfErr result (λ e. EndsBefore 2 (view self.old) e (view self.new)) }
+        ensures err { IfErr result (λ e. IsTooShort 2 (view self.old) e (view self.new)) }
         ensures order { order self.new ≡ order self.old }
     {
         let mut bytes = [0; 2];
@@ -270,7 +270,7 @@ pub trait Reader: Debug + Drop + Sized {
     #[inline]
     fn read_i16(&mut self) -> Result<i16>
         ensures ok { IfOk result (λ x. TakesSigned 2 (view self.old) x (view self.new)) }
-        ensures err { IfErr result (λ e. EndsBefore 2 (view self.old) e (view self.new)) }
+        ensures err { IfErr result (λ e. IsTooShort 2 (view self.old) e (view self.new)) }
         ensures order { order self.new ≡ order self.old }
     {
         let mut bytes = [0; 2];
@@ -286,7 +286,7 @@ pub trait Reader: Debug + Drop + Sized {
     #[inline]
     fn read_u32(&mut self) -> Result<u32>
         ensures ok { IfOk result (λ x. TakesNumber 4 (view self.old) x (view self.new)) }
-        ensures err { IfErr result (λ e. EndsBefore 4 (view self.old) e (view self.new)) }
+        ensures err { IfErr result (λ e. IsTooShort 4 (view self.old) e (view self.new)) }
         ensures order { order self.new ≡ order self.old }
     {
         let mut bytes = [0; 4];
@@ -302,7 +302,7 @@ pub trait Reader: Debug + Drop + Sized {
     #[inline]
     fn read_i32(&mut self) -> Result<i32>
         ensures ok { IfOk result (λ x. TakesSigned 4 (view self.old) x (view self.new)) }
-        ensures err { IfErr result (λ e. EndsBefore 4 (view self.old) e (view self.new)) }
+        ensures err { IfErr result (λ e. IsTooShort 4 (view self.old) e (view self.new)) }
         ensures order { order self.new ≡ order self.old }
     {
         let mut bytes = [0; 4];
@@ -318,7 +318,7 @@ pub trait Reader: Debug + Drop + Sized {
     #[inline]
     fn read_u64(&mut self) -> Result<u64>
         ensures ok { IfOk result (λ x. TakesNumber 8 (view self.old) x (view self.new)) }
-        ensures err { IfErr result (λ e. EndsBefore 8 (view self.old) e (view self.new)) }
+        ensures err { IfErr result (λ e. IsTooShort 8 (view self.old) e (view self.new)) }
         ensures order { order self.new ≡ order self.old }
     {
         let mut bytes = [0; 8];
@@ -334,7 +334,7 @@ pub trait Reader: Debug + Drop + Sized {
     #[inline]
     fn read_i64(&mut self) -> Result<i64>
         ensures ok { IfOk result (λ x. TakesSigned 8 (view self.old) x (view self.new)) }
-        ensures err { IfErr result (λ e. EndsBefore 8 (view self.old) e (view self.new)) }
+        ensures err { IfErr result (λ e. IsTooShort 8 (view self.old) e (view self.new)) }
         ensures order { order self.new ≡ order self.old }
     {
         let mut bytes = [0; 8];
@@ -350,7 +350,7 @@ pub trait Reader: Debug + Drop + Sized {
     #[inline]
     fn read_u128(&mut self) -> Result<u128>
         ensures ok { IfOk result (λ x. TakesNumber 16 (view self.old) x (view self.new)) }
-        ensures err { IfErr result (λ e. EndsBefore 16 (view self.old) e (view self.new)) }
+        ensures err { IfErr result (λ e. IsTooShort 16 (view self.old) e (view self.new)) }
         ensures order { order self.new ≡ order self.old }
     {
         let mut bytes = [0; 16];
@@ -367,7 +367,7 @@ pub trait Reader: Debug + Drop + Sized {
     fn read_uint(&mut self, n: usize) -> Result<u64>
         requires { n ≤ 8 }
         ensures ok { IfOk result (λ x. TakesNumber n (view self.old) x (view self.new)) }
-        ensures err { IfErr result (λ e. EndsBefore n (view self.old) e (view self.new)) }
+        ensures err { IfErr result (λ e. IsTooShort n (view self.old) e (view self.new)) }
         ensures order { order self.new ≡ order self.old }
     {
         let mut bytes = [0; 8];
@@ -389,7 +389,8 @@ pub trait Reader: Debug + Drop + Sized {
     fn read_null_terminated_slice(&mut self) -> Result<Self>
         ensures ok { IfOk result
             (λ string. TakesString (view self.old) (view string) (view self.new)) }
-        ensures err { IfErr result (λ e. Lacks 0 (view self.old) e ⊎ WantsMemory clone_is_free e) }
+        ensures err { IfErr result
+            (λ e. HasNoByte 0 (view self.old) e ⊎ CloneRanOutOfMemory clone_is_free e) }
         ensures unchanged { OnErr result (view self.new ≡ view self.old) }
         ensures string_order { IfOk result (λ string. order string ≡ order self.old) }
         ensures order { order self.new ≡ order self.old }
@@ -432,7 +433,7 @@ pub trait Reader: Debug + Drop + Sized {
     fn read_uleb128(&mut self) -> Result<u64>
         ensures ok { IfOk result (λ v. ReadsNumber unsigned64 (view self.old) v (view self.new)) }
         ensures err { IfErr result
-            (λ e. RefusesNumber unsigned64 (view self.old) e (view self.new)) }
+            (λ e. RejectsNumber unsigned64 (view self.old) e (view self.new)) }
         ensures order { order self.new ≡ order self.old }
     {
         // Most numbers have one byte.
@@ -464,7 +465,7 @@ pub trait Reader: Debug + Drop + Sized {
     #[inline]
     fn read_uleb128_u32(&mut self) -> Result<u32>
         ensures ok { IfOk result (λ v. ReadsNumber unsigned64 (view self.old) v (view self.new)) }
-        ensures err { IfErr result (λ e. RefusesNumber unsigned64 (view self.old) e (view self.new)
+        ensures err { IfErr result (λ e. RejectsNumber unsigned64 (view self.old) e (view self.new)
             ⊎ IsOver (2 ^ 32) (view self.old) e (view self.new)) }
         ensures order { order self.new ≡ order self.old }
     {
@@ -484,7 +485,7 @@ pub trait Reader: Debug + Drop + Sized {
     fn read_uleb128_u16(&mut self) -> Result<u16>
         ensures ok { IfOk result (λ v. ReadsNumber unsigned16 (view self.old) v (view self.new)) }
         ensures err { IfErr result
-            (λ e. RefusesNumber unsigned16 (view self.old) e (view self.new)) }
+            (λ e. RejectsNumber unsigned16 (view self.old) e (view self.new)) }
         ensures order { order self.new ≡ order self.old }
     {
         let first = self.read_u8()?;
@@ -515,7 +516,7 @@ pub trait Reader: Debug + Drop + Sized {
     #[inline(always)]
     fn read_sleb128(&mut self) -> Result<i64>
         ensures ok { IfOk result (λ v. ReadsNumber signed64 (view self.old) v (view self.new)) }
-        ensures err { IfErr result (λ e. RefusesNumber signed64 (view self.old) e (view self.new)) }
+        ensures err { IfErr result (λ e. RejectsNumber signed64 (view self.old) e (view self.new)) }
         ensures order { order self.new ≡ order self.old }
     {
         let first = self.read_u8()?;
@@ -585,8 +586,8 @@ pub trait Reader: Debug + Drop + Sized {
             (λ size. TakesByte (view self.old) size (view self.new)
             × IsTrue (is_number_size size)) }
         ensures err { IfErr result
-            (λ e. EndsBefore 1 (view self.old) e (view self.new)
-            ⊎ IsNoAddressSize (view self.old) e (view self.new)) }
+            (λ e. IsTooShort 1 (view self.old) e (view self.new)
+            ⊎ IsUnsupportedAddressSize (view self.old) e (view self.new)) }
         ensures order { order self.new ≡ order self.old }
     {
         match self.read_u8()? {
@@ -608,7 +609,7 @@ pub trait Reader: Debug + Drop + Sized {
         ensures ok { IfOk result
             (λ address. TakesNumber size (view self.old) address (view self.new)
             × IsTrue (is_number_size size)) }
-        ensures err { IfErr result (λ e. RefusesAddress size (view self.old) e (view self.new)) }
+        ensures err { IfErr result (λ e. RejectsAddress size (view self.old) e (view self.new)) }
         ensures order { order self.new ≡ order self.old }
     {
         match size {
@@ -633,7 +634,7 @@ pub trait Reader: Debug + Drop + Sized {
             (view self.old) (Self.Offset.value x) (view self.new)) }
         ensures in_range { IfOk result (λ x. Self.Offset.value x ≤ Self.Offset.GREATEST) }
         ensures err { IfErr result
-            (λ e. RefusesWord Self.Offset.GREATEST (word_size format)
+            (λ e. RejectsWord Self.Offset.GREATEST (word_size format)
             (view self.old) e (view self.new)) }
         ensures order { order self.new ≡ order self.old }
     {
@@ -656,7 +657,7 @@ pub trait Reader: Debug + Drop + Sized {
             (view self.old) (Self.Offset.value x) (view self.new)) }
         ensures in_range { IfOk result (λ x. Self.Offset.value x ≤ Self.Offset.GREATEST) }
         ensures err { IfErr result
-            (λ e. RefusesWord Self.Offset.GREATEST (word_size format)
+            (λ e. RejectsWord Self.Offset.GREATEST (word_size format)
             (view self.old) e (view self.new)) }
         ensures order { order self.new ≡ order self.old }
     {
@@ -675,7 +676,7 @@ pub trait Reader: Debug + Drop + Sized {
             (view self.old) (Self.Offset.value x) (view self.new)) }
         ensures in_range { IfOk result (λ x. Self.Offset.value x ≤ Self.Offset.GREATEST) }
         ensures err { IfErr result
-            (λ e. RefusesWord Self.Offset.GREATEST (word_size format)
+            (λ e. RejectsWord Self.Offset.GREATEST (word_size format)
             (view self.old) e (view self.new)) }
         ensures order { order self.new ≡ order self.old }
     {
@@ -696,7 +697,7 @@ pub trait Reader: Debug + Drop + Sized {
             × IsTrue (is_number_size size)) }
         ensures in_range { IfOk result (λ x. Self.Offset.value x ≤ Self.Offset.GREATEST) }
         ensures err { IfErr result
-            (λ e. RefusesOffset Self.Offset.GREATEST size (view self.old) e (view self.new)) }
+            (λ e. RejectsOffset Self.Offset.GREATEST size (view self.old) e (view self.new)) }
         ensures order { order self.new ≡ order self.old }
     {
         let number = match size {
@@ -722,7 +723,7 @@ pub trait Reader: Debug + Drop + Sized {
 pub fn read_u8_array<R: Reader, const N: usize>(r: &mut R) -> Result<[u8; N]>
     ensures filled { IfOk result (λ bytes. bytes ≡ take N (R.view r.old).bytes) }
     ensures ok { OnOk result (Takes N (R.view r.old) (R.view r.new)) }
-    ensures err { IfErr result (λ e. EndsBefore N (R.view r.old) e (R.view r.new)) }
+    ensures err { IfErr result (λ e. IsTooShort N (R.view r.old) e (R.view r.new)) }
     ensures order { R.order r.new ≡ R.order r.old }
 {
     let mut bytes = [0; N];

@@ -2,7 +2,7 @@
 
 ghost use Rattle.std.specs.Prelude.{◌≡◌, ◌≢◌, ℕ, Ok, Err, IfOk, IfErr, map, option_map};
 ghost use Rattle.std.specs.FinMap as finite;
-ghost use Rattle.dwarf_read_core.specs.Entries.{StandsForAddresses};
+ghost use Rattle.dwarf_read_core.specs.Entries.{RepresentsAddresses};
 ghost use Rattle.dwarf_read_core.specs.Format.{word_size};
 ghost use Rattle.dwarf_read_core.specs.Answer.{Answer};
 ghost use Rattle.dwarf_read_core.specs.Sections.{debug_abbrev_reader, debug_str_offsets_reader, debug_str_reader};
@@ -122,7 +122,7 @@ pub fn string_by_index<R: Reader>(
 /// The set's first error.
 pub fn addresses_in<R: Reader>(mem: Global, header: &AddrHeader<R>) -> Result<Vec<u64>>
     ensures ok { let entries = addresses_of (seen_by R.view header.now) in
-        IfOk result (λ addresses. StandsForAddresses entries (map (λ n. Ok n) addresses.items)) }
+        IfOk result (λ addresses. RepresentsAddresses entries (map (λ n. Ok n) addresses.items)) }
 {
     let mut addresses = Vec::new(mem);
     let mut entries = header.entries()?;

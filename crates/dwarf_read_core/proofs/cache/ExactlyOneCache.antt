@@ -13,9 +13,9 @@ IsKept least section offsets key kept =
     (λ answer. (least ≤ occurrences key offsets) × Answer section key answer)
 
 -- at each offset there is a result to be kept, or none
-kept_at : (least : ℕ) (section : Input) (offsets : List ℕ) (key : ℕ)
+one_result : (least : ℕ) (section : Input) (offsets : List ℕ) (key : ℕ)
     → (kept : Kept) × IsKept least section offsets key kept
-kept_at least section offsets key =
+one_result least section offsets key =
     elim (cases_lt (occurrences key offsets) least) [
       | inl few ↦ (None, few)
       | inr enough ↦ let one = answer_exactly_one section key in (Some one.0, (enough, one.1))
@@ -25,7 +25,7 @@ kept_at least section offsets key =
 pub some_cache : (least : ℕ) (section : Input) (offsets : List ℕ)
     → (kept : ℕ → Kept) × KeepsAnswers least section offsets kept
 some_cache least section offsets =
-    ((λ key. (kept_at least section offsets key).0), λ key. (kept_at least section offsets key).1)
+    ((λ key. (one_result least section offsets key).0), λ key. (one_result least section offsets key).1)
 
 -- two maps that keep the results of the same section and offsets agree at each key
 pub same_cache : (least : ℕ) (section : Input) (offsets : List ℕ) (kept others : ℕ → Kept)

@@ -1,5 +1,5 @@
 -- A cache whose entries are those of a section stays faithful to it.
-use Rattle.dwarf_read_core.proofs.Common.{arith, subst, Option, Some, ℕ, Bool, List, Result, ◌≡◌, Error, Table, Answer, outside, table, fault, get, followed_by, Cache, KeepsAnswers, IsFaithful, IfSome, still_kept, Input}
+use Rattle.dwarf_read_core.proofs.Common.{arith, subst, Option, Some, ℕ, Bool, List, Result, ◌≡◌, Error, Table, Answer, outside, table, first_error, get, followed_by, Cache, KeepsAnswers, IsFaithful, IfSome, still_kept, Input}
 use Rattle.dwarf_read_core.proofs.tables.AppendedBytes.{answer_more}
 
 -- a section's result is the same in either byte order
@@ -7,7 +7,7 @@ answer_in_either_order : (is_big : Bool) (section : Input) (offset : ℕ) (answe
     → Answer section offset answer → Answer (record section { is_big = is_big }) offset answer
 answer_in_either_order is_big section offset _ (outside past) = outside past
 answer_in_either_order is_big section offset _ (table t within is) = table t within is
-answer_in_either_order is_big section offset _ (fault e within is) = fault e within is
+answer_in_either_order is_big section offset _ (first_error e within is) = first_error e within is
 
 -- a cache that keeps results of a section is faithful to it
 pub faithful_of_kept : (least : ℕ) (input : Input) (offsets : List ℕ) (cache : Cache)

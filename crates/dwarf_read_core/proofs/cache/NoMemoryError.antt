@@ -1,18 +1,18 @@
 -- A cache keeps no `OutOfMemory`.
-use Rattle.dwarf_read_core.proofs.Common.{arith, ◌≡◌, ◌≢◌, ℕ, Ok, Err, Result, List, nat_cmp, nat_cmp_total, Error, OutOfMemory, Table, Answer, IsFault, Cache, KeepsAnswers, KeepsNoWant, still_kept, Input}
+use Rattle.dwarf_read_core.proofs.Common.{arith, ◌≡◌, ◌≢◌, ℕ, Ok, Err, Result, List, nat_cmp, nat_cmp_total, Error, OutOfMemory, Table, Answer, IsFirstError, Cache, KeepsAnswers, KeepsNoOutOfMemory, still_kept, Input}
 use Rattle.std.specs.FinMap as finite
 
 -- the empty cache keeps no `OutOfMemory`
-pub no_memory_error_empty : KeepsNoWant finite.empty
+pub no_memory_error_empty : KeepsNoOutOfMemory finite.empty
 no_memory_error_empty key is = let none = finite.get-empty {X = Result Table Error} nat_cmp key in cc
 
 -- a cache that keeps no `OutOfMemory` keeps none after a table is inserted
-pub no_memory_error_insert : (cache : Cache) (key : ℕ) (t : Table) → KeepsNoWant cache
-    → KeepsNoWant (finite.insert cache key (Ok t))
+pub no_memory_error_insert : (cache : Cache) (key : ℕ) (t : Table) → KeepsNoOutOfMemory cache
+    → KeepsNoOutOfMemory (finite.insert cache key (Ok t))
 no_memory_error_insert cache key t none q is = grind (arith, none q, finite.get-insert nat_cmp_total cache key (Ok t) q)
 
 -- the first error of bytes that don't begin with a table is never `OutOfMemory`
-first_error_not_memory : {end : ℕ} {bytes : List ℕ} {e : Error} → IsFault end bytes e → e ≢ OutOfMemory
+first_error_not_memory : {end : ℕ} {bytes : List ℕ} {e : Error} → IsFirstError end bytes e → e ≢ OutOfMemory
 first_error_not_memory h is = grind arith
 
 -- the result for a section and an offset is never `OutOfMemory`
@@ -22,10 +22,10 @@ answer_not_memory h is = grind (arith, first_error_not_memory)
 
 -- a cache that keeps the results of a section keeps no `OutOfMemory`
 pub no_memory_error_answers : (least : ℕ) (input : Input) (offsets : List ℕ) (cache : Cache)
-    → KeepsAnswers least input offsets (finite.get cache) → KeepsNoWant cache
+    → KeepsAnswers least input offsets (finite.get cache) → KeepsNoOutOfMemory cache
 no_memory_error_answers least input offsets cache h key is = grind (arith, answer_not_memory, h key)
 
 -- a cache that keeps no `OutOfMemory` keeps none after it has dropped entries
 pub no_memory_error_final : (old new : Cache) → ((key : ℕ) → finite.get new key ≡ still_kept (finite.get old key))
-    → KeepsNoWant old → KeepsNoWant new
+    → KeepsNoOutOfMemory old → KeepsNoOutOfMemory new
 no_memory_error_final old new h none key is = grind arith

@@ -1,5 +1,5 @@
 -- A part that is read is the range at its offset.
-use Rattle.dwarf_read_core.proofs.Common.{◌≡◌, ◌∙◌, ap, arith, inl, inr, ℕ, ◌+◌, ◌<◌, ◌≤◌, length, take, drop, Ok, Err, refl, Error, EndsBefore, Input, first, Takes, At_failed, At_read, At_value, At_error, then_read, then_failed, part_read, part_failed, rest-length, after_part, no_part, part_reads, part_fails}
+use Rattle.dwarf_read_core.proofs.Common.{◌≡◌, ◌∙◌, ap, arith, inl, inr, ℕ, ◌+◌, ◌<◌, ◌≤◌, length, take, drop, Ok, Err, refl, Error, IsTooShort, Input, first, Takes, At_failed, At_read, ReadsAs_value, ReadsAs_error, then_read, then_failed, part_read, part_failed, rest-length, after_part, no_part, part_reads, part_fails}
 use Rattle.dwarf_read_core.specs.Ranges.{HasNoRange, HoldsRange, RangeAt, range_at, range_cut, range_past_end}
 
 -- the first bytes behind an offset are the range there, if the section has as many
@@ -7,19 +7,20 @@ pub range_taken : (section : Input) (offset size : ℕ) (rest part : Input) → 
     → size ≤ length rest.bytes → part ≡ first size rest → RangeAt section offset size (Ok part)
 unfolding RangeAt range_at
 range_taken section offset size rest part takes enough is =
-    At_value _ _ (after_part _ refl takes (part_reads is (record { enough = enough; left = refl })))
+    ReadsAs_value _ _ (after_part _ refl takes (part_reads is (record { enough = enough; left = refl })))
 
 -- a range is an `UnexpectedEof` if fewer bytes than its size remain behind its offset
 pub range_ends_early : (section : Input) (offset size : ℕ) (rest : Input) (e : Error) (new : Input)
-    → Takes offset section rest → EndsBefore size rest e new → RangeAt section offset size (Err e)
+    → Takes offset section rest → IsTooShort size rest e new → RangeAt section offset size (Err e)
 unfolding RangeAt range_at
-range_ends_early section offset size rest e new takes short = At_error _ _ (after_part _ refl takes (part_fails short))
+range_ends_early section offset size rest e new takes short =
+    ReadsAs_error _ _ (after_part _ refl takes (part_fails short))
 
 -- a range is an `UnexpectedEof` if the section ends before its offset
-pub range_outside : (section : Input) (offset size : ℕ) (e : Error) (new : Input) → EndsBefore offset section e new
+pub range_outside : (section : Input) (offset size : ℕ) (e : Error) (new : Input) → IsTooShort offset section e new
     → RangeAt section offset size (Err e)
 unfolding RangeAt range_at
-range_outside section offset size e new short = At_error _ _ (no_part _ short)
+range_outside section offset size e new short = ReadsAs_error _ _ (no_part _ short)
 
 -- a range is so many bytes behind its offset
 pub range_held : (section : Input) (offset size : ℕ) (part : Input) → RangeAt section offset size (Ok part)

@@ -1,5 +1,5 @@
 -- A string that is read at an offset is the section's string there.
-use Rattle.dwarf_read_core.proofs.Common.{◌≡◌, ◌≢◌, ℕ, suc, ◌<◌, List, ◌∷◌, ◌++◌, length, take, drop, Result, Ok, Err, refl, sym, ap, subst, ◌∙◌, arith, ◌⊎◌, inl, inr, Bool, slice_index, IfOk, IfErr, All, Error, followed_by, EndsBefore, Lacks, WantsMemory, Input, Takes, TakesString, At_failed, then_failed, part_failed, At_more, At_value, At_error, At_read, after_part, no_part, string_reads, string_fails, then_read, part_read, AnswersBy, StaysBy, set}
+use Rattle.dwarf_read_core.proofs.Common.{◌≡◌, ◌≢◌, ℕ, suc, ◌<◌, List, ◌∷◌, ◌++◌, length, take, drop, Result, Ok, Err, refl, sym, ap, subst, ◌∙◌, arith, ◌⊎◌, inl, inr, Bool, slice_index, IfOk, IfErr, All, Error, followed_by, IsTooShort, HasNoByte, CloneRanOutOfMemory, Input, Takes, TakesString, At_failed, then_failed, part_failed, ReadsAs_more, ReadsAs_value, ReadsAs_error, At_read, after_part, no_part, string_reads, string_fails, then_read, part_read, AnswersBy, StaysBy, set}
 use Rattle.std.proofs.lemmas.List.{set-get_or, set_split}
 use Rattle.dwarf_reader_core.proofs.Once.{string_failed, string_was_read}
 use Rattle.dwarf_read_core.specs.Strings.{HasNoString, HoldsString, StringAt, string_at, string_past_end, string_unended}
@@ -10,33 +10,33 @@ use Rattle.dwarf_read_core.specs.Strings.{HasNoString, HoldsString, StringAt, st
 pub string-read : {X : Type 0} (section : Input) (offset : ℕ) (rest new : Input) (view : X → Input)
     (clone_is_free : Bool) (r : Result X Error) → Takes offset section rest
     → IfOk r (λ x. TakesString rest (view x) new)
-    → IfErr r (λ e. Lacks 0 rest e ⊎ WantsMemory clone_is_free e)
+    → IfErr r (λ e. HasNoByte 0 rest e ⊎ CloneRanOutOfMemory clone_is_free e)
     → AnswersBy (StringAt section offset) view clone_is_free r
 unfolding StringAt string_at
 string-read section offset rest new view clone_is_free (Ok x) takes given h =
-    At_value _ _ (after_part _ refl takes (string_reads given))
+    ReadsAs_value _ _ (after_part _ refl takes (string_reads given))
 string-read section offset rest new view clone_is_free (Err e) takes given (inl lacks) =
-    inl (At_error _ _ (after_part _ refl takes (string_fails lacks)))
+    inl (ReadsAs_error _ _ (after_part _ refl takes (string_fails lacks)))
 string-read section offset rest new view clone_is_free (Err e) takes given (inr want) = inr want
 
 -- if the section ends before an offset, that error is its result there
-pub string_outside : (section : Input) (offset : ℕ) (e : Error) (new : Input) → EndsBefore offset section e new
+pub string_outside : (section : Input) (offset : ℕ) (e : Error) (new : Input) → IsTooShort offset section e new
     → StringAt section offset (Err e)
 unfolding StringAt string_at
-string_outside section offset e new short = At_error _ _ (no_part _ short)
+string_outside section offset e new short = ReadsAs_error _ _ (no_part _ short)
 
 -- a string that is found at an offset of a section is still found there when more bytes follow
 pub string_more : (section : Input) (offset : ℕ) (found : Input) (more : List ℕ) → StringAt section offset (Ok found)
     → StringAt (followed_by section more) offset (Ok found)
 unfolding StringAt
-string_more section offset found more is = At_more (string_at offset) section (Ok found) more is tt
+string_more section offset found more is = ReadsAs_more (string_at offset) section (Ok found) more is tt
 
 -- the string that a lookup returned stays when bytes are appended
 pub string-stays : {X : Type 0} (section : Input) (offset : ℕ) (view : X → Input) (clone_is_free : Bool)
     (r : Result X Error) → AnswersBy (StringAt section offset) view clone_is_free r
     → StaysBy (λ input. StringAt input offset) view clone_is_free section r
 unfolding StringAt
-string-stays section offset view clone_is_free r = grind (arith, At_more (string_at offset) section)
+string-stays section offset view clone_is_free r = grind (arith, ReadsAs_more (string_at offset) section)
 
 -- ---- what a string is
 

@@ -1,5 +1,5 @@
 -- Lookups of numbers by an index, as layouts.
-use Rattle.dwarf_read_core.proofs.Common.{common_steps, ◌≡◌, ℕ, ◌<◌, ◌≤◌, List, Bool, Result, Ok, Err, refl, sym, ◌∙◌, arith, ◌⊎◌, inl, inr, IsTrue, IfOk, IfErr, OnOk, le-leb, lt-leb, Error, UnsupportedOffset, EndsBefore, RefusesAddress, RefusesWord, is_number_size, Input, after, first, Takes, TakesNumber, followed_by, IsNoEof, read, AnswersBy, At_more, At_value, At_error, then_reads, then_fails, error_is, part_reads, part_fails, number_reads, number_fails, after_part, no_part, after_check, no_check, rest-length, takes-both, StaysBy}
+use Rattle.dwarf_read_core.proofs.Common.{common_steps, ◌≡◌, ℕ, ◌<◌, ◌≤◌, List, Bool, Result, Ok, Err, refl, sym, ◌∙◌, arith, ◌⊎◌, inl, inr, IsTrue, IfOk, IfErr, OnOk, le-leb, lt-leb, Error, UnsupportedOffset, IsTooShort, RejectsAddress, RejectsWord, is_number_size, Input, after, first, Takes, TakesNumber, followed_by, IsNotEof, read, AnswersBy, ReadsAs_more, ReadsAs_value, ReadsAs_error, then_reads, then_fails, error_is, part_reads, part_fails, number_reads, number_fails, after_part, no_part, after_check, no_check, rest-length, takes-both, StaysBy}
 use Rattle.dwarf_reader_core.proofs.Reading.{after-after}
 use Rattle.dwarf_read_core.specs.Words.{Slot, distance, place, IsPlaced, Misplaced, Holds, to_slot, word, address, WordAt, AddressAt}
 use Rattle.dwarf_read_core.proofs.sets.Entries.{offset_reads, offset_fails}
@@ -24,7 +24,7 @@ slot_holds section s x rest new takes number = grind (arith, common_steps, rest-
 
 module _ (greatest : ℕ) (section : Input) (s : Slot) where
   -- if the base is past the end, that is the first error
-  pub no_base : (e : Error) (new : Input) → EndsBefore s.base section e new → Misplaced greatest section s e
+  pub no_base : (e : Error) (new : Input) → IsTooShort s.base section e new → Misplaced greatest section s e
   unfolding to_slot
   no_base e new short = no_part _ short
 
@@ -36,14 +36,14 @@ module _ (greatest : ℕ) (section : Input) (s : Slot) where
 
   -- if the place is past the end, that is the error behind the base
   pub past_end : (rest : Input) (e : Error) (new : Input) → Takes s.base section rest → distance s ≤ greatest
-      → EndsBefore (distance s) rest e new → Misplaced greatest section s e
+      → IsTooShort (distance s) rest e new → Misplaced greatest section s e
   unfolding to_slot
   past_end rest e new takes counted short =
       after_part _ refl takes (after_check _ _ _ (le-leb (distance s) greatest counted) (part_fails short))
 
   -- a place past the end is the error, also with a distance that the code computed
   pub past_end_found : {A : Type 0} (rest new : Input) (far : ℕ) (r : Result A Error) → Takes s.base section rest
-      → far ≡ distance s → far ≤ greatest → IfErr r (λ e. EndsBefore far rest e new)
+      → far ≡ distance s → far ≤ greatest → IfErr r (λ e. IsTooShort far rest e new)
       → IfErr r (Misplaced greatest section s)
   past_end_found rest new far r takes is counted h = grind (arith, past_end)
 
@@ -62,12 +62,12 @@ module _ (greatest : ℕ) (section : Input) (s : Slot) where
   -- if a slot has no place, its word is that error
   pub word_misplaced : (e : Error) → Misplaced greatest section s e → WordAt greatest section s (Err e)
   unfolding word
-  word_misplaced e misplaced = At_error _ _ (then_fails _ _ _ misplaced)
+  word_misplaced e misplaced = ReadsAs_error _ _ (then_fails _ _ _ misplaced)
 
   -- and so is its address
   pub address_misplaced : (e : Error) → Misplaced greatest section s e → AddressAt greatest section s (Err e)
   unfolding address
-  address_misplaced e misplaced = At_error _ _ (then_fails _ _ _ misplaced)
+  address_misplaced e misplaced = ReadsAs_error _ _ (then_fails _ _ _ misplaced)
 
   -- ---- the number at a place
   module _ (rest : Input) (is_placed : IsPlaced greatest section s) (takes : Takes (place s) section rest) where
@@ -87,38 +87,38 @@ module _ (greatest : ℕ) (section : Input) (s : Slot) where
     pub word_taken : {x : ℕ} {new : Input} → TakesNumber s.width rest x new → x ≤ greatest
         → WordAt greatest section s (Ok x)
     unfolding word
-    word_taken number fits = At_value _ _ (then_reads _ _ _ slot_reached ∙ offset_reads greatest number fits)
+    word_taken number fits = ReadsAs_value _ _ (then_reads _ _ _ slot_reached ∙ offset_reads greatest number fits)
 
     -- if the word is cut, or too great for an offset, that is the error at the slot
-    pub word_fails : {e : Error} {new : Input} → RefusesWord greatest s.width rest e new
+    pub word_fails : {e : Error} {new : Input} → RejectsWord greatest s.width rest e new
         → WordAt greatest section s (Err e)
     unfolding word
-    word_fails failed = At_error _ _ (then_reads _ _ _ slot_reached ∙ offset_fails greatest failed)
+    word_fails failed = ReadsAs_error _ _ (then_reads _ _ _ slot_reached ∙ offset_fails greatest failed)
 
     -- what a reader returns for an address there is the section's result
     pub address-read : (new : Input) (clone_is_free : Bool) (r : Result ℕ Error)
         → IfOk r (λ x. TakesNumber s.width rest x new × IsTrue (is_number_size s.width))
-        → IfErr r (λ e. RefusesAddress s.width rest e new)
+        → IfErr r (λ e. RejectsAddress s.width rest e new)
         → AnswersBy (AddressAt greatest section s) (λ x. x) clone_is_free r
     unfolding address
     address-read new clone_is_free (Ok x) (number, size) h =
-        At_value _ _ (then_reads _ _ _ slot_reached ∙ after_check _ _ _ size (number_reads number))
+        ReadsAs_value _ _ (then_reads _ _ _ slot_reached ∙ after_check _ _ _ size (number_reads number))
     address-read new clone_is_free (Err e) given (inl other) =
-        inl (At_error _ _ (then_reads _ _ _ slot_reached ∙ error_is other.fault (no_check _ _ _ other.none)))
+        inl (ReadsAs_error _ _ (then_reads _ _ _ slot_reached ∙ error_is other.fault (no_check _ _ _ other.none)))
     address-read new clone_is_free (Err e) given (inr (size, short)) =
-        inl (At_error _ _ (then_reads _ _ _ slot_reached ∙ after_check _ _ _ size (number_fails short)))
+        inl (ReadsAs_error _ _ (then_reads _ _ _ slot_reached ∙ after_check _ _ _ size (number_fails short)))
 
   -- ---- appended bytes keep the result
 
   -- appended bytes change neither a word nor its error, unless that is an `UnexpectedEof`
   pub word_more : (answer : Result ℕ Error) (more : List ℕ) → WordAt greatest section s answer
-      → IfErr answer IsNoEof → WordAt greatest (followed_by section more) s answer
-  word_more = At_more (word greatest s) section
+      → IfErr answer IsNotEof → WordAt greatest (followed_by section more) s answer
+  word_more = ReadsAs_more (word greatest s) section
 
   -- appended bytes change neither an address nor its error, unless that is an `UnexpectedEof`
   pub address_more : (answer : Result ℕ Error) (more : List ℕ) → AddressAt greatest section s answer
-      → IfErr answer IsNoEof → AddressAt greatest (followed_by section more) s answer
-  address_more = At_more (address greatest s) section
+      → IfErr answer IsNotEof → AddressAt greatest (followed_by section more) s answer
+  address_more = ReadsAs_more (address greatest s) section
 
   -- the word that a lookup returned stays when bytes are appended
   pub word-stays : {X : Type 0} (view : X → ℕ) (clone_is_free : Bool) (r : Result X Error)

@@ -1,5 +1,5 @@
 -- The entries of sets, as layouts, and what `next` returns of them.
-use Rattle.dwarf_read_core.proofs.Common.{◌≡◌, ◌≢◌, ℕ, ◌<◌, ◌≤◌, List, [], length, Result, Ok, Err, sym, ◌∙◌, arith, inl, inr, ◌⊎◌, sum_by, IsTrue, le-leb, lt-leb, Error, is_number_size, RefusesAddress, RefusesWord, Input, TakesNumber, HasOne, Entries, StandsForAddresses, StandsForStringOffsets, string_offset, ComesFirst, least_taken, Layout, read, AreItems, more, fixed, TakesLeast, spans_least, number_spans, pure_spans, check_spans, then_spans, number_reads, number_fails, pure_reads, after_number, no_number, after_check, no_check}
+use Rattle.dwarf_read_core.proofs.Common.{◌≡◌, ◌≢◌, ℕ, ◌<◌, ◌≤◌, List, [], length, Result, Ok, Err, sym, ◌∙◌, arith, inl, inr, ◌⊎◌, sum_by, IsTrue, le-leb, lt-leb, Error, is_number_size, RejectsAddress, RejectsWord, Input, TakesNumber, HasOne, Entries, RepresentsAddresses, RepresentsStringOffsets, string_offset, ComesFirst, least_taken, Layout, read, AreItems, more, fixed, TakesLeast, spans_least, number_spans, pure_spans, check_spans, then_spans, number_reads, number_fails, pure_reads, after_number, no_number, after_check, no_check}
 use Rattle.dwarf_base_core.specs.declared.common.Format.{Format}
 use Rattle.dwarf_base_core.specs.declared.common.Format.TheVariants.{Dwarf32, Dwarf64}
 use Rattle.dwarf_base_core.specs.Format.{word_size}
@@ -24,12 +24,12 @@ number_least : (width : ℕ) → TakesLeast width (fixed width)
 number_least width = spans_least {size = λ _. width} (λ x. omega arith) (number_spans width)
 
 -- the bytes that remain have exactly one list of addresses
-pub addresses_exactly_one : (entries : Entries) → 0 < entries.width → HasOne (StandsForAddresses entries)
+pub addresses_exactly_one : (entries : Entries) → 0 < entries.width → HasOne (RepresentsAddresses entries)
 addresses_exactly_one entries positive =
     items-exactly_one (λ _. number_least entries.width) (omega (arith, positive)) 0 entries.rest
 
 -- addresses consume no more bytes than there are
-pub addresses_bounded : (entries : Entries) (items : List (Result ℕ Error)) → StandsForAddresses entries items
+pub addresses_bounded : (entries : Entries) (items : List (Result ℕ Error)) → RepresentsAddresses entries items
     → sum_by (least_taken entries.width) items ≤ length entries.rest.bytes
 addresses_bounded entries items are_items = items-bounded (λ _. number_least entries.width) are_items
 
@@ -40,12 +40,12 @@ size-positive width sized = grind arith
 module _ (width : ℕ) (old new : Input) (sized : IsTrue (is_number_size width)) (some : old.bytes ≢ []) where
   -- an address that is read is the first item
   pub address_first : {x : ℕ} → TakesNumber width old x new
-      → ComesFirst StandsForAddresses (entries_in width old) (Ok x) (entries_in width new)
+      → ComesFirst RepresentsAddresses (entries_in width old) (Ok x) (entries_in width new)
   address_first takes = entry-first (number_least width) (size-positive width sized) some (number_reads takes)
 
   -- an address that is cut is the first item, as an error behind which nothing remains
-  pub address_error_first : {e : Error} {left : Input} → RefusesAddress width old e new → left.bytes ≡ []
-      → ComesFirst StandsForAddresses (entries_in width old) (Err e) (entries_in width left)
+  pub address_error_first : {e : Error} {left : Input} → RejectsAddress width old e new → left.bytes ≡ []
+      → ComesFirst RepresentsAddresses (entries_in width old) (Err e) (entries_in width left)
   address_error_first (inl size) empty = absurd (let n = size.none in cc)
   address_error_first {e} {left} (inr (_, short)) empty = error-first 0 0 old left e some (number_fails short) empty
 
@@ -67,7 +67,7 @@ module _ (greatest : ℕ) where
 
   -- a string offset fails if bytes are missing, or if the number is too great for an offset
   pub offset_fails : {width : ℕ} {old new : Input} {e : Error}
-      → RefusesWord greatest width old e new
+      → RejectsWord greatest width old e new
       → read (string_offset greatest width) old ≡ Err e
   unfolding string_offset
   offset_fails (inl short) = no_number _ short
@@ -77,13 +77,13 @@ module _ (greatest : ℕ) where
 
   -- the bytes that remain have exactly one list of string offsets
   pub string_offsets_exactly_one : (entries : Entries) → 0 < entries.width
-      → HasOne (StandsForStringOffsets greatest entries)
+      → HasOne (RepresentsStringOffsets greatest entries)
   string_offsets_exactly_one entries positive =
       items-exactly_one (λ _. string_offset-least entries.width) (omega (arith, positive)) 0 entries.rest
 
   -- string offsets consume no more bytes than there are
   pub string_offsets_bounded : (entries : Entries) (items : List (Result ℕ Error))
-      → StandsForStringOffsets greatest entries items
+      → RepresentsStringOffsets greatest entries items
       → sum_by (least_taken entries.width) items ≤ length entries.rest.bytes
   string_offsets_bounded entries items are_items = items-bounded (λ _. string_offset-least entries.width) are_items
 
@@ -95,7 +95,7 @@ module _ (greatest : ℕ) where
   module _ (format : Format) (old new : Input) (some : old.bytes ≢ []) where
     -- a string offset that is read is the first item
     pub string_offset_first : {x : ℕ} → TakesNumber (word_size format) old x new → x ≤ greatest
-        → ComesFirst (StandsForStringOffsets greatest) (entries_in (word_size format) old) (Ok x)
+        → ComesFirst (RepresentsStringOffsets greatest) (entries_in (word_size format) old) (Ok x)
         (entries_in (word_size format) new)
     string_offset_first {x} takes fits =
         entry-first (string_offset-least (word_size format)) (word_size-positive format) some
@@ -103,7 +103,7 @@ module _ (greatest : ℕ) where
 
     -- a string offset that is cut or too great is the first item, as an error behind which nothing remains
     pub string_offset_error_first : {e : Error} {left : Input}
-        → RefusesWord greatest (word_size format) old e new
-        → left.bytes ≡ [] → ComesFirst (StandsForStringOffsets greatest) (entries_in (word_size format) old)
+        → RejectsWord greatest (word_size format) old e new
+        → left.bytes ≡ [] → ComesFirst (RepresentsStringOffsets greatest) (entries_in (word_size format) old)
         (Err e) (entries_in (word_size format) left)
     string_offset_error_first {e} {left} failed empty = error-first 0 0 old left e some (offset_fails failed) empty

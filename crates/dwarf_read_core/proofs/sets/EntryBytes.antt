@@ -1,7 +1,7 @@
 -- The items of a set's entries are the numbers of their bytes.
-use Rattle.dwarf_read_core.proofs.Common.{common_steps, ◌≡◌, ℕ, ◌+◌, Bool, true, false, List, length, Result, Ok, refl, sym, ap, subst, arith, inl, inr, ◌⊎◌, ◌∙◌, IsTrue, leb, UnsupportedOffset, Error, EndsBefore, Input, Takes, TakesNumber, Layout, read, AreItems, none, more, fixed, then_read, then_failed, number_read, number_failed, check_read, check_failed, pure_read, pure_failed, rest-length, takes-both, Entries, StandsForAddresses, StandsForStringOffsets, string_offset}
+use Rattle.dwarf_read_core.proofs.Common.{common_steps, ◌≡◌, ℕ, ◌+◌, Bool, true, false, List, length, Result, Ok, refl, sym, ap, subst, arith, inl, inr, ◌⊎◌, ◌∙◌, IsTrue, leb, UnsupportedOffset, Error, IsTooShort, Input, Takes, TakesNumber, Layout, read, AreItems, none, more, fixed, then_read, then_failed, number_read, number_failed, check_read, check_failed, pure_read, pure_failed, rest-length, takes-both, Entries, RepresentsAddresses, RepresentsStringOffsets, string_offset}
 use Rattle.std.proofs.Math.Nat.{suc-mul}
-use Rattle.dwarf_reader_core.specs.Layout.{fault, FailsAt}
+use Rattle.dwarf_reader_core.specs.Layout.{first_error, FailsAt}
 use Rattle.dwarf_read_core.specs.SetBytes.{AreNumbers, entry_cut, entry_too_great}
 use Rattle.dwarf_read_core.specs.Words.{place, slot}
 use Rattle.dwarf_read_core.proofs.lookups.Words.{slot_holds}
@@ -19,7 +19,7 @@ record IsUnfit (fits : ℕ → Bool) (width : ℕ) (old : Input) (e : Error) : T
 record IsNumber (fits : ℕ → Bool) (width : ℕ) (f : Layout ℕ) : Type 0 where
   value : (old new : Input) (x : ℕ) → read f old ≡ Ok (x, new) → TakesNumber width old x new × IsTrue (fits x)
   error : (old new : Input) (e : Error) → FailsAt f old e new
-      → EndsBefore width old e new ⊎ IsUnfit fits width old e
+      → IsTooShort width old e new ⊎ IsUnfit fits width old e
 
 module _ {fits : ℕ → Bool} {f : Layout ℕ} (entries : Entries) (is_number : IsNumber fits entries.width f) where
   -- the items from an index on are numbers
@@ -38,7 +38,7 @@ module _ {fits : ℕ → Bool} {f : Layout ℕ} (entries : Entries) (is_number :
       let next : place (slot 0 index entries.width) + entries.width ≡ place (slot 0 (index + 1) entries.width)
       = grind (arith, suc-mul) in
       (held, number.1, numbers_from (index + 1) (subst (λ n. Takes n entries.rest new) next both) rest)
-  numbers_from index {old = old} takes (fault {e = e} some is) =
+  numbers_from index {old = old} takes (first_error {e = e} some is) =
       let fails : FailsAt f old e _ = record { fault = is; left = refl } in
       let long = rest-length (place (slot 0 index entries.width)) entries.rest old takes in
       let full = bytes-some old.bytes some in
@@ -103,12 +103,12 @@ string_offset-is_number greatest width = record {
 }
 
 -- the addresses of a set are numbers
-pub addresses_are_numbers : (entries : Entries) (items : List (Result ℕ Error)) → StandsForAddresses entries items
+pub addresses_are_numbers : (entries : Entries) (items : List (Result ℕ Error)) → RepresentsAddresses entries items
     → AreNumbers (λ x. true) entries 0 items
 addresses_are_numbers entries items are = numbers_in entries (address_is_number entries.width) are
 
 -- the string offsets of a set are numbers that fit the offset type
 pub string_offsets_are_numbers : (greatest : ℕ) (entries : Entries) (items : List (Result ℕ Error))
-    → StandsForStringOffsets greatest entries items → AreNumbers (λ x. leb x greatest) entries 0 items
+    → RepresentsStringOffsets greatest entries items → AreNumbers (λ x. leb x greatest) entries 0 items
 string_offsets_are_numbers greatest entries items are =
     numbers_in entries (string_offset-is_number greatest entries.width) are

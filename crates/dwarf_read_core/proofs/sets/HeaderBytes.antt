@@ -1,5 +1,5 @@
 -- What the bytes of a set's header are, and which error bytes have that are no header.
-use Rattle.dwarf_read_core.proofs.Common.{common_steps, ◌≡◌, ℕ, ◌==◌, true, false, IsTrue, ◌+◌, ◌≤◌, length, slice_index, Ok, Err, refl, sym, subst, arith, inl, inr, ◌∙◌, eqb-true, eqb-false, Error, EndsBefore, end_fault, is_number_size, Input, after, Takes, TakesNumber, read, then_read, then_failed, number_read, number_failed, byte_read, byte_failed, check_read, check_failed, pure_read, pure_failed, rest-length, takes-both, address_header, string_offsets_header}
+use Rattle.dwarf_read_core.proofs.Common.{common_steps, ◌≡◌, ℕ, ◌==◌, true, false, IsTrue, ◌+◌, ◌≤◌, length, slice_index, Ok, Err, refl, sym, subst, arith, inl, inr, ◌∙◌, eqb-true, eqb-false, Error, IsTooShort, end_fault, is_number_size, Input, after, Takes, TakesNumber, read, then_read, then_failed, number_read, number_failed, byte_read, byte_failed, check_read, check_failed, pure_read, pure_failed, rest-length, takes-both, address_header, string_offsets_header}
 use Rattle.std.proofs.lemmas.List.{get_or-drop}
 use Rattle.dwarf_base_core.specs.declared.error.Error.TheVariants.{UnknownVersion}
 use Rattle.dwarf_reader_core.specs.Input.{TakesByte}
@@ -17,7 +17,7 @@ byte_behind : {n b : ℕ} {unit mid new : Input} → Takes n unit mid → TakesB
 byte_behind {n} {b} {unit} {mid} {new} takes byte = grind (arith, common_steps, get_or-drop)
 
 -- if no byte is read behind n bytes, the input has these alone
-no_byte_behind : {n : ℕ} {unit mid new : Input} {e : Error} → Takes n unit mid → EndsBefore 1 mid e new
+no_byte_behind : {n : ℕ} {unit mid new : Input} {e : Error} → Takes n unit mid → IsTooShort 1 mid e new
     → (length unit.bytes ≡ n) × (e ≡ end_fault (after n unit))
 no_byte_behind {n} {unit} {mid} {new} {e} takes short = grind (arith, common_steps)
 

@@ -1,6 +1,6 @@
 -- Bytes have exactly one list of items, and a call returns the first.
-use Rattle.dwarf_read_core.proofs.Common.{common_steps, ◌≡◌, ◌≢◌, ℕ, zero, suc, ◌+◌, ◌-◌, ◌<◌, ◌≤◌, List, [], ◌∷◌, ◌++◌, length, Result, Ok, Err, refl, sym, subst, ◌∙◌, arith, inl, inr, ◌⊎◌, sum_by, sum_by-cons, Error, Input, HasOne, followed_by, IsNoEof, least_taken, Layout, read, AreItems, none, more, Outcome, TakesLeast, read_more, error_more, ComesFirst}
-use Rattle.dwarf_reader_core.specs.Layout.{fault}
+use Rattle.dwarf_read_core.proofs.Common.{common_steps, ◌≡◌, ◌≢◌, ℕ, zero, suc, ◌+◌, ◌-◌, ◌<◌, ◌≤◌, List, [], ◌∷◌, ◌++◌, length, Result, Ok, Err, refl, sym, subst, ◌∙◌, arith, inl, inr, ◌⊎◌, sum_by, sum_by-cons, Error, Input, HasOne, followed_by, IsNotEof, least_taken, Layout, read, AreItems, none, more, Outcome, TakesLeast, read_more, error_more, ComesFirst}
+use Rattle.dwarf_reader_core.specs.Layout.{first_error}
 
 -- bytes that aren't empty are at least one
 pub bytes-some : (bytes : List ℕ) → bytes ≢ [] → 1 ≤ length bytes
@@ -24,7 +24,7 @@ module _ {A : Type 0} {item : ℕ → Layout A} {n : ℕ} (least : (offset : ℕ
   items-bounded {offset} {old} (more {new = new} {x = x} {items = items} some h rest) =
       rw (sum_by-cons (least_taken n) (Ok x) items)
       (let b = items-bounded rest in let l = (least offset).by old new x h in omega (arith, b, l))
-  items-bounded {offset} {old} (fault {e = e} full h) =
+  items-bounded {offset} {old} (first_error {e = e} full h) =
       rw (sum_by-cons (least_taken n) (Err e) []) (omega (arith, bytes-some old.bytes full))
 
 -- items that don't depend on their offset are the same at every offset
@@ -32,7 +32,7 @@ pub items-anywhere : {A : Type 0} {f : Layout A} {from : ℕ} (offset : ℕ) {ol
     {items : List (Result A Error)} → AreItems (λ _. f) from old items → AreItems (λ _. f) offset old items
 items-anywhere offset (none e) = none e
 items-anywhere offset (more some h rest) = more some h (items-anywhere _ rest)
-items-anywhere offset (fault some h) = fault some h
+items-anywhere offset (first_error some h) = first_error some h
 
 -- two readings with the same outcome have the same value, and the same bytes remain
 item-taken : {A : Type 0} {r : Outcome A} {x y : A} {i j : Input} → r ≡ Ok (x, i) → r ≡ Ok (y, j)
@@ -45,17 +45,17 @@ module _ {A : Type 0} {item : ℕ → Layout A} where
       → AreItems item offset old others → items ≡ others
   items-same (none e) (none f) = refl
   items-same (none e) (more some h rest) = absurd (some e)
-  items-same (none e) (fault some h) = absurd (some e)
+  items-same (none e) (first_error some h) = absurd (some e)
   items-same (more some h rest) (none e) = absurd (some e)
   items-same {offset} {old} (more {new = i} {x = x} some h rest) (more {new = j} {x = y} {items = ys} full k behind) =
       let e = item-taken h k in
       let others = items-same rest (subst
       (λ (z : A × Input). AreItems item (offset + (length old.bytes - length (z.1).bytes)) z.1 ys) (sym e) behind) in
       λ d. Ok ((e d).0) ∷ others d
-  items-same (more some h rest) (fault full k) = absurd (let c = sym h ∙ k in cc)
-  items-same (fault some h) (none e) = absurd (some e)
-  items-same (fault some h) (more full k rest) = absurd (let c = sym h ∙ k in cc)
-  items-same (fault {e = d} some h) (fault {e = c} full k) =
+  items-same (more some h rest) (first_error full k) = absurd (let c = sym h ∙ k in cc)
+  items-same (first_error some h) (none e) = absurd (some e)
+  items-same (first_error some h) (more full k rest) = absurd (let c = sym h ∙ k in cc)
+  items-same (first_error {e = d} some h) (first_error {e = c} full k) =
       let q = sym h ∙ k in let s : d ≡ c = cc in λ i. Err (s i) ∷ []
 
   -- ---- if each item has at least one byte
@@ -71,7 +71,7 @@ module _ {A : Type 0} {item : ℕ → Layout A} where
             → (old.bytes ≡ []) ⊎ (old.bytes ≢ []) → (r : Outcome A) → read (item offset) old ≡ r
             → (items : List (Result A Error)) × AreItems item offset old items
         go again (inl empty) r is = ([], none empty)
-        go again (inr full) (Err e) is = (Err e ∷ [], fault full is)
+        go again (inr full) (Err e) is = (Err e ∷ [], first_error full is)
         go again (inr full) (Ok (x, new)) is =
             let others = again (offset + (length old.bytes - length new.bytes)) new
             (let l = (least offset).by old new x is in omega (arith, l, positive, few)) in
@@ -97,7 +97,7 @@ module _ {A : Type 0} {item : ℕ → Layout A} where
   error-first offset behind old left e some h empty = (
     ([], none empty),
     λ others k. subst (λ (all : List (Result A Error)). AreItems item offset old (Err e ∷ all))
-        (items-same (none empty) k) (fault some h),
+        (items-same (none empty) k) (first_error some h),
   )
 
   -- ---- appended bytes
@@ -115,10 +115,10 @@ module _ {A : Type 0} {item : ℕ → Layout A} where
           → (rest : List (Result A Error)) × (others ≡ Ok x ∷ rest)
       go (none e) = absurd (bytes-still_some old.bytes behind some e)
       go (more {x = y} {items = ys} full k after) = let e = item-taken k here in (ys, λ i. Ok ((e i).0) ∷ ys)
-      go (fault full k) = absurd (let c = sym k ∙ here in cc)
+      go (first_error full k) = absurd (let c = sym k ∙ here in cc)
 
   -- an error, unless it is an `UnexpectedEof`, stays the only item when bytes are appended
   pub error-stays : {offset : ℕ} {old : Input} {e : Error} → AreItems item offset old (Err e ∷ [])
-      → IsNoEof e → (behind : List ℕ) → AreItems item offset (followed_by old behind) (Err e ∷ [])
-  error-stays {offset} {old} (fault some h) settled behind =
-      fault (bytes-still_some old.bytes behind some) (error_more (item offset) behind old settled h)
+      → IsNotEof e → (behind : List ℕ) → AreItems item offset (followed_by old behind) (Err e ∷ [])
+  error-stays {offset} {old} (first_error some h) settled behind =
+      first_error (bytes-still_some old.bytes behind some) (error_more (item offset) behind old settled h)

@@ -1,5 +1,5 @@
 -- What the bytes of a set are, and which error bytes have that don't begin with a set.
-use Rattle.dwarf_read_core.proofs.Common.{common_steps, ◌≡◌, ℕ, ◌<◌, List, ◌++◌, length, take, Ok, Err, refl, sym, ap, subst, arith, inl, inr, ◌∙◌, append_assoc, nat_lt, length-append, length-take-le, take-append-drop, All, Error, Input, after, first, Takes, Layout, read, Set, HasSize, Spans, spanned, number_spans, check_spans, pure_spans, refuse_spans, when_spans, then_spans, then_read, then_failed, part_read, part_failed, inside_read, inside_failed, pure_read, pure_failed}
+use Rattle.dwarf_read_core.proofs.Common.{common_steps, ◌≡◌, ℕ, ◌<◌, List, ◌++◌, length, take, Ok, Err, refl, sym, ap, subst, arith, inl, inr, ◌∙◌, append_assoc, nat_lt, length-append, length-take-le, take-append-drop, All, Error, Input, after, first, Takes, Layout, read, Set, HasSize, Spans, spanned, number_spans, check_spans, pure_spans, fail_spans, when_spans, then_spans, then_read, then_failed, part_read, part_failed, inside_read, inside_failed, pure_read, pure_failed}
 use Rattle.dwarf_base_core.specs.Format.{initial_length_size}
 use Rattle.dwarf_reader_core.specs.InitialLength.{initial_length, long_length, HasLength}
 use Rattle.dwarf_reader_core.specs.Layout.{FailsAt}
@@ -13,7 +13,7 @@ unfolding initial_length long_length
 initial_length-spans greatest =
     then_spans (number_spans 4)
     (λ short. when_spans (nat_lt short 0xffff_fff0) (pure_spans refl)
-    (when_spans (nat_lt short 0xffff_ffff) refuse_spans
+    (when_spans (nat_lt short 0xffff_ffff) fail_spans
     (then_spans (number_spans 8) (λ long. then_spans (check_spans _ _) (λ fits. pure_spans refl)))))
 
 -- bytes that are consumed are the first ones, and the rest remains behind them

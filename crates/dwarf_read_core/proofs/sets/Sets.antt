@@ -1,9 +1,9 @@
 -- Sets as layouts: what a reader reads of one, and what `next` returns.
-use Rattle.dwarf_read_core.proofs.Common.{◌≡◌, ◌≢◌, ℕ, ◌+◌, ◌-◌, ◌≤◌, ◌<◌, List, [], ◌∷◌, length, Result, Ok, Err, subst, arith, Bool, ◌⊎◌, inl, inr, ◌∙◌, sum_by, length-append, Error, WantsMemory, Input, first, Takes, HasOne, IsNoEof, followed_by, ComesFirst, least_taken, Layout, read, none, Set, HasSize, Headers, StandsForSets, followed_headers, then_reads, pure_reads, after_part, after_inside, read_more, error_more, Spans, TakesLeast, pure_spans, then_spans, part_spans, inside_spans}
+use Rattle.dwarf_read_core.proofs.Common.{◌≡◌, ◌≢◌, ℕ, ◌+◌, ◌-◌, ◌≤◌, ◌<◌, List, [], ◌∷◌, length, Result, Ok, Err, subst, arith, Bool, ◌⊎◌, inl, inr, ◌∙◌, sum_by, length-append, Error, CloneRanOutOfMemory, Input, first, Takes, HasOne, IsNotEof, followed_by, ComesFirst, least_taken, Layout, read, none, Set, HasSize, Headers, RepresentsSets, followed_headers, then_reads, pure_reads, after_part, after_inside, read_more, error_more, Spans, TakesLeast, pure_spans, then_spans, part_spans, inside_spans}
 use Rattle.dwarf_base_core.specs.declared.common.Format.{Format}
 use Rattle.dwarf_base_core.specs.Format.{initial_length_size}
 use Rattle.dwarf_reader_core.specs.InitialLength.{initial_length}
-use Rattle.dwarf_reader_core.specs.Layout.{fault}
+use Rattle.dwarf_reader_core.specs.Layout.{first_error}
 use Rattle.dwarf_read_core.specs.Sets.{set}
 use Rattle.dwarf_read_core.proofs.sets.SetBytes.{initial_length-spans, set-joined}
 use Rattle.dwarf_read_core.proofs.sets.ItemLists.{items-exactly_one, items-bounded, item-first, error-first, item-stays, error-stays, bytes-still_some}
@@ -27,23 +27,23 @@ headers_at offset rest = record { offset = offset; rest = rest }
 module _ {H : Type 0} (header : Layout H) (greatest : ℕ) where
   -- the first set stays the first when bytes are appended
   pub set_more : (headers : Headers) (s : Set H) (items others : List (Result (Set H) Error)) (more : List ℕ)
-      → StandsForSets header greatest headers (Ok s ∷ items)
-      → StandsForSets header greatest (followed_headers more headers) others
+      → RepresentsSets header greatest headers (Ok s ∷ items)
+      → RepresentsSets header greatest (followed_headers more headers) others
       → (rest : List (Result (Set H) Error)) × (others ≡ Ok s ∷ rest)
   set_more headers s items others more are_items h = item-stays are_items more others h
 
   -- an error, unless it is an `UnexpectedEof`, stays the only item of the sets when bytes are appended
   pub set_error_more : (headers : Headers) (e : Error) (more : List ℕ)
-      → StandsForSets header greatest headers (Err e ∷ []) → IsNoEof e
-      → StandsForSets header greatest (followed_headers more headers) (Err e ∷ [])
+      → RepresentsSets header greatest headers (Err e ∷ []) → IsNotEof e
+      → RepresentsSets header greatest (followed_headers more headers) (Err e ∷ [])
   set_error_more headers e more are_items settled = error-stays are_items settled more
 
   -- an error in place of a set is the first item, or memory ran out; nothing remains behind either. `at` is the offset
   -- as the code computes it
   pub set_error_first : (offset place : ℕ) (rest left : Input) {at : ℕ} {e : Error} (is_free : Bool) → rest.bytes ≢ []
-      → ((read (set header greatest at) rest ≡ Err e) ⊎ WantsMemory is_free e) → at ≡ offset → left.bytes ≡ []
-      → ComesFirst (StandsForSets header greatest) (headers_at offset rest) (Err e) (headers_at place left)
-      ⊎ (WantsMemory is_free e × StandsForSets header greatest (headers_at place left) [])
+      → ((read (set header greatest at) rest ≡ Err e) ⊎ CloneRanOutOfMemory is_free e) → at ≡ offset → left.bytes ≡ []
+      → ComesFirst (RepresentsSets header greatest) (headers_at offset rest) (Err e) (headers_at place left)
+      ⊎ (CloneRanOutOfMemory is_free e × RepresentsSets header greatest (headers_at place left) [])
   set_error_first offset place rest left {e = e} is_free some (inl fails) same empty =
       inl (error-first offset place rest left e some
       (subst (λ n. read (set header greatest n) rest ≡ Err e) same fails) empty)
@@ -51,12 +51,12 @@ module _ {H : Type 0} (header : Layout H) (greatest : ℕ) where
 
   -- an error in place of a set, unless it is an `UnexpectedEof`, stays the only item when bytes are appended
   pub set_error_stays : (offset : ℕ) (rest : Input) {at : ℕ} {e : Error} (is_free : Bool) → rest.bytes ≢ []
-      → ((read (set header greatest at) rest ≡ Err e) ⊎ WantsMemory is_free e) → at ≡ offset → IsNoEof e
+      → ((read (set header greatest at) rest ≡ Err e) ⊎ CloneRanOutOfMemory is_free e) → at ≡ offset → IsNotEof e
       → (more : List ℕ)
-      → StandsForSets header greatest (followed_headers more (headers_at offset rest)) (Err e ∷ [])
-      ⊎ WantsMemory is_free e
+      → RepresentsSets header greatest (followed_headers more (headers_at offset rest)) (Err e ∷ [])
+      ⊎ CloneRanOutOfMemory is_free e
   set_error_stays offset rest {e = e} is_free some (inl fails) same settled more =
-      inl (fault (bytes-still_some rest.bytes more some)
+      inl (first_error (bytes-still_some rest.bytes more some)
       (error_more (set header greatest offset) more rest settled
       (subst (λ n. read (set header greatest n) rest ≡ Err e) same fails)))
   set_error_stays offset rest is_free some (inr want) same settled more = inr want
@@ -76,12 +76,12 @@ module _ {H : Type 0} {header : Layout H} {size : ℕ} (has_size : HasSize size 
   }
 
   -- the bytes that remain have exactly one list of sets
-  pub sets_exactly_one : (headers : Headers) → HasOne (StandsForSets header greatest headers)
+  pub sets_exactly_one : (headers : Headers) → HasOne (RepresentsSets header greatest headers)
   sets_exactly_one headers = items-exactly_one set_least (omega arith) headers.offset headers.rest
 
   -- sets consume no more bytes than there are
   pub sets_bounded : (headers : Headers) (items : List (Result (Set H) Error))
-      → StandsForSets header greatest headers items → sum_by (least_taken (4 + size)) items ≤ length headers.rest.bytes
+      → RepresentsSets header greatest headers items → sum_by (least_taken (4 + size)) items ≤ length headers.rest.bytes
   sets_bounded headers items are_items = items-bounded set_least are_items
 
   module _ (offset place : ℕ) (rest left : Input) {at : ℕ} {s : Set H} (some : rest.bytes ≢ [])
@@ -92,11 +92,11 @@ module _ {H : Type 0} {header : Layout H} {size : ℕ} (has_size : HasSize size 
     is_read = subst (λ n. read (set header greatest n) rest ≡ Ok (s, left)) same is_read_at
 
     -- a set that is read is the first item
-    pub set_first : ComesFirst (StandsForSets header greatest) (headers_at offset rest) (Ok s) (headers_at place left)
+    pub set_first : ComesFirst (RepresentsSets header greatest) (headers_at offset rest) (Ok s) (headers_at place left)
     set_first = item-first set_least (omega arith) offset place rest left s some is_read behind
 
     -- a set that is read stays the first item when bytes are appended
-    pub set_stays : (more : List ℕ) → ComesFirst (StandsForSets header greatest)
+    pub set_stays : (more : List ℕ) → ComesFirst (RepresentsSets header greatest)
         (followed_headers more (headers_at offset rest)) (Ok s) (followed_headers more (headers_at place left))
     set_stays more =
         let l = (set_least offset).by rest left s is_read in

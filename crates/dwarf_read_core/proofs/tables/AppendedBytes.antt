@@ -1,5 +1,5 @@
 -- Appended bytes change no result that is final.
-use Rattle.dwarf_read_core.proofs.Common.{zero, suc, ◌<◌, ◌≤◌, inl, inr, ◌≡◌, ℕ, List, [], ◌∷◌, ◌++◌, length, take, Result, append_assoc, arith, cases_lt, length-append, drop-append-le, length-take-le, take-append-le, Input, Error, Kind, IsEncoding, NoneIsLast, IsBad, Table, by_null, IsTable, closed_by_null, followed_by, IsNoEof, IsFaulty, number_bad, tag_zero, children_bad, name_zero, form_zero, IsFault, in_declaration, repeated, Answer, table, fault, IsFinal, Answers}
+use Rattle.dwarf_read_core.proofs.Common.{zero, suc, ◌<◌, ◌≤◌, inl, inr, ◌≡◌, ℕ, List, [], ◌∷◌, ◌++◌, length, take, Result, append_assoc, arith, cases_lt, length-append, drop-append-le, length-take-le, take-append-le, Input, Error, Kind, IsEncoding, NoneIsLast, IsMalformed, Table, by_null, IsTable, closed_by_null, followed_by, IsNotEof, HasError, number_bad, tag_zero, children_bad, name_zero, form_zero, IsFirstError, in_declaration, repeated, Answer, table, first_error, IsFinal, Answers}
 use Rattle.dwarf_read_core.proofs.sets.ItemLists.{bytes-still_some}
 
 -- ---- bad numbers
@@ -21,7 +21,7 @@ all_front [] more h = tt
 all_front (x ∷ bytes) more h = (h.0, all_front bytes more h.1)
 
 -- bytes that begin with a bad number still do with more bytes behind them
-bad_more : (k : Kind) (bytes more : List ℕ) → IsBad k bytes → IsBad k (bytes ++ more)
+bad_more : (k : Kind) (bytes more : List ℕ) → IsMalformed k bytes → IsMalformed k (bytes ++ more)
 bad_more k bytes more bad = record {
   no_number = λ number n h. elim (cases_lt (length bytes) n) [
     | inl long ↦ bad.not_cut (record {
@@ -45,8 +45,8 @@ table_more : {bytes : List ℕ} {t : Table} (more : List ℕ) → IsTable bytes 
 table_more more h final = grind (arith, append_assoc, closed_by_null)
 
 -- an error in a declaration, unless it is an `UnexpectedEof`, stays the error with more bytes behind
-declaration_error_more : {end : ℕ} {bytes : List ℕ} {e : Error} (longer : ℕ) (more : List ℕ) → IsFaulty end bytes e
-    → IsNoEof e → IsFaulty longer (bytes ++ more) e
+declaration_error_more : {end : ℕ} {bytes : List ℕ} {e : Error} (longer : ℕ) (more : List ℕ) → HasError end bytes e
+    → IsNotEof e → HasError longer (bytes ++ more) e
 declaration_error_more longer more (number_bad front bytes k b c) final =
     rw (append_assoc front bytes more) (number_bad front (bytes ++ more) k b (bad_more k bytes more c))
 declaration_error_more longer more (tag_zero front tag rest code is zero_tag) final =
@@ -62,15 +62,16 @@ declaration_error_more longer more (form_zero front name form rest d n is is_nam
 declaration_error_more longer more h final = grind arith
 
 -- the first error of bytes, unless it is an `UnexpectedEof`, stays the first with more bytes behind
-first_error_more : {end : ℕ} {bytes : List ℕ} {e : Error} (longer : ℕ) (more : List ℕ) → IsFault end bytes e
-    → IsNoEof e → IsFault longer (bytes ++ more) e
+first_error_more : {end : ℕ} {bytes : List ℕ} {e : Error} (longer : ℕ) (more : List ℕ) → IsFirstError end bytes e
+    → IsNotEof e → IsFirstError longer (bytes ++ more) e
 first_error_more longer more h final =
     grind (arith, append_assoc, in_declaration, repeated, bytes-still_some, declaration_error_more)
 
 -- a final result is still the result when bytes are appended to the section
 pub answer_more : {section : Input} {offset : ℕ} {r : Result Table Error} (more : List ℕ) → Answer section offset r
     → IsFinal r → Answer (followed_by section more) offset r
-answer_more more h final = grind (arith, length-append, drop-append-le, table, fault, table_more, first_error_more)
+answer_more more h final =
+    grind (arith, length-append, drop-append-le, table, first_error, table_more, first_error_more)
 
 -- a final result that a call returned is still the section's result when bytes are appended
 pub returned_stays : (r : Result Table Error) (section : Input) (offset : ℕ) → Answers r section offset → IsFinal r

@@ -1,9 +1,9 @@
 -- A section has exactly one result at each offset, and the parser returns it.
-use Rattle.dwarf_read_core.proofs.Common.{common_steps, ◌≡◌, ℕ, ◌+◌, ◌≤◌, cond, ltb, List, [], length, drop, None, Ok, Err, refl, sym, ap, subst, ◌∙◌, arith, inl, inr, lt-ltb, le-ltb, empty, length-drop, nil_from_length, Error, Input, end_of, Takes, end_fault, EndsBefore, HasOutcome, returned, failed, IsTable, HasOne, Answer, Answers, IsFault, TakesNoMemory, outside, table, fault, Gives, declaration_at, table_in, cases_lt}
+use Rattle.dwarf_read_core.proofs.Common.{common_steps, ◌≡◌, ℕ, ◌+◌, ◌≤◌, cond, ltb, List, [], length, drop, None, Ok, Err, refl, sym, ap, subst, ◌∙◌, arith, inl, inr, lt-ltb, le-ltb, empty, length-drop, nil_from_length, Error, Input, end_of, Takes, end_fault, IsTooShort, HasOutcome, returned, failed, IsTable, HasOne, Answer, Answers, IsFirstError, TakesNoMemory, outside, table, first_error, ReturnsUnlessOutOfMemory, declaration_at, table_in, cases_lt}
 use Rattle.dwarf_read_core.proofs.tables.ReadingNumbers.{end_after}
 use Rattle.dwarf_read_core.proofs.tables.ReadingIsComplete.{zero_again, end_again}
 use Rattle.dwarf_read_core.proofs.tables.ReadingTables.{TableRead}
-use Rattle.dwarf_read_core.proofs.tables.TablesAreRead.{table_behind, table_again, first_error_again}
+use Rattle.dwarf_read_core.proofs.tables.TablesAreRead.{table_behind, table_read_again, first_error_again}
 
 -- what the functions read at an offset of a section
 unfoldable pub answer_at : Input → ℕ → TableRead
@@ -25,21 +25,22 @@ is_answer section offset = elim (cases_lt (length section.bytes) offset) [
     bytes = drop offset section.bytes
 
     read : {r : TableRead} → offset ≤ length section.bytes
-        → HasOutcome (IsTable bytes) (IsFault (end_of section) bytes) r → Answer section offset r
+        → HasOutcome (IsTable bytes) (IsFirstError (end_of section) bytes) r → Answer section offset r
     read le (returned t is) = table t le is
-    read le (failed e is) = fault e le is
+    read le (failed e is) = first_error e le is
 
 -- every result that a section has at an offset is what the functions read there
 pub only_answer : {section : Input} {offset : ℕ} {r : TableRead} → Answer section offset r
     → answer_at section offset ≡ r
 unfolding answer_at
 only_answer {section} {offset} (outside lt) = rw (lt-ltb (length section.bytes) offset lt) refl
-only_answer {section} {offset} (table t le is) = grind (arith, table_again)
-only_answer {section} {offset} (fault e le is) = rw (le-ltb (length section.bytes) offset le, first_error_again is) refl
+only_answer {section} {offset} (table t le is) = grind (arith, table_read_again)
+only_answer {section} {offset} (first_error e le is) =
+    rw (le-ltb (length section.bytes) offset le, first_error_again is) refl
 
 -- what the parser returns behind the offset is the section's result there
 pub answer_returned : (r : TableRead) (section : Input) (offset : ℕ) (rest : Input) → Takes offset section rest
-    → Gives (λ t. t) r (table_in (end_of rest) empty rest.bytes) → Answers r section offset
+    → ReturnsUnlessOutOfMemory (λ t. t) r (table_in (end_of rest) empty rest.bytes) → Answers r section offset
 unfolding answer_at
 answer_returned r section offset rest takes given =
     let e : end_of rest ≡ end_of section = ap end_of takes.left ∙ end_after offset section takes.enough in
@@ -53,7 +54,7 @@ pub answer_exactly_one : (section : Input) (offset : ℕ) → HasOne (Answer sec
 answer_exactly_one section offset = (answer_at section offset, is_answer section offset, λ s a. sym (only_answer a))
 
 -- if a read ends before an offset past the section's end, its error is the section's result there
-pub outside_of : (section : Input) (offset : ℕ) (e : Error) (new : Input) → EndsBefore offset section e new
+pub outside_of : (section : Input) (offset : ℕ) (e : Error) (new : Input) → IsTooShort offset section e new
     → Answer section offset (Err e)
 outside_of section offset e new short =
     subst (λ (x : Error). Answer section offset (Err x)) (sym short.fault) (outside short.short)

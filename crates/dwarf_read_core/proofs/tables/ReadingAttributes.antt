@@ -1,5 +1,5 @@
 -- Reading the specifications up to the null one, as the loop does and as the grammar says.
-use Rattle.dwarf_read_core.proofs.Common.{◌≡◌, ℕ, zero, suc, ◌+◌, ◌<◌, List, [], ◌∷◌, ◌++◌, length, take, ◌≢◌, Option, Some, None, Result, Ok, Err, refl, sym, ap, ◌∙◌, append_assoc, arith, append-nil, Error, Specification, Declaration, Sequence, IsSpecification, IsNull, IsFront, IsFaulty, ◌>>=◌, specification_at, and_others, attributes_at, attributes_in, declaration_of, HasOutcome, returned, outcome-bind, common_steps}
+use Rattle.dwarf_read_core.proofs.Common.{◌≡◌, ℕ, zero, suc, ◌+◌, ◌<◌, List, [], ◌∷◌, ◌++◌, length, take, ◌≢◌, Option, Some, None, Result, Ok, Err, refl, sym, ap, ◌∙◌, append_assoc, arith, append-nil, Error, Specification, Declaration, Sequence, IsSpecification, IsNull, IsFront, HasError, ◌>>=◌, specification_at, and_others, attributes_at, attributes_in, declaration_of, HasOutcome, returned, outcome-bind, common_steps}
 use Rattle.std.specs.Prelude.{slice_set}
 use Rattle.std.proofs.lemmas.List.{take_more_set}
 use Rattle.dwarf_read_core.specs.TableEntries.{collected}
@@ -94,12 +94,12 @@ pub record AttributesFound (bytes : List ℕ) (ss : List Specification) (rest : 
   pub is_null : IsNull null
 
 -- a declaration with more attributes behind its own
-abbrev pub with_attributes : Declaration → List Specification → Declaration
-with_attributes d more = declaration_of d.code d.tag d.children (d.attributes ++ more)
+abbrev pub declaration_with : Declaration → List Specification → Declaration
+declaration_with d more = declaration_of d.code d.tag d.children (d.attributes ++ more)
 
 -- the front of a declaration with the bytes of a specification behind it is a front with one more attribute
 front_push : (front first : List ℕ) (d : Declaration) (s : Specification) → IsFront front d
-    → IsSpecification first s → IsFront (front ++ first) (with_attributes d (s ∷ []))
+    → IsSpecification first s → IsFront (front ++ first) (declaration_with d (s ∷ []))
 front_push front first d s is one = record {
   head = is.head;
   specifications = is.specifications ++ first;
@@ -110,7 +110,7 @@ front_push front first d s is one = record {
 
 -- under a bound above the bytes, specifications are read behind a front, or an error of both together
 behind_by : (n end : ℕ) (front bytes whole : List ℕ) (d : Declaration) → whole ≡ front ++ bytes → length bytes < n
-    → IsFront front d → HasOutcome (λ x. AttributesFound bytes x.0 x.1) (IsFaulty end whole) (attributes_at n end bytes)
+    → IsFront front d → HasOutcome (λ x. AttributesFound bytes x.0 x.1) (HasError end whole) (attributes_at n end bytes)
 unfolding attributes_at
 behind_by zero end front bytes whole d parts short is = absurd (omega arith)
 behind_by (suc n) end front bytes whole d parts short is =
@@ -118,15 +118,15 @@ behind_by (suc n) end front bytes whole d parts short is =
     go (λ rest front. behind_by n end front rest whole) first.0 first.1 f)
   where
     go : ((rest front : List ℕ) (d : Declaration) → whole ≡ front ++ rest → length rest < n → IsFront front d
-        → HasOutcome (λ x. AttributesFound rest x.0 x.1) (IsFaulty end whole) (attributes_at n end rest))
+        → HasOutcome (λ x. AttributesFound rest x.0 x.1) (HasError end whole) (attributes_at n end rest))
         → (o : Option Specification) (behind : List ℕ) → SomeFound bytes o behind
-        → HasOutcome (λ x. AttributesFound bytes x.0 x.1) (IsFaulty end whole)
+        → HasOutcome (λ x. AttributesFound bytes x.0 x.1) (HasError end whole)
         (and_others o behind (attributes_at n end behind))
     go others None behind f =
         returned ([], behind)
         (record { specifications = []; null = f.front; parts = f.parts; are = refl; is_null = f.is_null })
     go others (Some s) behind f =
-        outcome-bind _ (others behind (front ++ f.front) (with_attributes d (s ∷ []))
+        outcome-bind _ (others behind (front ++ f.front) (declaration_with d (s ∷ []))
         (rw (parts, f.parts) (simp append_assoc))
         (let h = found_shorter bytes (Some s) behind f in omega arith)
         (front_push front f.front d s is f.is_specification))
@@ -140,7 +140,7 @@ behind_by (suc n) end front bytes whole d parts short is =
 
 -- specifications are read behind a front, or an error of both together
 pub attributes_behind : (end : ℕ) (front bytes whole : List ℕ) (d : Declaration) → whole ≡ front ++ bytes
-    → IsFront front d → HasOutcome (λ x. AttributesFound bytes x.0 x.1) (IsFaulty end whole) (attributes_in end bytes)
+    → IsFront front d → HasOutcome (λ x. AttributesFound bytes x.0 x.1) (HasError end whole) (attributes_in end bytes)
 unfolding attributes_in
 attributes_behind end front bytes whole d parts is =
     behind_by (length bytes + 1) end front bytes whole d parts (omega arith) is
@@ -169,19 +169,21 @@ attributes_end end bytes rest is = next end (bytes ++ rest) (None, rest) (null_a
 -- ---- where attributes are collected
 
 -- an attribute that is put behind those in the first list is behind all that are collected
-pub collected_push : (far near : List Specification) (n : ℕ) (s : Specification) → n < length near
-    → far ++ take (n + 1) (slice_set near n s) ≡ (far ++ take n near) ++ s ∷ []
-collected_push far near n s short = rw (take_more_set near n s short) (sym (append_assoc far (take n near) (s ∷ [])))
+pub collected_push : (overflow scratch : List Specification) (n : ℕ) (s : Specification) → n < length scratch
+    → overflow ++ take (n + 1) (slice_set scratch n s) ≡ (overflow ++ take n scratch) ++ s ∷ []
+collected_push overflow scratch n s short =
+    rw (take_more_set scratch n s short) (sym (append_assoc overflow (take n scratch) (s ∷ [])))
 
 -- if the second list isn't empty, all that are collected are in it
-pub collected_far : (n : ℕ) (near far rest : List Specification) → far ≢ []
-    → collected n near (far ++ rest) ≡ far ++ rest
-collected_far n near [] rest some = absurd (some refl)
-collected_far n near (s ∷ ss) rest some = refl
+pub collected_overflow : (n : ℕ) (scratch overflow rest : List Specification) → overflow ≢ []
+    → collected n scratch (overflow ++ rest) ≡ overflow ++ rest
+collected_overflow n scratch [] rest some = absurd (some refl)
+collected_overflow n scratch (s ∷ ss) rest some = refl
 
 -- if the second list is empty, all that are collected are in the first one
-pub collected_near : (n : ℕ) (near far : List Specification) → far ≡ [] → collected n near far ≡ far ++ take n near
-collected_near n near far none = rw none refl
+pub collected_scratch : (n : ℕ) (scratch overflow : List Specification) → overflow ≡ []
+    → collected n scratch overflow ≡ overflow ++ take n scratch
+collected_scratch n scratch overflow none = rw none refl
 
 -- how the attributes so far change with the next specification
 pub ruleset attribute_steps = (front-goes_on, front-ends, front-fails, front-begins, specification_shorter)

@@ -1,5 +1,5 @@
 -- What the grammar has at the front is read, and so is each of its errors.
-use Rattle.dwarf_read_core.proofs.Common.{common_steps, ◌≡◌, ◌≢◌, ℕ, ◌<◌, Bool, eqb, List, [], ◌∷◌, ◌++◌, Option, Some, None, Result, Ok, Err, refl, sym, ap, ◌∙◌, append_assoc, arith, ne_eqb, append-nil, nil_from_length, Error, AttributeNameZero, AttributeFormZero, Kind, unsigned64, unsigned16, refusal, IsNumber, eof, Declaration, implicit_const, children_byte, IsCode, IsHead, IsFront, IsDeclaration, IsBeginning, before_code, before_tag, before_name, before_form, before_value, IsFaulty, number_cut, number_bad, children_cut, tag_zero, children_bad, name_zero, form_zero, ◌>>=◌, number_at, value_at, specification_at, attributes_in, tag_at, children_at, declaration_of, declared_at, declaration_at}
+use Rattle.dwarf_read_core.proofs.Common.{common_steps, ◌≡◌, ◌≢◌, ℕ, ◌<◌, Bool, eqb, List, [], ◌∷◌, ◌++◌, Option, Some, None, Result, Ok, Err, refl, sym, ap, ◌∙◌, append_assoc, arith, ne_eqb, append-nil, nil_from_length, Error, AttributeNameZero, AttributeFormZero, Kind, unsigned64, unsigned16, overflow_error, IsNumber, eof, Declaration, implicit_const, children_byte, IsCode, IsHead, IsFront, IsDeclaration, IsBeginning, before_code, before_tag, before_name, before_form, before_value, HasError, number_cut, number_bad, children_cut, tag_zero, children_bad, name_zero, form_zero, ◌>>=◌, number_at, value_at, specification_at, attributes_in, tag_at, children_at, declaration_of, declared_at, declaration_at}
 use Rattle.dwarf_read_core.proofs.tables.ReadingNumbers.{encoding-begins, positive-nonzero, number_at-string, number_at-cut, number_at-bad}
 use Rattle.dwarf_read_core.proofs.tables.ReadingAttributes.{with_front, AttributesRead, attributes_fail, attributes_again, attributes_end}
 
@@ -106,11 +106,12 @@ stops end bytes e (before_value front name form d n is is_name named is_form) so
     (rw (read_name, read_form, positive-nonzero n named, q) refl))
 
 -- bytes that begin like a declaration and then have an error are read as that error, unless there are none
-pub error_again : {bytes : List ℕ} {e : Error} (end : ℕ) → IsFaulty end bytes e → bytes ≢ []
+pub error_again : {bytes : List ℕ} {e : Error} (end : ℕ) → HasError end bytes e → bytes ≢ []
     → declaration_at end bytes ≡ Err e
 unfolding tag_at children_at declared_at specification_at
 error_again end (number_cut front bytes k b c) some = stops end bytes (eof end) b some (number_at-cut k end bytes c)
-error_again end (number_bad front bytes k b c) some = stops end bytes (refusal k) b some (number_at-bad k end bytes c)
+error_again end (number_bad front bytes k b c) some =
+    stops end bytes (overflow_error k) b some (number_at-bad k end bytes c)
 error_again end (children_cut front code tag is) some =
     ap (declaration_at end) (sym (append-nil front)) ∙ head_again end front [] code tag is
 error_again end (tag_zero front tag rest code is zero_tag) some =

@@ -1,5 +1,5 @@
 -- A declaration that is read, or its error, is what the grammar says.
-use Rattle.dwarf_read_core.proofs.Common.{common_steps, ◌≡◌, ◌≢◌, ℕ, ◌<◌, Bool, true, false, eqb, List, [], ◌∷◌, ◌++◌, length, Option, Some, None, Ok, refl, sym, ap, subst, append_assoc, arith, eqb-true, eqb-false, length-append, append-nil, nil_from_length, AbbreviationTagZero, InvalidAbbreviationChildren, unsigned64, unsigned16, IsNumber, eof, Declaration, children_byte, IsCode, IsHead, IsFront, IsDeclaration, before_code, before_tag, IsFaulty, children_cut, tag_zero, children_bad, tag_at, children_at, declaration_of, declared_at, declaration_at, HasOutcome, returned, failed, outcome-bind, outcome-cond, outcome-map, outcome-ok}
+use Rattle.dwarf_read_core.proofs.Common.{common_steps, ◌≡◌, ◌≢◌, ℕ, ◌<◌, Bool, true, false, eqb, List, [], ◌∷◌, ◌++◌, length, Option, Some, None, Ok, refl, sym, ap, subst, append_assoc, arith, eqb-true, eqb-false, length-append, append-nil, nil_from_length, AbbreviationTagZero, InvalidAbbreviationChildren, unsigned64, unsigned16, IsNumber, eof, Declaration, children_byte, IsCode, IsHead, IsFront, IsDeclaration, before_code, before_tag, HasError, children_cut, tag_zero, children_bad, tag_at, children_at, declaration_of, declared_at, declaration_at, HasOutcome, returned, failed, outcome-bind, outcome-cond, outcome-map, outcome-ok}
 use Rattle.dwarf_read_core.proofs.tables.ReadingNumbers.{encoding-nonempty, number-positive, Found}
 use Rattle.dwarf_read_core.proofs.tables.ReadingSpecifications.{number_behind}
 use Rattle.dwarf_read_core.proofs.tables.ReadingAttributes.{attributes_behind}
@@ -11,7 +11,7 @@ pub record TagFound (bytes : List ℕ) (tag : ℕ) (rest : List ℕ) : Type 0 wh
 
 -- a tag is read behind a code, or an error of both together
 tag_behind : (end : ℕ) (front bytes whole : List ℕ) (code : ℕ) → whole ≡ front ++ bytes → IsCode front code
-    → HasOutcome (λ x. TagFound bytes x.0 x.1) (IsFaulty end whole) (tag_at end bytes)
+    → HasOutcome (λ x. TagFound bytes x.0 x.1) (HasError end whole) (tag_at end bytes)
 unfolding tag_at
 tag_behind end front bytes whole code parts is =
     outcome-bind _ (number_behind unsigned16 end front bytes whole parts (before_tag front code is)) (λ x f.
@@ -22,7 +22,7 @@ tag_behind end front bytes whole code parts is =
 
 -- a flag for children is read behind a code and a tag, or an error of all of them together
 children_behind : (end : ℕ) (front bytes whole : List ℕ) (code tag : ℕ) → whole ≡ front ++ bytes → IsHead front code tag
-    → HasOutcome (λ (x : Bool × List ℕ). bytes ≡ children_byte x.0 ∷ x.1) (IsFaulty end whole) (children_at end bytes)
+    → HasOutcome (λ (x : Bool × List ℕ). bytes ≡ children_byte x.0 ∷ x.1) (HasError end whole) (children_at end bytes)
 unfolding children_at
 children_behind end front [] whole code tag parts is =
     failed (eof end) (rw (parts, append-nil front) (children_cut front code tag is))
@@ -41,7 +41,7 @@ pub record DeclarationFound (bytes : List ℕ) (d : Declaration) (rest : List �
 
 -- what follows a code is read, a declaration together with the code, or an error of both together
 declared_behind : (end code : ℕ) (front bytes whole : List ℕ) → whole ≡ front ++ bytes → IsCode front code
-    → HasOutcome (λ x. DeclarationFound whole x.0 x.1) (IsFaulty end whole) (declared_at end code bytes)
+    → HasOutcome (λ x. DeclarationFound whole x.0 x.1) (HasError end whole) (declared_at end code bytes)
 unfolding declared_at
 declared_behind end code front bytes whole parts is =
     outcome-bind _ (tag_behind end front bytes whole code parts is) (λ tag t.
@@ -86,7 +86,7 @@ EntryFound bytes (Some d) rest = DeclarationFound bytes d rest
 -- a declaration or the end of the table is read at the front of bytes, or an error, and then there are bytes
 pub declaration_outcome : (end : ℕ) (bytes : List ℕ)
     → HasOutcome (λ (x : Option Declaration × List ℕ). EntryFound bytes x.0 x.1)
-    (λ e. (bytes ≢ []) × IsFaulty end bytes e) (declaration_at end bytes)
+    (λ e. (bytes ≢ []) × HasError end bytes e) (declaration_at end bytes)
 unfolding declaration_at
 declaration_outcome end bytes =
     outcome-cond (eqb (length bytes) 0)

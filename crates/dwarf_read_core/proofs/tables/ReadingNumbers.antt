@@ -1,5 +1,5 @@
 -- The function that reads a LEB128 number returns what the definition says, and nothing else.
-use Rattle.dwarf_read_core.proofs.Common.{common_steps, ◌≡◌, ℕ, zero, suc, ◌<◌, ◌≤◌, false, eqb, ltb, List, [], ◌∷◌, ◌++◌, length, drop, Option, Some, None, Result, Ok, Err, refl, sym, ap, ◌∙◌, arith, ◌⊎◌, inl, inr, length-append, length-drop, take-append-drop, take, ne_eqb, eqb-false, ltb-true, lt-ltb, le-ltb, Error, Kind, Number, limit, value, is_in_range, refusal, IsEncoding, NoneIsLast, IsNumber, HasNumber, IsCut, IsBad, ReadsNumber, RefusesNumber, Input, end_of, after, eof, encoding_at, number_from, number_at, HasOutcome, returned, failed, outcome-cond, IfOk, MatchOption, nat_tests}
+use Rattle.dwarf_read_core.proofs.Common.{common_steps, ◌≡◌, ℕ, zero, suc, ◌<◌, ◌≤◌, false, eqb, ltb, List, [], ◌∷◌, ◌++◌, length, drop, Option, Some, None, Result, Ok, Err, refl, sym, ap, ◌∙◌, arith, ◌⊎◌, inl, inr, length-append, length-drop, take-append-drop, take, ne_eqb, eqb-false, ltb-true, lt-ltb, le-ltb, Error, Kind, Number, limit, value, is_in_range, overflow_error, IsEncoding, NoneIsLast, IsNumber, HasNumber, IsTruncated, IsMalformed, ReadsNumber, RejectsNumber, Input, end_of, after, eof, encoding_at, number_from, number_at, HasOutcome, returned, failed, outcome-cond, IfOk, MatchOption, nat_tests}
 use Rattle.std.proofs.Math.Seq.{take-append_seam}
 
 -- an encoding of a number has at least one byte
@@ -61,7 +61,7 @@ unfolding number_at
 number_at-string k end front rest number s = grind (arith, encoding_at-string)
 
 -- bytes that end before their number does are read as an `UnexpectedEof` at the end
-pub number_at-cut : (k : Kind) (end : ℕ) (bytes : List ℕ) → IsCut k bytes → number_at k end bytes ≡ Err (eof end)
+pub number_at-cut : (k : Kind) (end : ℕ) (bytes : List ℕ) → IsTruncated k bytes → number_at k end bytes ≡ Err (eof end)
 unfolding number_at
 number_at-cut k end bytes c = grind (arith, encoding_at-unended)
 
@@ -79,7 +79,7 @@ number_at-has k end bytes number n h =
     ∙ number_at-string k end (take n bytes) (drop n bytes) number h.is_number
 
 -- bytes that are read as the error of a bad number are bad
-is_bad : (k : Kind) (end : ℕ) (bytes : List ℕ) → number_at k end bytes ≡ Err (refusal k) → IsBad k bytes
+is_bad : (k : Kind) (end : ℕ) (bytes : List ℕ) → number_at k end bytes ≡ Err (overflow_error k) → IsMalformed k bytes
 is_bad k end bytes e = record {
   no_number = λ number n h. let a = number_at-has k end bytes number n h in cc;
   not_cut = λ c. grind (arith, number_at-cut k end bytes c);
@@ -87,7 +87,7 @@ is_bad k end bytes e = record {
 
 -- an error in place of a number: an `UnexpectedEof` for cut bytes, or the error of bad ones
 abbrev pub IsNumberFault : Kind → ℕ → List ℕ → Error → Type 0
-IsNumberFault k end bytes e = (IsCut k bytes × (e ≡ eof end)) ⊎ (IsBad k bytes × (e ≡ refusal k))
+IsNumberFault k end bytes e = (IsTruncated k bytes × (e ≡ eof end)) ⊎ (IsMalformed k bytes × (e ≡ overflow_error k))
 
 -- what is read: a number that bytes at the front encode, or the error in place of one
 pub number_outcome : (k : Kind) (end : ℕ) (bytes : List ℕ)
@@ -105,11 +105,11 @@ number_outcome k end bytes = go (encoding_at (limit k) bytes) (encoding_split (l
           parts = s.parts;
           string = record { encoding = s.encoding; within = s.short; means = refl; in_range = fits };
         }))
-        (λ over. failed (refusal k) (inr (is_bad k end bytes (e ∙ rw over refl), refl)))
+        (λ over. failed (overflow_error k) (inr (is_bad k end bytes (e ∙ rw over refl), refl)))
     go None none e = outcome-cond (ltb (length bytes) (limit k))
         (λ lt. let few = ltb-true (length bytes) (limit k) lt in
         failed (eof end) (inl (record { short = few; unended = none few }, refl)))
-        (λ le. failed (refusal k) (inr (is_bad k end bytes (e ∙ rw le refl), refl)))
+        (λ le. failed (overflow_error k) (inr (is_bad k end bytes (e ∙ rw le refl), refl)))
 
 -- a number that is read is encoded by as many bytes as were consumed
 pub found_has : {k : Kind} {bytes : List ℕ} {number : Number k} {rest : List ℕ} → (f : Found k bytes number rest)
@@ -127,11 +127,12 @@ number_shorter k end bytes = (refl, go (number_outcome k end bytes))
     go found = grind (arith, common_steps, encoding-nonempty, length-append)
 
 -- bad bytes are read as the error of a bad number
-pub number_at-bad : (k : Kind) (end : ℕ) (bytes : List ℕ) → IsBad k bytes → number_at k end bytes ≡ Err (refusal k)
+pub number_at-bad : (k : Kind) (end : ℕ) (bytes : List ℕ) → IsMalformed k bytes
+    → number_at k end bytes ≡ Err (overflow_error k)
 number_at-bad k end bytes b = go (number_outcome k end bytes)
   where
     go : {r : Result (Number k × List ℕ) Error} → HasOutcome (λ x. Found k bytes x.0 x.1) (IsNumberFault k end bytes) r
-        → r ≡ Err (refusal k)
+        → r ≡ Err (overflow_error k)
     go (returned x f) = absurd (b.no_number x.0 (length f.front) (found_has f))
     go (failed e (inl c)) = absurd (b.not_cut c.0)
     go (failed e (inr c)) = ap (λ (x : Error). Err x) c.1
@@ -139,7 +140,7 @@ number_at-bad k end bytes b = go (number_outcome k end bytes)
 -- ---- what a reader reads, and what the function reads
 
 -- the error that a reader returns in place of a number is what the function reads
-pub number_not_read : {k : Kind} {old : Input} {e : Error} {new : Input} → RefusesNumber k old e new
+pub number_not_read : {k : Kind} {old : Input} {e : Error} {new : Input} → RejectsNumber k old e new
     → number_at k (end_of old) old.bytes ≡ Err e
 number_not_read r = grind (arith, number_at-cut, number_at-bad)
 

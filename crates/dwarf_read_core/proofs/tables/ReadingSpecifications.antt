@@ -1,12 +1,12 @@
 -- A specification that is read, or its error, is what the grammar says, and conversely.
-use Rattle.dwarf_read_core.proofs.Common.{common_steps, ◌≡◌, ℕ, ◌<◌, ◌≤◌, true, eqb, ℤ, List, [], ◌++◌, length, Option, Some, None, Ok, refl, subst, append_assoc, arith, length-append, eqb-true, eqb-false, eq-eqb, ne_eqb, AttributeNameZero, AttributeFormZero, Kind, unsigned16, signed64, IsNumber, Specification, Declaration, implicit_const, IsImplicit, IsSpecification, IsNull, IsFront, IsBeginning, before_name, before_form, before_value, IsFaulty, number_cut, number_bad, name_zero, form_zero, number_at, value_at, specification_of, specification_at, HasOutcome, returned, failed, outcome-bind, outcome-cond, outcome-map}
+use Rattle.dwarf_read_core.proofs.Common.{common_steps, ◌≡◌, ℕ, ◌<◌, ◌≤◌, true, eqb, ℤ, List, [], ◌++◌, length, Option, Some, None, Ok, refl, subst, append_assoc, arith, length-append, eqb-true, eqb-false, eq-eqb, ne_eqb, AttributeNameZero, AttributeFormZero, Kind, unsigned16, signed64, IsNumber, Specification, Declaration, implicit_const, IsImplicit, IsSpecification, IsNull, IsFront, IsBeginning, before_name, before_form, before_value, HasError, number_cut, number_bad, name_zero, form_zero, number_at, value_at, specification_of, specification_at, HasOutcome, returned, failed, outcome-bind, outcome-cond, outcome-map}
 use Rattle.dwarf_read_core.proofs.tables.ReadingNumbers.{encoding-nonempty, number-positive, positive-nonzero, number_at-string, number_outcome, number_shorter, Found}
 
 -- ---- what is read, value or error, is in the grammar
 
 -- a number is read behind the beginning of a declaration, or an error of both together
 pub number_behind : (k : Kind) (end : ℕ) (front bytes whole : List ℕ) → whole ≡ front ++ bytes → IsBeginning front k
-    → HasOutcome (λ x. Found k bytes x.0 x.1) (IsFaulty end whole) (number_at k end bytes)
+    → HasOutcome (λ x. Found k bytes x.0 x.1) (HasError end whole) (number_at k end bytes)
 number_behind k end front bytes whole parts begins =
     outcome-map (λ x f. f) (λ e f. grind (arith, number_cut, number_bad)) (number_outcome k end bytes)
 
@@ -19,7 +19,7 @@ pub record ValueFound (form : ℕ) (bytes : List ℕ) (value : Option ℤ) (rest
 -- a value is read behind a form, or an error of what begins the declaration and the value together
 value_behind : (end form : ℕ) (front bytes whole : List ℕ) → whole ≡ front ++ bytes
     → (form ≡ implicit_const → IsBeginning front signed64)
-    → HasOutcome (λ (x : Option ℤ × List ℕ). ValueFound form bytes x.0 x.1) (IsFaulty end whole)
+    → HasOutcome (λ (x : Option ℤ × List ℕ). ValueFound form bytes x.0 x.1) (HasError end whole)
     (value_at end form bytes)
 unfolding value_at
 value_behind end form front bytes whole parts begins =
@@ -50,7 +50,7 @@ SomeFound bytes (Some s) rest = SpecificationFound bytes s rest
 -- a specification is read behind the front of a declaration, or the null one, or an error of both together
 pub specification_behind : (end : ℕ) (front bytes whole : List ℕ) (d : Declaration) → whole ≡ front ++ bytes
     → IsFront front d
-    → HasOutcome (λ (x : Option Specification × List ℕ). SomeFound bytes x.0 x.1) (IsFaulty end whole)
+    → HasOutcome (λ (x : Option Specification × List ℕ). SomeFound bytes x.0 x.1) (HasError end whole)
     (specification_at end bytes)
 unfolding specification_at
 specification_behind end front bytes whole d parts is =
@@ -96,11 +96,11 @@ specification_behind end front bytes whole d parts is =
 -- ---- what is in the grammar is read
 
 -- the bytes of the value behind a form are read as that value, whatever follows
-value_again : (end form : ℕ) (bytes rest : List ℕ) (value : Option ℤ) → IsImplicit form bytes value
+value_read_again : (end form : ℕ) (bytes rest : List ℕ) (value : Option ℤ) → IsImplicit form bytes value
     → value_at end form (bytes ++ rest) ≡ Ok (value, rest)
 unfolding value_at
-value_again end form bytes rest None h = rw (ne_eqb form implicit_const h.0, h.1) refl
-value_again end form bytes rest (Some v) h =
+value_read_again end form bytes rest None h = rw (ne_eqb form implicit_const h.0, h.1) refl
+value_read_again end form bytes rest (Some v) h =
     rw (eq-eqb form implicit_const h.0, number_at-string signed64 end bytes rest v h.1) refl
 
 -- the bytes of a specification are read as that specification, whatever follows
@@ -110,7 +110,7 @@ unfolding specification_at
 specification_again end bytes rest s is =
     let name = number_at-string unsigned16 end is.name (is.form ++ (is.value ++ rest)) s.name is.is_name in
     let form = number_at-string unsigned16 end is.form (is.value ++ rest) s.form is.is_form in
-    let value = value_again end s.form is.value rest s.value is.is_value in
+    let value = value_read_again end s.form is.value rest s.value is.is_value in
     rw (is.parts, append_assoc (is.name ++ is.form) is.value rest, append_assoc is.name is.form (is.value ++ rest))
     (rw (name, form, positive-nonzero s.name is.named, positive-nonzero s.form is.formed, value) refl)
 

@@ -1,5 +1,5 @@
 -- A whole table that is read, or its first error, is what the grammar says, and conversely.
-use Rattle.dwarf_read_core.proofs.Common.{◌≡◌, ℕ, zero, suc, ◌<◌, List, [], ◌∷◌, ◌++◌, length, Option, Some, None, Ok, Err, refl, sym, ap, subst, ◌∙◌, append_assoc, arith, append-nil, contains_key, Error, DuplicateAbbreviationCode, Declaration, Sequence, IsDeclaration, AreDistinct, AreDeclarations, ByCode, Table, closed, by_code_of, by_end, IsTable, closed_by_null, closed_by_end, IsFault, in_declaration, repeated, close_of, and_declared, table_at, table_in, HasOutcome, returned, failed, outcome-bind, outcome-cond, outcome-map}
+use Rattle.dwarf_read_core.proofs.Common.{◌≡◌, ℕ, zero, suc, ◌<◌, List, [], ◌∷◌, ◌++◌, length, Option, Some, None, Ok, Err, refl, sym, ap, subst, ◌∙◌, append_assoc, arith, append-nil, contains_key, Error, DuplicateAbbreviationCode, Declaration, Sequence, IsDeclaration, AreDistinct, AreDeclarations, ByCode, Table, closed, by_code_of, by_end, IsTable, closed_by_null, closed_by_end, IsFirstError, in_declaration, repeated, close_of, and_declared, table_at, table_in, HasOutcome, returned, failed, outcome-bind, outcome-cond, outcome-map}
 use Rattle.dwarf_read_core.proofs.tables.ReadingNumbers.{encoding-begins}
 use Rattle.dwarf_read_core.proofs.tables.ReadingAttributes.{Sequence-push}
 use Rattle.dwarf_read_core.proofs.tables.ReadingIsSound.{EndFound, at_end, at_zero, EntryFound, declaration_outcome, declaration_found_shorter}
@@ -22,7 +22,7 @@ ended front ds are (at_zero bytes rest z) =
 -- what is read behind some declarations is the table that all bytes begin with, or their first error
 pub table_behind : (n end : ℕ) (front bytes whole : List ℕ) (ds : List Declaration) → whole ≡ front ++ bytes
     → length bytes < n → AreDeclarations front ds
-    → HasOutcome (IsTable whole) (IsFault end whole) (table_at n end (by_code_of ds) bytes)
+    → HasOutcome (IsTable whole) (IsFirstError end whole) (table_at n end (by_code_of ds) bytes)
 unfolding table_at
 table_behind zero end front bytes whole ds parts short are = absurd (omega arith)
 table_behind (suc n) end front bytes whole ds parts short are =
@@ -32,9 +32,9 @@ table_behind (suc n) end front bytes whole ds parts short are =
   where
     go : ((front rest : List ℕ) (ds : List Declaration) → whole ≡ front ++ rest → length rest < n
         → AreDeclarations front ds
-        → HasOutcome (IsTable whole) (IsFault end whole) (table_at n end (by_code_of ds) rest))
+        → HasOutcome (IsTable whole) (IsFirstError end whole) (table_at n end (by_code_of ds) rest))
         → (o : Option Declaration) (rest : List ℕ) → EntryFound bytes o rest
-        → HasOutcome (IsTable whole) (IsFault end whole)
+        → HasOutcome (IsTable whole) (IsFirstError end whole)
         (and_declared (close_of bytes) (by_code_of ds) o (λ more. table_at n end more rest))
     go others None rest f = returned _ (rw parts (ended front ds are f))
     go others (Some d) rest f =
@@ -43,7 +43,7 @@ table_behind (suc n) end front bytes whole ds parts short are =
         (λ e. failed (DuplicateAbbreviationCode d.code)
         (rw behind (repeated front f.front rest ds d are f.is_declaration (declared_from_key ds d.code e))))
         (λ e. let new = fresh_from_key ds d.code e in
-        subst (λ (t : ByCode). HasOutcome (IsTable whole) (IsFault end whole) (table_at n end t rest))
+        subst (λ (t : ByCode). HasOutcome (IsTable whole) (IsFirstError end whole) (table_at n end t rest))
         (table_push ds d new)
         (others (front ++ f.front) rest (ds ++ d ∷ []) behind
         (let h = declaration_found_shorter bytes d rest f in omega arith)
@@ -69,17 +69,18 @@ feed end seen bytes rest (d ∷ ds) q h =
     ∙ ap (λ (xs : List Declaration). table_in end (by_code_of xs) rest) regrouped)
 
 -- bytes that begin with a table are read as that table
-pub table_again : {bytes : List ℕ} {t : Table} (end : ℕ) → IsTable bytes t → table_in end (by_code_of []) bytes ≡ Ok t
-table_again end (closed_by_null bytes zero_code rest ds are is) =
+pub table_read_again : {bytes : List ℕ} {t : Table} (end : ℕ) → IsTable bytes t
+    → table_in end (by_code_of []) bytes ≡ Ok t
+table_read_again end (closed_by_null bytes zero_code rest ds are is) =
     let ends = table_ends end (by_code_of ds) (zero_code ++ rest) rest (zero_again end zero_code rest is) in
     rw (append_assoc, feed end [] bytes (zero_code ++ rest) ds are.each are.distinct)
     (rw (ends, encoding-begins zero_code rest is.encoding) refl)
-table_again end (closed_by_end bytes ds are) =
+table_read_again end (closed_by_end bytes ds are) =
     ap (table_in end (by_code_of [])) (sym (append-nil bytes)) ∙ feed end [] bytes [] ds are.each are.distinct
     ∙ table_ends end (by_code_of ds) [] [] (end_again end)
 
 -- bytes with a first error in place of a table are read as that error
-pub first_error_again : {bytes : List ℕ} {e : Error} {end : ℕ} → IsFault end bytes e
+pub first_error_again : {bytes : List ℕ} {e : Error} {end : ℕ} → IsFirstError end bytes e
     → table_in end (by_code_of []) bytes ≡ Err e
 first_error_again {end = end} (in_declaration bytes rest ds e are some f) =
     rw (feed end [] bytes rest ds are.each are.distinct)

@@ -4,8 +4,8 @@ ghost use Rattle.std.specs.Prelude.{◌≡◌, ◌+◌, ◌<◌, ◌≤◌, [], 
 ghost use Rattle.std.specs.Fn.{CalledAt, TakesAt};
 ghost use Rattle.dwarf_base_core.specs.declared.common.SectionId.TheVariants.{DebugAddr as debug_addr};
 ghost use Rattle.std.specs.Result.{result_transpose};
-ghost use Rattle.dwarf_reader_core.specs.Faults.{WantsMemory, is_number_size};
-ghost use Rattle.dwarf_read_core.specs.Entries.{StandsForAddresses};
+ghost use Rattle.dwarf_reader_core.specs.Faults.{CloneRanOutOfMemory, is_number_size};
+ghost use Rattle.dwarf_read_core.specs.Entries.{RepresentsAddresses};
 ghost use Rattle.dwarf_read_core.specs.Items.{GivesFirst};
 ghost use Rattle.dwarf_read_core.specs.Lookups.{AnswersBy, StaysBy};
 ghost use Rattle.dwarf_read_core.specs.Sets.{address_header, address_header-size, addresses_of, remaining_by, seen_by};
@@ -80,7 +80,7 @@ impl<R: Reader> DebugAddr<R> {
             (λ headers. remaining_by R.view headers ≡ record { offset = 0; rest = section }) }
         ensures order { let order = R.order (debug_addr_reader self.now) in
             IfOk result (λ headers. R.order headers.rest ≡ order) }
-        ensures err { IfErr result (WantsMemory R.clone_is_free) }
+        ensures err { IfErr result (CloneRanOutOfMemory R.clone_is_free) }
     {
         Ok(AddrHeaderIter::new(self.section.try_clone()?))
     }
@@ -235,7 +235,7 @@ impl<R: Reader> AddrHeader<R> {
         ensures ok { IfOk result
             (λ entries. entries ≡ addresses_of (seen_by R.view self.now)) }
         ensures sized { IfOk result (λ entries. IsTrue (is_number_size entries.width)) }
-        ensures err { IfErr result (WantsMemory R.clone_is_free) }
+        ensures err { IfErr result (CloneRanOutOfMemory R.clone_is_free) }
     {
         Ok(AddrEntryIter {
             input: self.entries.try_clone()?,
@@ -272,7 +272,7 @@ impl<R: Reader> AddrEntryIter<R> {
     /// `UnexpectedEof` at the bytes that remain if they are fewer than an address has. After it
     /// `next` returns `Ok(None)`.
     pub fn next(&mut self) -> Result<Option<u64>>
-        ensures first { GivesFirst StandsForAddresses
+        ensures first { GivesFirst RepresentsAddresses
             (λ address. address) true self.old (result_transpose result) self.new }
         ensures failed { OnErr result (self.new.rest.bytes ≡ []) }
         ensures bound { IfOk result
@@ -299,10 +299,10 @@ impl<R: Reader> Iterator for AddrEntryIter<R> {
 
     ghost use Rattle.std.specs.Prelude.{length, true};
     ghost use Rattle.std.specs.Iterator.{at_most};
-    ghost use Rattle.dwarf_read_core.specs.Entries.{StandsForAddresses};
+    ghost use Rattle.dwarf_read_core.specs.Entries.{RepresentsAddresses};
     ghost use Rattle.dwarf_read_core.specs.Items.{GivesFirst};
 
-    ghost next_gives = { GivesFirst StandsForAddresses (λ address. address) true };
+    ghost next_gives = { GivesFirst RepresentsAddresses (λ address. address) true };
 
     ghost remaining = { λ entries. at_most (length entries.rest.bytes) };
 

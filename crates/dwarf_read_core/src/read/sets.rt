@@ -2,11 +2,11 @@
 
 ghost use Rattle.std.specs.Prelude.{◌≡◌, ◌+◌, ◌≤◌, ◌⊎◌, ℕ, [], Ok, Err, true, length, IfOk, IfErr, IfSome, OnOk, OnErr};
 ghost use Rattle.std.specs.Result.{result_transpose};
-ghost use Rattle.dwarf_reader_core.specs.Faults.{WantsMemory};
+ghost use Rattle.dwarf_reader_core.specs.Faults.{CloneRanOutOfMemory};
 ghost use Rattle.dwarf_reader_core.specs.Layout.{Layout, read};
 ghost use Rattle.dwarf_read_core.specs.Equality.{same_set, same_set_per, same_set_equiv};
 ghost use Rattle.dwarf_read_core.specs.Items.{GivesFirst, StaysFirst};
-ghost use Rattle.dwarf_read_core.specs.Sets.{HasSize, StandsForSets, StandsForSetsBy, followed_headers, remaining_by, seen_by, set};
+ghost use Rattle.dwarf_read_core.specs.Sets.{HasSize, RepresentsSets, RepresentsSetsBy, followed_headers, remaining_by, seen_by, set};
 
 use dwarf_base_core::{Error, Format, Result};
 use dwarf_reader_core::Reader;
@@ -113,7 +113,7 @@ impl<R: Reader, H: HeaderFields> SetHeaderIter<R, H> {
     /// `OutOfMemory` if memory for a reader of the set runs out. After any error the iterator is
     /// exhausted: `next` returns `Ok(None)`.
     pub fn next(&mut self) -> Result<Option<SetHeader<R, H>>>
-        ensures first { GivesFirst (StandsForSetsBy R.view H.layout R.Offset.GREATEST)
+        ensures first { GivesFirst (RepresentsSetsBy R.view H.layout R.Offset.GREATEST)
             (seen_by R.view) R.clone_is_free self.old
             (result_transpose result) self.new }
         ensures failed { OnErr result ((R.view self.new.rest).bytes ≡ []) }
@@ -127,7 +127,7 @@ impl<R: Reader, H: HeaderFields> SetHeaderIter<R, H> {
 
         // Appended bytes change neither a set nor an error, unless it is an `UnexpectedEof`.
         ensures stable { let old = remaining_by R.view self.old in
-            StaysFirst (StandsForSets H.layout R.Offset.GREATEST)
+            StaysFirst (RepresentsSets H.layout R.Offset.GREATEST)
             (seen_by R.view) R.clone_is_free followed_headers old
             (result_transpose result) (remaining_by R.view self.new) }
     {
@@ -152,9 +152,9 @@ impl<R: Reader, H: HeaderFields> Iterator for SetHeaderIter<R, H> {
     ghost use Rattle.std.specs.Prelude.{length};
     ghost use Rattle.std.specs.Iterator.{at_most};
     ghost use Rattle.dwarf_read_core.specs.Items.{GivesFirst};
-    ghost use Rattle.dwarf_read_core.specs.Sets.{StandsForSetsBy, seen_by};
+    ghost use Rattle.dwarf_read_core.specs.Sets.{RepresentsSetsBy, seen_by};
 
-    ghost next_gives = { GivesFirst (StandsForSetsBy R.view H.layout R.Offset.GREATEST) (seen_by R.view) R.clone_is_free };
+    ghost next_gives = { GivesFirst (RepresentsSetsBy R.view H.layout R.Offset.GREATEST) (seen_by R.view) R.clone_is_free };
 
     ghost remaining = { λ headers. at_most (length (R.view headers.rest).bytes) };
 
@@ -274,7 +274,7 @@ impl<R: Reader, H: HeaderFields> SetHeader<R, H> {
             (R.view input.old) ≡ Ok (seen_by R.view header, R.view input.new)) }
         ensures err { IfErr result
             (λ e. (read (set H.layout R.Offset.GREATEST (R.Offset.value offset))
-            (R.view input.old) ≡ Err e) ⊎ WantsMemory R.clone_is_free e) }
+            (R.view input.old) ≡ Err e) ⊎ CloneRanOutOfMemory R.clone_is_free e) }
         ensures bound { OnOk result
             (length (R.view input.new).bytes + (4 + H.BYTES) ≤ length (R.view input.old).bytes) }
         ensures entries_order { IfOk result

@@ -4,7 +4,7 @@ ghost use Rattle.std.specs.Prelude.{◌≡◌, Ok, IfOk, IfErr};
 ghost use Rattle.std.specs.Fn.{CalledAt, TakesAt};
 ghost use Rattle.dwarf_base_core.specs.declared.common.SectionId.TheVariants.{DebugStr as debug_str, DebugStrOffsets as debug_str_offsets, DebugLineStr as debug_line_str};
 ghost use Rattle.dwarf_base_core.specs.Format.{word_size};
-ghost use Rattle.dwarf_reader_core.specs.Faults.{WantsMemory};
+ghost use Rattle.dwarf_reader_core.specs.Faults.{CloneRanOutOfMemory};
 ghost use Rattle.dwarf_read_core.specs.Lookups.{AnswersBy, StaysBy};
 ghost use Rattle.dwarf_read_core.specs.Sets.{remaining_by};
 ghost use Rattle.dwarf_read_core.specs.Strings.{StringAt};
@@ -181,7 +181,7 @@ impl<R: Reader> DebugStrOffsets<R> {
             (λ headers. remaining_by R.view headers ≡ record { offset = 0; rest = section }) }
         ensures order { let order = R.order (debug_str_offsets_reader self.now) in
             IfOk result (λ headers. R.order headers.rest ≡ order) }
-        ensures err { IfErr result (WantsMemory R.clone_is_free) }
+        ensures err { IfErr result (CloneRanOutOfMemory R.clone_is_free) }
     {
         Ok(StrOffsetsHeaderIter::new(self.section.try_clone()?))
     }

@@ -4,13 +4,13 @@ use Rattle.dwarf_listing_core.proofs.SetTexts.{address_size, one_section, word_p
 use Rattle.dwarf_read_core.specs.Input.{Input}
 use Rattle.dwarf_read_core.specs.Once.{HasOne}
 use Rattle.dwarf_read_core.specs.Strings.{StringAt, string_at}
-use Rattle.dwarf_read_core.proofs.Layouts.{At_one}
+use Rattle.dwarf_read_core.proofs.Layouts.{ReadsAs_one}
 use Rattle.dwarf_listing_core.proofs.laws.exactly_one_listing.Goals as goal
 
 -- a section has one string or error at an offset
 string_one : (section : Input) (offset : ℕ) → HasOne (StringAt section offset)
 unfolding StringAt
-string_one section offset = At_one (string_at offset) section
+string_one section offset = ReadsAs_one (string_at offset) section
 
 pub returns : goal.returns
 returns c = record {
@@ -19,7 +19,7 @@ returns c = record {
       one_text_by table_text _ (c.exactly_one_strict_answer.ensures.one (section_of section) offset);
   string = λ section offset. one_text_by string_line _ (string_one (section_of section) offset);
   addresses = λ endian section. one_section address_listing (sets_section endian section)
-      (λ offset old new s h. c.exactly_one_list_of_entries.ensures.one (addresses_of s)
+      (λ offset old new s h. c.exactly_one_list_of_addresses.ensures.one (addresses_of s)
       (address_size (2 ^ 64 - 1) offset old new s h))
       (c.exactly_one_list_of_sets.ensures.one (2 ^ 64 - 1) (sets_section endian section));
   string_offsets = λ endian section. one_section (offset_listing (2 ^ 64 - 1)) (sets_section endian section)

@@ -4,7 +4,7 @@ ghost use Rattle.std.specs.Prelude.{◌≡◌, ◌++◌, ◌==◌, ◌≤◌, �
 ghost use Rattle.std.specs.Cmp.{partial_equiv_from_equiv};
 ghost use Rattle.dwarf_reader_core.specs.Input.{end_of};
 ghost use Rattle.dwarf_read_core.specs.Equality.{HasValueByForm, same_declaration, same_declaration_equiv};
-ghost use Rattle.dwarf_read_core.specs.Reading.{Gives, tag_at, children_at, attributes_in, declared_at, declaration_at};
+ghost use Rattle.dwarf_read_core.specs.Reading.{ReturnsUnlessOutOfMemory, tag_at, children_at, attributes_in, declared_at, declaration_at};
 ghost use Rattle.dwarf_read_core.specs.TableEntries.{collected, declared_in, with_attributes, ClosesAt};
 
 use super::attribute::AttributeSpecification;
@@ -149,7 +149,7 @@ impl Abbreviation {
 
     #[tactic(auto, using(crate::proofs::tables::ReadingNumbers::number_steps), unfolding(crate::specs::Reading::tag_at))]
     pub(super) fn parse_tag<R: Reader>(input: &mut R) -> Result<DwTag>
-        ensures read { Gives (λ t. (t.0, (R.view input.new).bytes)) result
+        ensures read { ReturnsUnlessOutOfMemory (λ t. (t.0, (R.view input.new).bytes)) result
             (tag_at (end_of (R.view input.old)) (R.view input.old).bytes) }
         ensures same_end { OnOk result (end_of (R.view input.new) ≡ end_of (R.view input.old)) }
     {
@@ -163,7 +163,7 @@ impl Abbreviation {
 
     #[tactic(auto, unfolding(crate::specs::Reading::children_at))]
     pub(super) fn parse_has_children<R: Reader>(input: &mut R) -> Result<DwChildren>
-        ensures read { Gives (λ c. (c.0 == 1, (R.view input.new).bytes)) result
+        ensures read { ReturnsUnlessOutOfMemory (λ c. (c.0 == 1, (R.view input.new).bytes)) result
             (children_at (end_of (R.view input.old)) (R.view input.old).bytes) }
         ensures same_end { OnOk result (end_of (R.view input.new) ≡ end_of (R.view input.old)) }
     {
@@ -175,48 +175,56 @@ impl Abbreviation {
         }
     }
 
-    // Reads the attributes of a declaration into the parts of a `Scratch`, and returns its `len`.
+    // Reads the attributes of a declaration into the parts of a `Collector`, and returns its `len`.
     #[tactic(auto, using(crate::proofs::tables::ReadingAttributes::attribute_steps))]
     fn parse_attributes<R: Reader>(
         input: &mut R,
-        near: &mut [AttributeSpecification; NEAR],
-        far: &mut Vec<AttributeSpecification>,
+        scratch: &mut [AttributeSpecification; SCRATCH_LEN],
+        overflow: &mut Vec<AttributeSpecification>,
     ) -> Result<usize>
         ensures fits { IfOk result (λ len. len ≤ 16) }
-        ensures read { Gives
-            (λ len. (collected len near.new far.new.items, (R.view input.new).bytes)) result
+        ensures read { ReturnsUnlessOutOfMemory
+            (λ len. (collected len scratch.new overflow.new.items, (R.view input.new).bytes)) result
             (attributes_in (end_of (R.view input.old)) (R.view input.old).bytes) }
         ensures same_end { OnOk result (end_of (R.view input.new) ≡ end_of (R.view input.old)) }
     {
-        far.clear();
+        overflow.clear();
         let mut len = 0;
         // The label names the loop in its proof.
         'attributes: while let Some(attribute) = AttributeSpecification::parse(input)? {
-            if len == NEAR {
-                gather(far, &near[..len])?;
+            if len == SCRATCH_LEN {
+                spill(overflow, &scratch[..len])?;
                 len = 0;
             }
-            near[len] = attribute;
+            scratch[len] = attribute;
             len += 1;
         }
-        if !far.is_empty() {
-            gather(far, &near[..len])?;
+        if !overflow.is_empty() {
+            spill(overflow, &scratch[..len])?;
         }
         Ok(len)
     }
 
-    // Reads what follows the code of a declaration. The attributes are then in `scratch`.
+    // Reads what follows the code of a declaration. The attributes are then in `collector`.
     #[tactic(auto, unfolding(crate::specs::Reading::declared_at))]
-    fn parse_declared<R: Reader>(code: u64, input: &mut R, scratch: &mut Scratch) -> Result<Head>
+    fn parse_declared<R: Reader>(
+        code: u64,
+        input: &mut R,
+        collector: &mut Collector,
+    ) -> Result<Head>
         ensures coded { IfOk result (λ head. head.code ≡ code) }
-        ensures read { Gives
-            (λ head. (with_attributes scratch.new head, (R.view input.new).bytes)) result
+        ensures read { ReturnsUnlessOutOfMemory
+            (λ head. (with_attributes collector.new head, (R.view input.new).bytes)) result
             (declared_at (end_of (R.view input.old)) code (R.view input.old).bytes) }
         ensures same_end { OnOk result (end_of (R.view input.new) ≡ end_of (R.view input.old)) }
     {
         let tag = Self::parse_tag(input)?;
         let has_children = Self::parse_has_children(input)?;
-        scratch.len = Self::parse_attributes(input, &mut scratch.near, &mut scratch.far)?;
+        collector.len = Self::parse_attributes(
+            input,
+            &mut collector.scratch,
+            &mut collector.overflow,
+        )?;
         Ok(Head {
             code,
             tag,
@@ -225,19 +233,19 @@ impl Abbreviation {
     }
 
     // Reads a declaration, or what closes the table in its place. The attributes of a declaration are
-    // then in `scratch`.
+    // then in `collector`.
     #[tactic(auto, unfolding(crate::specs::Reading::declaration_at))]
-    pub(super) fn parse<R: Reader>(input: &mut R, scratch: &mut Scratch) -> Result<TableEntry>
+    pub(super) fn parse<R: Reader>(input: &mut R, collector: &mut Collector) -> Result<TableEntry>
         ensures coded { IfOk result
-            (λ entry. IfSome (declared_in scratch.new entry) (λ d. 0 < d.code)) }
-        ensures valued { IfOk result (λ entry. IfSome (declared_in scratch.new entry)
+            (λ entry. IfSome (declared_in collector.new entry) (λ d. 0 < d.code)) }
+        ensures valued { IfOk result (λ entry. IfSome (declared_in collector.new entry)
             (λ d. All HasValueByForm d.attributes)) }
         ensures closes { IfOk result (ClosesAt (R.view input.old).bytes) }
         ensures ends { (rest : List ℕ)
             → declaration_at (end_of (R.view input.old)) (R.view input.old).bytes ≡ Ok (None, rest)
             → IsOk result }
-        ensures read { Gives
-            (λ entry. (declared_in scratch.new entry, (R.view input.new).bytes)) result
+        ensures read { ReturnsUnlessOutOfMemory
+            (λ entry. (declared_in collector.new entry, (R.view input.new).bytes)) result
             (declaration_at (end_of (R.view input.old)) (R.view input.old).bytes) }
         ensures same_end { OnOk result (end_of (R.view input.new) ≡ end_of (R.view input.old)) }
     {
@@ -248,7 +256,7 @@ impl Abbreviation {
         if code == 0 {
             return Ok(TableEntry::NullCode);
         }
-        Ok(TableEntry::Declared(Self::parse_declared(code, input, scratch)?))
+        Ok(TableEntry::Declared(Self::parse_declared(code, input, collector)?))
     }
 }
 
@@ -281,60 +289,60 @@ impl Head {
 }
 
 // How many attributes are collected without allocating. Few declarations have more.
-const NEAR: usize = 16;
+const SCRATCH_LEN: usize = 16;
 
 // The attributes of a declaration while it is read.
 #[derive(Drop)]
-pub(super) struct Scratch {
-    // They are the first `len` of `near`, unless there are too many: then `far` isn't empty and has
+pub(super) struct Collector {
+    // They are the first `len` of `scratch`, unless there are too many: then `overflow` isn't empty and has
     // all of them. So a table without a longer list allocates nothing for this.
     len: usize,
-    near: [AttributeSpecification; NEAR],
-    far: Vec<AttributeSpecification>,
+    scratch: [AttributeSpecification; SCRATCH_LEN],
+    overflow: Vec<AttributeSpecification>,
 }
 
-impl Model for Scratch {
+impl Model for Collector {
     ghost use Rattle.std.specs.Prelude.{◌≤◌, List};
     ghost use Rattle.dwarf_read_core.specs.Grammar.{Specification};
     ghost use Rattle.dwarf_read_core.specs.TableEntries.{collected};
 
     ghost Value = { List Specification };
 
-    ghost view = { λ s. collected s.len s.near s.far.items };
+    ghost view = { λ s. collected s.len s.scratch s.overflow.items };
 
     ghost invariant = { λ s. s.len ≤ 16 };
 }
 
-impl Scratch {
-    pub(super) fn new(mem: Global) -> Scratch
+impl Collector {
+    pub(super) fn new(mem: Global) -> Collector
         ensures { result ≡ [] }
     {
-        Scratch {
+        Collector {
             len: 0,
-            near: [AttributeSpecification::made_with(mem); NEAR],
-            far: Vec::new(mem),
+            scratch: [AttributeSpecification::made_with(mem); SCRATCH_LEN],
+            overflow: Vec::new(mem),
         }
     }
 
     pub(super) fn as_slice(&self) -> &[AttributeSpecification]
         ensures value { result.now ≡ self.now }
     {
-        if self.far.is_empty() {
-            &self.near[..self.len]
+        if self.overflow.is_empty() {
+            &self.scratch[..self.len]
         } else {
-            self.far.as_slice()
+            self.overflow.as_slice()
         }
     }
 }
 
-// Copies attributes behind those in `far`. It is a call out of line, since few declarations have so
+// Copies attributes behind those in `overflow`. It is a call out of line, since few declarations have so
 // many attributes that one is made.
 #[inline(never)]
-fn gather(
-    far: &mut Vec<AttributeSpecification>,
-    near: &[AttributeSpecification],
+fn spill(
+    overflow: &mut Vec<AttributeSpecification>,
+    scratch: &[AttributeSpecification],
 ) -> std::result::Result<(), AllocError>
-    ensures ok { OnOk result (far.new.items ≡ far.old.items ++ near.now) }
+    ensures ok { OnOk result (overflow.new.items ≡ overflow.old.items ++ scratch.now) }
 {
-    far.extend_from_slice(near)
+    overflow.extend_from_slice(scratch)
 }

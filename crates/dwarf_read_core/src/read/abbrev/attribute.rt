@@ -4,7 +4,7 @@ ghost use Rattle.std.specs.Prelude.{◌≡◌, ◌↔◌, IsSome, OnOk};
 ghost use Rattle.dwarf_reader_core.specs.Input.{end_of};
 ghost use Rattle.dwarf_read_core.specs.Forms.{form_size};
 ghost use Rattle.dwarf_read_core.specs.Grammar.{implicit_const};
-ghost use Rattle.dwarf_read_core.specs.Reading.{Gives, specification_at};
+ghost use Rattle.dwarf_read_core.specs.Reading.{ReturnsUnlessOutOfMemory, specification_at};
 
 use dwarf_base_core::{Encoding, Error, Result};
 use dwarf_const_core::attribute::{DW_AT_null, DwAt};
@@ -116,7 +116,7 @@ impl AttributeSpecification {
 
     // Reads an attribute, or `None` if name and form are 0, which ends the declaration.
     pub(super) fn parse<R: Reader>(input: &mut R) -> Result<Option<AttributeSpecification>>
-        ensures read { Gives (λ s. (s, (R.view input.new).bytes)) result
+        ensures read { ReturnsUnlessOutOfMemory (λ s. (s, (R.view input.new).bytes)) result
             (specification_at (end_of (R.view input.old)) (R.view input.old).bytes) }
         ensures same_end { OnOk result (end_of (R.view input.new) ≡ end_of (R.view input.old)) }
     {

@@ -8,7 +8,7 @@ ghost use Rattle.std.specs.Ordering.{nat_cmp};
 ghost use Rattle.dwarf_reader_core.specs.Input.{Input};
 ghost use Rattle.dwarf_reader_core.specs.Appended.{followed_by};
 ghost use Rattle.dwarf_read_core.specs.Answer.{Answer, Answers};
-ghost use Rattle.dwarf_read_core.specs.Cache.{answer_of, IsInOrder, KeepsAnswers, kept_at, least_count, NamesOffsets, GivesBeforeError, GivesSome, IsFaithful, HandsOut, is_final, still_kept};
+ghost use Rattle.dwarf_read_core.specs.Cache.{answer_of, IsInOrder, KeepsAnswers, kept_at, least_count, NamesOffsets, GivesBeforeError, HasFirstItem, IsFaithful, ReturnsKept, is_final, still_kept};
 ghost use Rattle.dwarf_read_core.specs.Sections.{debug_abbrev_reader};
 
 use super::{Abbreviations, DebugAbbrev};
@@ -68,7 +68,7 @@ impl Model for AbbreviationsCache {
     ghost use Rattle.std.specs.FinMap as finite;
     ghost use Rattle.std.specs.Coded.{coded_ℕ, coded_result};
     ghost use Rattle.dwarf_read_core.specs.Grammar.{table_code};
-    ghost use Rattle.dwarf_read_core.specs.Cache.{Cache, IsInOrder, KeepsNoWant, shown_entries};
+    ghost use Rattle.dwarf_read_core.specs.Cache.{Cache, IsInOrder, KeepsNoOutOfMemory, shown_entries};
     ghost use Rattle.dwarf_base_core.specs.contracts.error.Error as error;
 
     ghost Value = { Cache };
@@ -78,7 +78,7 @@ impl Model for AbbreviationsCache {
     ghost view = { λ a. finite.from_entries (shown_entries a.abbreviations.items) };
 
     ghost invariant = { λ a. IsInOrder a.abbreviations.items
-        × KeepsNoWant (finite.from_entries (shown_entries a.abbreviations.items)) };
+        × KeepsNoOutOfMemory (finite.from_entries (shown_entries a.abbreviations.items)) };
 }
 
 impl AbbreviationsCache {
@@ -128,7 +128,7 @@ impl AbbreviationsCache {
         ensures unchanged { OnErr result (self.new ≡ self.old) }
 
         // With no offsets the call succeeds, unless the iterator itself runs out of memory.
-        ensures some { OnErr result (GivesSome I.next_gives units) }
+        ensures some { OnErr result (HasFirstItem I.next_gives units) }
     {
         let offsets = before_error(self.mem, units)?;
         let entries = entries_kept(self.mem, strategy, debug_abbrev, offsets)?;
@@ -197,7 +197,7 @@ impl AbbreviationsCache {
         ensures answer { let section = R.view (debug_abbrev_reader debug_abbrev.now) in
             MatchOption (finite.get self.now (R.Offset.value offset.0))
             (Answers (answer_of result) section (R.Offset.value offset.0))
-            (λ kept. HandsOut kept result) }
+            (λ kept. ReturnsKept kept result) }
         ensures faithful { let section = R.view (debug_abbrev_reader debug_abbrev.now) in
             IsFaithful self.now section
             → Answers (answer_of result) section (R.Offset.value offset.0) }
@@ -245,7 +245,7 @@ fn before_error<T: Drop, I: Iterator<Item = Result<T>>>(mem: Global, items: I) -
     requires ends { IsFinite (I.remaining items) }
     ensures ok { IfOk result (λ taken. GivesBeforeError I.next_gives items taken.items) }
     ensures err { IfErr result (λ e. e ≡ Error.OutOfMemory) }
-    ensures some { OnErr result (GivesSome I.next_gives items) }
+    ensures some { OnErr result (HasFirstItem I.next_gives items) }
 {
     let mut taken = Vec::new(mem);
     for item in items {

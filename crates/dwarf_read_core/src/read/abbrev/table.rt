@@ -5,9 +5,9 @@ ghost use Rattle.std.specs.FinMap as finite;
 ghost use Rattle.std.specs.Iterator.{YieldsFirstRef, item_count};
 ghost use Rattle.dwarf_reader_core.specs.Input.{end_of};
 ghost use Rattle.dwarf_read_core.specs.Grammar.{by_end, is_by_null};
-ghost use Rattle.dwarf_read_core.specs.Reading.{Gives, declaration_at, table_in};
+ghost use Rattle.dwarf_read_core.specs.Reading.{ReturnsUnlessOutOfMemory, declaration_at, table_in};
 
-use super::abbreviation::{Abbreviation, Attributes, Scratch, TableEntry};
+use super::abbreviation::{Abbreviation, Attributes, Collector, TableEntry};
 use super::others::{Others, OthersIter};
 use dwarf_base_core::{Error, Result};
 use dwarf_reader_core::Reader;
@@ -154,7 +154,7 @@ impl Abbreviations {
         }
     }
 
-    // Gives back the room that no abbreviation needs, if there may be much of it.
+    // ReturnsUnlessOutOfMemory back the room that no abbreviation needs, if there may be much of it.
     fn trim(&mut self)
         ensures { self.new ≡ self.old }
     {
@@ -169,7 +169,7 @@ impl Abbreviations {
         ensures ends { (rest : List ℕ)
             → declaration_at (end_of (R.view input)) (R.view input).bytes ≡ Ok (None, rest)
             → IsOk result }
-        ensures read { Gives (λ t. t) result
+        ensures read { ReturnsUnlessOutOfMemory (λ t. t) result
             (table_in (end_of (R.view input)) finite.empty (R.view input).bytes) }
     {
         let mut abbreviations = Abbreviations::parse(mem, &mut input)?;
@@ -182,17 +182,17 @@ impl Abbreviations {
         ensures ends { (rest : List ℕ)
             → declaration_at (end_of (R.view input.old)) (R.view input.old).bytes ≡ Ok (None, rest)
             → IsOk result }
-        ensures read { Gives (λ t. t) result
+        ensures read { ReturnsUnlessOutOfMemory (λ t. t) result
             (table_in (end_of (R.view input.old)) finite.empty (R.view input.old).bytes) }
     {
         let mut abbreviations = Abbreviations::empty(mem);
         // One serves the whole table; each declaration's attributes are collected in it.
-        let mut scratch = Scratch::new(mem);
+        let mut collector = Collector::new(mem);
         // The label names the loop in its proof.
         'declarations: loop {
-            match Abbreviation::parse(input, &mut scratch)? {
+            match Abbreviation::parse(input, &mut collector)? {
                 TableEntry::Declared(head) => {
-                    let attributes = Attributes::from_slice(mem, scratch.as_slice())?;
+                    let attributes = Attributes::from_slice(mem, collector.as_slice())?;
                     abbreviations.insert(head.with(attributes))?;
                 }
                 TableEntry::NullCode => {
@@ -206,11 +206,11 @@ impl Abbreviations {
 }
 
 // How many abbreviations a vector first has room for.
-const FEW: usize = 32;
+const FIRST_CAPACITY: usize = 32;
 
 // How many it has room for once it has grown. It doubles from then on, so the table of a usual unit is
 // copied at most once.
-const USUAL: usize = 256;
+const SECOND_CAPACITY: usize = 256;
 
 // Adds an abbreviation at the back.
 #[inline]
@@ -222,18 +222,22 @@ fn push(
     ensures err { OnErr result (items.new.items ≡ items.old.items) }
 {
     if items.len() == items.capacity() {
-        items.reserve(if items.is_empty() { FEW } else { USUAL - FEW })?;
+        items.reserve(if items.is_empty() {
+            FIRST_CAPACITY
+        } else {
+            SECOND_CAPACITY - FIRST_CAPACITY
+        })?;
     }
     items.push_reserved(abbreviation);
     Ok(())
 }
 
-// Gives back what a vector with room for a usual table doesn't need. A longer one has at most twice
+// ReturnsUnlessOutOfMemory back what a vector with room for a usual table doesn't need. A longer one has at most twice
 // the room that it needs.
 pub(super) fn trim(items: &mut Vec<Abbreviation>)
     ensures { items.new.items ≡ items.old.items }
 {
-    if items.capacity() == USUAL {
+    if items.capacity() == SECOND_CAPACITY {
         items.shrink_to_fit();
     }
 }

@@ -4,7 +4,7 @@
 ghost use Rattle.std.specs.Prelude.{◌≡◌, All, IfOk};
 ghost use Rattle.dwarf_read_core.specs.Equality.{HasValueByForm};
 
-use super::abbreviation::{Abbreviation, Attributes, Scratch, TableEntry};
+use super::abbreviation::{Abbreviation, Attributes, Collector, TableEntry};
 use super::attribute::AttributeSpecification;
 use super::table::Abbreviations;
 use dwarf_base_core::{Error, LittleEndian, Result};
@@ -179,14 +179,14 @@ fn entries_of_a_table_are_parsed(rt: HostRuntime) -> std::result::Result<(), Fai
         (b"\0\x01\x02\x03\x04", None, BEHIND),
         (b"", None, b""),
     ];
-    let mut scratch = Scratch::new(mem);
+    let mut collector = Collector::new(mem);
     for (bytes, attribute, left) in rows {
         let input = &mut slice(bytes);
-        let head = head_of(Abbreviation::parse(input, &mut scratch)?);
+        let head = head_of(Abbreviation::parse(input, &mut collector)?);
         let wanted = attribute.map(|_| (1, DW_TAG_subprogram, DW_CHILDREN_no));
         assert_eq!(rt; head, wanted, "{bytes:?}");
         if let Some(attribute) = attribute {
-            assert_eq!(rt; scratch.as_slice(), [attribute].as_slice(), "{bytes:?}");
+            assert_eq!(rt; collector.as_slice(), [attribute].as_slice(), "{bytes:?}");
         }
         assert_eq!(rt; input.slice(), left, "{bytes:?}");
     }

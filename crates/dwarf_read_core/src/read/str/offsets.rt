@@ -2,8 +2,8 @@
 
 ghost use Rattle.std.specs.Prelude.{◌≡◌, ◌+◌, ◌<◌, ◌≤◌, [], true, length, IfOk, IfErr, IfSome, OnErr};
 ghost use Rattle.std.specs.Result.{result_transpose};
-ghost use Rattle.dwarf_reader_core.specs.Faults.{WantsMemory};
-ghost use Rattle.dwarf_read_core.specs.Entries.{StandsForStringOffsets};
+ghost use Rattle.dwarf_reader_core.specs.Faults.{CloneRanOutOfMemory};
+ghost use Rattle.dwarf_read_core.specs.Entries.{RepresentsStringOffsets};
 ghost use Rattle.dwarf_read_core.specs.Items.{GivesFirst};
 ghost use Rattle.dwarf_read_core.specs.Sets.{seen_by, string_offsets_header, string_offsets_header-size, string_offsets_of};
 
@@ -73,7 +73,7 @@ impl<R: Reader> StrOffsetsHeader<R> {
     pub fn entries(&self) -> Result<StrOffsetsEntryIter<R>>
         ensures ok { IfOk result
             (λ entries. entries ≡ string_offsets_of (seen_by R.view self.now)) }
-        ensures err { IfErr result (WantsMemory R.clone_is_free) }
+        ensures err { IfErr result (CloneRanOutOfMemory R.clone_is_free) }
     {
         Ok(StrOffsetsEntryIter {
             input: self.entries.try_clone()?,
@@ -108,7 +108,7 @@ impl<R: Reader> StrOffsetsEntryIter<R> {
     /// `UnsupportedOffset` if the next word doesn't fit the offset type. After either `next` returns
     /// `Ok(None)`.
     pub fn next(&mut self) -> Result<Option<DebugStrOffset<R::Offset>>>
-        ensures first { GivesFirst (StandsForStringOffsets R.Offset.GREATEST)
+        ensures first { GivesFirst (RepresentsStringOffsets R.Offset.GREATEST)
             (λ offset. R.Offset.value offset.0) true self.old (result_transpose result) self.new }
         ensures failed { OnErr result (self.new.rest.bytes ≡ []) }
         ensures bound { IfOk result
@@ -135,10 +135,10 @@ impl<R: Reader> Iterator for StrOffsetsEntryIter<R> {
 
     ghost use Rattle.std.specs.Prelude.{length, true};
     ghost use Rattle.std.specs.Iterator.{at_most};
-    ghost use Rattle.dwarf_read_core.specs.Entries.{StandsForStringOffsets};
+    ghost use Rattle.dwarf_read_core.specs.Entries.{RepresentsStringOffsets};
     ghost use Rattle.dwarf_read_core.specs.Items.{GivesFirst};
 
-    ghost next_gives = { GivesFirst (StandsForStringOffsets R.Offset.GREATEST) (λ offset. R.Offset.value offset.0) true };
+    ghost next_gives = { GivesFirst (RepresentsStringOffsets R.Offset.GREATEST) (λ offset. R.Offset.value offset.0) true };
 
     ghost remaining = { λ entries. at_most (length entries.rest.bytes) };
 

@@ -1,4 +1,4 @@
-use Rattle.dwarf_read_core.proofs.Common.{common_steps, arith, ap, ◌∙◌, option_map, answer_of, set, Ok, subst, sym, KeepsNoWant}
+use Rattle.dwarf_read_core.proofs.Common.{common_steps, arith, ap, ◌∙◌, option_map, answer_of, set, Ok, subst, sym, KeepsNoOutOfMemory}
 use Rattle.std.proofs.Common.{insert}
 use Rattle.dwarf_read_core.proofs.cache.NoMemoryError.{no_memory_error_insert}
 use Rattle.dwarf_read_core.proofs.cache.EntriesInOrder.{comparisons_rise, lookup_at_no_place}
@@ -22,7 +22,8 @@ invariant_of-self-in-Err g c =
     (rw (← c.deref.ensures.value) c.in-Err.ensures.bound) (gap (comparisons_rise items c.self.invariant.0 key)) in
     rw c.in_ok-insert-in-Err.ensures.items (
       puts.order,
-      subst KeepsNoWant (sym puts.shows) (no_memory_error_insert (shown items) key table.value c.self.invariant.1),
+      subst KeepsNoOutOfMemory (sym puts.shows)
+          (no_memory_error_insert (shown items) key table.value c.self.invariant.1),
     )
 
 pub returns-in_ok-insert-in-Err-clause-ok : goal.returns-in_ok-insert-in-Err-clause-ok
