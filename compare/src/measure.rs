@@ -4,6 +4,7 @@
 //! is left out, since units belong to gimli's upper layers, and so are written numbers, which another feature has.
 
 use crate::made::{made_sets, put_signed, put_unsigned, shaped_table, Random};
+use crate::plain;
 use gimli::{
     DebugAbbrev, DebugAbbrevOffset, DebugAddr, DebugAddrBase, DebugAddrIndex, DebugStr, DebugStrOffset,
     DebugStrOffsets, DebugStrOffsetsBase, DebugStrOffsetsIndex, EndianSlice, Format, LittleEndian, Reader,
@@ -154,7 +155,7 @@ fn of_tables(name: &str, section: Vec<u8>, given: Vec<Table>, all: &mut Vec<Work
     let (s, o): (Bytes, Places) = (section.leak(), offsets.leak());
     let count = unsafe { compare_tables(s.as_ptr(), s.len(), o.as_ptr(), o.len()) } as u64;
     // Nearly all of the codes that `get_sum` looks up are in such a table.
-    let is_dense = matches!(&given[..], [(_, codes)] if codes.last() <= Some(&(CODES + 1)));
+    let is_dense = matches!(&given[..], [(0, codes)] if codes.len() as u64 == CODES && codes[0] < 3);
     all.push(Workload {
         name: format!("a declaration of a table, {name}"),
         operations: count,
@@ -374,20 +375,24 @@ fn made_strings(random: &mut Random) -> Vec<u8> {
     text
 }
 
-/// The workloads, of inputs that are made and of the string sections that are given.
+/// The workloads: of the tables and strings of files, if there are any, and otherwise of inputs that are made.
 pub fn workloads(sections: &[(String, String, Vec<u8>)]) -> Vec<Workload> {
     let (mut random, mut all) = (Random(88_172_645_463_325_252), vec![]);
-    all_of_tables(&mut random, &mut all);
-    all_of_numbers(&mut random, &mut all);
-    all_of_lookups(&mut random, &mut all);
-    all_of_sets(&mut random, &mut all);
-    let made = made_strings(&mut random);
-    of_strings("made-up strings", &mut random, made, &mut all);
     for (name, kind, bytes) in sections {
-        if kind == "debug_str" {
-            let name = name.rsplit('/').next().unwrap_or_default();
-            of_strings(&format!("strings of {name}"), &mut random, bytes.clone(), &mut all);
+        let name = name.rsplit('/').next().unwrap_or_default();
+        match kind.as_str() {
+            "debug_abbrev" => of_tables(name, bytes.clone(), plain::tables(bytes), &mut all),
+            "debug_str" => of_strings(&format!("strings of {name}"), &mut random, bytes.clone(), &mut all),
+            _ => {}
         }
+    }
+    if sections.is_empty() {
+        all_of_tables(&mut random, &mut all);
+        all_of_numbers(&mut random, &mut all);
+        all_of_lookups(&mut random, &mut all);
+        all_of_sets(&mut random, &mut all);
+        let made = made_strings(&mut random);
+        of_strings("made-up strings", &mut random, made, &mut all);
     }
     all
 }

@@ -249,14 +249,29 @@ fn table(bytes: &[u8], offset: usize) -> Result<(BTreeMap<u64, Declaration>, boo
     if offset > bytes.len() {
         return Err(eof(0));
     }
-    let mut input = Input { bytes, at: offset };
+    next_table(&mut Input { bytes, at: offset })
+}
+
+/// Where the tables of a section begin that follow each other up to the first that isn't closed, and their codes.
+pub fn tables(bytes: &[u8]) -> Vec<(usize, Vec<u64>)> {
+    let (mut input, mut found) = (Input { bytes, at: 0 }, vec![]);
+    loop {
+        let at = input.at;
+        match next_table(&mut input) {
+            Ok((by_code, true)) => found.push((at, by_code.into_keys().collect())),
+            _ => return found,
+        }
+    }
+}
+
+fn next_table(input: &mut Input) -> Result<(BTreeMap<u64, Declaration>, bool), Fault> {
     let mut by_code = BTreeMap::new();
-    while input.at < bytes.len() {
+    while input.at < input.bytes.len() {
         let code = input.long()?;
         if code == 0 {
             return Ok((by_code, true));
         }
-        let declared = declaration(&mut input, code)?;
+        let declared = declaration(input, code)?;
         let passes = has(Plant::Duplicate) && code > by_code.len() as u64;
         if by_code.insert(code, declared).is_some() && !passes {
             return Err((DUPLICATE, code));

@@ -1,6 +1,7 @@
 """Measures calls of the library beside gimli's."""
 import os
 import re
+import shutil
 import statistics
 import subprocess
 import tempfile
@@ -64,6 +65,16 @@ def counted_rows(program, words):
         yield f"| {name} | {gimli:,.0f} | {here:,.0f} | {here / gimli:.2f} |"
 
 
+def own_files(program, folder):
+    """A Rust program, which is the one that compares, and an object that a C++ compiler makes."""
+    need("g++", "g++")
+    paths = [f"{folder}/a Rust program", f"{folder}/a C++ object"]
+    shutil.copy(program, paths[0])
+    words = ["g++", "-g", "-c", "-x", "c++", "-", "-o", paths[1]]
+    must(words, "the C++ object isn't made", stdin=None, input="#include <regex>\nstd::regex made(\"a*\");\n")
+    return paths
+
+
 def time(given):
     """Prints the table of `time`."""
     return measure(given, True)
@@ -82,7 +93,7 @@ def measure(given, is_timed):
     what = must([program, "--gimli"], "the program is another one")
     with tempfile.TemporaryDirectory(prefix="compare-") as work:
         words = []
-        for i, path in enumerate(given["files"]):
+        for i, path in enumerate(given["files"] or (own_files(program, work) if given["elf"] else [])):
             os.mkdir(f"{work}/{i}")
             words += sections(path, f"{work}/{i}")
         rows = list(timed(given["debian"], words) if is_timed else counted_rows(program, words))
