@@ -1,6 +1,6 @@
 //! All short inputs: sections over a small alphabet, numbers of up to three bytes, and the edges of longer ones.
 
-use crate::question::{Kind, Question};
+use crate::question::{Question, What};
 use crate::tally::Tally;
 
 const ALPHABET: [u8; 11] = [0x00, 0x01, 0x02, 0x03, 0x11, 0x21, 0x40, 0x7f, 0x80, 0x81, 0xff];
@@ -22,11 +22,11 @@ fn sections(tally: &mut Tally) {
             for index in 0..ALPHABET.len().pow(count) {
                 let behind = (0..count).map(|i| ALPHABET[index / ALPHABET.len().pow(i) % ALPHABET.len()]);
                 let bytes: Vec<u8> = front.iter().copied().chain(behind).collect();
-                tally.ask(&Question::Table(0), &bytes);
-                tally.ask(&Question::Strict(0), &bytes);
-                tally.ask(&Question::Text(0), &bytes);
+                tally.ask(&Question::new(What::Table, 0), &bytes);
+                tally.ask(&Question::new(What::Strict, 0), &bytes);
+                tally.ask(&Question::new(What::Text, 0), &bytes);
                 for before in front.len()..bytes.len() {
-                    tally.ask(&Question::Grown { before, offset: 0 }, &bytes);
+                    tally.ask(&Question { more: before, ..Question::new(What::Grown, 0) }, &bytes);
                 }
             }
         }
@@ -34,8 +34,8 @@ fn sections(tally: &mut Tally) {
 }
 
 fn number(tally: &mut Tally, bytes: &[u8]) {
-    for kind in [Kind::Unsigned, Kind::Signed, Kind::Short, Kind::Skipped] {
-        tally.ask(&Question::Number(kind), bytes);
+    for what in [What::Unsigned, What::Signed, What::Short, What::Skipped] {
+        tally.ask(&Question::new(what, 0), bytes);
     }
 }
 

@@ -1,6 +1,6 @@
 //! Inputs that are made: what is well formed, what nearly is, and what isn't.
 
-use crate::question::{Kind, Question};
+use crate::question::{Question, What};
 
 /// A generator of numbers that a seed determines (splitmix64).
 pub struct Random(pub u64);
@@ -195,18 +195,22 @@ fn abbreviations(random: &mut Random) -> (Vec<u8>, usize, Vec<u64>) {
 
 fn of_tables(random: &mut Random) -> (Question, Vec<u8>) {
     let (bytes, offset, mut codes) = abbreviations(random);
-    let question = match random.below(9) {
-        0 | 1 => Question::Strict(offset),
-        8 => Question::Cached((0..1 + random.below(5)).map(|_| random.pick(&[offset, offset, 0, 1])).collect()),
-        2 | 3 => Question::Grown { before: random.below(bytes.len() + 1), offset },
+    let mut question = Question::new(What::Table, offset);
+    match random.below(9) {
+        0 | 1 => question.what = What::Strict,
+        8 => {
+            let offsets = (0..1 + random.below(5)).map(|_| random.pick(&[offset, offset, 0, 1]) as u64);
+            question = Question { list: offsets.collect(), ..Question::new(What::Cached, 0) };
+        }
+        2 | 3 => question = Question { what: What::Grown, more: random.below(bytes.len() + 1), ..question },
         4 => {
             let more = codes.iter().map(|it| it.wrapping_add(1)).collect::<Vec<_>>();
             codes.extend(more);
             codes.extend([0, 1, u64::MAX, random.number()]);
-            Question::Found { offset, codes }
+            question = Question { what: What::Found, list: codes, ..question };
         }
-        _ => Question::Table(offset),
-    };
+        _ => {}
+    }
     (question, bytes)
 }
 
@@ -226,12 +230,12 @@ fn of_lookups(random: &mut Random) -> (Question, Vec<u8>) {
     let bytes = random.bytes(count);
     let (base, is_big) = (place(random, count), random.one_of(2));
     let index = if random.one_of(2) { random.below(10) } else { place(random, count) };
-    let question = if random.one_of(2) {
-        Question::StrOffset { is_big, is_64: random.one_of(2), base, index }
-    } else {
-        let size = if random.one_of(4) { random.next() as u8 >> random.below(8) } else { random.pick(&[1, 2, 4, 8]) };
-        Question::Address { is_big, size, base, index }
+    let (what, size) = match random.below(4) {
+        0 | 1 => (What::StrOffset, random.pick(&[4, 8])),
+        2 if random.one_of(2) => (What::Address, random.next() as u8 >> random.below(8)),
+        _ => (What::Address, random.pick(&[1, 2, 4, 8])),
     };
+    let question = Question { is_big, size, more: index, ..Question::new(what, base) };
     (question, bytes)
 }
 
@@ -245,7 +249,7 @@ fn of_strings(random: &mut Random) -> (Question, Vec<u8>) {
         }
     }
     let offset = place(random, count);
-    (Question::Text(offset), bytes)
+    (Question::new(What::Text, offset), bytes)
 }
 
 fn put(to: &mut Vec<u8>, value: u64, size: usize, is_big: bool) {
@@ -289,9 +293,8 @@ fn of_sets(random: &mut Random) -> (Question, Vec<u8>) {
         offset = place(random, bytes.len());
     }
     let question = match kind {
-        0 => Question::AddressSet { is_big, offset },
-        1 => Question::StrOffsetSet { is_big, offset },
-        _ => Question::Addresses,
+        0 | 1 => Question { is_big, ..Question::new([What::AddressSet, What::StrOffsetSet][kind], offset) },
+        _ => Question::new(What::Addresses, 0),
     };
     (question, bytes)
 }
@@ -300,11 +303,13 @@ fn of_sets(random: &mut Random) -> (Question, Vec<u8>) {
 pub fn next(random: &mut Random) -> (Question, Vec<u8>) {
     match random.below(16) {
         0..=3 => {
-            let kind = random.pick(&[Kind::Unsigned, Kind::Signed, Kind::Short, Kind::Skipped]);
-            (Question::Number(kind), digits(random))
+            let what = random.pick(&[What::Unsigned, What::Signed, What::Short, What::Skipped]);
+            (Question::new(what, 0), digits(random))
         }
-        4 => (Question::WrittenUnsigned(random.number()), vec![]),
-        5 => (Question::WrittenSigned(random.number() as i64), vec![]),
+        it @ (4 | 5) => {
+            let what = if it == 4 { What::WrittenUnsigned } else { What::WrittenSigned };
+            (Question { more: random.number() as usize, ..Question::new(what, 0) }, vec![])
+        }
         6 => of_strings(random),
         7 | 8 => of_lookups(random),
         9 | 10 => of_sets(random),

@@ -14,7 +14,7 @@ mod theirs;
 
 use made::Random;
 use plain::PLANTS;
-use question::Question;
+use question::{Question, What};
 use std::process::ExitCode;
 use std::time::{Duration, Instant};
 use tally::Tally;
@@ -106,23 +106,22 @@ fn wanted(words: &mut dyn Iterator<Item = String>) -> Result<Wanted, String> {
 fn ask_at(tally: &mut Tally, kind: &str, bytes: &[u8], at: usize, random: &mut Random) {
     let little = kind.strip_suffix(BIG);
     let (kind, is_big) = (little.unwrap_or(kind), little.is_some());
+    let mut ask = |what, size, more| tally.ask(&Question { is_big, size, more, ..Question::new(what, at) }, bytes);
     match kind {
         "debug_abbrev" => {
-            tally.ask(&Question::Table(at), bytes);
-            tally.ask(&Question::Strict(at), bytes);
-            tally.ask(&Question::Grown { before: random.below(bytes.len() + 1), offset: at }, bytes);
+            ask(What::Table, 0, 0);
+            ask(What::Strict, 0, 0);
+            ask(What::Grown, 0, random.below(bytes.len() + 1));
         }
         "debug_addr" => {
-            tally.ask(&Question::AddressSet { is_big, offset: at }, bytes);
-            let index = random.below(bytes.len());
-            tally.ask(&Question::Address { is_big, size: 8, base: at, index: index / 8 }, bytes);
+            ask(What::AddressSet, 0, 0);
+            ask(What::Address, 8, random.below(bytes.len()) / 8);
         }
         "debug_str_offsets" => {
-            tally.ask(&Question::StrOffsetSet { is_big, offset: at }, bytes);
-            let index = random.below(bytes.len());
-            tally.ask(&Question::StrOffset { is_big, is_64: false, base: at, index: index / 4 }, bytes);
+            ask(What::StrOffsetSet, 0, 0);
+            ask(What::StrOffset, 4, random.below(bytes.len()) / 4);
         }
-        _ => tally.ask(&Question::Text(at), bytes),
+        _ => ask(What::Text, 0, 0),
     }
 }
 

@@ -4,7 +4,7 @@
 //! many items as its length says, all outputs are initialized, and an output overlaps nothing, since it is borrowed
 //! mutably.
 
-use crate::question::{fault_of_text, Answer, Declaration, Kind, Question, Set};
+use crate::question::{fault_of_text, Answer, Declaration, Question, Set, What};
 
 const OK: u32 = 0;
 const NO_ROOM: u32 = 100;
@@ -101,7 +101,7 @@ extern "C" {
         bytes: Byte, len: usize, offset: usize, codes: *const u64, code_count: usize, tags: *mut u16, tag_count: usize,
         fault: &mut RawFault,
     ) -> u32;
-    fn compare_cached(bytes: Byte, len: usize, offsets: *const usize, count: usize, rounds: u64) -> usize;
+    fn compare_cached(bytes: Byte, len: usize, offsets: *const u64, count: usize, rounds: u64) -> u64;
     fn compare_addresses(bytes: Byte, len: usize) -> u64;
     fn compare_readers(
         bytes: Byte, len: usize, asked: &Asked, found: &mut [u64; 4], text: *mut u8, room: usize,
@@ -121,26 +121,19 @@ impl Ours {
 
     /// What the library gives.
     pub fn answer(&mut self, question: &Question, bytes: &[u8]) -> Answer {
-        match question {
-            Question::Number(kind) => number(*kind, bytes),
-            Question::WrittenUnsigned(value) => {
-                written(|to, room, len| unsafe { dwarf_uleb128_write(*value, to, room, len) })
+        let (data, len, Question { at, more, list, .. }) = (bytes.as_ptr(), bytes.len(), question);
+        match question.what {
+            What::Unsigned | What::Signed | What::Short | What::Skipped => number(question.what, bytes),
+            What::WrittenUnsigned => {
+                written(|to, room, len| unsafe { dwarf_uleb128_write(*more as u64, to, room, len) })
             }
-            Question::WrittenSigned(value) => {
-                written(|to, room, len| unsafe { dwarf_sleb128_write(*value, to, room, len) })
-            }
-            Question::Table(offset) => self.table(bytes, *offset),
-            Question::Strict(offset) => strict(bytes, *offset),
-            Question::Grown { before, offset } => count(|count, fault| unsafe {
-                compare_grown(bytes.as_ptr(), bytes.len(), *before, *offset, count, fault)
-            }),
-            Question::Found { offset, codes } => found(bytes, *offset, codes),
-            Question::Cached(offsets) => {
-                Answer::Sum(
-                    unsafe { compare_cached(bytes.as_ptr(), bytes.len(), offsets.as_ptr(), offsets.len(), 2) } as u64
-                )
-            }
-            Question::Addresses => Answer::Sum(unsafe { compare_addresses(bytes.as_ptr(), bytes.len()) }),
+            What::WrittenSigned => written(|to, room, len| unsafe { dwarf_sleb128_write(*more as i64, to, room, len) }),
+            What::Table => self.table(bytes, *at),
+            What::Strict => strict(bytes, *at),
+            What::Grown => count(|count, fault| unsafe { compare_grown(data, len, *more, *at, count, fault) }),
+            What::Found => found(bytes, *at, list),
+            What::Cached => Answer::Sum(unsafe { compare_cached(data, len, list.as_ptr(), list.len(), 2) }),
+            What::Addresses => Answer::Sum(unsafe { compare_addresses(data, len) }),
             _ => lookup(question, bytes),
         }
     }
@@ -194,21 +187,21 @@ fn refused(status: u32, fault: RawFault, rest: Option<usize>) -> Answer {
     Answer::Fault { kind, value: Some(fault.value), rest }
 }
 
-fn number(kind: Kind, bytes: &[u8]) -> Answer {
+fn number(what: What, bytes: &[u8]) -> Answer {
     let (at, len) = (bytes.as_ptr(), bytes.len());
     let (mut size, mut rest, mut fault) = (0, usize::MAX, RawFault::default());
     let (mut unsigned, mut signed, mut short) = (0, 0, 0);
-    let status = match kind {
-        Kind::Unsigned => unsafe { dwarf_uleb128(at, len, &mut unsigned, &mut size, &mut fault) },
-        Kind::Signed => unsafe { dwarf_sleb128(at, len, &mut signed, &mut size, &mut fault) },
-        Kind::Short => unsafe { compare_short(at, len, &mut short, &mut rest, &mut fault) },
-        Kind::Skipped => unsafe { compare_skipped(at, len, &mut rest, &mut fault) },
+    let status = match what {
+        What::Unsigned => unsafe { dwarf_uleb128(at, len, &mut unsigned, &mut size, &mut fault) },
+        What::Signed => unsafe { dwarf_sleb128(at, len, &mut signed, &mut size, &mut fault) },
+        What::Short => unsafe { compare_short(at, len, &mut short, &mut rest, &mut fault) },
+        _ => unsafe { compare_skipped(at, len, &mut rest, &mut fault) },
     };
-    if matches!(kind, Kind::Unsigned | Kind::Signed) {
-        rest = if status == OK { len - size } else { rest_of_error(kind, bytes) };
+    if matches!(what, What::Unsigned | What::Signed) {
+        rest = if status == OK { len - size } else { rest_of_error(what, bytes) };
     }
-    match (status, kind) {
-        (OK, Kind::Skipped) => Answer::Skipped { rest },
+    match (status, what) {
+        (OK, What::Skipped) => Answer::Skipped { rest },
         // (two of the three are 0)
         (OK, _) => Answer::Number { value: i128::from(unsigned) + i128::from(signed) + i128::from(short), rest },
         _ => refused(status, fault, Some(rest)),
@@ -216,8 +209,8 @@ fn number(kind: Kind, bytes: &[u8]) -> Answer {
 }
 
 /// How many bytes remain behind an error, which the calls for C don't tell.
-fn rest_of_error(kind: Kind, bytes: &[u8]) -> usize {
-    let asked = Asked { reader: 0, question: kind as u32, is_big: 0, size: 0, base: 0, index: 0 };
+fn rest_of_error(what: What, bytes: &[u8]) -> usize {
+    let asked = Asked { reader: 0, question: what as u32, is_big: 0, size: 0, base: 0, index: 0 };
     let (mut found, mut text) = ([u64::MAX; 4], [0; 1]);
     unsafe { compare_readers(bytes.as_ptr(), bytes.len(), &asked, &mut found, text.as_mut_ptr(), 1) };
     found[3] as usize
@@ -268,30 +261,30 @@ fn found(bytes: &[u8], offset: usize, codes: &[u64]) -> Answer {
 
 /// Strings, words and sets.
 fn lookup(question: &Question, bytes: &[u8]) -> Answer {
-    let (at, len) = (bytes.as_ptr(), bytes.len());
-    let (mut size, mut word, mut set, mut fault) = (0, 0, RawSet::default(), RawFault::default());
-    let (status, answer) = match *question {
-        Question::Text(offset) => {
-            let status = unsafe { dwarf_string(at, len, offset, &mut size, &mut fault) };
-            (status, Answer::Length(size))
+    let (data, len) = (bytes.as_ptr(), bytes.len());
+    let (mut length, mut word, mut set, mut fault) = (0, 0, RawSet::default(), RawFault::default());
+    let Question { is_big, size, at, more, .. } = *question;
+    let (status, answer) = match question.what {
+        What::Text => {
+            let status = unsafe { dwarf_string(data, len, at, &mut length, &mut fault) };
+            (status, Answer::Length(length))
         }
-        Question::StrOffset { is_big, is_64, base, index } => {
-            let status = unsafe { dwarf_str_offset(at, len, is_big, is_64, base, index, &mut size, &mut fault) };
-            (status, Answer::Word(size as u64))
+        What::StrOffset => {
+            let status = unsafe { dwarf_str_offset(data, len, is_big, size == 8, at, more, &mut length, &mut fault) };
+            (status, Answer::Word(length as u64))
         }
-        Question::Address { is_big, size, base, index } => {
-            let status = unsafe { dwarf_address(at, len, is_big, size, base, index, &mut word, &mut fault) };
+        What::Address => {
+            let status = unsafe { dwarf_address(data, len, is_big, size, at, more, &mut word, &mut fault) };
             (status, Answer::Word(word))
         }
-        Question::AddressSet { is_big, offset } => {
-            let status = unsafe { dwarf_address_set(at, len, is_big, offset, &mut set, &mut fault) };
+        What::AddressSet => {
+            let status = unsafe { dwarf_address_set(data, len, is_big, at, &mut set, &mut fault) };
             (status, set_of(&set))
         }
-        Question::StrOffsetSet { is_big, offset } => {
-            let status = unsafe { dwarf_str_offset_set(at, len, is_big, offset, &mut set, &mut fault) };
+        _ => {
+            let status = unsafe { dwarf_str_offset_set(data, len, is_big, at, &mut set, &mut fault) };
             (status, set_of(&set))
         }
-        _ => unreachable!("asked elsewhere"),
     };
     match status {
         OK => answer,
@@ -333,25 +326,24 @@ pub fn by_readers(question: &Question, bytes: &[u8], ours: &Answer) -> Vec<(&'st
 
 /// What a reader finds, or `None` if it isn't asked that. Where the order of bytes doesn't matter, it is big.
 fn by_reader(reader: u32, question: &Question, bytes: &[u8]) -> Option<Answer> {
-    let (number, is_big, size, base, index) = match *question {
-        Question::Number(kind) => (kind as u32, true, 0, 0, 0),
-        Question::Table(offset) => (4, true, 0, offset, 0),
-        Question::Strict(offset) => (5, true, 0, offset, 0),
-        Question::Text(offset) => (6, true, 0, offset, 0),
-        Question::StrOffset { is_big, is_64, base, index } => (7, is_big, if is_64 { 8 } else { 4 }, base, index),
-        Question::Address { is_big, size, base, index } => (8, is_big, size.into(), base, index),
-        Question::AddressSet { is_big, offset } => (9, is_big, 0, offset, 0),
-        Question::StrOffsetSet { is_big, offset } => (10, is_big, 0, offset, 0),
-        Question::Addresses => (11, false, 0, 0, 0),
-        _ => return None,
+    if question.what as u32 > What::Addresses as u32 {
+        return None;
+    }
+    let has_order = question.what as u32 >= What::StrOffset as u32;
+    let asked = Asked {
+        reader,
+        question: question.what as u32,
+        is_big: (question.is_big || !has_order).into(),
+        size: question.size.into(),
+        base: question.at,
+        index: question.more,
     };
-    let asked = Asked { reader, question: number, is_big: is_big.into(), size, base, index };
     let (mut found, mut text) = ([0; 4], [0; 100]);
     let (at, to) = (bytes.as_ptr(), text.as_mut_ptr());
     let len = unsafe { compare_readers(at, bytes.len(), &asked, &mut found, to, text.len()) };
-    let is_number = matches!(question, Question::Number(_));
-    Some(match (len, question) {
-        (0, _) | (_, Question::Addresses) => Answer::Parts(found),
+    let is_number = (question.what as u32) < What::Table as u32;
+    Some(match (len, question.what) {
+        (0, _) | (_, What::Addresses) => Answer::Parts(found),
         _ => {
             let text = String::from_utf8_lossy(text.get(..len).unwrap_or_default());
             fault_of_text(&text, is_number.then(|| found[3] as usize))

@@ -3,7 +3,7 @@
 //! It is plain, and slow where that is plainer. It shares nothing with the library. The standard doesn't say which
 //! error a reader gives of bytes that are malformed, nor where; that is as the library's documentation says.
 
-use crate::question::{Answer, Declaration, Kind, Question, Set};
+use crate::question::{Answer, Declaration, Question, Set, What};
 use std::collections::BTreeMap;
 use std::sync::atomic::{AtomicUsize, Ordering::Relaxed};
 
@@ -174,15 +174,16 @@ fn shown(result: Result<Answer, Fault>) -> Answer {
 
 /// What the standard says.
 pub fn answer(question: &Question, bytes: &[u8]) -> Answer {
-    match question {
-        Question::Number(kind) => number(*kind, bytes),
-        Question::WrittenUnsigned(value) => written(i128::from(*value), false),
-        Question::WrittenSigned(value) => written(i128::from(*value), true),
-        Question::Table(offset) => shown(table(bytes, *offset).map(|(by_code, is_null)| Answer::Table {
+    let Question { what, is_big, size, at, more, ref list } = *question;
+    match what {
+        What::Unsigned | What::Signed | What::Short | What::Skipped => number(what, bytes),
+        What::WrittenUnsigned => written(more as i128, false),
+        What::WrittenSigned => written((more as i64).into(), true),
+        What::Table => shown(table(bytes, at).map(|(by_code, is_null)| Answer::Table {
             declarations: by_code.into_iter().map(|it| it.1).collect(),
             closed_by_null: Some(is_null),
         })),
-        Question::Strict(offset) => shown(table(bytes, *offset).and_then(|(by_code, is_null)| {
+        What::Strict => shown(table(bytes, at).and_then(|(by_code, is_null)| {
             if is_null || has(Plant::Missing) {
                 Ok(Answer::Count(by_code.len()))
             } else {
@@ -190,40 +191,34 @@ pub fn answer(question: &Question, bytes: &[u8]) -> Answer {
             }
         })),
         // A section that grew is read as if it had always been so.
-        Question::Grown { offset, .. } => shown(table(bytes, *offset).map(|it| Answer::Count(it.0.len()))),
-        Question::Cached(offsets) => {
-            let length = |it: &usize| table(bytes, *it).map_or(1 << 32, |it| it.0.len() as u64);
-            Answer::Sum(2 * offsets.iter().map(length).sum::<u64>())
+        What::Grown => shown(table(bytes, at).map(|it| Answer::Count(it.0.len()))),
+        What::Cached => {
+            let length = |it: &u64| table(bytes, *it as usize).map_or(1 << 32, |it| it.0.len() as u64);
+            Answer::Sum(2 * list.iter().map(length).sum::<u64>())
         }
-        Question::Found { offset, codes } => {
-            shown(table(bytes, *offset).map(|(by_code, _)| {
-                Answer::Tags(codes.iter().map(|it| by_code.get(it).map_or(0, |it| it.tag)).collect())
+        What::Found => {
+            shown(table(bytes, at).map(|(by_code, _)| {
+                Answer::Tags(list.iter().map(|it| by_code.get(it).map_or(0, |it| it.tag)).collect())
             }))
         }
-        Question::Text(offset) => shown(string(bytes, *offset)),
-        Question::StrOffset { is_big, is_64, base, index } => {
-            shown(slot(bytes, if *is_64 { 8 } else { 4 }, *base, *index, *is_big).map(Answer::Word))
-        }
-        Question::Address { is_big, size, base, index } => {
-            shown(slot(bytes, *size, *base, *index, *is_big).map(Answer::Word))
-        }
-        Question::AddressSet { is_big, offset } => shown(set(bytes, *is_big, *offset, true)),
-        Question::StrOffsetSet { is_big, offset } => shown(set(bytes, *is_big, *offset, false)),
-        Question::Addresses => Answer::Sum(addresses(bytes).unwrap_or(0)),
+        What::Text => shown(string(bytes, at)),
+        What::StrOffset | What::Address => shown(slot(bytes, size, at, more, is_big).map(Answer::Word)),
+        What::AddressSet | What::StrOffsetSet => shown(set(bytes, is_big, at, what == What::AddressSet)),
+        What::Addresses => Answer::Sum(addresses(bytes).unwrap_or(0)),
     }
 }
 
-fn number(kind: Kind, bytes: &[u8]) -> Answer {
+fn number(what: What, bytes: &[u8]) -> Answer {
     let mut input = Input { bytes, at: 0 };
-    let read = match kind {
-        Kind::Unsigned => input.long().map(i128::from),
-        Kind::Signed => input.signed().map(i128::from),
-        Kind::Short => input.short().map(i128::from),
-        Kind::Skipped => input.digits(usize::MAX).map(|_| 0),
+    let read = match what {
+        What::Unsigned => input.long().map(i128::from),
+        What::Signed => input.signed().map(i128::from),
+        What::Short => input.short().map(i128::from),
+        _ => input.digits(usize::MAX).map(|_| 0),
     };
     let rest = bytes.len() - input.at;
-    match (read, kind) {
-        (Ok(_), Kind::Skipped) => Answer::Skipped { rest },
+    match (read, what) {
+        (Ok(_), What::Skipped) => Answer::Skipped { rest },
         (Ok(value), _) => Answer::Number { value, rest },
         (Err((kind, value)), _) => Answer::Fault { kind, value: Some(value), rest: Some(rest) },
     }

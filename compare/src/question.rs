@@ -45,66 +45,73 @@ pub fn fault_of_text(text: &str, rest: Option<usize>) -> Answer {
     Answer::Fault { kind, value: digits.and_then(|it| it.parse().ok()), rest }
 }
 
-/// The kinds of number that are read.
+/// What is asked. Those up to `Addresses` are numbered as in `crates/dwarf_compare/src/readers.rt`.
 #[derive(Debug, Clone, Copy, PartialEq)]
-pub enum Kind {
+pub enum What {
+    /// The number that the bytes begin with.
     Unsigned,
     Signed,
     Short,
     Skipped,
-}
-
-/// One question. All offsets are in bytes from the first byte of the input.
-#[derive(Debug, Clone, PartialEq)]
-pub enum Question {
-    /// The number that the bytes begin with.
-    Number(Kind),
-    /// The shortest bytes of a number.
-    WrittenUnsigned(u64),
-    WrittenSigned(i64),
     /// The table at an offset.
-    Table(usize),
-    /// The same, if a code of value 0 closes it.
-    Strict(usize),
-    /// What a cache has at an offset that was filled from so many bytes, before the section grew.
-    Grown {
-        before: usize,
-        offset: usize,
-    },
-    /// How many declarations a cache that was filled at these offsets has there, twice. An error counts as 2^32.
-    Cached(Vec<usize>),
-    /// The tags of these codes in the table at an offset.
-    Found {
-        offset: usize,
-        codes: Vec<u64>,
-    },
+    Table,
+    /// How many declarations it has, if a code of value 0 closes it.
+    Strict,
     /// The string at an offset.
-    Text(usize),
-    /// The string offset at an index behind a base.
-    StrOffset {
-        is_big: bool,
-        is_64: bool,
-        base: usize,
-        index: usize,
-    },
-    /// The address at an index behind a base.
-    Address {
-        is_big: bool,
-        size: u8,
-        base: usize,
-        index: usize,
-    },
+    Text,
+    /// The string offset of 4 or 8 bytes, or the address, at an index behind a base.
+    StrOffset,
+    Address,
     /// The header of the set at an offset.
-    AddressSet {
-        is_big: bool,
-        offset: usize,
-    },
-    StrOffsetSet {
-        is_big: bool,
-        offset: usize,
-    },
+    AddressSet,
+    StrOffsetSet,
     /// The sum of all addresses of all sets, or 0 for an error.
     Addresses,
+    /// How long the table of a cache is that was filled from so many bytes, before the section grew.
+    Grown,
+    /// How many declarations a cache that was filled at these offsets has there, twice. An error counts as 2^32.
+    Cached,
+    /// The tags of these codes in the table at an offset.
+    Found,
+    /// The shortest bytes of a number.
+    WrittenUnsigned,
+    WrittenSigned,
+}
+
+/// All of them, by the words that ask them.
+const WHATS: [(&str, What); 17] = [
+    ("unsigned", What::Unsigned),
+    ("signed", What::Signed),
+    ("short", What::Short),
+    ("skipped", What::Skipped),
+    ("table", What::Table),
+    ("strict", What::Strict),
+    ("string", What::Text),
+    ("str-offset", What::StrOffset),
+    ("address", What::Address),
+    ("address-set", What::AddressSet),
+    ("str-offset-set", What::StrOffsetSet),
+    ("addresses", What::Addresses),
+    ("grown", What::Grown),
+    ("cached", What::Cached),
+    ("found", What::Found),
+    ("written-unsigned", What::WrittenUnsigned),
+    ("written-signed", What::WrittenSigned),
+];
+
+/// One question. What it doesn't need is 0.
+#[derive(Debug, Clone, PartialEq)]
+pub struct Question {
+    pub what: What,
+    pub is_big: bool,
+    /// How many bytes a word has.
+    pub size: u8,
+    /// An offset or a base, in bytes from the first byte of the input.
+    pub at: usize,
+    /// An index, or how many bytes there were before the section grew, or the number that is written.
+    pub more: usize,
+    /// Codes or offsets.
+    pub list: Vec<u64>,
 }
 
 /// A declaration of a table.
@@ -250,105 +257,45 @@ impl fmt::Display for Answer {
     }
 }
 
-/// Numbers as one word, and back.
-fn joined<T: fmt::Display>(numbers: &[T]) -> String {
-    numbers.iter().map(|it| it.to_string()).collect::<Vec<_>>().join(",")
-}
-
-fn parted<T: std::str::FromStr>(word: &str) -> Option<Vec<T>> {
-    word.split(',').map(|it| it.parse().ok()).collect()
-}
-
-fn order_name(is_big: bool) -> &'static str {
-    if is_big {
-        "big"
-    } else {
-        "little"
-    }
-}
-
 impl Question {
+    /// The question about an offset.
+    pub fn new(what: What, at: usize) -> Question {
+        Question { what, is_big: false, size: 0, at, more: 0, list: vec![] }
+    }
+
     /// The first word by which it is asked again.
     pub fn name(&self) -> &'static str {
-        match self {
-            Question::Number(Kind::Unsigned) => "unsigned",
-            Question::Number(Kind::Signed) => "signed",
-            Question::Number(Kind::Short) => "short",
-            Question::Number(Kind::Skipped) => "skipped",
-            Question::WrittenUnsigned(_) => "written-unsigned",
-            Question::WrittenSigned(_) => "written-signed",
-            Question::Table(_) => "table",
-            Question::Strict(_) => "strict",
-            Question::Grown { .. } => "grown",
-            Question::Cached(_) => "cached",
-            Question::Found { .. } => "found",
-            Question::Text(_) => "string",
-            Question::StrOffset { .. } => "str-offset",
-            Question::Address { .. } => "address",
-            Question::AddressSet { .. } => "address-set",
-            Question::StrOffsetSet { .. } => "str-offset-set",
-            Question::Addresses => "addresses",
-        }
+        WHATS[self.what as usize].0
     }
 
-    /// The words behind the first one.
-    pub fn words(&self) -> Vec<String> {
-        match self {
-            Question::Number(_) | Question::Addresses => vec![],
-            Question::WrittenUnsigned(value) => vec![value.to_string()],
-            Question::WrittenSigned(value) => vec![value.to_string()],
-            Question::Table(offset) | Question::Strict(offset) | Question::Text(offset) => vec![offset.to_string()],
-            Question::Grown { before, offset } => vec![before.to_string(), offset.to_string()],
-            Question::Cached(offsets) => vec![joined(offsets)],
-            Question::Found { offset, codes } => vec![offset.to_string(), joined(codes)],
-            Question::StrOffset { is_big, is_64, base, index } => {
-                let size = if *is_64 { "8" } else { "4" };
-                vec![order_name(*is_big).into(), size.into(), base.to_string(), index.to_string()]
-            }
-            Question::Address { is_big, size, base, index } => {
-                vec![order_name(*is_big).into(), size.to_string(), base.to_string(), index.to_string()]
-            }
-            Question::AddressSet { is_big, offset } | Question::StrOffsetSet { is_big, offset } => {
-                vec![order_name(*is_big).into(), offset.to_string()]
-            }
+    /// All words by which it is asked again.
+    pub fn words(&self) -> String {
+        let mut words = vec![self.name().to_string()];
+        words.extend(self.is_big.then(|| "big".to_string()));
+        for (key, value) in [("size", self.size.into()), ("at", self.at), ("more", self.more)] {
+            words.extend((value != 0).then(|| format!("{key}={value}")));
         }
+        let list: Vec<String> = self.list.iter().map(u64::to_string).collect();
+        words.extend((!list.is_empty()).then(|| format!("list={}", list.join(","))));
+        words.join(" ")
     }
 
     /// The question with these words, or `None` if they ask nothing.
     pub fn from_words(words: &[&str]) -> Option<Question> {
         let (name, words) = words.split_first()?;
-        let is_big = || match *words.first()? {
-            "big" => Some(true),
-            "little" => Some(false),
-            _ => None,
-        };
-        let number = |at: usize| words.get(at)?.parse::<usize>().ok();
-        let (question, count) = match *name {
-            "unsigned" => (Question::Number(Kind::Unsigned), 0),
-            "signed" => (Question::Number(Kind::Signed), 0),
-            "short" => (Question::Number(Kind::Short), 0),
-            "skipped" => (Question::Number(Kind::Skipped), 0),
-            "written-unsigned" => (Question::WrittenUnsigned(words.first()?.parse().ok()?), 1),
-            "written-signed" => (Question::WrittenSigned(words.first()?.parse().ok()?), 1),
-            "table" => (Question::Table(number(0)?), 1),
-            "strict" => (Question::Strict(number(0)?), 1),
-            "grown" => (Question::Grown { before: number(0)?, offset: number(1)? }, 2),
-            "cached" => (Question::Cached(parted(words.first()?)?), 1),
-            "found" => (Question::Found { offset: number(0)?, codes: parted(words.get(1)?)? }, 2),
-            "string" => (Question::Text(number(0)?), 1),
-            "str-offset" => {
-                let is_64 = number(1)? == 8;
-                (Question::StrOffset { is_big: is_big()?, is_64, base: number(2)?, index: number(3)? }, 4)
+        let mut found = Question::new(WHATS.iter().find(|it| it.0 == *name)?.1, 0);
+        for word in words {
+            match word.split_once('=') {
+                None if *word == "big" => found.is_big = true,
+                Some(("size", number)) => found.size = number.parse().ok()?,
+                Some(("at", number)) => found.at = number.parse().ok()?,
+                Some(("more", number)) => found.more = number.parse().ok()?,
+                Some(("list", list)) => {
+                    found.list = list.split(',').map(|it| it.parse().ok()).collect::<Option<_>>()?
+                }
+                _ => return None,
             }
-            "address" => {
-                let size = words.get(1)?.parse().ok()?;
-                (Question::Address { is_big: is_big()?, size, base: number(2)?, index: number(3)? }, 4)
-            }
-            "address-set" => (Question::AddressSet { is_big: is_big()?, offset: number(1)? }, 2),
-            "str-offset-set" => (Question::StrOffsetSet { is_big: is_big()?, offset: number(1)? }, 2),
-            "addresses" => (Question::Addresses, 0),
-            _ => return None,
-        };
-        (words.len() == count).then(|| question)
+        }
+        Some(found)
     }
 }

@@ -1,6 +1,6 @@
 //! Makes an input smaller that shows a difference.
 
-use crate::question::Question;
+use crate::question::{Question, What};
 
 /// So many smaller inputs are tried.
 const TRIES: u32 = 3000;
@@ -8,24 +8,12 @@ const TRIES: u32 = 3000;
 /// The question of the bytes without so many in front of its offset, if it has one.
 fn moved(question: &Question, by: usize) -> Option<Question> {
     let mut moved = question.clone();
-    match &mut moved {
-        Question::Table(offset) | Question::Strict(offset) | Question::Text(offset) => {
-            *offset = offset.checked_sub(by)?
-        }
-        Question::Found { offset, .. }
-        | Question::AddressSet { offset, .. }
-        | Question::StrOffsetSet { offset, .. } => *offset = offset.checked_sub(by)?,
-        Question::Cached(offsets) => {
-            for offset in offsets.iter_mut() {
-                *offset = offset.checked_sub(by)?;
-            }
-        }
-        Question::Grown { before, offset } => {
-            *before = before.saturating_sub(by);
-            *offset = offset.checked_sub(by)?;
-        }
-        Question::StrOffset { base, .. } | Question::Address { base, .. } => *base = base.checked_sub(by)?,
-        _ => {}
+    match question.what {
+        What::Cached => moved.list = moved.list.iter().map(|it| it.checked_sub(by as u64)).collect::<Option<_>>()?,
+        _ => moved.at = moved.at.checked_sub(by)?,
+    }
+    if question.what == What::Grown {
+        moved.more = moved.more.saturating_sub(by);
     }
     Some(moved)
 }

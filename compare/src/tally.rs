@@ -155,9 +155,7 @@ impl Tally {
 
     /// Prints a question, what each reader gives, and the command that asks it again.
     fn print_all(&self, title: &str, question: &Question, bytes: &[u8], given: &Given) {
-        let mut words = vec![question.name().to_string()];
-        words.extend(question.words());
-        println!("{title}: {}", words.join(" "));
+        println!("{title}: {}", question.words());
         println!("  input: {}", hexadecimal(bytes));
         println!("  here: {}", given.ours);
         println!("  second reader: {}", given.plain);
@@ -170,6 +168,6 @@ impl Tally {
         for (name, other) in &given.others {
             println!("  here, by {name}: {other}");
         }
-        println!("  alone: {} '{} {}'", self.again, words.join(" "), hexadecimal(bytes));
+        println!("  alone: {} '{} {}'", self.again, question.words(), hexadecimal(bytes));
     }
 }

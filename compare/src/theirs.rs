@@ -2,7 +2,7 @@
 
 #[cfg(gimli_0_34)]
 use crate::question::Set;
-use crate::question::{fault_of_text, Answer, Declaration, Kind, Question};
+use crate::question::{fault_of_text, Answer, Declaration, Question, What};
 use gimli::{
     DebugAbbrev, DebugAbbrevOffset, DebugAddr, DebugAddrBase, DebugAddrIndex, DebugStr, DebugStrOffset,
     DebugStrOffsets, DebugStrOffsetsBase, DebugStrOffsetsIndex, EndianSlice, Error, Format, LittleEndian, Reader,
@@ -24,35 +24,25 @@ impl Theirs {
     /// What gimli gives, or `None` if it has no such call. `plain` is the second reader's result: gimli's tables can't
     /// be walked, so that the codes that are looked up come from there.
     pub fn answer(&self, question: &Question, bytes: &[u8], plain: &Answer) -> Option<Answer> {
-        Some(match question {
-            Question::Number(kind) => number(*kind, bytes),
-            Question::Table(offset) => {
-                let table = DebugAbbrev::new(bytes, LittleEndian).abbreviations(DebugAbbrevOffset(*offset));
-                match table {
-                    Ok(table) => shown(&table, plain),
-                    Err(error) => fault(error, bytes, None),
-                }
-            }
-            Question::Found { offset, codes } => {
-                let table = DebugAbbrev::new(bytes, LittleEndian).abbreviations(DebugAbbrevOffset(*offset));
-                let tag = |table: &gimli::Abbreviations, code: &u64| table.get(*code).map_or(0, |it| it.tag().0);
-                match table {
-                    Ok(table) => Answer::Tags(codes.iter().map(|it| tag(&table, it)).collect()),
-                    Err(error) => fault(error, bytes, None),
-                }
-            }
+        let table = || DebugAbbrev::new(bytes, LittleEndian).abbreviations(DebugAbbrevOffset(question.at));
+        let tag = |table: &gimli::Abbreviations, code: &u64| table.get(*code).map_or(0, |it| it.tag().0);
+        let found = match question.what {
+            What::Unsigned | What::Signed | What::Short | What::Skipped => return Some(number(question.what, bytes)),
+            What::Table => table().map(|it| shown(&it, plain)),
+            What::Found => table().map(|it| Answer::Tags(question.list.iter().map(|code| tag(&it, code)).collect())),
             _ => return lookup(question, bytes),
-        })
+        };
+        Some(found.unwrap_or_else(|error| fault(error, bytes, None)))
     }
 
     /// The result that gimli has to agree with if the library's result is this one: a table that the section's end
     /// closes is an error in a version that wants the null code.
     pub fn wanted(&self, question: &Question, bytes: &[u8], ours: Answer) -> Answer {
-        let is_unclosed = match (question, &ours) {
-            (Question::Table(_), Answer::Table { closed_by_null, .. }) => *closed_by_null == Some(false),
+        let is_unclosed = match (question.what, &ours) {
+            (What::Table, Answer::Table { closed_by_null, .. }) => *closed_by_null == Some(false),
             // The library's strict reading says whether the table of these codes is closed.
-            (Question::Found { offset, .. }, Answer::Tags(_)) => {
-                let strict = crate::ours::strict(bytes, *offset);
+            (What::Found, Answer::Tags(_)) => {
+                let strict = crate::ours::strict(bytes, question.at);
                 strict.reached() == "UnterminatedAbbreviations"
             }
             _ => false,
@@ -66,34 +56,25 @@ impl Theirs {
 
 /// Strings and lookups by an index, and sets.
 fn lookup(question: &Question, bytes: &[u8]) -> Option<Answer> {
-    Some(match question {
-        Question::Text(offset) => match DebugStr::new(bytes, LittleEndian).get_str(DebugStrOffset(*offset)) {
-            Ok(string) => Answer::Length(string.len()),
-            Err(error) => fault(error, bytes, None),
-        },
-        Question::StrOffset { is_big, is_64, base, index } => {
-            if !MULTIPLIES_CHECKED {
-                index.checked_mul(8)?;
-            }
-            let format = if *is_64 { Format::Dwarf64 } else { Format::Dwarf32 };
-            let section = DebugStrOffsets::from(EndianSlice::new(bytes, order(*is_big)));
-            match section.get_str_offset(format, DebugStrOffsetsBase(*base), DebugStrOffsetsIndex(*index)) {
-                Ok(offset) => Answer::Word(offset.0 as u64),
-                Err(error) => fault(error, bytes, None),
-            }
+    let Question { is_big, size, at, more, .. } = *question;
+    if !MULTIPLIES_CHECKED {
+        more.checked_mul(size.into())?;
+    }
+    let input = EndianSlice::new(bytes, order(is_big));
+    let found = match question.what {
+        What::Text => DebugStr::new(bytes, LittleEndian).get_str(DebugStrOffset(at)).map(|it| Answer::Length(it.len())),
+        What::StrOffset => {
+            let format = if size == 8 { Format::Dwarf64 } else { Format::Dwarf32 };
+            DebugStrOffsets::from(input)
+                .get_str_offset(format, DebugStrOffsetsBase(at), DebugStrOffsetsIndex(more))
+                .map(|it| Answer::Word(it.0 as u64))
         }
-        Question::Address { is_big, size, base, index } => {
-            if !MULTIPLIES_CHECKED {
-                index.checked_mul(usize::from(*size))?;
-            }
-            let section = DebugAddr::from(EndianSlice::new(bytes, order(*is_big)));
-            match section.get_address(*size, DebugAddrBase(*base), DebugAddrIndex(*index)) {
-                Ok(address) => Answer::Word(address),
-                Err(error) => fault(error, bytes, None),
-            }
+        What::Address => {
+            DebugAddr::from(input).get_address(size, DebugAddrBase(at), DebugAddrIndex(more)).map(Answer::Word)
         }
         _ => return sets(question, bytes),
-    })
+    };
+    Some(found.unwrap_or_else(|error| fault(error, bytes, None)))
 }
 
 fn order(is_big: bool) -> RunTimeEndian {
@@ -114,16 +95,16 @@ fn fault(error: Error, bytes: &[u8], rest: Option<usize>) -> Answer {
     fault_of_text(&format!("{error:?}"), rest)
 }
 
-fn number(kind: Kind, bytes: &[u8]) -> Answer {
+fn number(what: What, bytes: &[u8]) -> Answer {
     let mut input = EndianSlice::new(bytes, LittleEndian);
-    let read = match kind {
-        Kind::Unsigned => gimli::leb128::read::unsigned(&mut input).map(i128::from),
-        Kind::Signed => gimli::leb128::read::signed(&mut input).map(i128::from),
-        Kind::Short => gimli::leb128::read::u16(&mut input).map(i128::from),
-        Kind::Skipped => gimli::leb128::read::skip(&mut input).map(|()| 0),
+    let read = match what {
+        What::Unsigned => gimli::leb128::read::unsigned(&mut input).map(i128::from),
+        What::Signed => gimli::leb128::read::signed(&mut input).map(i128::from),
+        What::Short => gimli::leb128::read::u16(&mut input).map(i128::from),
+        _ => gimli::leb128::read::skip(&mut input).map(|()| 0),
     };
-    match (read, kind) {
-        (Ok(_), Kind::Skipped) => Answer::Skipped { rest: Reader::len(&input) },
+    match (read, what) {
+        (Ok(_), What::Skipped) => Answer::Skipped { rest: Reader::len(&input) },
         (Ok(value), _) => Answer::Number { value, rest: Reader::len(&input) },
         (Err(error), _) => fault(error, bytes, Some(Reader::len(&input))),
     }
@@ -162,28 +143,22 @@ fn sets(_question: &Question, _bytes: &[u8]) -> Option<Answer> {
 
 #[cfg(gimli_0_34)]
 fn sets(question: &Question, bytes: &[u8]) -> Option<Answer> {
-    match *question {
-        Question::AddressSet { is_big, offset } => {
-            let section = DebugAddr::from(EndianSlice::new(bytes.get(offset..)?, order(is_big)));
+    match question.what {
+        What::AddressSet => {
+            let section = DebugAddr::from(EndianSlice::new(bytes.get(question.at..)?, order(question.is_big)));
             Some(match section.headers().next() {
                 Ok(Some(header)) => {
                     let (length, format) = (header.length(), header.encoding().format);
-                    let unit = offset + usize::from(format.initial_length_size());
-                    let entry_size = header.encoding().address_size;
-                    let word_size = format.word_size();
-                    Answer::Set(Set {
-                        next: unit + length,
-                        unit_length: length,
-                        first_entry: unit + 4,
-                        word_size,
-                        entry_size,
-                    })
+                    let unit = question.at + usize::from(format.initial_length_size());
+                    let (word_size, entry_size) = (format.word_size(), header.encoding().address_size);
+                    let (next, first_entry) = (unit + length, unit + 4);
+                    Answer::Set(Set { next, unit_length: length, first_entry, word_size, entry_size })
                 }
                 Ok(None) => Answer::End,
                 Err(error) => fault(error, bytes, None),
             })
         }
-        Question::Addresses => Some(Answer::Sum(addresses(bytes).unwrap_or(0))),
+        What::Addresses => Some(Answer::Sum(addresses(bytes).unwrap_or(0))),
         _ => None,
     }
 }
