@@ -2,7 +2,7 @@
 use Rattle.std.proofs.Common.{◌/◌, ◌%◌, ◌≡◌, ℕ, suc, ◌+◌, ◌*◌, ◌^◌, ◌<◌, ◌≤◌, true, false, List, [], ◌∷◌, length, refl, sym, ◌∙◌, arith, All}
 use Rattle.std.proofs.Math.Nat.{mul-le-mul_left, mul-le-mul_right, pow-succ'}
 use Rattle.std.proofs.lemmas.Nat.{div-mul-add, mod-mul-add}
-use Rattle.dwarf_base_core.specs.Number.{big_number, little_number, NumberIsBounded, NumberTellsBytes}
+use Rattle.dwarf_base_core.specs.Number.{big_number, little_number, NumberIsBounded, NumberDeterminesBytes}
 use Rattle.dwarf_base_core.proofs.Numbers.{big_number-cons}
 
 -- the bytes after the first one are below 256 if all are
@@ -69,6 +69,6 @@ big_number-tells (x ∷ xs) (y ∷ ys) of_xs of_ys long same =
     cc
 
 -- two lists of bytes of one length, in either order, are equal if their numbers are
-pub number_tells_bytes : NumberTellsBytes
-number_tells_bytes true xs ys of_xs of_ys long same = big_number-tells xs ys of_xs of_ys long same
-number_tells_bytes false xs ys of_xs of_ys long same = little_number-tells xs ys of_xs of_ys long same
+pub number_determines_bytes : NumberDeterminesBytes
+number_determines_bytes true xs ys of_xs of_ys long same = big_number-tells xs ys of_xs of_ys long same
+number_determines_bytes false xs ys of_xs of_ys long same = little_number-tells xs ys of_xs of_ys long same

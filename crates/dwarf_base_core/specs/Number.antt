@@ -29,6 +29,6 @@ NumberIsBounded = (is_big : Bool) (bytes : List ℕ) → All (λ byte. byte < 25
     → number_of is_big bytes < 256 ^ length bytes
 
 -- lists of bytes of one length with the same number are equal
-abbrev pub NumberTellsBytes : Type 0
-NumberTellsBytes = (is_big : Bool) (xs ys : List ℕ) → All (λ byte. byte < 256) xs → All (λ byte. byte < 256) ys
+abbrev pub NumberDeterminesBytes : Type 0
+NumberDeterminesBytes = (is_big : Bool) (xs ys : List ℕ) → All (λ byte. byte < 256) xs → All (λ byte. byte < 256) ys
     → length xs ≡ length ys → number_of is_big xs ≡ number_of is_big ys → xs ≡ ys

@@ -100,10 +100,10 @@ set_lacked {header = header} {bytes} {is_big} {offset} {old} {new} {e} start (in
 set_lacked start (inr want) = let costs = want.0.costs in absurd (cc)
 
 -- what is written for C describes a set that was found
-pub set_told : {H : Type 0} {header : Layout H} {section : Input} {offset : ℕ} {s : Set H} {reported : DwarfSet}
+pub set_reported : {H : Type 0} {header : Layout H} {section : Input} {offset : ℕ} {s : Set H} {reported : DwarfSet}
     (entries_of : Set H → Entries) (width : ℕ)
     → entries_of (record s { offset = offset }) ≡ record { width = width; rest = s.entries }
     → FoundSet header section offset s → reported ≡ set_from offset s.format s.unit_length width
     → TellsSet header entries_of section offset reported
-set_told {offset = offset} {s} entries_of width entries found is =
+set_reported {offset = offset} {s} entries_of width entries found is =
     rw is (record { s = record s { offset = offset }; has = found.has; is = rw (entries, found.first, found.rest) })

@@ -124,7 +124,7 @@ static ENCODINGS: &[(u8, (bool, bool, bool))] = &[
     (0x87, (false, false, true)),
 ];
 
-fn told(encoding: DwEhPe) -> (bool, bool, bool) {
+fn reported(encoding: DwEhPe) -> (bool, bool, bool) {
     (
         encoding.is_valid_encoding(),
         encoding.is_absent(),
@@ -144,7 +144,7 @@ fn pointer_encodings_are_taken_apart(rt: HostRuntime) {
     let wanted = [DW_EH_PE_uleb128, DW_EH_PE_pcrel, relative, DwEhPe(0x9b)];
     same(&rt, parts, wanted, "format, application, 0x11 and 0x9b");
     for (value, wanted) in ENCODINGS {
-        same(&rt, told(DwEhPe(*value)), *wanted, value);
+        same(&rt, reported(DwEhPe(*value)), *wanted, value);
     }
 }
 

@@ -1,8 +1,8 @@
-use Rattle.dwarf_base_core.proofs.NumberLaws.{number_is_bounded, number_tells_bytes}
+use Rattle.dwarf_base_core.proofs.NumberLaws.{number_is_bounded, number_determines_bytes}
 use Rattle.dwarf_base_core.proofs.laws.numbers_of_bytes.Goals as goal
 
 pub returns-clause-bounded : goal.returns-clause-bounded
 returns-clause-bounded c = number_is_bounded
 
-pub returns-clause-told : goal.returns-clause-told
-returns-clause-told c = number_tells_bytes
+pub returns-clause-determined : goal.returns-clause-determined
+returns-clause-determined c = number_determines_bytes

@@ -1,5 +1,5 @@
 use Rattle.dwarf_read_c.proofs.Common.{string_offsets_header, string_offsets_header-size, string_offsets_of, arith, err_from_is_err_and, refl, section_of}
-use Rattle.dwarf_read_c.proofs.SetLemmas.{FoundSet, set_ended, set_found, set_lacked, set_told}
+use Rattle.dwarf_read_c.proofs.SetLemmas.{FoundSet, set_ended, set_found, set_lacked, set_reported}
 use Rattle.dwarf_read_c.proofs.sets.str_offset_set_at.Goals as goal
 
 pub returns-in_err-header-clause-err : goal.returns-in_err-header-clause-err
@@ -20,7 +20,7 @@ set_from-requires c =
 pub returns-in-Some-clause-found : goal.returns-in-Some-clause-found
 returns-in-Some-clause-found c =
     let first = rw c.in-Some.is at c.in_ok-header.ensures.first in
-    set_told string_offsets_of _ refl (set_found string_offsets_header-size (grind arith) first)
+    set_reported string_offsets_of _ refl (set_found string_offsets_header-size (grind arith) first)
     (rw (c.word_size.ensures, c.format-format.ensures, c.length-length.ensures) at c.set_from.ensures)
 
 pub returns-in-None-clause-end : goal.returns-in-None-clause-end

@@ -300,7 +300,12 @@ fn identifiers_have_eight_bytes(rt: HostRuntime) {
 }
 
 // The derived text of a value is the one that is wanted.
-fn is_told<T: Debug>(rt: &impl Abort, mem: Global, value: &T, wanted: &str) -> Result<(), Fail> {
+fn is_reported<T: Debug>(
+    rt: &impl Abort,
+    mem: Global,
+    value: &T,
+    wanted: &str,
+) -> Result<(), Fail> {
     let text = format!(in mem; "{value:?}")?;
     same(rt, text.as_str(), wanted, wanted);
     Ok(())
@@ -310,13 +315,13 @@ fn is_told<T: Debug>(rt: &impl Abort, mem: Global, value: &T, wanted: &str) -> R
 fn derived_texts_tell_the_fields(rt: HostRuntime) -> Result<(), Fail> {
     let mem = rt.alloc();
     let fields = "Encoding { address_size: 8, format: Dwarf32, version: 5 }";
-    is_told(&rt, mem, &encoding(8, 5), fields)?;
+    is_reported(&rt, mem, &encoding(8, 5), fields)?;
     let error = Error::UnexpectedEof(ReaderOffsetId(5));
-    is_told(&rt, mem, &error, "UnexpectedEof(ReaderOffsetId(5))")?;
-    is_told(&rt, mem, &DebugAbbrevOffset(7usize), "DebugAbbrevOffset(7)")?;
-    is_told(&rt, mem, &StoreOnHeap, "StoreOnHeap")?;
-    is_told(&rt, mem, &Vendor::AArch64, "AArch64")?;
-    is_told(&rt, mem, &BigEndian, "BigEndian")
+    is_reported(&rt, mem, &error, "UnexpectedEof(ReaderOffsetId(5))")?;
+    is_reported(&rt, mem, &DebugAbbrevOffset(7usize), "DebugAbbrevOffset(7)")?;
+    is_reported(&rt, mem, &StoreOnHeap, "StoreOnHeap")?;
+    is_reported(&rt, mem, &Vendor::AArch64, "AArch64")?;
+    is_reported(&rt, mem, &BigEndian, "BigEndian")
 }
 
 #[test]
