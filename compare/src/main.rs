@@ -3,6 +3,7 @@
 //! `tools/compare` runs this program, and its documentation says what the words mean.
 
 mod all;
+mod clock;
 mod made;
 mod measure;
 mod ours;

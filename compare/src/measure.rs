@@ -3,45 +3,40 @@
 //! The library's side is a call of `crates/dwarf_compare` that does the whole loop. What fills a cache from units
 //! is left out, since units belong to gimli's upper layers, and so are written numbers, which another feature has.
 
+use crate::clock::{hidden, nanos_of};
 use crate::made::{made_sets, put_signed, put_unsigned, shaped_table, Random};
 use crate::plain;
 use gimli::{
     DebugAbbrev, DebugAbbrevOffset, DebugAddr, DebugAddrBase, DebugAddrIndex, DebugStr, DebugStrOffset,
     DebugStrOffsets, DebugStrOffsetsBase, DebugStrOffsetsIndex, EndianSlice, Format, LittleEndian, Reader,
 };
-use std::os::raw::c_int;
 
 /// How many codes the tables have that are made.
 const CODES: u64 = 5000;
 const ROUNDS: u64 = 20;
-const NUMBERS: u64 = 1 << 17;
+const NUMBERS: usize = 1 << 17;
 const LOOKUPS: usize = 1 << 15;
 
 type Bytes = &'static [u8];
 type Places = &'static [usize];
 type Call = Box<dyn Fn() -> u64>;
 
-extern "C" {
-    fn compare_unsigned_sum(bytes: *const u8, len: usize) -> u64;
-    fn compare_signed_sum(bytes: *const u8, len: usize) -> u64;
-    fn compare_short_sum(bytes: *const u8, len: usize) -> u64;
-    fn compare_skipped_count(bytes: *const u8, len: usize) -> u64;
-    fn compare_tables(bytes: *const u8, len: usize, offsets: *const usize, count: usize) -> usize;
-    fn compare_headers(bytes: *const u8, len: usize) -> u64;
-    fn compare_addresses(bytes: *const u8, len: usize) -> u64;
-    fn compare_get_sum(bytes: *const u8, len: usize, offset: usize, codes: u64, rounds: u64) -> u64;
-    fn compare_walk(bytes: *const u8, len: usize, offset: usize) -> u64;
-    fn compare_strings(bytes: *const u8, len: usize, offsets: *const usize, count: usize) -> usize;
-    fn compare_str_offset_lookups(
-        bytes: *const u8, len: usize, base: usize, indices: *const usize, count: usize,
-    ) -> usize;
-    fn compare_address_lookups(bytes: *const u8, len: usize, base: usize, indices: *const usize, count: usize) -> u64;
-}
+type Byte = *const u8;
+type Place = *const usize;
 
-/// Keeps the compiler from knowing a number. The standard library's function for it came with Rust 1.66.
-#[inline(always)]
-fn hidden(value: u64) -> u64 {
-    unsafe { std::ptr::read_volatile(&value) }
+extern "C" {
+    fn compare_unsigned_sum(bytes: Byte, len: usize) -> u64;
+    fn compare_signed_sum(bytes: Byte, len: usize) -> u64;
+    fn compare_short_sum(bytes: Byte, len: usize) -> u64;
+    fn compare_skipped_count(bytes: Byte, len: usize) -> u64;
+    fn compare_headers(bytes: Byte, len: usize) -> u64;
+    fn compare_addresses(bytes: Byte, len: usize) -> u64;
+    fn compare_tables(bytes: Byte, len: usize, offsets: Place, count: usize) -> u64;
+    fn compare_get_sum(bytes: Byte, len: usize, offset: usize, codes: u64, rounds: u64) -> u64;
+    fn compare_walk(bytes: Byte, len: usize, offset: usize) -> u64;
+    fn compare_strings(bytes: Byte, len: usize, offsets: Place, count: usize) -> u64;
+    fn compare_str_offset_lookups(bytes: Byte, len: usize, base: usize, indices: Place, count: usize) -> u64;
+    fn compare_address_lookups(bytes: Byte, len: usize, base: usize, indices: Place, count: usize) -> u64;
 }
 
 /// What is measured, once each side.
@@ -54,17 +49,15 @@ pub struct Workload {
     is_same: bool,
 }
 
-fn numbers(name: &str, bytes: Bytes, gimli: fn(Bytes) -> u64, ours: NumberCall) -> Workload {
-    Workload {
-        name: name.into(),
-        operations: NUMBERS,
-        gimli: Box::new(move || gimli(bytes)),
-        ours: Box::new(move || unsafe { ours(bytes.as_ptr(), bytes.len()) }),
-        is_same: true,
-    }
+/// A workload whose sides return the same.
+fn workload(
+    name: impl Into<String>, operations: usize, gimli: impl Fn() -> u64 + 'static, ours: impl Fn() -> u64 + 'static,
+) -> Workload {
+    let (name, operations) = (name.into(), operations as u64);
+    Workload { name, operations, gimli: Box::new(gimli), ours: Box::new(ours), is_same: true }
 }
 
-type NumberCall = unsafe extern "C" fn(*const u8, usize) -> u64;
+type Loop = unsafe extern "C" fn(Byte, usize) -> u64;
 
 macro_rules! sum_of {
     ($name:ident, $read:expr) => {
@@ -153,32 +146,24 @@ type Table = (usize, Vec<u64>);
 fn of_tables(name: &str, section: Vec<u8>, given: Vec<Table>, all: &mut Vec<Workload>) {
     let offsets: Vec<usize> = given.iter().map(|it| it.0).collect();
     let (s, o): (Bytes, Places) = (section.leak(), offsets.leak());
-    let count = unsafe { compare_tables(s.as_ptr(), s.len(), o.as_ptr(), o.len()) } as u64;
+    let all_tables = move || unsafe { compare_tables(s.as_ptr(), s.len(), o.as_ptr(), o.len()) };
+    let walk_all =
+        move || o.iter().map(|it| unsafe { compare_walk(s.as_ptr(), s.len(), *it) }).fold(0, u64::wrapping_add);
+    let count = all_tables() as usize;
     // Nearly all of the codes that `get_sum` looks up are in such a table.
     let is_dense = matches!(&given[..], [(0, codes)] if codes.len() as u64 == CODES && codes[0] < 3);
-    all.push(Workload {
-        name: format!("a declaration of a table, {name}"),
-        operations: count,
-        gimli: Box::new(move || tables(s, o)),
-        ours: Box::new(move || unsafe { compare_tables(s.as_ptr(), s.len(), o.as_ptr(), o.len()) } as u64),
-        is_same: false,
-    });
-    let added = |sum: u64, one: u64| sum.wrapping_add(one);
-    all.push(Workload {
-        name: format!("a declaration read and looked at, {name}"),
-        operations: count,
-        gimli: Box::new(move || given.iter().map(|it| walk(s, it.0, &it.1)).fold(0, added)),
-        ours: Box::new(move || o.iter().map(|it| unsafe { compare_walk(s.as_ptr(), s.len(), *it) }).fold(0, added)),
-        is_same: true,
-    });
+    let read = workload(format!("a declaration of a table, {name}"), count, move || tables(s, o), all_tables);
+    all.push(Workload { is_same: false, ..read });
+    let theirs = move || given.iter().map(|it| walk(s, it.0, &it.1)).fold(0, u64::wrapping_add);
+    all.push(workload(format!("a declaration read and looked at, {name}"), count, theirs, walk_all));
     if is_dense {
-        all.push(Workload {
-            name: format!("`Abbreviations::get`, {name}"),
-            operations: CODES * ROUNDS,
-            gimli: Box::new(move || get_sum(s)),
-            ours: Box::new(move || unsafe { compare_get_sum(s.as_ptr(), s.len(), 0, CODES, ROUNDS) }),
-            is_same: true,
-        });
+        let ours = move || unsafe { compare_get_sum(s.as_ptr(), s.len(), 0, CODES, ROUNDS) };
+        all.push(workload(
+            format!("`Abbreviations::get`, {name}"),
+            (CODES * ROUNDS) as usize,
+            move || get_sum(s),
+            ours,
+        ));
     }
 }
 
@@ -227,14 +212,18 @@ fn all_of_numbers(random: &mut Random, all: &mut Vec<Workload>) {
     }
     let (any, one, halves): (Bytes, Bytes, Bytes) = (any.leak(), one.leak(), halves.leak());
     let (signed, one_signed): (Bytes, Bytes) = (signed.leak(), one_signed.leak());
-    all.push(numbers("an unsigned number of any length", any, unsigned_sum, compare_unsigned_sum));
-    all.push(numbers("an unsigned number mostly of one byte", one, unsigned_sum, compare_unsigned_sum));
-    all.push(numbers("a signed number of any length", signed, signed_sum, compare_signed_sum));
-    all.push(numbers("a signed number mostly of one byte", one_signed, signed_sum, compare_signed_sum));
-    all.push(numbers("a number of 16 bits of any length", halves, short_sum, compare_short_sum));
-    all.push(numbers("a number of 16 bits mostly of one byte", one, short_sum, compare_short_sum));
-    all.push(numbers("a number skipped, of any length", any, skipped_count, compare_skipped_count));
-    all.push(numbers("a number skipped, mostly of one byte", one, skipped_count, compare_skipped_count));
+    let mut add = |name: &str, bytes: Bytes, gimli: fn(Bytes) -> u64, ours: Loop| {
+        let ours = move || unsafe { ours(bytes.as_ptr(), bytes.len()) };
+        all.push(workload(name, NUMBERS, move || gimli(bytes), ours));
+    };
+    add("an unsigned number of any length", any, unsigned_sum, compare_unsigned_sum);
+    add("an unsigned number mostly of one byte", one, unsigned_sum, compare_unsigned_sum);
+    add("a signed number of any length", signed, signed_sum, compare_signed_sum);
+    add("a signed number mostly of one byte", one_signed, signed_sum, compare_signed_sum);
+    add("a number of 16 bits of any length", halves, short_sum, compare_short_sum);
+    add("a number of 16 bits mostly of one byte", one, short_sum, compare_short_sum);
+    add("a number skipped, of any length", any, skipped_count, compare_skipped_count);
+    add("a number skipped, mostly of one byte", one, skipped_count, compare_skipped_count);
 }
 
 fn all_of_lookups(random: &mut Random, all: &mut Vec<Workload>) {
@@ -243,22 +232,10 @@ fn all_of_lookups(random: &mut Random, all: &mut Vec<Workload>) {
     let mut indices =
         |size| -> Places { (0..LOOKUPS).map(|_| random.below((s.len() - 8) / size)).collect::<Vec<_>>().leak() };
     let (four, eight) = (indices(4), indices(8));
-    all.push(Workload {
-        name: "`get_str_offset`".into(),
-        operations: LOOKUPS as u64,
-        gimli: Box::new(move || str_offsets(s, four)),
-        ours: Box::new(move || unsafe {
-            compare_str_offset_lookups(s.as_ptr(), s.len(), 8, four.as_ptr(), four.len()) as u64
-        }),
-        is_same: true,
-    });
-    all.push(Workload {
-        name: "`get_address`".into(),
-        operations: LOOKUPS as u64,
-        gimli: Box::new(move || addresses(s, eight)),
-        ours: Box::new(move || unsafe { compare_address_lookups(s.as_ptr(), s.len(), 8, eight.as_ptr(), eight.len()) }),
-        is_same: true,
-    });
+    let ours = move || unsafe { compare_str_offset_lookups(s.as_ptr(), s.len(), 8, four.as_ptr(), four.len()) };
+    all.push(workload("`get_str_offset`", LOOKUPS, move || str_offsets(s, four), ours));
+    let ours = move || unsafe { compare_address_lookups(s.as_ptr(), s.len(), 8, eight.as_ptr(), eight.len()) };
+    all.push(workload("`get_address`", LOOKUPS, move || addresses(s, eight), ours));
 }
 
 fn of_strings(name: &str, random: &mut Random, section: Vec<u8>, all: &mut Vec<Workload>) {
@@ -270,36 +247,25 @@ fn of_strings(name: &str, random: &mut Random, section: Vec<u8>, all: &mut Vec<W
         return;
     }
     let o: Places = (0..50_000).map(|_| starts[random.below(starts.len())]).collect::<Vec<_>>().leak();
-    all.push(Workload {
-        name: format!("`get_str`, {name}"),
-        operations: o.len() as u64,
-        gimli: Box::new(move || strings(s, o)),
-        ours: Box::new(move || unsafe { compare_strings(s.as_ptr(), s.len(), o.as_ptr(), o.len()) as u64 }),
-        is_same: true,
-    });
+    let ours = move || unsafe { compare_strings(s.as_ptr(), s.len(), o.as_ptr(), o.len()) };
+    all.push(workload(format!("`get_str`, {name}"), o.len(), move || strings(s, o), ours));
 }
 
+/// A sum of what the headers of the sets have, or of their addresses.
 #[cfg(gimli_0_34)]
 #[inline(never)]
-fn headers_sum(section: Bytes) -> gimli::Result<u64> {
+fn sets_sum<const IS_OF_ENTRIES: bool>(section: Bytes) -> gimli::Result<u64> {
     let mut sum = 0u64;
     let mut headers = DebugAddr::from(EndianSlice::new(section, LittleEndian)).headers();
     while let Some(header) = headers.next()? {
-        let size = header.encoding().address_size;
-        sum = sum.wrapping_add(header.length() as u64 + header.offset().0 as u64 + u64::from(size));
-    }
-    Ok(sum)
-}
-
-#[cfg(gimli_0_34)]
-#[inline(never)]
-fn addresses_sum(section: Bytes) -> gimli::Result<u64> {
-    let mut sum = 0u64;
-    let mut headers = DebugAddr::from(EndianSlice::new(section, LittleEndian)).headers();
-    while let Some(header) = headers.next()? {
-        let mut entries = header.entries();
-        while let Some(address) = entries.next()? {
-            sum = sum.wrapping_add(address);
+        if IS_OF_ENTRIES {
+            let mut entries = header.entries();
+            while let Some(address) = entries.next()? {
+                sum = sum.wrapping_add(address);
+            }
+        } else {
+            let size = header.encoding().address_size;
+            sum = sum.wrapping_add(header.length() as u64 + header.offset().0 as u64 + u64::from(size));
         }
     }
     Ok(sum)
@@ -323,23 +289,15 @@ fn next_set(left: &mut Input) -> gimli::Result<(usize, u8, Input)> {
 
 #[cfg(not(gimli_0_34))]
 #[inline(never)]
-fn headers_sum(section: Bytes) -> gimli::Result<u64> {
+fn sets_sum<const IS_OF_ENTRIES: bool>(section: Bytes) -> gimli::Result<u64> {
     let (mut left, mut sum) = (EndianSlice::new(section, LittleEndian), 0u64);
     while !Reader::is_empty(&left) {
         let offset = section.len() - Reader::len(&left);
-        let (length, size, _) = next_set(&mut left)?;
-        sum = sum.wrapping_add(length as u64 + offset as u64 + u64::from(size));
-    }
-    Ok(sum)
-}
-
-#[cfg(not(gimli_0_34))]
-#[inline(never)]
-fn addresses_sum(section: Bytes) -> gimli::Result<u64> {
-    let (mut left, mut sum) = (EndianSlice::new(section, LittleEndian), 0u64);
-    while !Reader::is_empty(&left) {
-        let (_, size, mut set) = next_set(&mut left)?;
-        while !Reader::is_empty(&set) {
+        let (length, size, mut set) = next_set(&mut left)?;
+        if !IS_OF_ENTRIES {
+            sum = sum.wrapping_add(length as u64 + offset as u64 + u64::from(size));
+        }
+        while IS_OF_ENTRIES && !Reader::is_empty(&set) {
             sum = sum.wrapping_add(set.read_address(size)?);
         }
     }
@@ -350,17 +308,12 @@ fn all_of_sets(random: &mut Random, all: &mut Vec<Workload>) {
     for (name, count, most) in [("small sets", 20_000, 4), ("large sets", 300, 800)] {
         let (made, entries) = made_sets(random, count, most);
         let s: Bytes = made.leak();
-        let mut add = |what: &str, operations, gimli: fn(Bytes) -> gimli::Result<u64>, ours: NumberCall| {
-            all.push(Workload {
-                name: format!("{what}, {name}"),
-                operations,
-                gimli: Box::new(move || gimli(s).unwrap()),
-                ours: Box::new(move || unsafe { ours(s.as_ptr(), s.len()) }),
-                is_same: true,
-            })
+        let mut add = |what: &str, operations, gimli: fn(Bytes) -> gimli::Result<u64>, ours: Loop| {
+            let ours = move || unsafe { ours(s.as_ptr(), s.len()) };
+            all.push(workload(format!("{what}, {name}"), operations, move || gimli(s).unwrap(), ours));
         };
-        add("the header of a set", count as u64, headers_sum, compare_headers);
-        add("an address of a set", entries as u64, addresses_sum, compare_addresses);
+        add("the header of a set", count, sets_sum::<false>, compare_headers);
+        add("an address of a set", entries, sets_sum::<true>, compare_addresses);
     }
 }
 
@@ -397,30 +350,6 @@ pub fn workloads(sections: &[(String, String, Vec<u8>)]) -> Vec<Workload> {
     all
 }
 
-/// The thread's own processor time in nanoseconds, so that other work of the machine isn't counted.
-fn processor_nanos() -> u64 {
-    extern "C" {
-        fn clock_gettime(clock: c_int, time: *mut [i64; 2]) -> c_int;
-    }
-    const CLOCK_THREAD_CPUTIME_ID: c_int = 3;
-    let mut time = [0; 2];
-    assert_eq!(unsafe { clock_gettime(CLOCK_THREAD_CPUTIME_ID, &mut time) }, 0);
-    time[0] as u64 * 1_000_000_000 + time[1] as u64
-}
-
-/// Nanoseconds of a call, which is repeated for three milliseconds.
-fn turn(call: &Call) -> f64 {
-    let (start, mut calls) = (processor_nanos(), 0);
-    loop {
-        hidden(call());
-        calls += 1;
-        let time = processor_nanos() - start;
-        if time >= 3_000_000 {
-            return time as f64 / f64::from(calls);
-        }
-    }
-}
-
 #[no_mangle]
 #[inline(never)]
 extern "C" fn gimli_counted(workload: &Workload) {
@@ -438,8 +367,8 @@ fn turns(workload: &Workload) -> String {
     let (mut left, mut right, mut ratios) = (vec![], vec![], vec![]);
     for sample in 0..31 {
         let is_first = sample % 2 == 0;
-        let early = turn(if is_first { &workload.gimli } else { &workload.ours });
-        let late = turn(if is_first { &workload.ours } else { &workload.gimli });
+        let early = nanos_of(if is_first { &workload.gimli } else { &workload.ours }, 3);
+        let late = nanos_of(if is_first { &workload.ours } else { &workload.gimli }, 3);
         let (gimli, ours) = if is_first { (early, late) } else { (late, early) };
         left.push(gimli / workload.operations as f64);
         right.push(ours / workload.operations as f64);

@@ -5,6 +5,8 @@
 //!
 //! Both request memory by the functions here, so that it is counted alike: as many bytes as `malloc` makes usable.
 
+#[path = "../clock.rs"]
+mod clock;
 #[allow(dead_code)]
 #[path = "../made.rs"]
 mod made;
@@ -12,6 +14,7 @@ mod made;
 #[path = "../question.rs"]
 mod question;
 
+use clock::nanos_of;
 use gimli::{DebugAbbrev, DebugAbbrevOffset, LittleEndian};
 use std::alloc::{GlobalAlloc, Layout, System};
 use std::os::raw::{c_int, c_ulong, c_void};
@@ -26,7 +29,6 @@ extern "C" {
     fn realloc(block: *mut c_void, size: usize) -> *mut c_void;
     fn free(block: *mut c_void);
     fn malloc_usable_size(block: *mut c_void) -> usize;
-    fn clock_gettime(clock: c_int, time: *mut [i64; 2]) -> c_int;
     fn getrusage(who: c_int, usage: *mut [i64; 18]) -> c_int;
     fn malloc_trim(kept: usize) -> c_int;
     fn prctl(option: c_int, is_on: c_ulong, unused: c_ulong, too: c_ulong, as_well: c_ulong) -> c_int;
@@ -103,30 +105,10 @@ pub unsafe extern "C" fn rattle_dealloc(block: *mut c_void) {
     free(block);
 }
 
-fn processor_nanos() -> u64 {
-    const CLOCK_THREAD_CPUTIME_ID: c_int = 3;
-    let mut time = [0; 2];
-    assert_eq!(unsafe { clock_gettime(CLOCK_THREAD_CPUTIME_ID, &mut time) }, 0);
-    time[0] as u64 * 1_000_000_000 + time[1] as u64
-}
-
-/// Nanoseconds of a call, which is repeated for five milliseconds.
-fn turn(call: &dyn Fn()) -> f64 {
-    let (start, mut calls) = (processor_nanos(), 0);
-    loop {
-        call();
-        calls += 1;
-        let time = processor_nanos() - start;
-        if time >= 5_000_000 {
-            return time as f64 / f64::from(calls);
-        }
-    }
-}
-
 /// How many bytes the pages have that are first touched while a call runs. The system hands out a page then, and counts
 /// a minor fault. A page that is given back and handed out again counts twice. Before the call, free pages are given
 /// back, and pages of 2 MB are switched off, so that each has 4,096 bytes.
-fn touched_bytes(call: &dyn Fn()) -> i64 {
+fn touched_bytes(call: &dyn Fn() -> u64) -> i64 {
     const PR_SET_THP_DISABLE: c_int = 41;
     assert_eq!(unsafe { prctl(PR_SET_THP_DISABLE, 1, 0, 0, 0) }, 0);
     unsafe { malloc_trim(0) };
@@ -142,7 +124,7 @@ fn touched_bytes(call: &dyn Fn()) -> i64 {
 }
 
 /// How many bytes a call has at once.
-fn most_bytes(call: &dyn Fn()) -> usize {
+fn most_bytes(call: &dyn Fn() -> u64) -> usize {
     NOW.store(0, Relaxed);
     MOST.store(0, Relaxed);
     IS_COUNTED.store(true, Relaxed);
@@ -153,16 +135,17 @@ fn most_bytes(call: &dyn Fn()) -> usize {
 
 #[no_mangle]
 #[inline(never)]
-fn gimli_counted(section: &[u8]) {
+fn gimli_counted(section: &[u8]) -> u64 {
     let table = DebugAbbrev::new(section, LittleEndian).abbreviations(DebugAbbrevOffset(0));
-    assert!(table.expect("a table").get(0).is_none());
+    u64::from(table.expect("a table").get(0).is_some())
 }
 
 #[no_mangle]
 #[inline(never)]
-fn ours_counted(section: &[u8], count: u64) {
+fn ours_counted(section: &[u8], count: u64) -> u64 {
     let found = unsafe { compare_tables(section.as_ptr(), section.len(), [0].as_ptr(), 1) };
     assert_eq!(found as u64, count);
+    count
 }
 
 fn main() {
@@ -202,11 +185,11 @@ fn main() {
     let (mut left, mut right) = (vec![], vec![]);
     for sample in 0..if count < 1_000_000 { 9 } else { 3 } {
         if sample % 2 == 0 {
-            left.push(turn(&gimli));
-            right.push(turn(&ours));
+            left.push(nanos_of(&gimli, 5));
+            right.push(nanos_of(&ours, 5));
         } else {
-            right.push(turn(&ours));
-            left.push(turn(&gimli));
+            right.push(nanos_of(&ours, 5));
+            left.push(nanos_of(&gimli, 5));
         }
     }
     for list in [&mut left, &mut right] {
