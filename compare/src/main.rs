@@ -131,26 +131,14 @@ fn ask_at(tally: &mut Tally, kind: &str, bytes: &[u8], at: usize, random: &mut R
 fn ask_everywhere(tally: &mut Tally, section: &(String, String, Vec<u8>), until: Instant, random: &mut Random) {
     let (name, kind, bytes) = section;
     let places = bytes.len() + 2;
-    // A step without a common factor comes to each place once.
-    let mut step = places * 5 / 8 + 1;
-    while gcd(step, places) != 1 {
-        step += 1;
-    }
     let (mut at, mut asked) = (0, 0);
     while asked < places && Instant::now() < until {
         ask_at(tally, kind, bytes, at, random);
-        at = (at + step) % places;
+        // (a prime, so that no place comes twice)
+        at = (at + 1_000_000_007) % places;
         asked += 1;
     }
     println!("{name} .{kind}: {asked} of {places} offsets");
-}
-
-fn gcd(a: usize, b: usize) -> usize {
-    if b == 0 {
-        a
-    } else {
-        gcd(b, a % b)
-    }
 }
 
 /// Plants an error in the second reader, and asks what is made until it is found or the time is over.

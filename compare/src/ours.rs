@@ -19,16 +19,6 @@ struct RawFault {
 
 #[repr(C)]
 #[derive(Default, Clone, Copy)]
-struct RawSet {
-    next: usize,
-    unit_length: usize,
-    first_entry: usize,
-    word_size: u8,
-    entry_size: u8,
-}
-
-#[repr(C)]
-#[derive(Default, Clone, Copy)]
 struct Measure {
     abbreviations: usize,
     attributes: usize,
@@ -81,10 +71,10 @@ extern "C" {
         fault: &mut RawFault,
     ) -> u32;
     fn dwarf_address_set(
-        bytes: Byte, len: usize, is_big: bool, offset: usize, set: &mut RawSet, fault: &mut RawFault,
+        bytes: Byte, len: usize, is_big: bool, offset: usize, set: &mut Set, fault: &mut RawFault,
     ) -> u32;
     fn dwarf_str_offset_set(
-        bytes: Byte, len: usize, is_big: bool, offset: usize, set: &mut RawSet, fault: &mut RawFault,
+        bytes: Byte, len: usize, is_big: bool, offset: usize, set: &mut Set, fault: &mut RawFault,
     ) -> u32;
     fn dwarf_table_read(
         bytes: Byte, len: usize, offset: usize, abbreviations: *mut RawAbbreviation, abbreviation_room: usize,
@@ -101,7 +91,7 @@ extern "C" {
         bytes: Byte, len: usize, offset: usize, codes: *const u64, code_count: usize, tags: *mut u16, tag_count: usize,
         fault: &mut RawFault,
     ) -> u32;
-    fn compare_cached(bytes: Byte, len: usize, offsets: *const u64, count: usize, rounds: u64) -> u64;
+    fn compare_cached(bytes: Byte, len: usize, offsets: *const u64, count: usize) -> u64;
     fn compare_addresses(bytes: Byte, len: usize) -> u64;
     fn compare_readers(
         bytes: Byte, len: usize, asked: &Asked, found: &mut [u64; 4], text: *mut u8, room: usize,
@@ -132,7 +122,7 @@ impl Ours {
             What::Strict => strict(bytes, *at),
             What::Grown => count(|count, fault| unsafe { compare_grown(data, len, *more, *at, count, fault) }),
             What::Found => found(bytes, *at, list),
-            What::Cached => Answer::Sum(unsafe { compare_cached(data, len, list.as_ptr(), list.len(), 2) }),
+            What::Cached => Answer::Sum(unsafe { compare_cached(data, len, list.as_ptr(), list.len()) }),
             What::Addresses => Answer::Sum(unsafe { compare_addresses(data, len) }),
             _ => lookup(question, bytes),
         }
@@ -262,7 +252,7 @@ fn found(bytes: &[u8], offset: usize, codes: &[u64]) -> Answer {
 /// Strings, words and sets.
 fn lookup(question: &Question, bytes: &[u8]) -> Answer {
     let (data, len) = (bytes.as_ptr(), bytes.len());
-    let (mut length, mut word, mut set, mut fault) = (0, 0, RawSet::default(), RawFault::default());
+    let (mut length, mut word, mut set, mut fault) = (0, 0, Set::default(), RawFault::default());
     let Question { is_big, size, at, more, .. } = *question;
     let (status, answer) = match question.what {
         What::Text => {
@@ -279,11 +269,11 @@ fn lookup(question: &Question, bytes: &[u8]) -> Answer {
         }
         What::AddressSet => {
             let status = unsafe { dwarf_address_set(data, len, is_big, at, &mut set, &mut fault) };
-            (status, set_of(&set))
+            (status, Answer::Set(set))
         }
         _ => {
             let status = unsafe { dwarf_str_offset_set(data, len, is_big, at, &mut set, &mut fault) };
-            (status, set_of(&set))
+            (status, Answer::Set(set))
         }
     };
     match status {
@@ -291,16 +281,6 @@ fn lookup(question: &Question, bytes: &[u8]) -> Answer {
         END => Answer::End,
         _ => refused(status, fault, None),
     }
-}
-
-fn set_of(set: &RawSet) -> Answer {
-    Answer::Set(Set {
-        next: set.next,
-        unit_length: set.unit_length,
-        first_entry: set.first_entry,
-        word_size: set.word_size,
-        entry_size: set.entry_size,
-    })
 }
 
 /// The readers that are asked now and then: slices whose byte order is their type's or known at run time, and the

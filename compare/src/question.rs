@@ -133,8 +133,9 @@ impl Declaration {
     }
 }
 
-/// The header of a set.
-#[derive(Debug, Clone, PartialEq)]
+/// The header of a set, as the calls for C write it.
+#[repr(C)]
+#[derive(Debug, Default, Clone, PartialEq)]
 pub struct Set {
     pub next: usize,
     pub unit_length: usize,

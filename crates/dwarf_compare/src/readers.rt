@@ -3,10 +3,9 @@
 use crate::sets::sum_of_sets;
 use crate::tables::walked;
 use dwarf_read_core::{
-    AddrHeader, BigEndian, DebugAbbrev, DebugAbbrevOffset, DebugAddr, DebugAddrBase,
-    DebugAddrIndex, DebugStr, DebugStrOffset, DebugStrOffsets, DebugStrOffsetsBase,
-    DebugStrOffsetsIndex, EndianSlice, Format, LittleEndian, Reader, ReaderOffset, Result,
-    RunTimeEndian, StrOffsetsHeader,
+    BigEndian, DebugAbbrev, DebugAbbrevOffset, DebugAddr, DebugAddrBase, DebugAddrIndex, DebugStr,
+    DebugStrOffset, DebugStrOffsets, DebugStrOffsetsBase, DebugStrOffsetsIndex, EndianSlice,
+    Format, LittleEndian, Reader, ReaderOffset, Result, RunTimeEndian,
 };
 use dwarf_uses::{OwnedReader, SharedReader};
 use std::alloc::Global;
@@ -66,40 +65,24 @@ fn by_reader(mem: Global, section: &[u8], asked: Asked, found: &mut Found) -> Re
         0 => RunTimeEndian::Little,
         _ => RunTimeEndian::Big,
     };
-    match asked.reader {
-        0 => by_slice(mem, section, asked, found),
-        1 => read(mem, EndianSlice::new(section, order), asked, found),
-        2 => by_owned(mem, Vec::from_slice(mem, section)?, order, asked, found),
-        _ => by_shared(mem, Vec::from_slice(mem, section)?, order, asked, found),
+    match (asked.reader, asked.is_big) {
+        (0, 0) => read(mem, EndianSlice::new(section, LittleEndian), asked, found),
+        (0, _) => read(mem, EndianSlice::new(section, BigEndian), asked, found),
+        (1, _) => read(mem, EndianSlice::new(section, order), asked, found),
+        (2, _) => {
+            let bytes = Vec::from_slice(mem, section)?;
+            read(
+                mem,
+                OwnedReader::new(mem, bytes, order, u8::MAX)?,
+                asked,
+                found,
+            )
+        }
+        _ => {
+            let bytes = Vec::from_slice(mem, section)?;
+            read(mem, SharedReader::new(bytes, order)?, asked, found)
+        }
     }
-}
-
-fn by_slice(mem: Global, section: &[u8], asked: Asked, found: &mut Found) -> Result<()> {
-    match asked.is_big {
-        0 => read(mem, EndianSlice::new(section, LittleEndian), asked, found),
-        _ => read(mem, EndianSlice::new(section, BigEndian), asked, found),
-    }
-}
-
-fn by_owned(
-    mem: Global,
-    section: Vec<u8>,
-    order: RunTimeEndian,
-    asked: Asked,
-    found: &mut Found,
-) -> Result<()> {
-    let input = OwnedReader::new(mem, section, order, u8::MAX)?;
-    read(mem, input, asked, found)
-}
-
-fn by_shared(
-    mem: Global,
-    section: Vec<u8>,
-    order: RunTimeEndian,
-    asked: Asked,
-    found: &mut Found,
-) -> Result<()> {
-    read(mem, SharedReader::new(section, order)?, asked, found)
 }
 
 // What a reader finds. The questions are those of `compare/src/ours.rs`.
@@ -194,43 +177,29 @@ fn address<R: Reader>(section: &DebugAddr<R>, asked: Asked, found: &mut Found) -
 
 fn address_set<R: Reader>(mut input: R, asked: Asked, found: &mut Found) -> Result<()> {
     input.skip(R::Offset::from_u64(asked.base)?)?;
-    match first_of_addresses(&input.into())? {
-        Some(header) => of_addresses(&header, found),
+    match DebugAddr::from(input).headers()?.next()? {
+        Some(header) => {
+            let encoding = header.encoding();
+            found.value = header.length().into_u64();
+            found.size = u64::from(encoding.address_size);
+            found.more = u64::from(encoding.format.word_size());
+        }
         None => found.rest = 1,
     }
     Ok(())
-}
-
-fn first_of_addresses<R: Reader>(section: &DebugAddr<R>) -> Result<Option<AddrHeader<R>>> {
-    section.headers()?.next()
-}
-
-fn of_addresses<R: Reader>(header: &AddrHeader<R>, found: &mut Found) {
-    let encoding = header.encoding();
-    found.value = header.length().into_u64();
-    found.size = u64::from(encoding.address_size);
-    found.more = u64::from(encoding.format.word_size());
 }
 
 fn str_offset_set<R: Reader>(mut input: R, asked: Asked, found: &mut Found) -> Result<()> {
     input.skip(R::Offset::from_u64(asked.base)?)?;
-    match first_of_offsets(&input.into())? {
-        Some(header) => of_offsets(&header, found),
+    match DebugStrOffsets::from(input).headers()?.next()? {
+        Some(header) => {
+            found.value = header.length().into_u64();
+            found.size = u64::from(header.format().word_size());
+            found.more = found.size;
+        }
         None => found.rest = 1,
     }
     Ok(())
-}
-
-fn first_of_offsets<R: Reader>(
-    section: &DebugStrOffsets<R>,
-) -> Result<Option<StrOffsetsHeader<R>>> {
-    section.headers()?.next()
-}
-
-fn of_offsets<R: Reader>(header: &StrOffsetsHeader<R>, found: &mut Found) {
-    found.value = header.length().into_u64();
-    found.size = u64::from(header.format().word_size());
-    found.more = found.size;
 }
 
 fn addresses<R: Reader>(section: &DebugAddr<R>, found: &mut Found) -> Result<()> {

@@ -130,32 +130,16 @@ fn get_cached(cache: &AbbreviationsCache, section: &[u8], offsets: &[usize]) -> 
     sum
 }
 
-// The same, so many times.
-fn get_cached_rounds(
-    cache: &AbbreviationsCache,
-    section: &[u8],
-    offsets: &[usize],
-    rounds: u64,
-) -> usize {
-    let mut sum: usize = 0;
-    for round in 0..rounds {
-        sum = sum.wrapping_add(get_cached(cache, section, offsets));
-    }
-    sum
-}
-
 /// Fills a cache with the tables at these offsets, and returns how many abbreviations they have
-/// together as it returns each, so many times. A table with an error counts as 2^32. Returns 2^32
-/// if memory runs out.
+/// together as it returns each, twice. A table with an error counts as 2^32. Returns 2^32 if memory
+/// runs out.
 #[unsafe(no_mangle)]
-pub extern "C" fn compare_cached(
-    mem: Global,
-    section: &[u8],
-    offsets: &[usize],
-    rounds: u64,
-) -> usize {
+pub extern "C" fn compare_cached(mem: Global, section: &[u8], offsets: &[usize]) -> usize {
     match filled(mem, section, offsets) {
-        Ok(cache) => get_cached_rounds(&cache, section, offsets, rounds),
+        Ok(cache) => {
+            let once = get_cached(&cache, section, offsets);
+            once.wrapping_add(get_cached(&cache, section, offsets))
+        }
         Err(_) => FAILED,
     }
 }
