@@ -372,8 +372,10 @@ fn set(bytes: &[u8], is_big: bool, offset: usize, is_of_addresses: bool) -> Resu
     } else {
         unit.fixed(2, is_big)?;
     }
+    let (first_entry, unit_length) = (unit.at, length as usize);
+    let entry_count = (next - first_entry) / usize::from(entry_size);
     let next = if word_size == 8 && has(Plant::Length) { next - 8 } else { next };
-    Ok(Answer::Set(Set { next, unit_length: length as usize, first_entry: unit.at, word_size, entry_size }))
+    Ok(Answer::Set(Set { next, unit_length, first_entry, entry_count, word_size, entry_size }))
 }
 
 /// The sum of all addresses of all sets, whose byte order is little.

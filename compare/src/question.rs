@@ -140,6 +140,8 @@ pub struct Set {
     pub next: usize,
     pub unit_length: usize,
     pub first_entry: usize,
+    /// How many whole entries it has.
+    pub entry_count: usize,
     pub word_size: u8,
     pub entry_size: u8,
 }

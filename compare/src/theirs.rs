@@ -151,8 +151,9 @@ fn sets(question: &Question, bytes: &[u8]) -> Option<Answer> {
                     let (length, format) = (header.length(), header.encoding().format);
                     let unit = question.at + usize::from(format.initial_length_size());
                     let (word_size, entry_size) = (format.word_size(), header.encoding().address_size);
-                    let (next, first_entry) = (unit + length, unit + 4);
-                    Answer::Set(Set { next, unit_length: length, first_entry, word_size, entry_size })
+                    let (next, first_entry, unit_length) = (unit + length, unit + 4, length);
+                    let entry_count = (length - 4) / usize::from(entry_size);
+                    Answer::Set(Set { next, unit_length, first_entry, entry_count, word_size, entry_size })
                 }
                 Ok(None) => Answer::End,
                 Err(error) => fault(error, bytes, None),
