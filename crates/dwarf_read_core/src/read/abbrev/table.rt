@@ -75,7 +75,9 @@ impl Abbreviations {
         })
     }
 
-    // Adds an abbreviation, or returns `DuplicateAbbreviationCode` if its code is in the table.
+    // Adds an abbreviation, or returns `DuplicateAbbreviationCode` if its code is in the table. It is
+    // inlined also where several readers read tables, since a call copies the abbreviation.
+    #[inline(always)]
     #[tactic(auto, using(crate::proofs::tables::VectorAndMap::insertion))]
     pub(super) fn insert(&mut self, abbreviation: Abbreviation) -> Result<()>
         requires { 0 < abbreviation.code }

@@ -32,8 +32,11 @@ pub returns-in_ok-spill-2-clause-read : goal.returns-in_ok-spill-2-clause-read
 returns-in_ok-spill-2-clause-read g c =
     let loop = c.attributes in
     let some : loop.overflow.items ≢ [] = search rules in
-    rw (c.in_ok-spill-2.ensures.ok, collected_overflow loop.len loop.scratch loop.overflow.items
-    (take loop.len loop.scratch) some)
+    rw (
+      c.in_ok-spill-2.ensures.ok,
+      collected_overflow loop.len loop.scratch loop.overflow.items
+          (take loop.len loop.scratch) some,
+    )
     (front-ends _ _ _ _ _ _
     (rw loop.invariant.same_end at c.in_ok-attribute.ensures.read) c.in_default.is loop.invariant.told)
 
