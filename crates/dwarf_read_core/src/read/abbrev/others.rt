@@ -89,7 +89,7 @@ impl Others {
         }
     }
 
-    // ReturnsUnlessOutOfMemory back the room that no abbreviation needs, if there may be much of it.
+    // Frees the room that no abbreviation needs, if there may be much of it.
     pub(super) fn trim(&mut self)
         ensures { self.new ≡ self.old }
     {

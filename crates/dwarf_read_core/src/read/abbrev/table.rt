@@ -156,7 +156,7 @@ impl Abbreviations {
         }
     }
 
-    // ReturnsUnlessOutOfMemory back the room that no abbreviation needs, if there may be much of it.
+    // Frees the room that no abbreviation needs, if there may be much of it.
     fn trim(&mut self)
         ensures { self.new ≡ self.old }
     {
@@ -234,7 +234,7 @@ fn push(
     Ok(())
 }
 
-// ReturnsUnlessOutOfMemory back what a vector with room for a usual table doesn't need. A longer one has at most twice
+// Frees what a vector with room for a usual table doesn't need. A longer one has at most twice
 // the room that it needs.
 pub(super) fn trim(items: &mut Vec<Abbreviation>)
     ensures { items.new.items ≡ items.old.items }
