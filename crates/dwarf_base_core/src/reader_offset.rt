@@ -49,6 +49,7 @@ pub trait ReaderOffset: Debug
     /// The greatest number that is an offset of this type.
     const GREATEST: u64;
 
+    // The greatest number that an offset represents, for contracts.
     ghost GREATEST: { ℕ };
 
     // The number that the offset represents.

@@ -4,6 +4,7 @@ ghost use Rattle.std.specs.Prelude.{◌≡◌, ◌≢◌, ◌+◌, ◌<◌, ◌�
 ghost use Rattle.dwarf_read_core.specs.Faults.{IsTooShort};
 ghost use Rattle.dwarf_read_core.specs.Format.{initial_length_size};
 ghost use Rattle.dwarf_read_core.specs.Input.{Takes};
+ghost use Rattle.dwarf_read_core.specs.Slice.{input_of};
 ghost use Rattle.dwarf_read_core.specs.Sets.{address_header, addresses_of, string_offsets_header, string_offsets_of};
 ghost use Rattle.dwarf_read_c.specs.Fault.{Rejects};
 ghost use Rattle.dwarf_read_c.specs.Sections.{section_of};
@@ -170,8 +171,8 @@ fn bytes_from<'input>(
     is_big: bool,
     offset: usize,
 ) -> Result<EndianSlice<'input, RunTimeEndian>, Error>
-    ensures ok { let reader = ⟦<EndianSlice<'input, RunTimeEndian> as Reader>⟧ in IfOk result
-        (λ rest. Takes offset (section_of section.now is_big) (reader.view rest)) }
+    ensures ok { IfOk result
+        (λ rest. Takes offset (section_of section.now is_big) (input_of rest)) }
     ensures err { let s = section_of section.now is_big in
         IfErr result (λ e. IsTooShort offset s e s) }
 {

@@ -30,3 +30,4 @@ pub use Rattle.dwarf_reader_core.specs.Layout
 pub use Rattle.dwarf_reader_core.specs.Leb128
 pub use Rattle.dwarf_reader_core.specs.Once
 pub use Rattle.dwarf_reader_core.specs.Shortest
+pub use Rattle.dwarf_reader_core.specs.Slice

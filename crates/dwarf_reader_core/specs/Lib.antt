@@ -1,5 +1,6 @@
 pub mod Once
 pub mod Input
+pub mod Slice
 pub mod Faults
 pub mod Appended
 pub mod Layout

@@ -97,13 +97,14 @@ impl<'input, Endian: Endianity> Default for EndianSlice<'input, Endian> {
 }
 
 impl<'input, Endian: Endianity> EndianSlice<'input, Endian> {
+    ghost use Rattle.dwarf_reader_core.specs.Slice.{input_of};
+
     /// Returns a reader of these bytes, at position 0.
     #[inline]
     pub fn new(slice: &'input [u8], endian: Endian) -> EndianSlice<'input, Endian>
-        ensures view { let reader = ⟦<EndianSlice<'input, Endian> as Reader>⟧ in
-            reader.view result
+        ensures view { input_of result
             ≡ record { bytes = slice.now; position = 0; is_big = Endian.is_big endian } }
-        ensures order { ⟦<EndianSlice<'input, Endian> as Reader>⟧.order result ≡ endian }
+        ensures order { result.endian ≡ endian }
     {
         EndianSlice {
             slice,
@@ -123,10 +124,9 @@ impl<'input, Endian: Endianity> EndianSlice<'input, Endian> {
         first: ReaderOffsetId,
     ) -> EndianSlice<'input, Endian>
         requires { first.0 + length slice.now < 2 ^ 64 }
-        ensures view { let reader = ⟦<EndianSlice<'input, Endian> as Reader>⟧ in
-            reader.view result
+        ensures view { input_of result
             ≡ record { bytes = slice.now; position = first.0; is_big = Endian.is_big endian } }
-        ensures order { ⟦<EndianSlice<'input, Endian> as Reader>⟧.order result ≡ endian }
+        ensures order { result.endian ≡ endian }
     {
         EndianSlice {
             slice,
@@ -138,7 +138,7 @@ impl<'input, Endian: Endianity> EndianSlice<'input, Endian> {
     /// Returns the bytes that remain.
     #[inline]
     pub fn slice(&self) -> &'input [u8]
-        ensures { result.now ≡ (⟦<EndianSlice<'input, Endian> as Reader>⟧.view self.now).bytes }
+        ensures { result.now ≡ (input_of self.now).bytes }
     {
         self.slice
     }
@@ -146,7 +146,7 @@ impl<'input, Endian: Endianity> EndianSlice<'input, Endian> {
     /// Returns the bytes that remain, borrowed from the reader.
     #[inline]
     pub fn as_slice(&self) -> &[u8]
-        ensures { result.now ≡ (⟦<EndianSlice<'input, Endian> as Reader>⟧.view self.now).bytes }
+        ensures { result.now ≡ (input_of self.now).bytes }
     {
         self.slice()
     }
@@ -156,15 +156,11 @@ impl<'input, Endian: Endianity> EndianSlice<'input, Endian> {
     /// The caller has to make sure that at least `idx` bytes remain.
     #[inline]
     pub fn split_at(&self, idx: usize) -> (EndianSlice<'input, Endian>, EndianSlice<'input, Endian>)
-        requires { idx ≤ length (⟦<EndianSlice<'input, Endian> as Reader>⟧.view self.now).bytes }
-        ensures front { ⟦<EndianSlice<'input, Endian> as Reader>⟧.view result.0
-            ≡ first idx (⟦<EndianSlice<'input, Endian> as Reader>⟧.view self.now) }
-        ensures rest { ⟦<EndianSlice<'input, Endian> as Reader>⟧.view result.1
-            ≡ after idx (⟦<EndianSlice<'input, Endian> as Reader>⟧.view self.now) }
-        ensures front_order { let reader = ⟦<EndianSlice<'input, Endian> as Reader>⟧ in
-            reader.order result.0 ≡ reader.order self.now }
-        ensures rest_order { let reader = ⟦<EndianSlice<'input, Endian> as Reader>⟧ in
-            reader.order result.1 ≡ reader.order self.now }
+        requires { idx ≤ length (input_of self.now).bytes }
+        ensures front { input_of result.0 ≡ first idx (input_of self.now) }
+        ensures rest { input_of result.1 ≡ after idx (input_of self.now) }
+        ensures front_order { result.0.endian ≡ self.now.endian }
+        ensures rest_order { result.1.endian ≡ self.now.endian }
     {
         (self.range_to(..idx), self.range_from(idx..))
     }
@@ -173,10 +169,8 @@ impl<'input, Endian: Endianity> EndianSlice<'input, Endian> {
     /// `None`.
     #[inline]
     pub fn find(&self, byte: u8) -> Option<usize>
-        ensures found { let reader = ⟦<EndianSlice<'input, Endian> as Reader>⟧ in
-            IfSome result (IsFirst byte (reader.view self.now).bytes) }
-        ensures none { let reader = ⟦<EndianSlice<'input, Endian> as Reader>⟧ in
-            IfNone result (All (λ b. b ≢ byte) (reader.view self.now).bytes) }
+        ensures found { IfSome result (IsFirst byte (input_of self.now).bytes) }
+        ensures none { IfNone result (All (λ b. b ≢ byte) (input_of self.now).bytes) }
     {
         find_byte(self.slice, byte)
     }
@@ -187,10 +181,8 @@ impl<'input, Endian: Endianity> EndianSlice<'input, Endian> {
     /// in `base`.
     #[inline]
     pub fn offset_from(&self, base: EndianSlice<'input, Endian>) -> usize
-        requires { let reader = ⟦<EndianSlice<'input, Endian> as Reader>⟧ in
-            IsPartOf (reader.view self.now) (reader.view base) }
-        ensures { result + (⟦<EndianSlice<'input, Endian> as Reader>⟧.view base.entry).position
-            ≡ (⟦<EndianSlice<'input, Endian> as Reader>⟧.view self.now).position }
+        requires { IsPartOf (input_of self.now) (input_of base) }
+        ensures { result + (input_of base.entry).position ≡ (input_of self.now).position }
     {
         Reader::offset_from(self, &base)
     }
@@ -202,10 +194,8 @@ impl<'input, Endian: Endianity> EndianSlice<'input, Endian> {
     /// [`Error::BadUtf8`] exactly if they aren't UTF-8.
     #[inline]
     pub fn to_string(&self) -> Result<&'input str>
-        ensures ok { let reader = ⟦<EndianSlice<'input, Endian> as Reader>⟧ in
-            IfOk result (λ text. text.now ≡ (reader.view self.now).bytes) }
-        ensures utf8 { let reader = ⟦<EndianSlice<'input, Endian> as Reader>⟧ in
-            IsOk result ↔ IsUtf8 (reader.view self.now).bytes }
+        ensures ok { IfOk result (λ text. text.now ≡ (input_of self.now).bytes) }
+        ensures utf8 { IsOk result ↔ IsUtf8 (input_of self.now).bytes }
         ensures err { IfErr result (λ e. e ≡ BadUtf8) }
     {
         str::from_utf8(self.slice).map_err(|_| Error::BadUtf8)
@@ -220,10 +210,9 @@ impl<'input, Endian: Endianity> EndianSlice<'input, Endian> {
     /// UTF-8.
     #[inline]
     pub fn to_string_lossy(&self, mem: Global) -> Result<CowStr<'input>>
-        ensures ok { let reader = ⟦<EndianSlice<'input, Endian> as Reader>⟧ in
-            IfOk result (λ text. cow_str_bytes text ≡ utf8_lossy (reader.view self.now).bytes) }
-        ensures free { let reader = ⟦<EndianSlice<'input, Endian> as Reader>⟧ in
-            IsUtf8 (reader.view self.now).bytes → IsOk result }
+        ensures ok { IfOk result
+            (λ text. cow_str_bytes text ≡ utf8_lossy (input_of self.now).bytes) }
+        ensures free { IsUtf8 (input_of self.now).bytes → IsOk result }
         ensures err { IfErr result (λ e. e ≡ OutOfMemory) }
     {
         match self.slice.to_str_lossy(mem) {
@@ -240,13 +229,10 @@ impl<'input, Endian: Endianity> EndianSlice<'input, Endian> {
     #[inline]
     pub fn range(&self, range: Range<usize>) -> EndianSlice<'input, Endian>
         requires ordered { range.start ≤ range.end }
-        requires within { let reader = ⟦<EndianSlice<'input, Endian> as Reader>⟧ in
-            range.end ≤ length (reader.view self.now).bytes }
-        ensures view { let reader = ⟦<EndianSlice<'input, Endian> as Reader>⟧ in
-            reader.view result
-            ≡ first (range.end - range.start) (after range.start (reader.view self.now)) }
-        ensures order { let reader = ⟦<EndianSlice<'input, Endian> as Reader>⟧ in
-            reader.order result ≡ reader.order self.now }
+        requires within { range.end ≤ length (input_of self.now).bytes }
+        ensures view { input_of result
+            ≡ first (range.end - range.start) (after range.start (input_of self.now)) }
+        ensures order { result.endian ≡ self.now.endian }
     {
         EndianSlice {
             slice: &self.slice[range.start..range.end],
@@ -260,12 +246,9 @@ impl<'input, Endian: Endianity> EndianSlice<'input, Endian> {
     /// The caller has to make sure that at least `range.start` bytes remain.
     #[inline]
     pub fn range_from(&self, range: RangeFrom<usize>) -> EndianSlice<'input, Endian>
-        requires { let reader = ⟦<EndianSlice<'input, Endian> as Reader>⟧ in
-            range.start ≤ length (reader.view self.now).bytes }
-        ensures view { ⟦<EndianSlice<'input, Endian> as Reader>⟧.view result
-            ≡ after range.start (⟦<EndianSlice<'input, Endian> as Reader>⟧.view self.now) }
-        ensures order { let reader = ⟦<EndianSlice<'input, Endian> as Reader>⟧ in
-            reader.order result ≡ reader.order self.now }
+        requires { range.start ≤ length (input_of self.now).bytes }
+        ensures view { input_of result ≡ after range.start (input_of self.now) }
+        ensures order { result.endian ≡ self.now.endian }
     {
         self.range(range.start..self.slice.len())
     }
@@ -275,19 +258,16 @@ impl<'input, Endian: Endianity> EndianSlice<'input, Endian> {
     /// The caller has to make sure that at least `range.end` bytes remain.
     #[inline]
     pub fn range_to(&self, range: RangeTo<usize>) -> EndianSlice<'input, Endian>
-        requires { let reader = ⟦<EndianSlice<'input, Endian> as Reader>⟧ in
-            range.end ≤ length (reader.view self.now).bytes }
-        ensures view { ⟦<EndianSlice<'input, Endian> as Reader>⟧.view result
-            ≡ first range.end (⟦<EndianSlice<'input, Endian> as Reader>⟧.view self.now) }
-        ensures order { let reader = ⟦<EndianSlice<'input, Endian> as Reader>⟧ in
-            reader.order result ≡ reader.order self.now }
+        requires { range.end ≤ length (input_of self.now).bytes }
+        ensures view { input_of result ≡ first range.end (input_of self.now) }
+        ensures order { result.endian ≡ self.now.endian }
     {
         self.range(0..range.end)
     }
 
     #[inline]
     fn position(&self) -> u64
-        ensures { result ≡ (⟦<EndianSlice<'input, Endian> as Reader>⟧.view self.now).position }
+        ensures { result ≡ (input_of self.now).position }
     {
         self.end - self.slice.len() as u64
     }
@@ -301,6 +281,8 @@ impl<'input, Endian: Endianity> EndianSlice<'input, Endian> {
 }
 
 impl<'input, Endian: Endianity> Reader for EndianSlice<'input, Endian> {
+    ghost use Rattle.dwarf_reader_core.specs.Slice.{input_of};
+
     type Endian = Endian;
 
     type Offset = usize;
@@ -309,7 +291,7 @@ impl<'input, Endian: Endianity> Reader for EndianSlice<'input, Endian> {
 
     ghost clone_is_free = { true };
 
-    ghost view = { λ s. record { bytes = s.slice.now; position = s.end - length s.slice.now; is_big = Endian.is_big s.endian } };
+    ghost view = { input_of };
 
     ghost order = { λ s. s.endian };
 
@@ -406,8 +388,7 @@ impl<'input, Endian: Endianity> Reader for EndianSlice<'input, Endian> {
     /// Returns all bytes that remain, borrowed, so that no memory is allocated.
     #[inline]
     fn to_slice(&self) -> Result<CowSlice<'_, u8>>
-        ensures ok { let reader = ⟦<EndianSlice<'input, Endian> as Reader>⟧ in
-            IfOk result (λ bytes. cow_slice_items bytes ≡ (reader.view self.now).bytes) }
+        ensures ok { IfOk result (λ bytes. cow_slice_items bytes ≡ (input_of self.now).bytes) }
         ensures err { IfErr result (λ e. e ≡ OutOfMemory) }
         ensures free { IsOk result }
     {
@@ -421,13 +402,10 @@ impl<'input, Endian: Endianity> Reader for EndianSlice<'input, Endian> {
     /// [`Error::BadUtf8`] exactly if they aren't UTF-8.
     #[inline]
     fn to_string(&self) -> Result<CowStr<'_>>
-        ensures ok { let reader = ⟦<EndianSlice<'input, Endian> as Reader>⟧ in
-            IfOk result (λ text. cow_str_bytes text ≡ (reader.view self.now).bytes) }
-        ensures utf8 { let reader = ⟦<EndianSlice<'input, Endian> as Reader>⟧ in
-            OnOk result (IsUtf8 (reader.view self.now).bytes) }
-        ensures err { let reader = ⟦<EndianSlice<'input, Endian> as Reader>⟧ in
-            IfErr result
-            (λ e. (¬ (IsUtf8 (reader.view self.now).bytes) × (e ≡ BadUtf8)) ⊎ (e ≡ OutOfMemory)) }
+        ensures ok { IfOk result (λ text. cow_str_bytes text ≡ (input_of self.now).bytes) }
+        ensures utf8 { OnOk result (IsUtf8 (input_of self.now).bytes) }
+        ensures err { IfErr result
+            (λ e. (¬ (IsUtf8 (input_of self.now).bytes) × (e ≡ BadUtf8)) ⊎ (e ≡ OutOfMemory)) }
         ensures free { IfErr result (λ e. e ≡ BadUtf8) }
     {
         Ok(CowStr::Borrowed(self.to_string()?))
@@ -436,10 +414,9 @@ impl<'input, Endian: Endianity> Reader for EndianSlice<'input, Endian> {
     /// Like the trait's call, but allocates only if the bytes aren't UTF-8.
     #[inline]
     fn to_string_lossy(&self, mem: Global) -> Result<CowStr<'_>>
-        ensures ok { let reader = ⟦<EndianSlice<'input, Endian> as Reader>⟧ in
-            IfOk result (λ text. cow_str_bytes text ≡ utf8_lossy (reader.view self.now).bytes) }
-        ensures free { let reader = ⟦<EndianSlice<'input, Endian> as Reader>⟧ in
-            IsUtf8 (reader.view self.now).bytes → IsOk result }
+        ensures ok { IfOk result
+            (λ text. cow_str_bytes text ≡ utf8_lossy (input_of self.now).bytes) }
+        ensures free { IsUtf8 (input_of self.now).bytes → IsOk result }
         ensures err { IfErr result (λ e. e ≡ OutOfMemory) }
     {
         self.to_string_lossy(mem)

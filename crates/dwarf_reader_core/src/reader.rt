@@ -51,9 +51,10 @@ pub trait Reader: Debug + Drop + Sized {
     /// returns.
     const CLONE_IS_FREE: bool;
 
-    // what `is_clone_free` returns, for contracts
+    // What `is_clone_free` returns, for contracts.
     ghost clone_is_free: { Bool };
 
+    // The bytes that remain, the position of the first, and whether the highest byte comes first.
     ghost view: { Self → Input };
 
     // The byte order itself; `view` only has whether the highest byte comes first.

@@ -10,6 +10,7 @@ ghost use Rattle.std.specs.Fn.{CalledAt, TakesAt};
 ghost use Rattle.dwarf_base_core.specs.declared.common.SectionId.TheVariants.{DebugAbbrev as debug_abbrev};
 ghost use Rattle.dwarf_reader_core.specs.Appended.{followed_by};
 ghost use Rattle.dwarf_reader_core.specs.Input.{end_of};
+ghost use Rattle.dwarf_reader_core.specs.Slice.{input_of};
 ghost use Rattle.dwarf_read_core.specs.Answer.{Answers, AnswersStrictly, IsFinal, IsStrictlyFinal, TakesNoMemory};
 ghost use Rattle.dwarf_read_core.specs.Grammar.{attribute_count};
 
@@ -52,15 +53,13 @@ impl<'input, Endian: Endianity> DebugAbbrev<EndianSlice<'input, Endian>> {
     /// let tag = table.get(1).map(|abbreviation| abbreviation.tag());
     /// ```
     pub fn new(debug_abbrev_section: &'input [u8], endian: Endian) -> Self
-        ensures view { let reader = ⟦<EndianSlice<'input, Endian> as Reader>⟧ in
-            reader.view (debug_abbrev_reader result)
+        ensures view { input_of (debug_abbrev_reader result)
             ≡ record {
               bytes = debug_abbrev_section.now;
               position = 0;
               is_big = Endian.is_big endian;
             } }
-        ensures order { let reader = ⟦<EndianSlice<'input, Endian> as Reader>⟧ in
-            reader.order (debug_abbrev_reader result) ≡ endian }
+        ensures order { (debug_abbrev_reader result).endian ≡ endian }
     {
         Self::from(EndianSlice::new(debug_abbrev_section, endian))
     }

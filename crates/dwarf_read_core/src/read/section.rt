@@ -18,8 +18,10 @@ use dwarf_reader_core::Reader;
 /// let debug_str = DebugStr::load(|id| find_section(id.name()))?;
 /// ```
 pub trait Section<R>: From<R> + Sized {
+    // What `id` returns, for contracts.
     ghost section_id: { SectionId };
 
+    // What `reader` returns, for contracts.
     ghost section_reader: { Self → R };
 
     /// Which section this is.

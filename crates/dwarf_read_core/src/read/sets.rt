@@ -22,8 +22,10 @@ pub(super) const VERSION: u16 = 5;
 /// [`SetHeader`] and [`SetHeaderIter`] read each kind by its fields. A set of addresses has an
 /// [`AddressSize`](super::AddressSize), and a set of string offsets has none, `()`.
 pub trait HeaderFields: fmt::Debug + Copy + Drop {
+    // How the fields follow each other.
     ghost layout: { Layout Self };
 
+    // How many bytes they have.
     ghost BYTES: { ℕ };
 
     /// How many bytes of the header follow the set's length.

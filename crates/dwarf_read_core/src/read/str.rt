@@ -5,6 +5,7 @@ ghost use Rattle.std.specs.Fn.{CalledAt, TakesAt};
 ghost use Rattle.dwarf_base_core.specs.declared.common.SectionId.TheVariants.{DebugStr as debug_str, DebugStrOffsets as debug_str_offsets, DebugLineStr as debug_line_str};
 ghost use Rattle.dwarf_base_core.specs.Format.{word_size};
 ghost use Rattle.dwarf_reader_core.specs.Faults.{CloneRanOutOfMemory};
+ghost use Rattle.dwarf_reader_core.specs.Slice.{input_of};
 ghost use Rattle.dwarf_read_core.specs.Lookups.{AnswersBy, StaysBy};
 ghost use Rattle.dwarf_read_core.specs.Sets.{remaining_by};
 ghost use Rattle.dwarf_read_core.specs.Strings.{StringAt};
@@ -32,15 +33,13 @@ impl<'input, Endian: Endianity> DebugStr<EndianSlice<'input, Endian>> {
 
     /// Returns the section with these bytes, whose first byte has position 0.
     pub fn new(debug_str_section: &'input [u8], endian: Endian) -> Self
-        ensures view { let reader = ⟦<EndianSlice<'input, Endian> as Reader>⟧ in
-            reader.view (debug_str_reader result)
+        ensures view { input_of (debug_str_reader result)
             ≡ record {
               bytes = debug_str_section.now;
               position = 0;
               is_big = Endian.is_big endian;
             } }
-        ensures order { let reader = ⟦<EndianSlice<'input, Endian> as Reader>⟧ in
-            reader.order (debug_str_reader result) ≡ endian }
+        ensures order { (debug_str_reader result).endian ≡ endian }
     {
         Self::from(EndianSlice::new(debug_str_section, endian))
     }
@@ -246,15 +245,13 @@ impl<'input, Endian: Endianity> DebugLineStr<EndianSlice<'input, Endian>> {
 
     /// Returns the section with these bytes, whose first byte has position 0.
     pub fn new(debug_line_str_section: &'input [u8], endian: Endian) -> Self
-        ensures view { let reader = ⟦<EndianSlice<'input, Endian> as Reader>⟧ in
-            reader.view (debug_line_str_reader result)
+        ensures view { input_of (debug_line_str_reader result)
             ≡ record {
               bytes = debug_line_str_section.now;
               position = 0;
               is_big = Endian.is_big endian;
             } }
-        ensures order { let reader = ⟦<EndianSlice<'input, Endian> as Reader>⟧ in
-            reader.order (debug_line_str_reader result) ≡ endian }
+        ensures order { (debug_line_str_reader result).endian ≡ endian }
     {
         Self::from(EndianSlice::new(debug_line_str_section, endian))
     }
