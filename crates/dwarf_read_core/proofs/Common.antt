@@ -64,7 +64,7 @@ pub use Rattle.dwarf_read_core.specs.Answer.{tag_zero, children_bad, name_zero, 
 pub use Rattle.dwarf_read_core.specs.Answer.{outside, table, first_error, Answers, TakesNoMemory, IsBeginning, before_code}
 pub use Rattle.dwarf_read_core.specs.Answer.{before_tag, before_name, before_form, before_value, strictly}
 pub use Rattle.dwarf_read_core.specs.Answer.{StrictAnswer, AnswersStrictly, IsStrictlyFinal}
-pub use Rattle.dwarf_read_core.specs.Cache.{KeepsAnswers, occurrences, Cache, IsInOrder, answer_of, kept_at}
+pub use Rattle.dwarf_read_core.specs.Cache.{KeepsAnswers, occurrences, Cache, answer_of, kept_at}
 pub use Rattle.dwarf_read_core.specs.Cache.{shown_entries, is_final, still_kept, IsFaithful, HasFirstItem, KeepsNoOutOfMemory}
 pub use Rattle.dwarf_read_core.specs.Cache.{least_count}
 pub use Rattle.dwarf_read_core.specs.Entries.{Entries, RepresentsAddresses, RepresentsEntries, RepresentsStringOffsets}

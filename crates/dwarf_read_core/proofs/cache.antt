@@ -1,5 +1,4 @@
 -- Proofs about the cache of tables.
-pub mod EntriesInOrder
 pub mod EntriesAsMap
 pub mod CountingOffsets
 pub mod ExactlyOneCache

@@ -3,7 +3,6 @@ use Rattle.std.specs.Prelude.{◌≡◌, ◌≢◌, ◌==◌, ℕ, ◌<◌, ◌�
 use Rattle.std.specs.BTreeMap.{is_at}
 use Rattle.std.specs.FinMap as finite
 use Rattle.std.specs.Iterator.{YieldsThen}
-use Rattle.std.specs.List.{AllPairs}
 use Rattle.std.specs.Map.{lookup}
 use Rattle.std.specs.Ordering.{nat_cmp}
 use Rattle.std.specs.declared.rc.Rc.{Rc}
@@ -23,10 +22,6 @@ answer_of (Err e) = Err e
 -- the entries of a cache, without the sharing of their tables
 abbrev pub shown_entries : {Z : Type 0} → List (ℕ × Result (Rc Table Z) Error) → List (ℕ × Result Table Error)
 shown_entries entries = map (λ entry. (entry.0, answer_of entry.1)) entries
-
--- the offsets of entries rise, so none stands twice
-abbrev pub IsInOrder : {X : Type 0} → List (ℕ × X) → Type 0
-IsInOrder entries = AllPairs (λ earlier later. earlier.0 < later.0) entries
 
 -- what entries have at an offset, without the sharing
 abbrev pub kept_at : {Z : Type 0} → List (ℕ × Result (Rc Table Z) Error) → ℕ → Option (Result Table Error)

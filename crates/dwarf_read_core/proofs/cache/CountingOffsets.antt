@@ -1,5 +1,7 @@
 -- What a cache keeps after one more offset.
-use Rattle.dwarf_read_core.proofs.Common.{common_steps, ◌≡◌, ◌≢◌, ℕ, ◌+◌, ◌<◌, ◌≤◌, cond, eqb, List, [], ◌∷◌, ◌++◌, length, take, get_or, map, Option, Some, None, Result, refl, arith, All, IsPermutation, take_more, map_push, nat_tests, All-head, All-tail, sum_by-IsPermutation, sum_by_push, Error, Input, Answer, KeepsAnswers, occurrences, Table, ap}
+use Rattle.dwarf_read_core.proofs.Common.{common_steps, ◌≡◌, ◌≢◌, ℕ, ◌+◌, ◌<◌, ◌≤◌, cond, eqb, List, [], ◌∷◌, ◌++◌, length, take, get_or, map, Option, Some, None, Result, refl, arith, All, IsPermutation, take_more, map_push, nat_tests, All-head, All-tail, sum_by-IsPermutation, sum_by_push, Error, Input, Answer, KeepsAnswers, occurrences, Table, ap, Cache, get, insert, get-insert, nat_cmp_total, nat_cmp, empty, least_count}
+use Rattle.std.specs.FinMap.{get-empty}
+use Rattle.dwarf_read_core.specs.declared.read.abbrev.cache.AbbreviationsCacheStrategy.{AbbreviationsCacheStrategy}
 
 -- after one more offset, that offset occurs once more, and the others as often as before
 pub occurrences-push : (q key : ℕ) (seen : List ℕ)
@@ -21,10 +23,10 @@ pub seen_more : {O : Type 0} (number : O → ℕ) (offsets : List O) (i : ℕ) (
     → map number (take (i + 1) offsets) ≡ map number (take i offsets) ++ key ∷ []
 seen_more number offsets i offset key within is named = grind (arith, common_steps, take_more, map_push, get_or)
 
--- an offset isn't kept before the occurrence that is just enough
-pub kept_none : (least : ℕ) (section : Input) (seen : List ℕ) (key : ℕ) (kept : ℕ → Option (Result Table Error))
-    → KeepsAnswers least section seen kept → occurrences key seen + 1 ≡ least → kept key ≡ None
-kept_none least section seen key kept h enough = grind arith
+-- the empty cache keeps what no offsets ask for
+pub kept_nothing : (strategy : AbbreviationsCacheStrategy) (section : Input) (cache : Cache) → cache ≡ empty
+    → KeepsAnswers (least_count strategy) section [] (get cache)
+kept_nothing strategy section cache none key = grind (arith, get-empty {X = Result Table Error} nat_cmp key)
 
 -- what is kept stays the same if the new offset doesn't occur just often enough
 pub kept_same : (least : ℕ) (section : Input) (seen : List ℕ) (key : ℕ) (kept : ℕ → Option (Result Table Error))
@@ -48,3 +50,8 @@ kept_more least section seen key answer kept new h enough is put q =
 pub kept_in_any_order : (least : ℕ) (section : Input) (offsets others : List ℕ) (kept : ℕ → Option (Result Table Error))
     → IsPermutation offsets others → KeepsAnswers least section others kept → KeepsAnswers least section offsets kept
 kept_in_any_order least section offsets others kept moved h q = grind (arith, sum_by-IsPermutation)
+
+-- a cache into which a result is inserted has it at the key, and else what it had
+pub get_inserted : (cache : Cache) (key : ℕ) (answer : Result Table Error) (q : ℕ)
+    → get (insert cache key answer) q ≡ cond (eqb q key) (Some answer) (get cache q)
+get_inserted cache key answer q = grind (arith, nat_tests, get-insert nat_cmp_total cache key answer q)

@@ -1,20 +1,20 @@
 //! A cache of abbreviation tables, which units share.
 
-ghost use Rattle.std.specs.Prelude.{◌≡◌, ◌≢◌, List, [], ℕ, IfOk, IsOk, IsSome, IfErr, OnOk, OnErr, MatchOption, Ok, Err, length, map, option_map};
+ghost use Rattle.std.specs.Prelude.{◌≡◌, ◌≢◌, List, [], ℕ, IfOk, IsOk, IsSome, IfErr, OnOk, OnErr, MatchOption, Ok, Err, map, option_map};
 ghost use Rattle.std.specs.FinMap as finite;
 ghost use Rattle.std.specs.Iterator.{IsFinite};
-ghost use Rattle.std.specs.List.Sorted.{IsBinarySearchResult, IsSearchInRange};
-ghost use Rattle.std.specs.Ordering.{nat_cmp};
 ghost use Rattle.dwarf_reader_core.specs.Input.{Input};
 ghost use Rattle.dwarf_reader_core.specs.Appended.{followed_by};
 ghost use Rattle.dwarf_read_core.specs.Answer.{Answer, Answers};
-ghost use Rattle.dwarf_read_core.specs.Cache.{answer_of, IsInOrder, KeepsAnswers, kept_at, least_count, NamesOffsets, GivesBeforeError, HasFirstItem, IsFaithful, ReturnsKept, is_final, still_kept};
+ghost use Rattle.dwarf_read_core.specs.Cache.{answer_of, KeepsAnswers, least_count, NamesOffsets, GivesBeforeError, HasFirstItem, IsFaithful, ReturnsKept, is_final, still_kept};
 ghost use Rattle.dwarf_read_core.specs.Sections.{debug_abbrev_reader};
 
+use super::super::key::Key;
 use super::{Abbreviations, DebugAbbrev};
 use dwarf_base_core::{DebugAbbrevOffset, Error, ReaderOffset, Result};
 use dwarf_reader_core::Reader;
 use std::alloc::Global;
+use std::collections::BTreeMap;
 use std::marker::Model;
 use std::rc::Rc;
 
@@ -39,9 +39,6 @@ impl AbbreviationsCacheStrategy {
     }
 }
 
-// An offset, and the table or the error in its place. All units that use a table share it.
-type Entry = (u64, Result<Rc<Abbreviations>>);
-
 /// Tables of abbreviations by their offsets, kept so that a table which several units use is read
 /// once.
 ///
@@ -59,8 +56,8 @@ type Entry = (u64, Result<Rc<Abbreviations>>);
 /// ```
 #[derive(Debug, Drop)]
 pub struct AbbreviationsCache {
-    // In the order of offsets.
-    abbreviations: Vec<Entry>,
+    // By its offset, each table or the error in its place. All units that use a table share it.
+    abbreviations: BTreeMap<Key, Result<Rc<Abbreviations>>>,
     mem: Global,
 }
 
@@ -68,17 +65,16 @@ impl Model for AbbreviationsCache {
     ghost use Rattle.std.specs.FinMap as finite;
     ghost use Rattle.std.specs.Coded.{coded_ℕ, coded_result};
     ghost use Rattle.dwarf_read_core.specs.Grammar.{table_code};
-    ghost use Rattle.dwarf_read_core.specs.Cache.{Cache, IsInOrder, KeepsNoOutOfMemory, shown_entries};
+    ghost use Rattle.dwarf_read_core.specs.Cache.{Cache, KeepsNoOutOfMemory, shown_entries};
     ghost use Rattle.dwarf_base_core.specs.contracts.error.Error as error;
 
     ghost Value = { Cache };
 
     ghost coded = { finite.code coded_ℕ (coded_result table_code error.the_row.coded) };
 
-    ghost view = { λ a. finite.from_entries (shown_entries a.abbreviations.items) };
+    ghost view = { λ a. finite.from_entries (shown_entries a.abbreviations.entries) };
 
-    ghost invariant = { λ a. IsInOrder a.abbreviations.items
-        × KeepsNoOutOfMemory (finite.from_entries (shown_entries a.abbreviations.items)) };
+    ghost invariant = { λ a. KeepsNoOutOfMemory (finite.from_entries (shown_entries a.abbreviations.entries)) };
 }
 
 impl AbbreviationsCache {
@@ -88,7 +84,7 @@ impl AbbreviationsCache {
         ensures { result ≡ finite.empty }
     {
         AbbreviationsCache {
-            abbreviations: Vec::new(mem),
+            abbreviations: BTreeMap::new(mem),
             mem,
         }
     }
@@ -131,8 +127,8 @@ impl AbbreviationsCache {
         ensures some { OnErr result (HasFirstItem I.next_gives units) }
     {
         let offsets = before_error(self.mem, units)?;
-        let entries = entries_kept(self.mem, strategy, debug_abbrev, offsets)?;
-        self.abbreviations = entries;
+        let cache = populated(self.mem, strategy, debug_abbrev, offsets)?;
+        *self = cache;
         Ok(())
     }
 
@@ -155,15 +151,19 @@ impl AbbreviationsCache {
         // Replacing what is kept needs no memory.
         ensures free { IsSome (finite.get self.old (R.Offset.value offset.0)) → IsOk result }
     {
-        let number = offset.0.into_u64();
-        let entry = (number, Ok(abbreviations));
-        match place_of(&self.abbreviations, number) {
-            Ok(place) => {
-                self.abbreviations[place] = entry;
-                Ok(())
-            }
-            Err(place) => Ok(self.abbreviations.insert(place, entry)?),
-        }
+        self.keep(offset.0.into_u64(), Ok(abbreviations))
+    }
+
+    // Keeps a result at an offset, in place of what was kept there.
+    fn keep(&mut self, offset: u64, answer: Result<Rc<Abbreviations>>) -> Result<()>
+        requires { answer_of answer ≢ Err Error.OutOfMemory }
+        ensures ok { OnOk result (self.new ≡ finite.insert self.old offset (answer_of answer)) }
+        ensures err { IfErr result (λ e. e ≡ Error.OutOfMemory) }
+        ensures unchanged { OnErr result (self.new ≡ self.old) }
+        ensures free { IsSome (finite.get self.old offset) → IsOk result }
+    {
+        self.abbreviations.insert(Key(offset), answer)?;
+        Ok(())
     }
 
     /// Drops each entry that may be wrong once bytes are appended to the section.
@@ -179,7 +179,7 @@ impl AbbreviationsCache {
         ensures faithful { (section : Input) (more : List ℕ)
             → IsFaithful self.old section → IsFaithful self.new (followed_by section more) }
     {
-        self.abbreviations.retain(|entry| is_final(&entry.1));
+        self.abbreviations.retain(|_, answer| is_final(answer));
     }
 
     /// Returns the table that is kept at an offset, or one that is read from `debug_abbrev` if
@@ -213,19 +213,8 @@ impl AbbreviationsCache {
     fn kept(&self, offset: u64) -> Option<&Result<Rc<Abbreviations>>>
         ensures { option_map (λ answer. answer_of answer.now) result ≡ finite.get self.now offset }
     {
-        match place_of(&self.abbreviations, offset) {
-            Ok(place) => Some(&self.abbreviations[place].1),
-            Err(_) => None,
-        }
+        self.abbreviations.get(&Key(offset))
     }
-}
-
-// Where an offset stands among entries in order, or where it belongs.
-fn place_of(entries: &[Entry], offset: u64) -> std::result::Result<usize, usize>
-    ensures bound { IsSearchInRange result (length entries.now) }
-    ensures place { IsBinarySearchResult (λ entry. nat_cmp entry.0 offset) entries.now result }
-{
-    entries.binary_search_by_key(&offset, |entry| entry.0)
 }
 
 // Whether appended bytes leave a result unchanged.
@@ -276,22 +265,21 @@ fn shared_answer<R: Reader>(
 }
 
 // Reads the table at each offset that occurs often enough. Equal offsets are neighbours once they
-// are sorted, so they are counted without a map.
-fn entries_kept<R: Reader>(
+// are sorted.
+fn populated<R: Reader>(
     mem: Global,
     strategy: AbbreviationsCacheStrategy,
     debug_abbrev: &DebugAbbrev<R>,
     mut offsets: Vec<DebugAbbrevOffset<R::Offset>>,
-) -> Result<Vec<Entry>>
+) -> Result<AbbreviationsCache>
     ensures ok { let section = R.view (debug_abbrev_reader debug_abbrev.now) in
-        IfOk result (λ entries. KeepsAnswers (least_count strategy) section
-        (map (λ o. R.Offset.value o.0) offsets.items) (kept_at entries.items)) }
-    ensures order { IfOk result (λ entries. IsInOrder entries.items) }
+        IfOk result (λ cache. KeepsAnswers (least_count strategy) section
+        (map (λ o. R.Offset.value o.0) offsets.items) (finite.get cache)) }
     ensures err { IfErr result (λ e. e ≡ Error.OutOfMemory) }
     ensures some { OnErr result (offsets.items ≢ []) }
 {
     offsets.sort_unstable_by_key(|offset| offset.0.into_u64());
-    let mut entries = Vec::new(mem);
+    let mut cache = AbbreviationsCache::new(mem);
     let mut last = 0;
     let mut count = 0;
     for offset in &offsets {
@@ -300,8 +288,8 @@ fn entries_kept<R: Reader>(
         last = number;
         if count == strategy.least_count() {
             let answer = shared_answer(mem, debug_abbrev, *offset)?;
-            entries.push((number, answer))?;
+            cache.keep(number, answer)?;
         }
     }
-    Ok(entries)
+    Ok(cache)
 }

@@ -1,5 +1,5 @@
-use Rattle.dwarf_read_core.proofs.Common.{◌≡◌, ◌≤◌, length, take, map, All, AllWithin, IsInOrder, KeepsAnswers, kept_at, least_count, occurrences, debug_abbrev_reader}
-use Rattle.dwarf_read_core.proofs.read.abbrev.cache.entries_kept.Given as goal
+use Rattle.dwarf_read_core.proofs.Common.{◌≡◌, ◌≤◌, length, take, map, All, AllWithin, KeepsAnswers, get, least_count, occurrences, debug_abbrev_reader}
+use Rattle.dwarf_read_core.proofs.read.abbrev.cache.populated.Given as goal
 
 abbrev pub invariant-loop-offset : goal.invariant-loop-offset
 invariant-loop-offset g l =
@@ -10,8 +10,6 @@ invariant-loop-offset g l =
       seen_upto : All (λ offset. offset ≤ l.last) seen;
       left_from : AllWithin (λ offset. l.last ≤ g.R.Offset.ReaderOffset.value offset.0) l.offset-items l.offset-index
           (length l.offset-items);
-      order : IsInOrder l.entries.items;
-      kept_upto : All (λ entry. entry.0 ≤ l.last) l.entries.items;
       kept : KeepsAnswers (least_count l.strategy) (g.R.Reader.view (debug_abbrev_reader l.debug_abbrev)) seen
-          (kept_at l.entries.items);
+          (get l.cache);
     }

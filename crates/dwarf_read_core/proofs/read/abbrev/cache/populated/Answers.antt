@@ -1,9 +1,22 @@
-use Rattle.dwarf_read_core.proofs.Common.{refl, rules, ℕ, ◌≡◌, ◌≢◌, ◌≤◌, ◌+◌, ◌++◌, ◌∷◌, [], get_or, map, take, ap, sym, subst, ◌∙◌, arith, All, IsNonDecreasingBy, eq-eqb, take_all, get_or_default, All-push, IsPermutation-map, IsNonDecreasingBy-from_sort_by_key, occurrences, least_count, KeepsAnswers, kept_at, debug_abbrev_reader}
+use Rattle.dwarf_read_core.proofs.Common.{refl, rules, ℕ, ◌≡◌, ◌≢◌, ◌≤◌, ◌+◌, ◌++◌, ◌∷◌, [], get_or, map, take, ap, sym, subst, ◌∙◌, arith, All, IsNonDecreasingBy, eq-eqb, take_all, get_or_default, All-push, IsPermutation-map, IsNonDecreasingBy-from_sort_by_key, occurrences, least_count, KeepsAnswers, debug_abbrev_reader, get, answer_of}
 use Rattle.dwarf_base_core.specs.declared.common.DebugAbbrevOffset.{DebugAbbrevOffset}
-use Rattle.dwarf_read_core.proofs.cache.CountingOffsets.{occurrences-push, occurrences_above, seen_more, kept_none, kept_same, kept_more, kept_in_any_order}
-use Rattle.dwarf_read_core.proofs.cache.EntriesAsMap.{kept_at-push, push-in_order_if_absent}
-use Rattle.dwarf_read_core.proofs.read.abbrev.cache.entries_kept.Goals as goal
-use Rattle.dwarf_read_core.proofs.read.abbrev.cache.entries_kept.Goals.{then-number-last, else-number-last, then-count-least_count+in_ok-answer+in_ok-push, else-count-least_count}
+use Rattle.dwarf_read_core.proofs.cache.CountingOffsets.{occurrences-push, occurrences_above, seen_more, kept_same, kept_more, kept_in_any_order, kept_nothing, get_inserted}
+use Rattle.dwarf_read_core.proofs.cache.NoMemoryError.{answer_not_memory}
+use Rattle.dwarf_read_core.proofs.read.abbrev.cache.populated.Goals as goal
+use Rattle.dwarf_read_core.proofs.read.abbrev.cache.populated.Goals.{then-number-last, else-number-last, then-count-least_count+in_ok-answer+in_ok-keep, else-count-least_count}
+
+pub loop-offset-init : goal.loop-offset-init
+loop-offset-init g c = record {
+  counted = refl;
+  fits = omega arith;
+  seen_upto = λ k d within. absurd (omega arith);
+  left_from = λ k d from within. omega arith;
+  kept = kept_nothing c.args.strategy (g.R.Reader.view (debug_abbrev_reader c.args.debug_abbrev.now)) c.new-cache.result
+      c.new-cache.ensures;
+}
+
+pub keep-requires : goal.keep-requires
+keep-requires g c = answer_not_memory c.in_ok-answer.ensures.ok
 
 pub loop-offset-preserved : goal.loop-offset-preserved
 loop-offset-preserved g c =
@@ -28,9 +41,6 @@ loop-offset-preserved g c =
       | else-number-last w ↦ w.count-is
           ∙ sym (ap (λ (n : ℕ). n + 1) (occurrences_above key loop.last seen loop.invariant.seen_upto (omega arith)))
     ] in
-    let old = loop.entries.items in
-    let upto : All (λ entry. entry.0 ≤ key) old =
-    λ k d within. omega (arith, loop.invariant.kept_upto k d within) in
     record {
       counted = count ∙ sym (ap (occurrences key) next ∙ occurrences-push key key seen ∙ rw (eq-eqb key key refl) refl);
       fits = elim c.if-number-last.branch [
@@ -42,32 +52,18 @@ loop-offset-preserved g c =
       left_from = λ k d from within. rw c.into_u64-number.ensures.number
           (subst (λ offset. number offset ≤ number (get_or items k d))
           (get_or_default items i d item c.loop-offset-test.true ∙ read) (rising i k d (omega arith) within));
-      order = elim c.if-count-least_count.branch [
-        | then-count-least_count+in_ok-answer+in_ok-push w ↦
-            let enough = sym count ∙ w.if-count-least_count.true ∙ c.least_count.ensures in
-            let absent = kept_none (least_count c.args.strategy) _ seen key (kept_at old) loop.invariant.kept enough in
-            rw (w.entries-is, w.in_ok-push.ensures.items)
-            (push-in_order_if_absent old key w.in_ok-answer.answer absent loop.invariant.order upto)
-        | else-count-least_count w ↦ rw w.entries-is loop.invariant.order
-      ];
-      kept_upto = elim c.if-count-least_count.branch [
-        | then-count-least_count+in_ok-answer+in_ok-push w ↦ rw (w.entries-is, w.in_ok-push.ensures.items)
-            (All-push (λ entry. entry.0 ≤ key) old (key, w.in_ok-answer.answer) upto (omega arith))
-        | else-count-least_count w ↦ rw w.entries-is upto
-      ];
       kept = rw next (elim c.if-count-least_count.branch [
-        | then-count-least_count+in_ok-answer+in_ok-push w ↦
+        | then-count-least_count+in_ok-answer+in_ok-keep w ↦
             let enough = sym count ∙ w.if-count-least_count.true ∙ c.least_count.ensures in
-            let absent = kept_none (least_count c.args.strategy) _ seen key (kept_at old) loop.invariant.kept enough in
-            rw (w.entries-is, w.in_ok-push.ensures.items)
+            rw (w.cache-is, w.in_ok-keep.ensures.ok)
             (kept_more (least_count c.args.strategy) _ seen key _ _ _ loop.invariant.kept enough
             (rw c.into_u64-number.ensures.number w.in_ok-answer.ensures.ok)
-            (kept_at-push old key w.in_ok-answer.answer absent))
+            (get_inserted loop.cache key (answer_of w.in_ok-answer.answer)))
         | else-count-least_count w ↦
             let other : occurrences key seen + 1
             ≢ least_count c.args.strategy =
             λ enough. w.if-count-least_count.false (count ∙ enough ∙ sym c.least_count.ensures) in
-            rw w.entries-is (kept_same (least_count c.args.strategy) _ seen key _ loop.invariant.kept other)
+            rw w.cache-is (kept_same (least_count c.args.strategy) _ seen key _ loop.invariant.kept other)
       ]);
     }
 
@@ -79,5 +75,5 @@ returns-clause-ok g c =
     kept_in_any_order (least_count c.args.strategy) section (map number c.args.offsets.items) (map number items) _
     (IsPermutation-map number _ _ (rw c.deref-offset-items.ensures.value c.sort_unstable_by_key.ensures.permutation))
     (subst (λ (offsets : _). KeepsAnswers (least_count c.args.strategy) section (map number offsets)
-    (kept_at c.loop-offset.entries.items))
+    (get c.loop-offset.cache))
     (take_all c.loop-offset.offset-index items c.loop-offset-test.false) c.loop-offset.invariant.kept)
