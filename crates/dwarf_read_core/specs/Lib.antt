@@ -13,7 +13,6 @@ pub mod Sections
 pub mod Sets
 pub mod SetBytes
 pub mod Strings
-pub mod TableEntries
 pub mod Views
 pub mod Words
 pub use Rattle.dwarf_base_core.specs.Endian

@@ -1,23 +1,32 @@
 -- An attribute that is read has a value exactly if its form has one.
-use Rattle.dwarf_read_core.proofs.Common.{arith, ◌≡◌, ℕ, List, [], ◌∷◌, Some, Ok, All, Specification, Declaration, Sequence, IsSpecification, declaration_at, outcome-ok}
+use Rattle.dwarf_read_core.proofs.Common.{arith, ◌≡◌, ℕ, zero, suc, List, [], ◌∷◌, Option, Some, None, Result, Ok, Err, refl, sym, ◌∙◌, All, Error, Specification, ◌>>=◌, and_others, specification_at, value_at, attributes_at, attributes_in}
 use Rattle.std.proofs.lemmas.List.Elements.{All-nil, All-cons}
 use Rattle.dwarf_read_core.specs.Equality.{HasValueByForm}
-use Rattle.dwarf_read_core.proofs.tables.ReadingIsSound.{declaration_outcome}
 
--- the grammar gives a specification a value exactly if its form has one
-valued_one : (bytes : List ℕ) (s : Specification) → IsSpecification bytes s → HasValueByForm s
-valued_one bytes s is = grind (arith, is.is_value)
+-- a specification that is read has a value exactly if its form has one
+valued_one : (end : ℕ) (bytes : List ℕ) (s : Specification) (rest : List ℕ)
+    → specification_at end bytes ≡ Ok (Some s, rest) → HasValueByForm s
+unfolding specification_at value_at
+valued_one end bytes s rest is = grind arith
 
--- so it does for each specification of a list
-valued_all : (bytes : List ℕ) (ss : List Specification) → Sequence IsSpecification bytes ss → All HasValueByForm ss
-valued_all bytes [] are = All-nil HasValueByForm
-valued_all bytes (s ∷ ss) (first, rest, _, is, others) =
-    All-cons HasValueByForm s ss (valued_one first s is) (valued_all rest ss others)
+-- so has each of those that are read under a bound
+valued_by : (n end : ℕ) (bytes : List ℕ) (ss : List Specification) (rest : List ℕ)
+    → attributes_at n end bytes ≡ Ok (ss, rest) → All HasValueByForm ss
+unfolding attributes_at
+valued_by zero end bytes ss rest is = absurd cc
+valued_by (suc n) end bytes ss rest is = go (valued_by n end) (specification_at end bytes) refl is
+  where
+    go : ((bytes : List ℕ) (ss : List Specification) (rest : List ℕ) → attributes_at n end bytes ≡ Ok (ss, rest)
+        → All HasValueByForm ss) → (r : Result (Option Specification × List ℕ) Error) → specification_at end bytes ≡ r
+        → (r >>= λ first. and_others first.0 first.1 (attributes_at n end first.1)) ≡ Ok (ss, rest)
+        → All HasValueByForm ss
+    go others (Err e) q is = absurd cc
+    go others (Ok (None, behind)) q is = grind (arith, (All-nil HasValueByForm))
+    go others (Ok (Some s, behind)) q is =
+        grind (arith, All-cons, (valued_one end bytes s behind q), (others behind))
 
--- each attribute of a declaration that is read has a value exactly if its form has one
-pub attributes_valued : (end : ℕ) (bytes : List ℕ) (d : Declaration) (rest : List ℕ)
-    → declaration_at end bytes ≡ Ok (Some d, rest) → All HasValueByForm d.attributes
-attributes_valued end bytes d rest is =
-    let found = outcome-ok (declaration_outcome end bytes) (Some d, rest) is in
-    let front = found.is_declaration.is_front in
-    valued_all front.specifications d.attributes front.are_attributes
+-- each attribute that is read has a value exactly if its form has one
+pub attributes_valued : (end : ℕ) (bytes : List ℕ) (ss : List Specification) (rest : List ℕ)
+    → attributes_in end bytes ≡ Ok (ss, rest) → All HasValueByForm ss
+unfolding attributes_in
+attributes_valued end bytes ss rest is = valued_by _ end bytes ss rest is

@@ -2,7 +2,7 @@
 use Rattle.dwarf_read_core.proofs.Common.{◌≡◌, ℕ, zero, suc, ◌+◌, ◌<◌, List, [], ◌∷◌, ◌++◌, length, take, ◌≢◌, Option, Some, None, Result, Ok, Err, refl, sym, ap, ◌∙◌, append_assoc, arith, append-nil, Error, Specification, Declaration, Sequence, IsSpecification, IsNull, IsFront, HasError, ◌>>=◌, specification_at, and_others, attributes_at, attributes_in, declaration_of, HasOutcome, returned, outcome-bind, common_steps}
 use Rattle.std.specs.Prelude.{slice_set}
 use Rattle.std.proofs.lemmas.List.{take_more_set}
-use Rattle.dwarf_read_core.specs.TableEntries.{collected}
+use Rattle.dwarf_read_core.specs.Views.{collected}
 use Rattle.dwarf_read_core.proofs.tables.ReadingSpecifications.{SpecificationFound, SomeFound, specification_behind, specification_again, null_again, found_shorter, specification_shorter}
 
 -- the bytes of items, with those of one more behind them, are the bytes of all of them

@@ -1,5 +1,7 @@
 -- How a table changes with the next entry that its parser reads.
-use Rattle.dwarf_read_core.proofs.Common.{common_steps, ◌≡◌, ◌≢◌, ℕ, zero, suc, ◌<◌, true, false, cond, eqb, List, [], length, Option, Some, None, Result, Ok, Err, refl, ap, arith, ne_eqb, insert, contains_key, nil_from_length, Error, DuplicateAbbreviationCode, Declaration, ByCode, Table, closed, by_null, ◌>>=◌, declaration_at, close_of, and_declared, table_at, table_in}
+use Rattle.dwarf_read_core.proofs.Common.{common_steps, ◌≡◌, ◌≢◌, ℕ, zero, suc, ◌<◌, true, false, cond, eqb, List, [], length, Option, Some, None, Result, Ok, Err, refl, ap, arith, ne_eqb, insert, contains_key, nil_from_length, Error, DuplicateAbbreviationCode, Declaration, ByCode, Table, closed, by_null, ◌>>=◌, declaration_at, close_of, and_declared, ◌∷◌, ◌∙◌, ◌↔◌, IsTrue, Bool, table_at, table_in}
+use Rattle.std.proofs.Common.{not}
+use Rattle.dwarf_read_core.specs.Grammar.{close_from}
 use Rattle.dwarf_read_core.proofs.tables.ReadingIsSound.{declaration_shorter}
 
 -- what reading a table returns
@@ -38,10 +40,12 @@ pub table_ends : (end : ℕ) (t : ByCode) (bytes rest : List ℕ) → declaratio
 unfolding table_in table_at
 table_ends end t bytes rest q = grind arith
 
--- a code of value 0 in front of any bytes closes the table
-pub table_nulled : (end : ℕ) (t : ByCode) (bytes rest : List ℕ) → bytes ≢ []
-    → declaration_at end bytes ≡ Ok (None, rest) → table_in end t bytes ≡ Ok (closed t by_null)
-table_nulled end t bytes rest some q = grind (arith, common_steps, eqb, ne_eqb, nil_from_length, table_ends)
+-- the same, by a test for the end of the bytes
+pub table_ends_by : (end : ℕ) (t : ByCode) (bytes rest : List ℕ) (is_end : Bool)
+    → declaration_at end bytes ≡ Ok (None, rest) → (IsTrue is_end ↔ (bytes ≡ []))
+    → table_in end t bytes ≡ Ok (closed t (close_from (not is_end)))
+table_ends_by end t bytes rest true q test = grind (arith, common_steps, table_ends)
+table_ends_by end t bytes rest false q test = grind (arith, common_steps, ne_eqb, nil_from_length, table_ends)
 
 -- reading a table fails with `DuplicateAbbreviationCode` if the table has the code of the next declaration
 pub table_repeats : (end : ℕ) (t : ByCode) (bytes : List ℕ) (d : Declaration) (rest : List ℕ)
@@ -58,4 +62,4 @@ unfolding table_in table_at
 table_goes_on end t bytes d rest q fresh = grind (arith, declaration_shorter, table_enough)
 
 -- how a table changes with the next entry
-pub ruleset table_steps = (table_fails, table_ends, table_nulled, table_repeats, table_goes_on, declaration_shorter)
+pub ruleset table_steps = (table_fails, table_ends, table_ends_by, table_repeats, table_goes_on, declaration_shorter)

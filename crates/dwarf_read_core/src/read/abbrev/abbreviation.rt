@@ -1,25 +1,19 @@
 //! Abbreviations, and how a declaration of one is read.
 
-ghost use Rattle.std.specs.Prelude.{◌≡◌, ◌++◌, ◌==◌, ◌≤◌, ◌<◌, [], ℕ, List, length, All, IsOk, IfOk, IfErr, IfSome, OnOk, OnErr, Ok, None};
+ghost use Rattle.std.specs.Prelude.{◌≡◌, ◌==◌, ◌≤◌, ◌<◌, ℕ, List, length, All, IsOk, IfOk, IfErr, IfSome, OnOk, OnErr, Ok, None};
 ghost use Rattle.std.specs.Cmp.{partial_equiv_from_equiv};
 ghost use Rattle.dwarf_reader_core.specs.Input.{end_of};
 ghost use Rattle.dwarf_read_core.specs.Equality.{HasValueByForm, same_declaration, same_declaration_equiv};
 ghost use Rattle.dwarf_read_core.specs.Reading.{ReturnsUnlessOutOfMemory, tag_at, children_at, attributes_in, declared_at, declaration_at};
-ghost use Rattle.dwarf_read_core.specs.TableEntries.{collected, declared_in, with_attributes, ClosesAt};
+ghost use Rattle.dwarf_read_core.specs.Views.{collected};
 
-use super::attribute::AttributeSpecification;
+use super::attribute::{AttributeSpecification, Attributes, Collector, SCRATCH_LEN, spill};
 use dwarf_base_core::{Error, Result};
 use dwarf_code_core::children::{DW_CHILDREN_no, DW_CHILDREN_yes, DwChildren};
 use dwarf_const_core::tag::DwTag;
 use dwarf_reader_core::Reader;
-use smallvec::SmallVec;
 use std::alloc::{AllocError, Global};
-use std::default::MadeWith;
 use std::marker::Model;
-
-// Most declarations have at most five attributes. These are in the abbreviation itself, and only
-// a longer list allocates.
-pub(super) type Attributes = SmallVec<AttributeSpecification, 5>;
 
 /// An abbreviation: the shape of the debugging information entries that have its code.
 #[derive(Debug, Drop)]
@@ -205,16 +199,17 @@ impl Abbreviation {
         Ok(len)
     }
 
-    // Reads what follows the code of a declaration. The attributes are then in `collector`.
+    // Reads what follows the code of a declaration.
     #[tactic(auto, unfolding(crate::specs::Reading::declared_at))]
     fn parse_declared<R: Reader>(
+        mem: Global,
         code: u64,
         input: &mut R,
         collector: &mut Collector,
-    ) -> Result<Head>
-        ensures coded { IfOk result (λ head. head.code ≡ code) }
+    ) -> Result<Abbreviation>
+        ensures coded { IfOk result (λ abbreviation. abbreviation.code ≡ code) }
         ensures read { ReturnsUnlessOutOfMemory
-            (λ head. (with_attributes collector.new head, (R.view input.new).bytes)) result
+            (λ abbreviation. (abbreviation, (R.view input.new).bytes)) result
             (declared_at (end_of (R.view input.old)) code (R.view input.old).bytes) }
         ensures same_end { OnOk result (end_of (R.view input.new) ≡ end_of (R.view input.old)) }
     {
@@ -225,124 +220,33 @@ impl Abbreviation {
             &mut collector.scratch,
             &mut collector.overflow,
         )?;
-        Ok(Head {
-            code,
-            tag,
-            has_children,
-        })
+        let attributes = Attributes::from_slice(mem, collector.as_slice())?;
+        Ok(Abbreviation::new(code, tag, has_children, attributes))
     }
 
-    // Reads a declaration, or what closes the table in its place. The attributes of a declaration are
-    // then in `collector`.
+    // Reads a declaration. If a code of value 0 is in its place, or no bytes remain, the table ends.
     #[tactic(auto, unfolding(crate::specs::Reading::declaration_at))]
-    pub(super) fn parse<R: Reader>(input: &mut R, collector: &mut Collector) -> Result<TableEntry>
-        ensures coded { IfOk result
-            (λ entry. IfSome (declared_in collector.new entry) (λ d. 0 < d.code)) }
-        ensures valued { IfOk result (λ entry. IfSome (declared_in collector.new entry)
-            (λ d. All HasValueByForm d.attributes)) }
-        ensures closes { IfOk result (ClosesAt (R.view input.old).bytes) }
+    pub(super) fn parse<R: Reader>(
+        mem: Global,
+        input: &mut R,
+        collector: &mut Collector,
+    ) -> Result<Option<Abbreviation>>
+        ensures coded { IfOk result (λ found. IfSome found (λ d. 0 < d.code)) }
         ensures ends { (rest : List ℕ)
             → declaration_at (end_of (R.view input.old)) (R.view input.old).bytes ≡ Ok (None, rest)
             → IsOk result }
         ensures read { ReturnsUnlessOutOfMemory
-            (λ entry. (declared_in collector.new entry, (R.view input.new).bytes)) result
+            (λ found. (found, (R.view input.new).bytes)) result
             (declaration_at (end_of (R.view input.old)) (R.view input.old).bytes) }
         ensures same_end { OnOk result (end_of (R.view input.new) ≡ end_of (R.view input.old)) }
     {
         if input.is_empty() {
-            return Ok(TableEntry::End);
+            return Ok(None);
         }
         let code = input.read_uleb128()?;
         if code == 0 {
-            return Ok(TableEntry::NullCode);
+            return Ok(None);
         }
-        Ok(TableEntry::Declared(Self::parse_declared(code, input, collector)?))
+        Ok(Some(Self::parse_declared(mem, code, input, collector)?))
     }
-}
-
-// What is at a place where a declaration may begin.
-pub(super) enum TableEntry {
-    // The attributes are apart. An abbreviation has 112 bytes, which would be copied from result to
-    // result: so it is made where it is inserted.
-    Declared(Head),
-    // A code of value 0, which closes the table.
-    NullCode,
-    // No bytes remain, which closes the table too.
-    End,
-}
-
-// What a declaration has in front of its attributes.
-#[derive(Drop)]
-pub(super) struct Head {
-    pub code: u64,
-    pub tag: DwTag,
-    pub has_children: DwChildren,
-}
-
-impl Head {
-    pub(super) fn with(self, attributes: Attributes) -> Abbreviation
-        requires { All HasValueByForm attributes.items }
-        ensures { result ≡ with_attributes attributes.items self }
-    {
-        Abbreviation::new(self.code, self.tag, self.has_children, attributes)
-    }
-}
-
-// How many attributes are collected without allocating. Few declarations have more.
-const SCRATCH_LEN: usize = 16;
-
-// The attributes of a declaration while it is read.
-#[derive(Drop)]
-pub(super) struct Collector {
-    // They are the first `len` of `scratch`, unless there are too many: then `overflow` isn't empty and has
-    // all of them. So a table without a longer list allocates nothing for this.
-    len: usize,
-    scratch: [AttributeSpecification; SCRATCH_LEN],
-    overflow: Vec<AttributeSpecification>,
-}
-
-impl Model for Collector {
-    ghost use Rattle.std.specs.Prelude.{◌≤◌, List};
-    ghost use Rattle.dwarf_read_core.specs.Grammar.{Specification};
-    ghost use Rattle.dwarf_read_core.specs.TableEntries.{collected};
-
-    ghost Value = { List Specification };
-
-    ghost view = { λ s. collected s.len s.scratch s.overflow.items };
-
-    ghost invariant = { λ s. s.len ≤ 16 };
-}
-
-impl Collector {
-    pub(super) fn new(mem: Global) -> Collector
-        ensures { result ≡ [] }
-    {
-        Collector {
-            len: 0,
-            scratch: [AttributeSpecification::made_with(mem); SCRATCH_LEN],
-            overflow: Vec::new(mem),
-        }
-    }
-
-    pub(super) fn as_slice(&self) -> &[AttributeSpecification]
-        ensures value { result.now ≡ self.now }
-    {
-        if self.overflow.is_empty() {
-            &self.scratch[..self.len]
-        } else {
-            self.overflow.as_slice()
-        }
-    }
-}
-
-// Copies attributes behind those in `overflow`. It is a call out of line, since few declarations have so
-// many attributes that one is made.
-#[inline(never)]
-fn spill(
-    overflow: &mut Vec<AttributeSpecification>,
-    scratch: &[AttributeSpecification],
-) -> std::result::Result<(), AllocError>
-    ensures ok { OnOk result (overflow.new.items ≡ overflow.old.items ++ scratch.now) }
-{
-    overflow.extend_from_slice(scratch)
 }

@@ -1,6 +1,6 @@
-//! The attributes of abbreviations, and the sizes of their forms.
+//! The attributes of abbreviations, the sizes of their forms, and where attributes are collected.
 
-ghost use Rattle.std.specs.Prelude.{◌≡◌, ◌↔◌, IsSome, OnOk};
+ghost use Rattle.std.specs.Prelude.{◌≡◌, ◌↔◌, ◌++◌, [], IsSome, OnOk};
 ghost use Rattle.dwarf_reader_core.specs.Input.{end_of};
 ghost use Rattle.dwarf_read_core.specs.Forms.{form_size};
 ghost use Rattle.dwarf_read_core.specs.Grammar.{implicit_const};
@@ -17,7 +17,8 @@ use dwarf_const_core::form::{
     DW_FORM_strp_sup, DW_FORM_strx1, DW_FORM_strx2, DW_FORM_strx3, DW_FORM_strx4, DwForm,
 };
 use dwarf_reader_core::Reader;
-use std::alloc::Global;
+use smallvec::SmallVec;
+use std::alloc::{AllocError, Global};
 use std::default::MadeWith;
 use std::marker::Model;
 
@@ -164,4 +165,67 @@ fn get_attribute_size(form: DwForm, encoding: Encoding) -> Option<u8>
         }
         _ => None,
     }
+}
+
+// Most declarations have at most five attributes. These are in the abbreviation itself, and only
+// a longer list allocates.
+pub(super) type Attributes = SmallVec<AttributeSpecification, 5>;
+
+// How many attributes are collected without allocating. Few declarations have more.
+pub(super) const SCRATCH_LEN: usize = 16;
+
+// The attributes of a declaration while it is read.
+#[derive(Drop)]
+pub(super) struct Collector {
+    // They are the first `len` of `scratch`, unless there are too many: then `overflow` isn't empty and has
+    // all of them. So a table without a longer list allocates nothing for this.
+    pub(super) len: usize,
+    pub(super) scratch: [AttributeSpecification; SCRATCH_LEN],
+    pub(super) overflow: Vec<AttributeSpecification>,
+}
+
+impl Model for Collector {
+    ghost use Rattle.std.specs.Prelude.{◌≤◌, List};
+    ghost use Rattle.dwarf_read_core.specs.Grammar.{Specification};
+    ghost use Rattle.dwarf_read_core.specs.Views.{collected};
+
+    ghost Value = { List Specification };
+
+    ghost view = { λ s. collected s.len s.scratch s.overflow.items };
+
+    ghost invariant = { λ s. s.len ≤ 16 };
+}
+
+impl Collector {
+    pub(super) fn new(mem: Global) -> Collector
+        ensures { result ≡ [] }
+    {
+        Collector {
+            len: 0,
+            scratch: [AttributeSpecification::made_with(mem); SCRATCH_LEN],
+            overflow: Vec::new(mem),
+        }
+    }
+
+    pub(super) fn as_slice(&self) -> &[AttributeSpecification]
+        ensures value { result.now ≡ self.now }
+    {
+        if self.overflow.is_empty() {
+            &self.scratch[..self.len]
+        } else {
+            self.overflow.as_slice()
+        }
+    }
+}
+
+// Copies attributes behind those in `overflow`. It is a call out of line, since few declarations have so
+// many attributes that one is made.
+#[inline(never)]
+pub(super) fn spill(
+    overflow: &mut Vec<AttributeSpecification>,
+    scratch: &[AttributeSpecification],
+) -> std::result::Result<(), AllocError>
+    ensures ok { OnOk result (overflow.new.items ≡ overflow.old.items ++ scratch.now) }
+{
+    overflow.extend_from_slice(scratch)
 }

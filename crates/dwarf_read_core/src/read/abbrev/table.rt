@@ -7,7 +7,8 @@ ghost use Rattle.dwarf_reader_core.specs.Input.{end_of};
 ghost use Rattle.dwarf_read_core.specs.Grammar.{by_end, is_by_null};
 ghost use Rattle.dwarf_read_core.specs.Reading.{ReturnsUnlessOutOfMemory, declaration_at, table_in};
 
-use super::abbreviation::{Abbreviation, Attributes, Collector, TableEntry};
+use super::abbreviation::Abbreviation;
+use super::attribute::Collector;
 use super::others::{Others, OthersIter};
 use dwarf_base_core::{Error, Result};
 use dwarf_reader_core::Reader;
@@ -192,16 +193,13 @@ impl Abbreviations {
         let mut collector = Collector::new(mem);
         // The label names the loop in its proof.
         'declarations: loop {
-            match Abbreviation::parse(input, &mut collector)? {
-                TableEntry::Declared(head) => {
-                    let attributes = Attributes::from_slice(mem, collector.as_slice())?;
-                    abbreviations.insert(head.with(attributes))?;
-                }
-                TableEntry::NullCode => {
-                    abbreviations.closed_by_null = true;
+            let is_end = input.is_empty();
+            match Abbreviation::parse(mem, input, &mut collector)? {
+                Some(abbreviation) => abbreviations.insert(abbreviation)?,
+                None => {
+                    abbreviations.closed_by_null = !is_end;
                     return Ok(abbreviations);
                 }
-                TableEntry::End => return Ok(abbreviations),
             }
         }
     }

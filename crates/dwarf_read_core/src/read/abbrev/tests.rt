@@ -4,8 +4,8 @@
 ghost use Rattle.std.specs.Prelude.{◌≡◌, All, IfOk};
 ghost use Rattle.dwarf_read_core.specs.Equality.{HasValueByForm};
 
-use super::abbreviation::{Abbreviation, Attributes, Collector, TableEntry};
-use super::attribute::AttributeSpecification;
+use super::abbreviation::Abbreviation;
+use super::attribute::{AttributeSpecification, Attributes, Collector};
 use super::table::Abbreviations;
 use dwarf_base_core::{Error, LittleEndian, Result};
 use dwarf_code_core::children::{DW_CHILDREN_no, DW_CHILDREN_yes, DwChildren};
@@ -149,14 +149,6 @@ fn fields_are_parsed(rt: HostRuntime) {
     }
 }
 
-// What a declaration has in front of its attributes, if one was read.
-fn head_of(entry: TableEntry) -> Option<(u64, DwTag, DwChildren)> {
-    match entry {
-        TableEntry::Declared(head) => Some((head.code, head.tag, head.has_children)),
-        TableEntry::NullCode | TableEntry::End => None,
-    }
-}
-
 // The bytes behind each entry.
 const BEHIND: &[u8] = b"\x01\x02\x03\x04";
 
@@ -182,11 +174,12 @@ fn entries_of_a_table_are_parsed(rt: HostRuntime) -> std::result::Result<(), Fai
     let mut collector = Collector::new(mem);
     for (bytes, attribute, left) in rows {
         let input = &mut slice(bytes);
-        let head = head_of(Abbreviation::parse(input, &mut collector)?);
-        let wanted = attribute.map(|_| (1, DW_TAG_subprogram, DW_CHILDREN_no));
-        assert_eq!(rt; head, wanted, "{bytes:?}");
-        if let Some(attribute) = attribute {
-            assert_eq!(rt; collector.as_slice(), [attribute].as_slice(), "{bytes:?}");
+        let found = Abbreviation::parse(mem, input, &mut collector)?;
+        assert_eq!(rt; found.is_some(), attribute.is_some(), "{bytes:?}");
+        if let (Some(found), Some(attribute)) = (found, attribute) {
+            let head = (found.code(), found.tag(), found.has_children());
+            assert_eq!(rt; head, (1, DW_TAG_subprogram, false), "{bytes:?}");
+            assert_eq!(rt; found.attributes(), [attribute].as_slice(), "{bytes:?}");
         }
         assert_eq!(rt; input.slice(), left, "{bytes:?}");
     }

@@ -1,6 +1,5 @@
 use Rattle.dwarf_read_core.proofs.Common.{arith, refl, rules, ◌≡◌, ◌≢◌, [], Ok, Err, None, ◌∙◌, sym, end_of, gives_err, ℕ, List, length, Some, ne_eqb, common_steps, nil_from_length, Error, unsigned64, ◌>>=◌, number_at, declared_at, declaration_at}
 use Rattle.dwarf_read_core.proofs.tables.ReadingNumbers.{number_not_read, number_read, end_stays}
-use Rattle.dwarf_read_core.proofs.tables.AttributeValues.{attributes_valued}
 use Rattle.dwarf_read_core.proofs.read.abbrev.abbreviation.Abbreviation.parse.Goals as goal
 
 -- reading a declaration fails with the error of its code
@@ -70,6 +69,3 @@ returns-clause-read g c =
 
 pub returns-clause-same_end : goal.returns-clause-same_end
 returns-clause-same_end g c = c.in_ok-parse_declared.ensures.same_end ∙ end_stays c.in_ok-code.ensures.ok
-
-pub returns-clause-valued : goal.returns-clause-valued
-returns-clause-valued g c = attributes_valued _ _ _ _ (returns-clause-read g c)

@@ -1,4 +1,5 @@
 use Rattle.dwarf_read_core.proofs.Common.{refl, ◌∙◌, gives_err, declared_at}
+use Rattle.dwarf_read_core.proofs.tables.AttributeValues.{attributes_valued}
 use Rattle.dwarf_read_core.proofs.read.abbrev.abbreviation.Abbreviation.parse_declared.Goals as goal
 
 pub returns-in_err-tag-clause-read : goal.returns-in_err-tag-clause-read
@@ -24,3 +25,8 @@ returns-in_err-collector-inside-clause-read g c =
       rw tag.same_end at children.read,
       rw (children.same_end ∙ tag.same_end) at (c.in_err-collector-inside.ensures.read memory),
     ) refl)
+
+pub new-requires : goal.new-requires
+new-requires g c =
+    rw (c.in_ok-attributes.ensures.ok, c.as_slice.ensures.value)
+    (attributes_valued _ _ _ _ c.in_ok-collector-inside.ensures.read)
