@@ -3,6 +3,9 @@ import shutil
 import signal
 import subprocess
 import sys
+import threading
+
+import kit
 
 
 class Checks:
@@ -10,27 +13,31 @@ class Checks:
 
     def __init__(self, name, work):
         self.name, self.work, self.passed, self.failed, self.skipped = name, work, 0, 0, 0
+        self.lock = threading.Lock()
 
-    def tell(self, well, what):
-        self.passed, self.failed = self.passed + bool(well), self.failed + (not well)
-        print(f"{self.name}: {what}: {'ok' if well else 'FAILED'}", flush=True)
+    def tell(self, well, what, is_told=True):
+        """Counts a check, and prints a line that says whether it passed."""
+        with self.lock:
+            self.passed, self.failed = self.passed + bool(well), self.failed + (not well)
+            if is_told or not well:
+                print(f"{self.name}: {what}: {'ok' if well else 'FAILED'}", flush=True)
         return well
 
-    def skip(self, what, lacking):
-        self.skipped += 1
-        print(f"{self.name}: {what}: skipped, since there is no {lacking}", flush=True)
+    def skip(self, what, why):
+        with self.lock:
+            self.skipped += 1
+            print(f"{self.name}: {what}: skipped, since {why}", flush=True)
 
     def has(self, what, *tools):
         """Whether all these tools are there. The first that isn't is told."""
         lacking = [it for it in tools if not shutil.which(it)]
         if lacking:
-            self.skip(what, lacking[0])
+            self.skip(what, f"there is no {lacking[0]}")
         return not lacking
 
     def run(self, what, words, **how):
         """A check that a command ends with status 0. What it says is shown where it doesn't."""
-        how = {"cwd": self.work, "stdin": subprocess.DEVNULL, "stdout": subprocess.PIPE, **how}
-        ran = subprocess.run(words, **how, stderr=subprocess.STDOUT, text=True, errors="replace", check=False)
+        ran = kit.run(words, **{"cwd": self.work, **how})
         if ran.returncode:
             print(ran.stdout.strip()[-4000:])
         return self.tell(ran.returncode == 0, what)
@@ -48,10 +55,10 @@ class Checks:
         return 1 if self.failed or not self.passed + self.skipped else 0
 
 
-def usage(text, words):
+def usage(text, words, why=""):
     """Prints what a script does, as was asked for or since its command line is wrong. Returns the exit status."""
-    is_help = words[:1] in (["-h"], ["--help"])
-    print(text.strip(), file=sys.stdout if is_help else sys.stderr)
+    is_help = words in (["-h"], ["--help"])
+    print(text.strip() if is_help else f"{why}\n\n{text}".strip(), file=sys.stdout if is_help else sys.stderr)
     return 0 if is_help else 2
 
 

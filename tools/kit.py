@@ -1,8 +1,9 @@
-"""The crates of this repository, and the words by which the kit's prover checks one of them.
+"""The crates of this repository, and the kit's prover: what the scripts share.
 
 `rt` proves the libraries below a crate again, unless it has built them itself for that. The scripts that
 follow `rt ci` run the prover over the libraries that it leaves.
 """
+import contextlib
 import functools
 import glob
 import importlib.machinery
@@ -10,17 +11,74 @@ import importlib.util
 import os
 import re
 import shutil
+import signal
 import subprocess
 import sys
+import threading
+from concurrent.futures import ThreadPoolExecutor, as_completed
 
 ROOT = os.path.dirname(os.path.dirname(os.path.realpath(__file__)))
 PARTS = ("src", "specs", "proofs")
 # The kits that these scripts were written for. They have one logic, and prove the same.
 KITS = ("rattle-kit-13b logic dac8208d650f15bf", "rattle-kit-13f logic dac8208d650f15bf")
+# The commands that run, and whether no more may begin.
+RUNNING, IS_STOPPED = set(), threading.Event()
 # Where the gate's proofs keep what they have checked of each crate, if the gate runs.
 KEPT = os.environ.get("GATE_KEPT")
 TEST = re.compile(r"^ *#\[test\]", re.M)
 FN = re.compile(r"^ *(?:pub(?:\([^)]*\))? )?(?:const )?(?:unsafe )?(?:extern \"C\" )?fn (\w+)", re.M)
+
+
+def text_of(path):
+    with open(path, encoding="utf-8", errors="replace") as file:
+        return file.read()
+
+
+def put(path, text):
+    with open(path, "w", encoding="utf-8") as file:
+        file.write(text)
+
+
+def run(words, each=None, **how):
+    """Runs a command without input, in a session of its own. Returns it as it has ended, with what it wrote to both
+    outputs, of which a function may have each line at once. It ends with this run."""
+    how = {"stdin": subprocess.DEVNULL, "stdout": subprocess.PIPE, "stderr": subprocess.STDOUT, **how}
+    if IS_STOPPED.is_set():
+        raise InterruptedError
+    said = []
+    with subprocess.Popen(words, text=True, errors="replace", start_new_session=True, **how) as child:
+        RUNNING.add(child)
+        try:
+            for line in child.stdout or child.stderr or ():
+                said.append(line)
+                if each:
+                    each(line)
+            child.wait()
+        finally:
+            RUNNING.discard(child)
+            end(child)
+    return subprocess.CompletedProcess(words, child.returncode, "".join(said))
+
+
+def end(child):
+    if child.poll() is None:
+        with contextlib.suppress(ProcessLookupError):
+            os.killpg(child.pid, signal.SIGTERM)
+
+
+def side_by_side(lanes, calls):
+    """Makes these calls, each a function and its arguments, so many at a time, and yields what each returns. If one
+    fails or this run is interrupted, what `run` has begun ends first, since the pool waits for it."""
+    with ThreadPoolExecutor(lanes) as pool:
+        begun = [pool.submit(*it) for it in calls]
+        try:
+            for it in as_completed(begun):
+                yield it.result()
+        except BaseException:
+            IS_STOPPED.set()
+            for child in list(RUNNING):
+                end(child)
+            raise
 
 
 def of_path(command):
@@ -33,12 +91,11 @@ def of_path(command):
     return os.path.realpath(found)
 
 
+@functools.cache
 def load_rt():
     """The kit's command `rt`, as a module."""
-    path = of_path("rt")
-    loader = importlib.machinery.SourceFileLoader("rt", path)
-    spec = importlib.util.spec_from_loader("rt", loader)
-    made = importlib.util.module_from_spec(spec)
+    loader = importlib.machinery.SourceFileLoader("rt", of_path("rt"))
+    made = importlib.util.module_from_spec(importlib.util.spec_from_loader("rt", loader))
     sys.modules["rt"] = made
     loader.exec_module(made)
     return made
@@ -52,9 +109,7 @@ def is_known():
 
 def version():
     """What the kit here says that it is."""
-    how = {"stdin": subprocess.DEVNULL, "capture_output": True, "text": True, "check": False}
-    ran = subprocess.run([of_path("rt"), "version"], **how)
-    return ran.stdout.strip()
+    return run([of_path("rt"), "version"], stderr=subprocess.DEVNULL).stdout.strip()
 
 
 def unproved():
@@ -62,24 +117,10 @@ def unproved():
     return [sys.executable, f"{ROOT}/tools/unproved.py"] if is_known() else ["rt", "try"]
 
 
-def libraries_of_crates():
-    """The crates of crates.txt, lowest first, with the libraries that each names."""
-    named = {}
-    with open(f"{ROOT}/crates.txt", encoding="utf-8") as file:
-        for line in file:
-            name, _, libraries = line.partition("#")[0].partition(":")
-            if name.strip():
-                named[name.split()[0]] = libraries.split()
-    return named
-
-
-CRATES = libraries_of_crates()
-
-
-def is_static(crate):
-    """Whether a crate is a static library."""
-    with open(f"{ROOT}/crates.txt", encoding="utf-8") as file:
-        return any(line.partition(":")[0].split() == [crate, "staticlib"] for line in file)
+# The lines of crates.txt: a crate, lowest first, whether it is a static library, and the libraries that it names.
+ROWS = re.findall(r"^(\w+)( staticlib)?:(.*?)(?:#.*)?$", text_of(f"{ROOT}/crates.txt"), re.M)
+CRATES = {name: libraries.split() for name, _, libraries in ROWS}
+STATIC = [name for name, is_static, _ in ROWS if is_static]
 
 
 def below(crate):
@@ -96,8 +137,7 @@ def sources(crate, of_tests=None):
     for path in sorted(glob.glob(f"{ROOT}/crates/{crate}/src/**/*.rt", recursive=True)):
         name = os.path.relpath(path, ROOT)
         if of_tests in (None, bool(re.search(r"/tests(\.rt|/)", name))):
-            with open(path, encoding="utf-8") as file:
-                yield name, file.read()
+            yield name, text_of(path)
 
 
 def functions_in(crate, of_tests):
@@ -112,11 +152,8 @@ def tests_in(crate):
 
 def worked_cases():
     """How many worked cases of dwarf_list there are (`tools/cases`)."""
-    found = 0
-    for path in glob.glob(f"{ROOT}/crates/dwarf_list/cases/*.md"):
-        with open(path, encoding="utf-8") as file:
-            found += len(re.findall(r"^\$ dwarf_list\b", file.read(), re.M))
-    return found
+    texts = map(text_of, glob.glob(f"{ROOT}/crates/dwarf_list/cases/*.md"))
+    return sum(len(re.findall(r"^\$ dwarf_list\b", it, re.M)) for it in texts)
 
 
 def wrong_bodies():
@@ -129,19 +166,14 @@ def wrong_bodies():
 @functools.cache
 def wrong_bodies_of_the_gate():
     """Those that say that the gate tries them, by CRATE/NAME. Those of one function are neighbours."""
-    found = []
-    for name, path in wrong_bodies():
-        with open(path, encoding="utf-8", errors="replace") as file:
-            first = file.readline()
-        if first.startswith("# refused in the gate by "):
-            found.append((first, name.removesuffix(".edit"), path))
-    return {name: path for _, name, path in sorted(found)}
+    found = [(text_of(path).partition("\n")[0], name.removesuffix(".edit"), path) for name, path in wrong_bodies()]
+    return {name: path for first, name, path in sorted(found) if first.startswith("# refused in the gate by ")}
 
 
 def is_taken_over(crate):
     """Whether something takes over what the proof of a crate has checked: its tests, a wrong body, or its build."""
     has_tests = tests_in(crate) and os.path.isdir(f"{ROOT}/crates/{crate}/proofs")
-    return bool(has_tests or is_static(crate) or any(it.startswith(f"{crate}/") for it in wrong_bodies_of_the_gate()))
+    return bool(has_tests or crate in STATIC or any(it.startswith(f"{crate}/") for it in wrong_bodies_of_the_gate()))
 
 
 def kept(crate):
@@ -154,8 +186,7 @@ def lanes(memory, others=0):
     number is what all of them take together beside that."""
     processors = len(os.sched_getaffinity(0))
     try:
-        with open("/proc/meminfo", encoding="utf-8") as file:
-            free = int(re.search(r"MemAvailable:\s+(\d+) kB", file.read())[1]) * 1024
+        free = int(re.search(r"MemAvailable:\s+(\d+) kB", text_of("/proc/meminfo"))[1]) * 1024
     except (OSError, TypeError):
         return processors
     return max(1, min(processors, (free - others) // memory))
@@ -168,21 +199,10 @@ def measured(step=""):
     return [sys.executable, "-IS", f"{ROOT}/tools/measured.py", file, step] if file else []
 
 
-def library(crate):
-    """Where the library of a crate is once it is built."""
-    return f"{ROOT}/crates/{crate}/out/rlib/{crate}.rlib"
-
-
 def programs(crate):
     """Where the proved program of a crate is once it is built, and the unproved one that ./dwarf_list keeps."""
     proved = f"{ROOT}/crates/{crate}/out/{crate}"
     return proved, f"{proved}.unproved"
-
-
-def build_unproved(crate):
-    """Builds the program that ./dwarf_list keeps, unless it is current. Returns whether it is there."""
-    words = [sys.executable, f"{ROOT}/tools/unproved.py", "--build", crate]
-    return subprocess.run(words, stdin=subprocess.DEVNULL, stdout=subprocess.DEVNULL, check=False).returncode == 0
 
 
 def newest(crate):
@@ -204,9 +224,9 @@ def build_libraries(crates):
     """Proves and builds the libraries below these crates, unless they are built and no source is newer.
     Returns what the first one that fails says, or None."""
     for it in CRATES:
-        if any(it in below(crate) for crate in crates) and not is_fresh(f"{library(it)}/format", it):
-            how = {"cwd": f"{ROOT}/crates/{it}", "stdin": subprocess.DEVNULL, "stdout": subprocess.PIPE}
-            ran = subprocess.run([of_path("rt"), "lib"], **how, stderr=subprocess.STDOUT, errors="replace")
+        folder = f"{ROOT}/crates/{it}"
+        if any(it in below(crate) for crate in crates) and not is_fresh(f"{folder}/out/rlib/{it}.rlib/format", it):
+            ran = run([of_path("rt"), "lib"], cwd=folder)
             if ran.returncode:
                 return f"{it} is not proved:\n{ran.stdout.strip()[-2000:]}"
     return None
@@ -214,43 +234,16 @@ def build_libraries(crates):
 
 def folder():
     """The folder of the kit."""
-    return os.path.dirname(os.path.dirname(of_path("rattle")))
+    return load_rt().KIT
 
 
 def root_file(crate):
     """The path of a crate's root file in its folder."""
-    is_program = os.path.isfile(f"{ROOT}/crates/{crate}/src/main.rt")
-    return f"src/{'main' if is_program else 'lib'}.rt"
+    return next(it for it in ("src/main.rt", "src/lib.rt") if os.path.isfile(f"{ROOT}/crates/{crate}/{it}"))
 
 
-def words(crate):
-    """The words behind `rattle check` or `rattle build` for a crate, in the folder of its sources."""
-    found = []
-    for it in ["std", *CRATES[crate]]:
-        found += ["--extern", f"{it}={library(it) if it in CRATES else of_kit(it)}"]
-    for it in below(crate):
-        found += ["-L", f"dependency={os.path.dirname(library(it))}"]
-    return with_logic(crate, found)
-
-
-def words_of_sources(crate):
-    """The same words for a run of the front end alone. It reads the sources of the libraries below, built or not."""
-    found, own = [], below(crate)
-    for it in dict.fromkeys(["core", "std", *(name for it in [*own, crate] for name in CRATES[it])]):
-        found += ["--extern", f"{it}={of_kit(it)}"] if it not in CRATES else []
-    for it in own:
-        found += ["--lib", f"{it}:{','.join(['core', 'std', *CRATES[it]])}={ROOT}/crates/{it}/src/lib.rt"]
-    return with_logic(crate, found)
-
-
-def of_kit(name):
-    """Where a library of the kit is."""
-    return f"{folder()}/rlibs/{name}.rlib"
-
-
-def with_logic(crate, libraries):
-    """These words for the libraries of a crate, and those for itself and the logic."""
-    kit = folder()
-    found = ["--crate-name", crate, root_file(crate), "-L", f"dependency={kit}/rlibs", *libraries]
-    found += ["--antt-project", f"{kit}/rattle/logic/antt-project.json", "--logic-built", f"{kit}/logic_built"]
-    return [*found, "--links", f"{crate}="]
+def words(crate, jobs, as_source=False):
+    """The words behind `rattle check` or `rattle build` for a crate, in the folder of its sources. The front end alone
+    reads the sources of the libraries below, built or not."""
+    made = load_rt().rtlib.Crate(f"{ROOT}/crates/{crate}", ROOT, {})
+    return made.words(["--jobs", str(jobs)], as_source=as_source)
