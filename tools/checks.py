@@ -64,9 +64,6 @@ def usage(text, words, why=""):
 
 def run(main):
     """Runs a script, and ends with its exit status. If it is interrupted, its scratch folder goes first."""
-    for it in (signal.SIGTERM, signal.SIGHUP):
+    for it in (signal.SIGINT, signal.SIGTERM, signal.SIGHUP):
         signal.signal(it, lambda number, _: sys.exit(128 + number))
-    try:
-        sys.exit(main(sys.argv[1:]))
-    except KeyboardInterrupt:
-        sys.exit(130)
+    sys.exit(main(sys.argv[1:]))

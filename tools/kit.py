@@ -199,6 +199,12 @@ def measured(step=""):
     return [sys.executable, "-IS", f"{ROOT}/tools/measured.py", file, step] if file else []
 
 
+def build_unproved(crate):
+    """Builds the program that ./dwarf_list keeps, unless it is current. Returns 0 if it is there."""
+    words = [sys.executable, f"{ROOT}/tools/unproved.py", "--build", crate]
+    return run(words, stdout=subprocess.DEVNULL, stderr=None).returncode
+
+
 def programs(crate):
     """Where the proved program of a crate is once it is built, and the unproved one that ./dwarf_list keeps."""
     proved = f"{ROOT}/crates/{crate}/out/{crate}"

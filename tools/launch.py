@@ -20,9 +20,10 @@ import subprocess
 import sys
 import threading
 import time
-from contextlib import contextmanager, suppress
+from contextlib import suppress
 
 sys.dont_write_bytecode = True
+import checks
 import kit
 from unproved import NOT_HERE
 
@@ -54,19 +55,6 @@ def stop(why):
     sys.exit(FAILED)
 
 
-@contextmanager
-def child(words, **how):
-    """Runs a command. If this run is interrupted, the command is told once: a terminal tells only its own session."""
-    with subprocess.Popen(words, start_new_session=True, **how) as it:
-        try:
-            yield it
-            it.wait()
-        except BaseException:
-            with suppress(ProcessLookupError):
-                os.killpg(it.pid, signal.SIGTERM)
-            raise
-
-
 # Running a program.
 
 
@@ -96,12 +84,10 @@ def find(name):
         there = last_built(name) or stop(f"{NO_KIT}, and no program is there")
         say(f"the program is older than the sources, and {NO_KIT}")
         return there
-    words = [sys.executable, f"{kit.ROOT}/tools/unproved.py", "--build", name]
-    with child(words, stdin=subprocess.DEVNULL, stdout=subprocess.DEVNULL) as build:
-        pass
-    if build.returncode not in (0, NOT_HERE):
+    status = kit.build_unproved(name)
+    if status not in (0, NOT_HERE):
         sys.exit(FAILED)
-    return None if build.returncode else unproved
+    return None if status else unproved
 
 
 def run(name, words):
@@ -126,9 +112,9 @@ def run_sources(name, words):
         # This run is in the folder of the crate. Files are named behind the kind, and that may be behind an option.
         first = 2 if words[0].startswith("--") else 1
         words = words[:first] + [it if it == "-" else os.path.join(os.getcwd(), it) for it in words[first:]]
-    how = {"cwd": f"{kit.ROOT}/crates/{name}", "stderr": subprocess.PIPE}
-    with child([*kit.unproved(), "--", *words], **how) as tried:
-        said = tried.stderr.read().decode(errors="replace").splitlines()
+    how = {"cwd": f"{kit.ROOT}/crates/{name}", "stdin": None, "stdout": None, "stderr": subprocess.PIPE}
+    tried = kit.run([*kit.unproved(), "--", *words], **how)
+    said = tried.stdout.splitlines()
     if any(it.startswith("run=ended status=") for it in said):
         for it in said:
             if not it.startswith(("run=ended ", "checked: ended ")):
@@ -162,16 +148,16 @@ class Proof:
     def step(self, log, crate, verb, *words):
         """Runs a command of the kit in the folder of a crate. Returns whether it ended well."""
         self.state = f"{crate}: reading the sources"
-        words = ["rt", verb, "--jobs", str(self.jobs), *words]
-        how = {"cwd": f"{kit.ROOT}/crates/{crate}", "stdin": subprocess.DEVNULL, "stdout": subprocess.PIPE}
-        with child(words, **how, stderr=subprocess.STDOUT, text=True, errors="replace") as step:
-            for line in step.stdout:
-                log.write(line)
-                if line.startswith("so far: "):
-                    self.state = f"{crate}: {line[8:].partition(';')[0].strip()}"
-                elif line.startswith("crate "):
-                    self.state = f"{crate}: compiling"
-        return step.returncode == 0
+
+        def see(line):
+            log.write(line)
+            if line.startswith("so far: "):
+                self.state = f"{crate}: {line[8:].partition(';')[0].strip()}"
+            elif line.startswith("crate "):
+                self.state = f"{crate}: compiling"
+
+        ran = kit.run(["rt", verb, "--jobs", str(self.jobs), *words], see, cwd=f"{kit.ROOT}/crates/{crate}")
+        return ran.returncode == 0
 
     def run(self):
         """Proves and builds. Ends the run if that fails."""
@@ -189,8 +175,7 @@ class Proof:
         finally:
             self.ended.set()
         if not well or not os.path.isfile(program):
-            with open(self.log, encoding="utf-8") as log:
-                os.write(2, "".join(log.readlines()[-20:]).encode())
+            os.write(2, "".join(kit.text_of(self.log).splitlines(True)[-20:]).encode())
             stop(f"the program wasn't built; the whole log is {self.log}")
         os.utime(program, (begun, begun))
         say(f"built in {in_words(time.time() - self.started)}: {program}")
@@ -226,27 +211,24 @@ def state(name):
 
 
 def tell_versions():
-    with open(f"{kit.ROOT}/VERSION", encoding="utf-8") as file:
-        put(f"dwarf_list {file.read().strip()}, a port of the lowest layer of gimli 0.34.0")
+    put(f"dwarf_list {kit.text_of(f'{kit.ROOT}/VERSION').strip()}, a port of the lowest layer of gimli 0.34.0")
     for it in PROGRAMS:
         put(f"{it}: {state(it)}")
     put(f"proofs are for {' or '.join(kit.KITS)}")
     put(f"kit on PATH: {kit.version() if shutil.which('rt') else 'none'}")
 
 
-def interrupted(number, _frame):
-    sys.exit(128 + number)
+def main(words):
+    try:
+        if words == ["--prove"]:
+            prove()
+        elif words == ["--version"]:
+            tell_versions()
+        else:
+            run(words[0], words[1:])
+    except OSError as fault:
+        stop(fault)
 
 
 if __name__ == "__main__":
-    for it in (signal.SIGINT, signal.SIGTERM, signal.SIGHUP):
-        signal.signal(it, interrupted)
-    try:
-        if sys.argv[1] == "--prove":
-            prove()
-        elif sys.argv[1] == "--version":
-            tell_versions()
-        else:
-            run(sys.argv[1], sys.argv[2:])
-    except OSError as fault:
-        stop(fault)
+    checks.run(main)
