@@ -5,83 +5,18 @@
 
 use crate::common::Format;
 use crate::endianity::Endianity;
+use crate::library::*;
 use crate::read::{Error, Reader, ReaderOffset, ReaderOffsetId, Result};
-use std::sync::atomic::{AtomicUsize, Ordering};
+use std::string::String;
 use std::vec::Vec;
 
-/// The error of a call, by its number in `include/dwarf_read.h`, and the position or the value that it carries.
-#[repr(C)]
-#[derive(Clone, Copy, Default)]
-struct Fault {
-    kind: u32,
-    value: u64,
+thread_local! {
+    static PLANTED: String = std::env::var("COMPARE_PLANTED").unwrap_or_default();
 }
-
-#[repr(C)]
-#[derive(Clone, Copy, Default)]
-struct Measure {
-    abbreviations: usize,
-    attributes: usize,
-    closed_by_null: u8,
-}
-
-/// A declaration, and which attributes are its own.
-#[repr(C)]
-#[derive(Clone, Copy, Default)]
-pub struct Declaration {
-    pub code: u64,
-    pub tag: u16,
-    pub has_children: u8,
-    pub first: usize,
-    pub count: usize,
-}
-
-/// An attribute, with the value that is in the table itself.
-#[repr(C)]
-#[derive(Clone, Copy, Default)]
-pub struct Attribute {
-    pub name: u16,
-    pub form: u16,
-    pub value: i64,
-}
-
-type Byte = *const u8;
-
-extern "C" {
-    fn dwarf_uleb128(bytes: Byte, len: usize, value: &mut u64, size: &mut usize, fault: &mut Fault) -> u32;
-    fn dwarf_sleb128(bytes: Byte, len: usize, value: &mut i64, size: &mut usize, fault: &mut Fault) -> u32;
-    fn dwarf_string(bytes: Byte, len: usize, offset: usize, size: &mut usize, fault: &mut Fault) -> u32;
-    fn dwarf_str_offset(
-        bytes: Byte, len: usize, is_big: bool, is_64: bool, base: usize, index: usize, offset: &mut usize,
-        fault: &mut Fault,
-    ) -> u32;
-    fn dwarf_address(
-        bytes: Byte, len: usize, is_big: bool, size: u8, base: usize, index: usize, address: &mut u64,
-        fault: &mut Fault,
-    ) -> u32;
-    fn dwarf_table_measure(bytes: Byte, len: usize, offset: usize, measure: &mut Measure, fault: &mut Fault) -> u32;
-    fn dwarf_table_read(
-        bytes: Byte, len: usize, offset: usize, declarations: *mut Declaration, declaration_room: usize,
-        attributes: *mut Attribute, attribute_room: usize, measure: &mut Measure, fault: &mut Fault,
-    ) -> u32;
-    fn compare_short(bytes: Byte, len: usize, value: &mut u16, rest: &mut usize, fault: &mut Fault) -> u32;
-    fn compare_skipped(bytes: Byte, len: usize, rest: &mut usize, fault: &mut Fault) -> u32;
-}
-
-/// The places at which an error can be planted.
-const PLACES: [&str; 3] = ["tag", "number", "string"];
 
 /// Whether an error is planted at this place.
 fn is_planted(place: &str) -> bool {
-    const UNKNOWN: usize = usize::MAX;
-    static PLANTED: AtomicUsize = AtomicUsize::new(UNKNOWN);
-    let mut planted = PLANTED.load(Ordering::Relaxed);
-    if planted == UNKNOWN {
-        let named = std::env::var("COMPARE_PLANTED").unwrap_or_default();
-        planted = PLACES.iter().position(|it| *it == named).unwrap_or(PLACES.len());
-        PLANTED.store(planted, Ordering::Relaxed);
-    }
-    PLACES.get(planted).map_or(false, |it| *it == place)
+    PLANTED.with(|it| it == place)
 }
 
 /// The library counts positions from the first byte, and gimli from the section's own.
@@ -178,7 +113,7 @@ pub fn address<R: Reader>(section: &R, size: u8, base: R::Offset, index: R::Offs
 }
 
 /// The declarations of a table by their order, and the attributes of all of them.
-pub fn table<R: Reader>(section: &R, offset: R::Offset) -> Result<(Vec<Declaration>, Vec<Attribute>)> {
+pub fn table<R: Reader>(section: &R, offset: R::Offset) -> Result<(Vec<Abbreviation>, Vec<Attribute>)> {
     let offset = offset.into_u64() as usize;
     let measure = read(section, |bytes, measure: &mut Measure, fault| unsafe {
         dwarf_table_measure(bytes.as_ptr(), bytes.len(), offset, measure, fault)
@@ -188,7 +123,7 @@ pub fn table<R: Reader>(section: &R, offset: R::Offset) -> Result<(Vec<Declarati
         let value = section.len().into_u64();
         return Err(error(section, Fault { kind: 1, value }));
     }
-    let mut declarations = vec![Declaration::default(); measure.abbreviations];
+    let mut declarations = vec![Abbreviation::default(); measure.abbreviations];
     let mut attributes = vec![Attribute::default(); measure.attributes];
     read(section, |bytes, again: &mut Measure, fault| unsafe {
         let (to, room) = (declarations.as_mut_ptr(), declarations.len());

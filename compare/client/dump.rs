@@ -4,6 +4,7 @@
 //! The words are the folder, whose files have the names of the sections, and `le` or `be`.
 
 use gimli::{AttributeValue, EndianSlice, Reader, RunTimeEndian};
+use std::error::Error;
 use std::io::{self, BufWriter, Write};
 
 type Section<'a> = EndianSlice<'a, RunTimeEndian>;
@@ -37,45 +38,30 @@ impl<'a, W: Write> Dump<'a, W> {
         writeln!(self.to)
     }
 
-    fn unit(&mut self, unit: &gimli::Unit<Section<'a>>) -> io::Result<Result<(), gimli::Error>> {
+    fn unit(&mut self, unit: &gimli::Unit<Section<'a>>) -> Result<(), Box<dyn Error>> {
         let mut entries = unit.entries();
-        loop {
-            let (depth, entry) = match entries.next_dfs() {
-                Ok(Some(it)) => it,
-                Ok(None) => return Ok(Ok(())),
-                Err(error) => return Ok(Err(error)),
-            };
+        while let Some((depth, entry)) = entries.next_dfs()? {
             self.entries += 1;
             let at = entry.offset().0;
             writeln!(self.to, "{depth} {at} {} {}", entry.tag(), entry.has_children())?;
             let mut attributes = entry.attrs();
-            loop {
-                match attributes.next() {
-                    Ok(Some(found)) => self.attribute(unit, &found)?,
-                    Ok(None) => break,
-                    Err(error) => return Ok(Err(error)),
-                }
+            while let Some(found) = attributes.next()? {
+                self.attribute(unit, &found)?;
             }
         }
+        Ok(())
     }
 
-    fn all(&mut self) -> io::Result<()> {
+    fn all(&mut self) -> Result<(), Box<dyn Error>> {
         let mut units = self.dwarf.units();
-        loop {
-            let header = match units.next() {
-                Ok(Some(header)) => header,
-                Ok(None) => return Ok(()),
-                Err(error) => return writeln!(self.to, "{error}"),
-            };
+        while let Some(header) = units.next()? {
             writeln!(self.to, "unit {:?}", header.offset())?;
-            match self.dwarf.unit(header) {
-                Ok(unit) => match self.unit(&unit)? {
-                    Ok(()) => {}
-                    Err(error) => writeln!(self.to, "{error}")?,
-                },
-                Err(error) => writeln!(self.to, "{error}")?,
+            let found = self.dwarf.unit(header).map_err(Into::into);
+            if let Err(error) = found.and_then(|unit| self.unit(&unit)) {
+                writeln!(self.to, "{error}")?;
             }
         }
+        Ok(())
     }
 }
 
@@ -89,7 +75,9 @@ fn main() -> io::Result<()> {
     let owned = gimli::Dwarf::load(load).expect("sections that aren't there are empty");
     let dwarf = owned.borrow(|it| EndianSlice::new(it, order));
     let mut dump = Dump { dwarf, to: BufWriter::new(io::stdout()), entries: 0, strings: 0 };
-    dump.all()?;
+    if let Err(error) = dump.all() {
+        writeln!(dump.to, "{error}")?;
+    }
     dump.to.flush()?;
     eprintln!("{} entries, {} strings", dump.entries, dump.strings);
     Ok(())

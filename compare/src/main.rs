@@ -4,6 +4,8 @@
 
 mod all;
 mod clock;
+#[allow(dead_code)] // The copy of gimli needs more of it.
+mod library;
 mod made;
 mod measure;
 mod ours;
@@ -12,8 +14,10 @@ mod question;
 mod shrink;
 mod tally;
 mod theirs;
+mod touched;
 
 use made::Random;
+use measure::Measured;
 use plain::PLANTS;
 use question::{Question, What};
 use std::process::ExitCode;
@@ -39,8 +43,10 @@ struct Wanted {
     alone: Option<(Question, Vec<u8>)>,
     /// The command that asks a question alone, up to the question.
     again: String,
-    /// Measure in place of comparing: time, or calls to be counted.
-    measured: Option<bool>,
+    /// What is measured in place of comparing.
+    measured: Option<Measured>,
+    /// The kind and the length of the only table that is measured.
+    table: Option<(String, u64)>,
     /// Whether all short inputs are asked.
     is_all: bool,
     /// The errors to plant in the second reader, by their places in its list.
@@ -69,6 +75,7 @@ fn wanted(words: &mut dyn Iterator<Item = String>) -> Result<Wanted, String> {
         alone: None,
         again: "compare --case".into(),
         measured: None,
+        table: None,
         is_all: false,
         plants: vec![],
     };
@@ -82,8 +89,13 @@ fn wanted(words: &mut dyn Iterator<Item = String>) -> Result<Wanted, String> {
                 let case = question_of(&text);
                 found.alone = Some(case.ok_or(format!("'{text}' is no question with bytes in hexadecimal behind it"))?);
             }
-            "--time" => found.measured = Some(true),
-            "--count" => found.measured = Some(false),
+            "--time" => found.measured = Some(Measured::Time),
+            "--count" => found.measured = Some(Measured::Calls),
+            "--touched" => found.measured = Some(Measured::Touched { is_ours: next()? == "here" }),
+            "--table" => {
+                let (kind, count) = (next()?, next()?);
+                found.table = Some((kind, count.parse().map_err(|_| "--table needs a number")?));
+            }
             "--all" => found.is_all = true,
             "--plants" => found.plants = (0..PLANTS.len()).collect(),
             "--plant" => {
@@ -203,12 +215,17 @@ fn refused(why: &str) -> ExitCode {
 }
 
 fn run(wanted: &Wanted) -> ExitCode {
-    match wanted.measured {
-        None => compare(wanted),
-        Some(is_timed) => match measure::measure(&measure::workloads(&wanted.sections), is_timed) {
-            Ok(()) => ExitCode::SUCCESS,
-            Err(why) => refused(&why),
-        },
+    let what = match wanted.measured {
+        None => return compare(wanted),
+        Some(what) => what,
+    };
+    let workloads = match &wanted.table {
+        None => measure::workloads(&wanted.sections),
+        Some((kind, count)) => measure::of_table(kind, *count),
+    };
+    match measure::measure(&workloads, what) {
+        Ok(()) => ExitCode::SUCCESS,
+        Err(why) => refused(&why),
     }
 }
 

@@ -1,4 +1,5 @@
-//! Measures the library beside gimli on equal inputs: time by turns, or one call of each side to be counted.
+//! Measures the library beside gimli on equal inputs: time by turns, one call of each side to be counted, or the memory
+//! that a call touches.
 //!
 //! The library's side is a call of `crates/dwarf_compare` that does the whole loop. What fills a cache from units
 //! is left out, since units belong to gimli's upper layers, and so are written numbers, which another feature has.
@@ -6,6 +7,7 @@
 use crate::clock::{hidden, nanos_of};
 use crate::made::{made_sets, put_signed, put_unsigned, shaped_table, Random};
 use crate::plain;
+use crate::touched::touched_bytes;
 use gimli::{
     DebugAbbrev, DebugAbbrevOffset, DebugAddr, DebugAddrBase, DebugAddrIndex, DebugStr, DebugStrOffset,
     DebugStrOffsets, DebugStrOffsetsBase, DebugStrOffsetsIndex, EndianSlice, Format, LittleEndian, Reader,
@@ -140,20 +142,24 @@ fn addresses(section: Bytes, indices: Places) -> u64 {
     indices.iter().fold(0u64, |sum, it| sum.wrapping_add(found(it)))
 }
 
+/// What reads these tables, with so many declarations.
+fn reading(name: String, count: usize, s: Bytes, o: Places) -> Workload {
+    let ours = move || unsafe { compare_tables(s.as_ptr(), s.len(), o.as_ptr(), o.len()) };
+    Workload { is_same: false, ..workload(name, count, move || tables(s, o), ours) }
+}
+
 /// Where a table is, and its codes as they rise.
 type Table = (usize, Vec<u64>);
 
 fn of_tables(name: &str, section: Vec<u8>, given: Vec<Table>, all: &mut Vec<Workload>) {
     let offsets: Vec<usize> = given.iter().map(|it| it.0).collect();
     let (s, o): (Bytes, Places) = (section.leak(), offsets.leak());
-    let all_tables = move || unsafe { compare_tables(s.as_ptr(), s.len(), o.as_ptr(), o.len()) };
     let walk_all =
         move || o.iter().map(|it| unsafe { compare_walk(s.as_ptr(), s.len(), *it) }).fold(0, u64::wrapping_add);
-    let count = all_tables() as usize;
+    let count = given.iter().map(|it| it.1.len()).sum();
     // Nearly all of the codes that `get_sum` looks up are in such a table.
     let is_dense = matches!(&given[..], [(0, codes)] if codes.len() as u64 == CODES && codes[0] < 3);
-    let read = workload(format!("a declaration of a table, {name}"), count, move || tables(s, o), all_tables);
-    all.push(Workload { is_same: false, ..read });
+    all.push(reading(format!("a declaration of a table, {name}"), count, s, o));
     let theirs = move || given.iter().map(|it| walk(s, it.0, &it.1)).fold(0, u64::wrapping_add);
     all.push(workload(format!("a declaration read and looked at, {name}"), count, theirs, walk_all));
     if is_dense {
@@ -254,7 +260,7 @@ fn of_strings(name: &str, random: &mut Random, section: Vec<u8>, all: &mut Vec<W
 /// A sum of what the headers of the sets have, or of their addresses.
 #[cfg(gimli_0_34)]
 #[inline(never)]
-fn sets_sum<const IS_OF_ENTRIES: bool>(section: Bytes) -> gimli::Result<u64> {
+pub fn sets_sum<const IS_OF_ENTRIES: bool>(section: &[u8]) -> gimli::Result<u64> {
     let mut sum = 0u64;
     let mut headers = DebugAddr::from(EndianSlice::new(section, LittleEndian)).headers();
     while let Some(header) = headers.next()? {
@@ -350,6 +356,30 @@ pub fn workloads(sections: &[(String, String, Vec<u8>)]) -> Vec<Workload> {
     all
 }
 
+/// The workload of one table with so many codes, which fall, have gaps, or rise from 1.
+pub fn of_table(kind: &str, count: u64) -> Vec<Workload> {
+    let codes = (1..=count).map(|it| match kind {
+        "falling" => count + 1 - it,
+        "far" => it * 0x1_0000_0001,
+        _ => it,
+    });
+    let mut section = vec![];
+    shaped_table(&mut Random(88_172_645_463_325_252), codes, &mut section);
+    vec![reading(kind.into(), count as usize, section.leak(), &[0])]
+}
+
+/// What is measured.
+#[derive(Clone, Copy)]
+pub enum Measured {
+    Time,
+    /// One call of each side, which valgrind counts.
+    Calls,
+    /// The memory that one side touches first.
+    Touched {
+        is_ours: bool,
+    },
+}
+
 #[no_mangle]
 #[inline(never)]
 extern "C" fn gimli_counted(workload: &Workload) {
@@ -365,7 +395,7 @@ extern "C" fn ours_counted(workload: &Workload) {
 /// Nanoseconds of an operation of either side by turns, and the quarters and the middle of the ratios of neighbours.
 fn turns(workload: &Workload) -> String {
     let (mut left, mut right, mut ratios) = (vec![], vec![], vec![]);
-    for sample in 0..31 {
+    for sample in 0..if workload.operations < 1_000_000 { 31 } else { 3 } {
         let is_first = sample % 2 == 0;
         let early = nanos_of(if is_first { &workload.gimli } else { &workload.ours }, 3);
         let late = nanos_of(if is_first { &workload.ours } else { &workload.gimli }, 3);
@@ -384,20 +414,27 @@ fn turns(workload: &Workload) -> String {
 
 /// Prints a line of each workload: its name, its operations, and if it is timed the nanoseconds of an operation of
 /// either side, and the lower quarter, the middle and the upper quarter of the ratios of neighbouring turns.
-pub fn measure(all: &[Workload], is_timed: bool) -> Result<(), String> {
+pub fn measure(all: &[Workload], what: Measured) -> Result<(), String> {
     for workload in all {
         let (name, operations) = (&workload.name, workload.operations);
+        if let Measured::Touched { is_ours } = what {
+            // Both have run before, so that their code is in memory.
+            let small = &of_table("rising", 1)[0];
+            hidden((small.gimli)() + (small.ours)());
+            println!("{}", touched_bytes(if is_ours { &workload.ours } else { &workload.gimli }));
+            continue;
+        }
         let (gimli, ours) = ((workload.gimli)(), (workload.ours)());
         if workload.is_same && gimli != ours {
             return Err(format!("{name}: gimli's sum is {gimli}, and the library's {ours}"));
         }
-        if !is_timed {
+        if let Measured::Time = what {
+            println!("{name}\t{operations}\t{}", turns(workload));
+        } else {
             gimli_counted(workload);
             ours_counted(workload);
             println!("{name}\t{operations}");
-            continue;
         }
-        println!("{name}\t{operations}\t{}", turns(workload));
     }
     Ok(())
 }

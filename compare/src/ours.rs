@@ -4,44 +4,12 @@
 //! many items as its length says, all outputs are initialized, and an output overlaps nothing, since it is borrowed
 //! mutably.
 
-use crate::question::{fault_of_text, Answer, Declaration, Question, Set, What};
+use crate::library::*;
+use crate::question::{fault_of_text, Answer, Declaration, Question, What};
 
 const OK: u32 = 0;
 const NO_ROOM: u32 = 100;
 const END: u32 = 102;
-
-#[repr(C)]
-#[derive(Default, Clone, Copy)]
-struct RawFault {
-    kind: u32,
-    value: u64,
-}
-
-#[repr(C)]
-#[derive(Default, Clone, Copy)]
-struct Measure {
-    abbreviations: usize,
-    attributes: usize,
-    closed_by_null: u8,
-}
-
-#[repr(C)]
-#[derive(Default, Clone, Copy)]
-struct RawAbbreviation {
-    code: u64,
-    tag: u16,
-    has_children: u8,
-    first_attribute: usize,
-    attribute_count: usize,
-}
-
-#[repr(C)]
-#[derive(Default, Clone, Copy)]
-struct RawAttribute {
-    name: u16,
-    form: u16,
-    implicit_const: i64,
-}
 
 /// What one of `READERS` is asked.
 #[repr(C)]
@@ -57,39 +25,13 @@ struct Asked {
 type Byte = *const u8;
 
 extern "C" {
-    fn dwarf_uleb128(bytes: Byte, len: usize, value: &mut u64, size: &mut usize, fault: &mut RawFault) -> u32;
-    fn dwarf_sleb128(bytes: Byte, len: usize, value: &mut i64, size: &mut usize, fault: &mut RawFault) -> u32;
-    fn dwarf_uleb128_write(value: u64, bytes: *mut u8, room: usize, len: &mut usize) -> u32;
-    fn dwarf_sleb128_write(value: i64, bytes: *mut u8, room: usize, len: &mut usize) -> u32;
-    fn dwarf_string(bytes: Byte, len: usize, offset: usize, string_len: &mut usize, fault: &mut RawFault) -> u32;
-    fn dwarf_str_offset(
-        bytes: Byte, len: usize, is_big: bool, is_64: bool, base: usize, index: usize, offset: &mut usize,
-        fault: &mut RawFault,
-    ) -> u32;
-    fn dwarf_address(
-        bytes: Byte, len: usize, is_big: bool, size: u8, base: usize, index: usize, address: &mut u64,
-        fault: &mut RawFault,
-    ) -> u32;
-    fn dwarf_address_set(
-        bytes: Byte, len: usize, is_big: bool, offset: usize, set: &mut Set, fault: &mut RawFault,
-    ) -> u32;
-    fn dwarf_str_offset_set(
-        bytes: Byte, len: usize, is_big: bool, offset: usize, set: &mut Set, fault: &mut RawFault,
-    ) -> u32;
-    fn dwarf_table_read(
-        bytes: Byte, len: usize, offset: usize, abbreviations: *mut RawAbbreviation, abbreviation_room: usize,
-        attributes: *mut RawAttribute, attribute_room: usize, measure: &mut Measure, fault: &mut RawFault,
-    ) -> u32;
-
-    fn compare_short(bytes: Byte, len: usize, value: &mut u16, rest: &mut usize, fault: &mut RawFault) -> u32;
-    fn compare_skipped(bytes: Byte, len: usize, rest: &mut usize, fault: &mut RawFault) -> u32;
-    fn compare_strict(bytes: Byte, len: usize, offset: usize, count: &mut usize, fault: &mut RawFault) -> u32;
+    fn compare_strict(bytes: Byte, len: usize, offset: usize, count: &mut usize, fault: &mut Fault) -> u32;
     fn compare_grown(
-        bytes: Byte, len: usize, before: usize, offset: usize, count: &mut usize, fault: &mut RawFault,
+        bytes: Byte, len: usize, before: usize, offset: usize, count: &mut usize, fault: &mut Fault,
     ) -> u32;
     fn compare_found(
         bytes: Byte, len: usize, offset: usize, codes: *const u64, code_count: usize, tags: *mut u16, tag_count: usize,
-        fault: &mut RawFault,
+        fault: &mut Fault,
     ) -> u32;
     fn compare_cached(bytes: Byte, len: usize, offsets: *const u64, count: usize) -> u64;
     fn compare_addresses(bytes: Byte, len: usize) -> u64;
@@ -100,8 +42,8 @@ extern "C" {
 
 /// The library, with places for tables that are used again.
 pub struct Ours {
-    abbreviations: Vec<RawAbbreviation>,
-    attributes: Vec<RawAttribute>,
+    abbreviations: Vec<Abbreviation>,
+    attributes: Vec<Attribute>,
 }
 
 impl Ours {
@@ -122,14 +64,14 @@ impl Ours {
             What::Strict => strict(bytes, *at),
             What::Grown => count(|count, fault| unsafe { compare_grown(data, len, *more, *at, count, fault) }),
             What::Found => found(bytes, *at, list),
-            What::Cached => Answer::Sum(unsafe { compare_cached(data, len, list.as_ptr(), list.len()) }),
-            What::Addresses => Answer::Sum(unsafe { compare_addresses(data, len) }),
+            What::Cached => Answer::value(unsafe { compare_cached(data, len, list.as_ptr(), list.len()) }),
+            What::Addresses => Answer::value(unsafe { compare_addresses(data, len) }),
             _ => lookup(question, bytes),
         }
     }
 
     fn table(&mut self, bytes: &[u8], offset: usize) -> Answer {
-        let (mut measure, mut fault) = (Measure::default(), RawFault::default());
+        let (mut measure, mut fault) = (Measure::default(), Fault::default());
         loop {
             let (abbreviations, attributes) = (&mut self.abbreviations, &mut self.attributes);
             let status = unsafe {
@@ -157,14 +99,11 @@ impl Ours {
     }
 
     fn shown(&self, measure: &Measure) -> Answer {
-        let shown = |it: &RawAbbreviation| Declaration {
+        let shown = |it: &Abbreviation| Declaration {
             code: it.code,
             tag: it.tag,
             has_children: it.has_children != 0,
-            attributes: self.attributes[it.first_attribute..][..it.attribute_count]
-                .iter()
-                .map(|it| (it.name, it.form, it.implicit_const))
-                .collect(),
+            attributes: self.attributes[it.first..][..it.count].iter().map(|it| (it.name, it.form, it.value)).collect(),
         };
         let declarations = self.abbreviations[..measure.abbreviations].iter().map(shown).collect();
         Answer::Table { declarations, closed_by_null: Some(measure.closed_by_null != 0) }
@@ -172,14 +111,14 @@ impl Ours {
 }
 
 /// The error of a call. A number that differs from the fault's is told by one that no error has.
-fn refused(status: u32, fault: RawFault, rest: Option<usize>) -> Answer {
+fn refused(status: u32, fault: Fault, rest: Option<usize>) -> Answer {
     let kind = if status == fault.kind { status } else { u32::MAX };
     Answer::Fault { kind, value: Some(fault.value), rest }
 }
 
 fn number(what: What, bytes: &[u8]) -> Answer {
     let (at, len) = (bytes.as_ptr(), bytes.len());
-    let (mut size, mut rest, mut fault) = (0, usize::MAX, RawFault::default());
+    let (mut size, mut rest, mut fault) = (0, usize::MAX, Fault::default());
     let (mut unsigned, mut signed, mut short) = (0, 0, 0);
     let status = match what {
         What::Unsigned => unsafe { dwarf_uleb128(at, len, &mut unsigned, &mut size, &mut fault) },
@@ -190,12 +129,11 @@ fn number(what: What, bytes: &[u8]) -> Answer {
     if matches!(what, What::Unsigned | What::Signed) {
         rest = if status == OK { len - size } else { rest_of_error(what, bytes) };
     }
-    match (status, what) {
-        (OK, What::Skipped) => Answer::Skipped { rest },
-        // (two of the three are 0)
-        (OK, _) => Answer::Number { value: i128::from(unsigned) + i128::from(signed) + i128::from(short), rest },
-        _ => refused(status, fault, Some(rest)),
+    if status != OK {
+        return refused(status, fault, Some(rest));
     }
+    // (two of the three are 0)
+    Answer::Value { value: i128::from(unsigned) + i128::from(signed) + i128::from(short), rest: Some(rest) }
 }
 
 /// How many bytes remain behind an error, which the calls for C don't tell.
@@ -216,10 +154,10 @@ fn written(call: impl FnOnce(*mut u8, usize, &mut usize) -> u32) -> Answer {
     Answer::Written(bytes)
 }
 
-fn count(call: impl FnOnce(&mut usize, &mut RawFault) -> u32) -> Answer {
-    let (mut count, mut fault) = (0, RawFault::default());
+fn count(call: impl FnOnce(&mut usize, &mut Fault) -> u32) -> Answer {
+    let (mut count, mut fault) = (0, Fault::default());
     match call(&mut count, &mut fault) {
-        OK => Answer::Count(count),
+        OK => Answer::value(count as u64),
         status => refused(status, fault, None),
     }
 }
@@ -230,7 +168,7 @@ pub fn strict(bytes: &[u8], offset: usize) -> Answer {
 }
 
 fn found(bytes: &[u8], offset: usize, codes: &[u64]) -> Answer {
-    let (mut tags, mut fault) = (vec![0; codes.len()], RawFault::default());
+    let (mut tags, mut fault) = (vec![0; codes.len()], Fault::default());
     let status = unsafe {
         compare_found(
             bytes.as_ptr(),
@@ -252,20 +190,20 @@ fn found(bytes: &[u8], offset: usize, codes: &[u64]) -> Answer {
 /// Strings, words and sets.
 fn lookup(question: &Question, bytes: &[u8]) -> Answer {
     let (data, len) = (bytes.as_ptr(), bytes.len());
-    let (mut length, mut word, mut set, mut fault) = (0, 0, Set::default(), RawFault::default());
+    let (mut length, mut word, mut set, mut fault) = (0, 0, Set::default(), Fault::default());
     let Question { is_big, size, at, more, .. } = *question;
     let (status, answer) = match question.what {
         What::Text => {
             let status = unsafe { dwarf_string(data, len, at, &mut length, &mut fault) };
-            (status, Answer::Length(length))
+            (status, Answer::value(length as u64))
         }
         What::StrOffset => {
             let status = unsafe { dwarf_str_offset(data, len, is_big, size == 8, at, more, &mut length, &mut fault) };
-            (status, Answer::Word(length as u64))
+            (status, Answer::value(length as u64))
         }
         What::Address => {
             let status = unsafe { dwarf_address(data, len, is_big, size, at, more, &mut word, &mut fault) };
-            (status, Answer::Word(word))
+            (status, Answer::value(word))
         }
         What::AddressSet => {
             let status = unsafe { dwarf_address_set(data, len, is_big, at, &mut set, &mut fault) };

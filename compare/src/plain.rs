@@ -3,7 +3,8 @@
 //! It is plain, and slow where that is plainer. It shares nothing with the library. The standard doesn't say which
 //! error a reader gives of bytes that are malformed, nor where; that is as the library's documentation says.
 
-use crate::question::{Answer, Declaration, Question, Set, What};
+use crate::library::Set;
+use crate::question::{Answer, Declaration, Question, What};
 use std::collections::BTreeMap;
 use std::sync::atomic::{AtomicUsize, Ordering::Relaxed};
 
@@ -185,16 +186,16 @@ pub fn answer(question: &Question, bytes: &[u8]) -> Answer {
         })),
         What::Strict => shown(table(bytes, at).and_then(|(by_code, is_null)| {
             if is_null || has(Plant::Missing) {
-                Ok(Answer::Count(by_code.len()))
+                Ok(Answer::value(by_code.len() as u64))
             } else {
                 Err((UNTERMINATED, bytes.len() as u64))
             }
         })),
         // A section that grew is read as if it had always been so.
-        What::Grown => shown(table(bytes, at).map(|it| Answer::Count(it.0.len()))),
+        What::Grown => shown(table(bytes, at).map(|it| Answer::value(it.0.len() as u64))),
         What::Cached => {
             let length = |it: &u64| table(bytes, *it as usize).map_or(1 << 32, |it| it.0.len() as u64);
-            Answer::Sum(2 * list.iter().map(length).sum::<u64>())
+            Answer::value(2 * list.iter().map(length).sum::<u64>())
         }
         What::Found => {
             shown(table(bytes, at).map(|(by_code, _)| {
@@ -202,9 +203,9 @@ pub fn answer(question: &Question, bytes: &[u8]) -> Answer {
             }))
         }
         What::Text => shown(string(bytes, at)),
-        What::StrOffset | What::Address => shown(slot(bytes, size, at, more, is_big).map(Answer::Word)),
+        What::StrOffset | What::Address => shown(slot(bytes, size, at, more, is_big).map(Answer::value)),
         What::AddressSet | What::StrOffsetSet => shown(set(bytes, is_big, at, what == What::AddressSet)),
-        What::Addresses => Answer::Sum(addresses(bytes).unwrap_or(0)),
+        What::Addresses => Answer::value(addresses(bytes).unwrap_or(0)),
     }
 }
 
@@ -217,10 +218,9 @@ fn number(what: What, bytes: &[u8]) -> Answer {
         _ => input.digits(usize::MAX).map(|_| 0),
     };
     let rest = bytes.len() - input.at;
-    match (read, what) {
-        (Ok(_), What::Skipped) => Answer::Skipped { rest },
-        (Ok(value), _) => Answer::Number { value, rest },
-        (Err((kind, value)), _) => Answer::Fault { kind, value: Some(value), rest: Some(rest) },
+    match read {
+        Ok(value) => Answer::Value { value, rest: Some(rest) },
+        Err((kind, value)) => Answer::Fault { kind, value: Some(value), rest: Some(rest) },
     }
 }
 
@@ -304,7 +304,7 @@ fn string(bytes: &[u8], offset: usize) -> Result<Answer, Fault> {
     let from = bytes.get(offset..).ok_or_else(|| eof(0))?;
     let end = if has(Plant::String) { Some(from.len()) } else { None };
     let len = from.iter().position(|it| *it == 0).or(end).ok_or_else(|| eof(offset))?;
-    Ok(Answer::Length(len))
+    Ok(Answer::value(len as u64))
 }
 
 /// Whether addresses may have so many bytes.

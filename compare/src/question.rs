@@ -1,5 +1,6 @@
 //! What is asked of each reader, and what it gives.
 
+use crate::library::Set;
 use std::fmt;
 
 /// The errors by the numbers of `include/dwarf_read.h`.
@@ -133,44 +134,23 @@ impl Declaration {
     }
 }
 
-/// The header of a set, as the calls for C write it.
-#[repr(C)]
-#[derive(Debug, Default, Clone, PartialEq)]
-pub struct Set {
-    pub next: usize,
-    pub unit_length: usize,
-    pub first_entry: usize,
-    /// How many whole entries it has.
-    pub entry_count: usize,
-    pub word_size: u8,
-    pub entry_size: u8,
-}
-
 /// What a reader gives. `None` is what a reader doesn't tell.
 #[derive(Debug, Clone, PartialEq)]
 pub enum Answer {
-    Number {
+    /// A number, a length or a sum, and of a number that is read how many bytes remain.
+    Value {
         value: i128,
-        rest: usize,
-    },
-    Skipped {
-        rest: usize,
+        rest: Option<usize>,
     },
     Written(Vec<u8>),
     Table {
         declarations: Vec<Declaration>,
         closed_by_null: Option<bool>,
     },
-    /// How many declarations a table has.
-    Count(usize),
     Tags(Vec<u16>),
-    /// How long a string is.
-    Length(usize),
-    Word(u64),
     Set(Set),
     /// There is no set, since the offset is the section's end.
     End,
-    Sum(u64),
     /// Any of these as four numbers, which a caller can have of each reader.
     Parts([u64; 4]),
     Fault {
@@ -185,6 +165,10 @@ fn same_if_told<T: PartialEq>(one: &Option<T>, other: &Option<T>) -> bool {
 }
 
 impl Answer {
+    pub fn value(value: u64) -> Answer {
+        Answer::Value { value: value.into(), rest: None }
+    }
+
     /// Whether two readers tell the same, as far as both tell it.
     pub fn agrees(&self, other: &Answer) -> bool {
         match (self, other) {
@@ -203,15 +187,11 @@ impl Answer {
     /// The same as four numbers, unless it is an error. A table is the sum of its parts, its length and its close.
     pub fn in_parts(&self) -> Answer {
         Answer::Parts(match self {
-            Answer::Number { value, rest } => [*value as u64, 0, 0, *rest as u64],
-            Answer::Skipped { rest } => [0, 0, 0, *rest as u64],
+            Answer::Value { value, rest } => [*value as u64, 0, 0, rest.unwrap_or(0) as u64],
             Answer::Table { declarations, closed_by_null } => {
                 let sum = declarations.iter().map(Declaration::sum).fold(0, u64::wrapping_add);
                 [sum, declarations.len() as u64, u64::from(*closed_by_null == Some(true)), 0]
             }
-            Answer::Count(count) => [0, *count as u64, 0, 0],
-            Answer::Length(len) => [*len as u64, 0, 0, 0],
-            Answer::Word(value) | Answer::Sum(value) => [*value, 0, 0, 0],
             Answer::Set(set) => [set.unit_length as u64, set.entry_size.into(), set.word_size.into(), 0],
             Answer::End => [0, 0, 0, 1],
             _ => return self.clone(),
@@ -222,24 +202,18 @@ impl Answer {
     pub fn reached(&self) -> &'static str {
         match self {
             Answer::Fault { kind, .. } => error_name(*kind),
-            Answer::Number { value, .. } if *value < 0 => "a number below 0",
-            Answer::Number { value, .. } if *value < 128 => "a number below 128",
-            Answer::Number { .. } => "a number from 128",
-            Answer::Skipped { .. } => "a number skipped",
+            Answer::Value { value, .. } if *value < 0 => "a number below 0",
+            Answer::Value { value: 0, .. } => "0",
+            Answer::Value { value, .. } if *value < 128 => "a number below 128",
+            Answer::Value { .. } => "a number from 128",
             Answer::Written(_) => "bytes of a number",
             Answer::Table { closed_by_null: Some(false), .. } => "a table closed by the end",
             Answer::Table { declarations, .. } if declarations.is_empty() => "a table without declarations",
             Answer::Table { .. } => "a table closed by a null code",
-            Answer::Count(_) => "a length of a table",
             Answer::Tags(tags) if tags.iter().all(|it| *it == 0) => "only codes that no declaration has",
             Answer::Tags(_) => "a tag of a code",
-            Answer::Length(0) => "an empty string",
-            Answer::Length(_) => "a string",
-            Answer::Word(_) => "a word",
             Answer::Set(_) => "a set",
             Answer::End => "the end of the sets",
-            Answer::Sum(0) => "a sum that is 0",
-            Answer::Sum(_) => "a sum",
             Answer::Parts(_) => "parts",
         }
     }

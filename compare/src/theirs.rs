@@ -1,8 +1,8 @@
 //! The published gimli, as far as the version at hand has what is asked.
 
-#[cfg(gimli_0_34)]
-use crate::question::Set;
 use crate::question::{fault_of_text, Answer, Declaration, Question, What};
+#[cfg(gimli_0_34)]
+use crate::{library::Set, measure::sets_sum};
 use gimli::{
     DebugAbbrev, DebugAbbrevOffset, DebugAddr, DebugAddrBase, DebugAddrIndex, DebugStr, DebugStrOffset,
     DebugStrOffsets, DebugStrOffsetsBase, DebugStrOffsetsIndex, EndianSlice, Error, Format, LittleEndian, Reader,
@@ -62,15 +62,17 @@ fn lookup(question: &Question, bytes: &[u8]) -> Option<Answer> {
     }
     let input = EndianSlice::new(bytes, order(is_big));
     let found = match question.what {
-        What::Text => DebugStr::new(bytes, LittleEndian).get_str(DebugStrOffset(at)).map(|it| Answer::Length(it.len())),
+        What::Text => {
+            DebugStr::new(bytes, LittleEndian).get_str(DebugStrOffset(at)).map(|it| Answer::value(it.len() as u64))
+        }
         What::StrOffset => {
             let format = if size == 8 { Format::Dwarf64 } else { Format::Dwarf32 };
             DebugStrOffsets::from(input)
                 .get_str_offset(format, DebugStrOffsetsBase(at), DebugStrOffsetsIndex(more))
-                .map(|it| Answer::Word(it.0 as u64))
+                .map(|it| Answer::value(it.0 as u64))
         }
         What::Address => {
-            DebugAddr::from(input).get_address(size, DebugAddrBase(at), DebugAddrIndex(more)).map(Answer::Word)
+            DebugAddr::from(input).get_address(size, DebugAddrBase(at), DebugAddrIndex(more)).map(Answer::value)
         }
         _ => return sets(question, bytes),
     };
@@ -103,11 +105,8 @@ fn number(what: What, bytes: &[u8]) -> Answer {
         What::Short => gimli::leb128::read::u16(&mut input).map(i128::from),
         _ => gimli::leb128::read::skip(&mut input).map(|()| 0),
     };
-    match (read, what) {
-        (Ok(_), What::Skipped) => Answer::Skipped { rest: Reader::len(&input) },
-        (Ok(value), _) => Answer::Number { value, rest: Reader::len(&input) },
-        (Err(error), _) => fault(error, bytes, Some(Reader::len(&input))),
-    }
+    let rest = Some(Reader::len(&input));
+    read.map_or_else(|error| fault(error, bytes, rest), |value| Answer::Value { value, rest })
 }
 
 /// The declarations of gimli's table with the codes of the second reader's.
@@ -159,20 +158,7 @@ fn sets(question: &Question, bytes: &[u8]) -> Option<Answer> {
                 Err(error) => fault(error, bytes, None),
             })
         }
-        What::Addresses => Some(Answer::Sum(addresses(bytes).unwrap_or(0))),
+        What::Addresses => Some(Answer::value(sets_sum::<true>(bytes).unwrap_or(0))),
         _ => None,
     }
-}
-
-#[cfg(gimli_0_34)]
-fn addresses(bytes: &[u8]) -> gimli::Result<u64> {
-    let mut sum = 0u64;
-    let mut headers = DebugAddr::from(EndianSlice::new(bytes, LittleEndian)).headers();
-    while let Some(header) = headers.next()? {
-        let mut entries = header.entries();
-        while let Some(address) = entries.next()? {
-            sum = sum.wrapping_add(address);
-        }
-    }
-    Ok(sum)
 }

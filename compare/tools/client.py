@@ -11,6 +11,7 @@ import shutil
 import subprocess
 import tempfile
 
+import checks
 from common import DEBIAN, OUT, PACKAGE, Failed, Missing, decompressed, files_by_default, is_big_endian, link_libraries
 from common import must, need, put, run
 
@@ -51,7 +52,7 @@ BUILD = """fn main() {
     }
 }
 """
-MODULE = "#[allow(missing_docs, missing_debug_implementations)]\npub mod calls;\n"
+MODULE = "#[allow(missing_docs, missing_debug_implementations, dead_code)]\npub mod {};\n"
 # In which file, behind which words, the body behind which words gets which body.
 TABLE = """
         let (declarations, attributes) = crate::calls::table(&self.debug_abbrev_section, debug_abbrev_offset.0)?;
@@ -116,7 +117,8 @@ def with_body(text, behind, function, body):
 def patched(name, text):
     """A source file of gimli's that reads by the library."""
     if name == "lib.rs":
-        return text.replace("pub mod leb128;", f"pub mod leb128;\n{MODULE}", 1)
+        modules = MODULE.format("calls") + MODULE.format("library")
+        return text.replace("pub mod leb128;", f"pub mod leb128;\n{modules}", 1)
     for file, behind, function, body in BODIES:
         if file == name:
             text = with_body(text, behind, function, body)
@@ -151,6 +153,7 @@ def copy(gimli, folder, is_patched):
     if is_patched:
         write(BUILD.replace("FOLDER", f"{OUT}/lib"), f"{folder}/build.rs")
         put(f"{PACKAGE}/client/calls.rs", f"{folder}/src/calls.rs")
+        put(f"{PACKAGE}/src/library.rs", f"{folder}/src/library.rs")
 
 
 def tests(folder, planted=""):
@@ -202,18 +205,7 @@ def first_difference(one, other):
     return "one is the front of the other"
 
 
-class Counts:
-    """How many checks passed and failed."""
-
-    def __init__(self):
-        self.passed = self.failed = 0
-
-    def tell(self, is_good, line):
-        self.passed, self.failed = self.passed + is_good, self.failed + (not is_good)
-        print(f"{'' if is_good else 'FAILED: '}{line}", flush=True)
-
-
-def compare_dumps(counts, files, folders, work):
+def compare_dumps(now, files, folders, work):
     """Compares the dumps of each file, and returns which planted errors they show."""
     shown = set()
     for i, path in enumerate(files):
@@ -223,7 +215,7 @@ def compare_dumps(counts, files, folders, work):
         texts = [f"{work}/gimli", f"{work}/library", f"{work}/planted"]
         said = [dump(folder, sections, order, text) for folder, text in zip(folders, texts)]
         is_equal = said[0] == said[1] and filecmp.cmp(*texts[:2], shallow=False)
-        counts.tell(is_equal, f"dump of {path}: {said[1]}")
+        now.tell(is_equal, f"dump of {path}: {said[1]}")
         if not is_equal:
             print(f"  gimli: {said[0]}\n  {first_difference(*texts[:2])}")
         for what, where in PLANTED:
@@ -249,19 +241,18 @@ def client(given):
         copy(gimli, folder, folder is folders[1])
         words = ["cargo", "build", "--quiet", "--offline", "--release", "--example", "dump"]
         must(words, f"the program that dumps isn't built in {folder}", cwd=folder)
-    counts = Counts()
     found = tests(folders[1])
     kinds = ", ".join(f"{passed} passed, {failed} failed" for passed, failed in found)
     wanted = tests(folders[0])
-    counts.tell(found == wanted and not sum(it[1] for it in found), f"gimli's own tests by the library: {kinds}")
     with tempfile.TemporaryDirectory(prefix="compare-") as work:
-        files = given["files"] or files_by_default(f"{folders[1]}/target/release/examples/dump")
-        shown = compare_dumps(counts, files, folders, work)
+        now = checks.Checks("compare", work)
+        now.tell(found == wanted and not sum(it[1] for it in found), f"gimli's own tests by the library: {kinds}")
+        files = given.files or files_by_default(f"{folders[1]}/target/release/examples/dump")
+        shown = compare_dumps(now, files, folders, work)
     failures = sum(failed for _, failed in tests(folders[1], "number"))
     if failures:
         shown.add("number")
     for what, where in PLANTED:
         seen = f"{failures} tests fail" if where == "tests" else "a dump differs"
-        counts.tell(what in shown, f"planted {what}: {seen if what in shown else f'the {where} do not show it'}")
-    print(f"{counts.passed} passed, {counts.failed} failed, 0 skipped")
-    return 1 if counts.failed else 0
+        now.tell(what in shown, f"planted {what}: {seen if what in shown else f'the {where} do not show it'}")
+    return now.end()

@@ -1,4 +1,6 @@
 """What the commands of `tools/compare` share: errors, other programs, the program that compares, and sections."""
+import contextlib
+import filecmp
 import os
 import re
 import shutil
@@ -31,8 +33,7 @@ def say(text):
 
 def run(words, **how):
     """Runs a command, and returns what it prints and its status."""
-    how = {"stdin": subprocess.DEVNULL, "stdout": subprocess.PIPE, "stderr": subprocess.STDOUT, **how}
-    ran = subprocess.run(words, **how, text=True, errors="replace", check=False)
+    ran = kit.run(words, **how)
     return ran.stdout.strip(), ran.returncode
 
 
@@ -67,34 +68,29 @@ def check_files(paths):
 
 def put(source, target):
     """Copies a file, unless it is there already: its date decides what cargo builds again."""
-    with open(source, "rb") as file:
-        text = file.read()
-    try:
-        with open(target, "rb") as file:
-            if file.read() == text:
-                return
-    except OSError:
+    if not os.path.isfile(target) or not filecmp.cmp(source, target, shallow=False):
         os.makedirs(os.path.dirname(target), exist_ok=True)
-    with open(target, "wb") as file:
-        file.write(text)
+        shutil.copyfile(source, target)
 
 
 def put_in_front(count):
     """Makes the library that is linked in front of the others: so many bytes of code, which nothing calls."""
-    source, made = f"{OUT}/lib/in_front.s", f"{OUT}/lib/libin_front.a"
+    source = f"{OUT}/in_front_{count}.s"
     # The R keeps a linker from leaving the section out.
     text = f'.section .text.in_front, "axR", @progbits\n.balign 64\n.skip {64 + count}, 0x90\n'
-    text += '.section .note.GNU-stack, "", @progbits\n'
-    if os.path.isfile(made):
-        with open(source, encoding="utf-8") as file:
-            if file.read() == text:
-                return
+    kit.put(source, text + '.section .note.GNU-stack, "", @progbits\n')
+    made = make_library(source)
+    put(made, f"{OUT}/lib/libin_front.a")
+
+
+def make_library(source):
+    """Makes a static library of a source in assembler or C, and returns where it is."""
+    made, it = f"{OUT}/{os.path.splitext(os.path.basename(source))[0]}.a", f"{OUT}/object.o"
+    must([os.environ.get("CC", "cc"), "-O2", "-fPIC", "-c", source, "-o", it], f"{source} isn't compiled")
+    with contextlib.suppress(OSError):
         os.unlink(made)
-    with open(source, "w", encoding="utf-8") as file:
-        file.write(text)
-    compiler = os.environ.get("CC", "cc")
-    must([compiler, "-c", source, "-o", f"{OUT}/lib/in_front.o"], "the code in front isn't assembled")
-    must(["ar", "rcs", made, f"{OUT}/lib/in_front.o"], "the library of the code in front isn't made")
+    must(["ar", "rcsD", made, it], f"the library of {source} isn't made")
+    return made
 
 
 def link_libraries():
@@ -106,12 +102,7 @@ def link_libraries():
         if subprocess.run(words, stdin=subprocess.DEVNULL, check=False).returncode:
             raise Failed(f"the static library of {crate} isn't built")
         put(f"{kit.ROOT}/crates/{crate}/out/lib{crate}.a", f"{OUT}/lib/lib{crate}.a")
-    heap = f"{OUT}/lib/libdwarf_read_heap.a"
-    if not os.path.isfile(heap):
-        compiler, folder = os.environ.get("CC", "cc"), f"{OUT}/lib"
-        source = f"{kit.ROOT}/include/dwarf_read_heap.c"
-        must([compiler, "-O2", "-fPIC", "-c", source, "-o", f"{folder}/heap.o"], "dwarf_read_heap.c isn't compiled")
-        must(["ar", "rcs", heap, f"{folder}/heap.o"], "the library of dwarf_read_heap.c isn't made")
+    put(make_library(f"{kit.ROOT}/include/dwarf_read_heap.c"), f"{OUT}/lib/libdwarf_read_heap.a")
 
 
 def copy_package(folder, is_locked):
@@ -129,11 +120,9 @@ def copy_package(folder, is_locked):
 
 def refusal_of_fetch(folder):
     """Why cargo can't fetch what the package needs, or None if it can."""
-    try:
-        said, status = run(["cargo", "fetch", "--quiet"], cwd=folder, timeout=FETCH_SECONDS)
-    except subprocess.TimeoutExpired:
-        return f"it didn't come within {FETCH_SECONDS} seconds"
-    last = said.splitlines()[-1].strip() if said else f"status {status}"
+    said, status = run(["timeout", str(FETCH_SECONDS), "cargo", "fetch", "--quiet"], cwd=folder)
+    said = f"it didn't come within {FETCH_SECONDS} seconds" if status == 124 else said or f"status {status}"
+    last = said.splitlines()[-1].strip()
     return last if status else None
 
 
@@ -178,8 +167,7 @@ def files_by_default(program):
 
 def debug_file_of_libc():
     """The debug file of the C library of this Python, or None."""
-    with open("/proc/self/maps", encoding="utf-8") as file:
-        found = re.search(r"/\S*/libc\.so\.6$|/\S*/libc-[\d.]+\.so$", file.read(), re.M)
+    found = re.search(r"/\S*/libc\.so\.6$|/\S*/libc-[\d.]+\.so$", kit.text_of("/proc/self/maps"), re.M)
     if not found or not shutil.which("readelf"):
         return None
     build_id = re.search(r"Build ID: (\w\w)(\w+)", run(["readelf", "-n", found[0]])[0])

@@ -6,6 +6,7 @@ import statistics
 import subprocess
 import tempfile
 
+import kit
 from common import Failed, build, must, need, run, sections
 
 # The C library copies a large block by one instruction that valgrind counts once a byte. With this setting it copies by
@@ -17,8 +18,7 @@ PLACES = (0, 16, 32, 48)
 
 def what_ran():
     """The processor, and the compiler of gimli's side."""
-    with open("/proc/cpuinfo", encoding="utf-8") as file:
-        model = re.search(r"^model name\s*: (.*)$", file.read(), re.M)
+    model = re.search(r"^model name\s*: (.*)$", kit.text_of("/proc/cpuinfo"), re.M)
     return f"{model[1] if model else 'a processor without a name'}; {run(['rustc', '--version'])[0]}"
 
 
@@ -43,11 +43,10 @@ def counted(program, words):
     with tempfile.TemporaryDirectory(prefix="compare-") as work:
         flags = ["--tool=callgrind", f"--callgrind-out-file={work}/part"]
         flags += [f"--{what}={side}" for side in found for what in ("toggle-collect", "dump-after")]
-        how = {"stderr": subprocess.PIPE, "env": {**os.environ, **COUNTED_COPIES}}
+        how = {"stderr": subprocess.DEVNULL, "env": {**os.environ, **COUNTED_COPIES}}
         said = must(["valgrind", "-q", *flags, program, "--count", *words], "it can't be counted", **how)
         for name in sorted(os.listdir(work), key=lambda it: int(it.rpartition(".")[2] if "." in it else 0)):
-            with open(f"{work}/{name}", encoding="utf-8") as file:
-                text = file.read()
+            text = kit.text_of(f"{work}/{name}")
             side = re.search(r"^desc: Trigger: --dump-after=(\w+)", text, re.M)
             if side:
                 found[side[1]].append(int(re.search(r"^(?:summary|totals): (\d+)", text, re.M)[1]))
@@ -70,33 +69,24 @@ def own_files(program, folder):
     need("g++", "g++")
     paths = [f"{folder}/a Rust program", f"{folder}/a C++ object"]
     shutil.copy(program, paths[0])
-    words = ["g++", "-g", "-c", "-x", "c++", "-", "-o", paths[1]]
-    must(words, "the C++ object isn't made", stdin=None, input="#include <regex>\nstd::regex made(\"a*\");\n")
+    kit.put(f"{folder}/source", '#include <regex>\nstd::regex made("a*");\n')
+    with open(f"{folder}/source", encoding="utf-8") as source:
+        must(["g++", "-g", "-c", "-x", "c++", "-", "-o", paths[1]], "the C++ object isn't made", stdin=source)
     return paths
 
 
-def time(given):
-    """Prints the table of `time`."""
-    return measure(given, True)
-
-
-def count(given):
-    """Prints the table of `count`."""
-    return measure(given, False)
-
-
-def measure(given, is_timed):
+def measure(is_timed, given):
     """Prints the table of `time` or of `count`."""
     if not is_timed:
         need("valgrind", "valgrind")
-    program = build(given["debian"])
+    program = build(given.debian)
     what = must([program, "--gimli"], "the program is another one")
     with tempfile.TemporaryDirectory(prefix="compare-") as work:
         words = []
-        for i, path in enumerate(given["files"] or (own_files(program, work) if given["elf"] else [])):
+        for i, path in enumerate(given.files or (own_files(program, work) if given.elf else [])):
             os.mkdir(f"{work}/{i}")
             words += sections(path, f"{work}/{i}")
-        rows = list(timed(given["debian"], words) if is_timed else counted_rows(program, words))
+        rows = list(timed(given.debian, words) if is_timed else counted_rows(program, words))
     print(f"gimli {what}; {what_ran()}\n")
     heads = ["nanoseconds of one operation", "gimli", "here", "ratio", "at four places"]
     heads = heads if is_timed else ["instructions of one operation", *heads[1:4]]

@@ -94,7 +94,7 @@ def program(given):
         raise Failed("dwarf_list isn't built: `./dwarf_list --prove` builds it")
     if not kit.is_fresh(where, "dwarf_list"):
         say("dwarf_list is older than some source: this is the speed of what was built")
-    built = build(given["debian"])
+    built = build(given.debian)
     for tool, package in (("readelf", "binutils"), ("llvm-dwarfdump", "llvm")):
         if not shutil.which(tool):
             say(f"{tool} is left out: `apt-get install {package}` installs it")

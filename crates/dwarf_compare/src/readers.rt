@@ -141,7 +141,7 @@ fn strict<R: Reader>(
     found: &mut Found,
 ) -> Result<()> {
     let offset = DebugAbbrevOffset(R::Offset::from_u64(asked.base)?);
-    found.size = section.abbreviations_strict(mem, offset)?.len() as u64;
+    found.value = section.abbreviations_strict(mem, offset)?.len() as u64;
     Ok(())
 }
 
