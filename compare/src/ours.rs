@@ -5,7 +5,7 @@
 //! mutably.
 
 use crate::library::*;
-use crate::question::{fault_of_text, Answer, Declaration, Question, What};
+use crate::question::{error_name, fault_of_text, Answer, Declaration, Question, What};
 
 const OK: u32 = 0;
 const NO_ROOM: u32 = 100;
@@ -110,9 +110,9 @@ impl Ours {
     }
 }
 
-/// The error of a call. A number that differs from the fault's is told by one that no error has.
+/// The error of a call. A number that differs from the fault's is told as one that no error has.
 fn refused(status: u32, fault: Fault, rest: Option<usize>) -> Answer {
-    let kind = if status == fault.kind { status } else { u32::MAX };
+    let kind = error_name(if status == fault.kind { status } else { u32::MAX });
     Answer::Fault { kind, value: Some(fault.value), rest }
 }
 
@@ -148,7 +148,7 @@ fn written(call: impl FnOnce(*mut u8, usize, &mut usize) -> u32) -> Answer {
     let (mut bytes, mut len) = (vec![0; 16], 0);
     let status = call(bytes.as_mut_ptr(), bytes.len(), &mut len);
     if status != OK || len > bytes.len() {
-        return Answer::Fault { kind: status, value: None, rest: None };
+        return Answer::Fault { kind: error_name(status), value: None, rest: None };
     }
     bytes.truncate(len);
     Answer::Written(bytes)
@@ -225,7 +225,6 @@ fn lookup(question: &Question, bytes: &[u8]) -> Answer {
 /// readers of `crates/dwarf_uses`.
 const READERS: [&str; 4] = ["EndianSlice<BigEndian>", "EndianSlice<RunTimeEndian>", OWNED, "SharedReader"];
 const OWNED: &str = "OwnedReader";
-const UNSUPPORTED_OFFSET: u32 = 10;
 
 /// What each of them finds that doesn't find the same. Offsets of `OwnedReader` have 32 bits, and it says so of longer
 /// ones.
@@ -233,7 +232,7 @@ pub fn by_readers(question: &Question, bytes: &[u8], ours: &Answer) -> Vec<(&'st
     let (mut differing, wanted) = (vec![], ours.in_parts());
     for (reader, name) in READERS.iter().enumerate() {
         if let Some(found) = by_reader(reader as u32, question, bytes) {
-            let is_beyond = matches!(found, Answer::Fault { kind: UNSUPPORTED_OFFSET, .. });
+            let is_beyond = matches!(found, Answer::Fault { kind: "UnsupportedOffset", .. });
             if !found.agrees(&wanted) && !(is_beyond && *name == OWNED) {
                 differing.push((*name, found));
             }

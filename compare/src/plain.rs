@@ -8,21 +8,6 @@ use crate::question::{Answer, Declaration, Question, What};
 use std::collections::BTreeMap;
 use std::sync::atomic::{AtomicUsize, Ordering::Relaxed};
 
-const UNEXPECTED_EOF: u32 = 1;
-const BAD_UNSIGNED: u32 = 2;
-const BAD_SIGNED: u32 = 3;
-const TAG_ZERO: u32 = 4;
-const CHILDREN: u32 = 5;
-const NAME_ZERO: u32 = 6;
-const FORM_ZERO: u32 = 7;
-const DUPLICATE: u32 = 8;
-const RESERVED_LENGTH: u32 = 9;
-const UNSUPPORTED_OFFSET: u32 = 10;
-const VERSION: u32 = 11;
-const ADDRESS_SIZE: u32 = 12;
-const SEGMENT_SIZE: u32 = 13;
-const UNTERMINATED: u32 = 19;
-
 const DW_FORM_IMPLICIT_CONST: u16 = 0x21;
 
 /// The errors that can be planted here, so that the comparison has to find them.
@@ -66,15 +51,15 @@ fn has(plant: Plant) -> bool {
     PLANTED.load(Relaxed) == plant as usize
 }
 
-/// An error by its number, with its value or position.
-type Fault = (u32, u64);
+/// An error by its name, with its value or position.
+type Fault = (&'static str, u64);
 
-fn fault(kind: u32) -> Fault {
+fn fault(kind: &'static str) -> Fault {
     (kind, 0)
 }
 
 fn eof(at: usize) -> Fault {
-    (UNEXPECTED_EOF, at as u64)
+    ("UnexpectedEof", at as u64)
 }
 
 /// Bytes that are read one after the other.
@@ -120,7 +105,7 @@ impl Input<'_> {
         if is_ended && value < 1 << bits {
             Ok(value as u64)
         } else {
-            Err(fault(BAD_UNSIGNED))
+            Err(fault("BadUnsignedLeb128"))
         }
     }
 
@@ -147,7 +132,7 @@ impl Input<'_> {
         if is_ended && is_in_range {
             Ok(value as i64)
         } else {
-            Err(fault(BAD_SIGNED))
+            Err(fault("BadSignedLeb128"))
         }
     }
 
@@ -188,7 +173,7 @@ pub fn answer(question: &Question, bytes: &[u8]) -> Answer {
             if is_null || has(Plant::Missing) {
                 Ok(Answer::value(by_code.len() as u64))
             } else {
-                Err((UNTERMINATED, bytes.len() as u64))
+                Err(("UnterminatedAbbreviations", bytes.len() as u64))
             }
         })),
         // A section that grew is read as if it had always been so.
@@ -269,7 +254,7 @@ fn next_table(input: &mut Input) -> Result<(BTreeMap<u64, Declaration>, bool), F
         let declared = declaration(input, code)?;
         let passes = has(Plant::Duplicate) && code > by_code.len() as u64;
         if by_code.insert(code, declared).is_some() && !passes {
-            return Err((DUPLICATE, code));
+            return Err(("DuplicateAbbreviationCode", code));
         }
     }
     Ok((by_code, false))
@@ -279,11 +264,11 @@ fn next_table(input: &mut Input) -> Result<(BTreeMap<u64, Declaration>, bool), F
 fn declaration(input: &mut Input, code: u64) -> Result<Declaration, Fault> {
     let tag = input.short()?;
     if tag == 0 {
-        return Err(fault(TAG_ZERO));
+        return Err(fault("AbbreviationTagZero"));
     }
     let children = input.byte()?;
     if children > 1 {
-        return Err((CHILDREN, u64::from(children)));
+        return Err(("InvalidAbbreviationChildren", u64::from(children)));
     }
     let mut attributes = Vec::new();
     loop {
@@ -291,8 +276,8 @@ fn declaration(input: &mut Input, code: u64) -> Result<Declaration, Fault> {
         let form = input.short()?;
         match (name, form) {
             (0, 0) => break,
-            (0, _) => return Err(fault(NAME_ZERO)),
-            (_, 0) => return Err(fault(FORM_ZERO)),
+            (0, _) => return Err(fault("AttributeNameZero")),
+            (_, 0) => return Err(fault("AttributeFormZero")),
             (_, DW_FORM_IMPLICIT_CONST) => attributes.push((name, form, input.signed()?)),
             _ => attributes.push((name, form, 0)),
         }
@@ -320,7 +305,7 @@ fn slot(bytes: &[u8], size: u8, base: usize, index: usize, is_big: bool) -> Resu
     let mut distance = index as u128 * u128::from(size);
     if distance >= 1 << 64 {
         if !has(Plant::Product) {
-            return Err(fault(UNSUPPORTED_OFFSET));
+            return Err(fault("UnsupportedOffset"));
         }
         distance %= 1 << 64;
     }
@@ -329,7 +314,7 @@ fn slot(bytes: &[u8], size: u8, base: usize, index: usize, is_big: bool) -> Resu
         return Err(eof(base));
     }
     if !is_size(size) {
-        return Err((ADDRESS_SIZE, u64::from(size)));
+        return Err(("UnsupportedAddressSize", u64::from(size)));
     }
     Input { bytes, at: at as usize }.fixed(usize::from(size), is_big)
 }
@@ -348,7 +333,7 @@ fn set(bytes: &[u8], is_big: bool, offset: usize, is_of_addresses: bool) -> Resu
         length = input.fixed(8, is_big)?;
         word_size = 8;
     } else if length >= 0xffff_fff0 {
-        return Err((RESERVED_LENGTH, length));
+        return Err(("UnknownReservedLength", length));
     }
     if length > (bytes.len() - input.at) as u64 {
         return Err(eof(input.at));
@@ -357,17 +342,17 @@ fn set(bytes: &[u8], is_big: bool, offset: usize, is_of_addresses: bool) -> Resu
     let mut unit = Input { bytes: &bytes[..next], at: input.at };
     let version = unit.fixed(2, is_big)?;
     if version != 5 {
-        return Err((VERSION, version));
+        return Err(("UnknownVersion", version));
     }
     let mut entry_size = word_size;
     if is_of_addresses {
         entry_size = unit.byte()?;
         if !is_size(entry_size) {
-            return Err((ADDRESS_SIZE, u64::from(entry_size)));
+            return Err(("UnsupportedAddressSize", u64::from(entry_size)));
         }
         let segment_size = unit.byte()?;
         if segment_size != 0 {
-            return Err((SEGMENT_SIZE, u64::from(segment_size)));
+            return Err(("UnsupportedSegmentSize", u64::from(segment_size)));
         }
     } else {
         unit.fixed(2, is_big)?;

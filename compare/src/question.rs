@@ -28,8 +28,8 @@ pub const ERRORS: [&str; 20] = [
 ];
 
 /// The name of an error by its number.
-pub fn error_name(kind: u32) -> &'static str {
-    ERRORS.get(kind as usize).copied().unwrap_or("an error without a number")
+pub fn error_name(number: u32) -> &'static str {
+    ERRORS.get(number as usize).copied().unwrap_or("a number without an error")
 }
 
 /// The names of errors that older versions of gimli have, and today's.
@@ -41,64 +41,53 @@ pub fn fault_of_text(text: &str, rest: Option<usize>) -> Answer {
     let mut parts = text.split('(');
     let name = parts.next().unwrap_or_default();
     let name = OLD_NAMES.iter().find(|it| it.0 == name).map_or(name, |it| it.1);
-    let kind = ERRORS.iter().position(|it| *it == name).map_or(u32::MAX, |it| it as u32);
+    let kind = ERRORS.iter().find(|it| **it == name).copied().unwrap_or("an error without a number");
     let digits = parts.last().map(|it| it.trim_end_matches(')'));
     Answer::Fault { kind, value: digits.and_then(|it| it.parse().ok()), rest }
 }
 
-/// What is asked. Those up to `Addresses` are numbered as in `crates/dwarf_compare/src/readers.rt`.
-#[derive(Debug, Clone, Copy, PartialEq)]
-pub enum What {
-    /// The number that the bytes begin with.
-    Unsigned,
-    Signed,
-    Short,
-    Skipped,
-    /// The table at an offset.
-    Table,
-    /// How many declarations it has, if a code of value 0 closes it.
-    Strict,
-    /// The string at an offset.
-    Text,
-    /// The string offset of 4 or 8 bytes, or the address, at an index behind a base.
-    StrOffset,
-    Address,
-    /// The header of the set at an offset.
-    AddressSet,
-    StrOffsetSet,
-    /// The sum of all addresses of all sets, or 0 for an error.
-    Addresses,
-    /// How long the table of a cache is that was filled from so many bytes, before the section grew.
-    Grown,
-    /// How many declarations a cache that was filled at these offsets has there, twice. An error counts as 2^32.
-    Cached,
-    /// The tags of these codes in the table at an offset.
-    Found,
-    /// The shortest bytes of a number.
-    WrittenUnsigned,
-    WrittenSigned,
+/// Declares what is asked, each with the word that asks it.
+macro_rules! whats {
+    ($($(#[$doc:meta])* $what:ident $word:literal,)*) => {
+        /// What is asked. Those up to `Addresses` are numbered as in `crates/dwarf_compare/src/readers.rt`.
+        #[derive(Debug, Clone, Copy, PartialEq)]
+        pub enum What { $($(#[$doc])* $what,)* }
+
+        /// All of them, by the words that ask them.
+        const WHATS: &[(&str, What)] = &[$(($word, What::$what),)*];
+    };
 }
 
-/// All of them, by the words that ask them.
-const WHATS: [(&str, What); 17] = [
-    ("unsigned", What::Unsigned),
-    ("signed", What::Signed),
-    ("short", What::Short),
-    ("skipped", What::Skipped),
-    ("table", What::Table),
-    ("strict", What::Strict),
-    ("string", What::Text),
-    ("str-offset", What::StrOffset),
-    ("address", What::Address),
-    ("address-set", What::AddressSet),
-    ("str-offset-set", What::StrOffsetSet),
-    ("addresses", What::Addresses),
-    ("grown", What::Grown),
-    ("cached", What::Cached),
-    ("found", What::Found),
-    ("written-unsigned", What::WrittenUnsigned),
-    ("written-signed", What::WrittenSigned),
-];
+whats! {
+    /// The number that the bytes begin with.
+    Unsigned "unsigned",
+    Signed "signed",
+    Short "short",
+    Skipped "skipped",
+    /// The table at an offset.
+    Table "table",
+    /// How many declarations it has, if a code of value 0 closes it.
+    Strict "strict",
+    /// The string at an offset.
+    Text "string",
+    /// The string offset of 4 or 8 bytes, or the address, at an index behind a base.
+    StrOffset "str-offset",
+    Address "address",
+    /// The header of the set at an offset.
+    AddressSet "address-set",
+    StrOffsetSet "str-offset-set",
+    /// The sum of all addresses of all sets, or 0 for an error.
+    Addresses "addresses",
+    /// How long the table of a cache is that was filled from so many bytes, before the section grew.
+    Grown "grown",
+    /// How many declarations a cache that was filled at these offsets has there, twice. An error counts as 2^32.
+    Cached "cached",
+    /// The tags of these codes in the table at an offset.
+    Found "found",
+    /// The shortest bytes of a number.
+    WrittenUnsigned "written-unsigned",
+    WrittenSigned "written-signed",
+}
 
 /// One question. What it doesn't need is 0.
 #[derive(Debug, Clone, PartialEq)]
@@ -154,7 +143,7 @@ pub enum Answer {
     /// Any of these as four numbers, which a caller can have of each reader.
     Parts([u64; 4]),
     Fault {
-        kind: u32,
+        kind: &'static str,
         value: Option<u64>,
         rest: Option<usize>,
     },
@@ -201,7 +190,7 @@ impl Answer {
     /// What was reached: the error's name, or the kind of value.
     pub fn reached(&self) -> &'static str {
         match self {
-            Answer::Fault { kind, .. } => error_name(*kind),
+            Answer::Fault { kind, .. } => kind,
             Answer::Value { value, .. } if *value < 0 => "a number below 0",
             Answer::Value { value: 0, .. } => "0",
             Answer::Value { value, .. } if *value < 128 => "a number below 128",
@@ -223,7 +212,7 @@ impl fmt::Display for Answer {
     fn fmt(&self, to: &mut fmt::Formatter) -> fmt::Result {
         match self {
             Answer::Fault { kind, value, rest } => {
-                write!(to, "{}", error_name(*kind))?;
+                write!(to, "{kind}")?;
                 if let Some(value) = value {
                     write!(to, ", {value}")?;
                 }

@@ -48,7 +48,7 @@ impl Theirs {
             _ => false,
         };
         if self.is_strict && is_unclosed {
-            return Answer::Fault { kind: 1, value: Some(bytes.len() as u64), rest: None };
+            return Answer::Fault { kind: "UnexpectedEof", value: Some(bytes.len() as u64), rest: None };
         }
         ours
     }
@@ -91,7 +91,7 @@ fn order(is_big: bool) -> RunTimeEndian {
 fn fault(error: Error, bytes: &[u8], rest: Option<usize>) -> Answer {
     if let Error::UnexpectedEof(id) = error {
         let value = Some(id.0.wrapping_sub(bytes.as_ptr() as u64));
-        return Answer::Fault { kind: 1, value, rest };
+        return Answer::Fault { kind: "UnexpectedEof", value, rest };
     }
     // The names of the other errors, and which of them have values, differ from version to version.
     fault_of_text(&format!("{error:?}"), rest)

@@ -12,8 +12,8 @@ import subprocess
 import tempfile
 
 import checks
-from common import DEBIAN, OUT, PACKAGE, Failed, Missing, decompressed, files_by_default, is_big_endian, link_libraries
-from common import must, need, put, run
+from common import DEBIAN, OUT, PACKAGE, Failed, Missing, files_by_default, link_libraries, must, need, put
+from common import put_sections, run
 
 MANIFEST = """[package]
 name = "gimli"
@@ -168,22 +168,6 @@ def tests(folder, planted=""):
     return found
 
 
-def sections_of(path, folder):
-    """Puts the sections of an ELF file into a folder, and returns the word for its byte order."""
-    whole, copied = f"{folder}/whole", f"{folder}/copy"
-    tool = decompressed(path, whole)
-    with open(whole, "rb") as file:
-        names = sorted({it.decode() for it in re.findall(rb"\0\.(debug_\w+)(?=\0)", file.read())})
-    if not names:
-        raise Failed(f"{path} has no debug sections, so there is nothing to dump")
-    for name in names:
-        run([tool, "--dump-section", f".{name}={folder}/{name}", whole, copied])
-    for it in (whole, copied):
-        if os.path.isfile(it):
-            os.unlink(it)
-    return "be" if is_big_endian(path) else "le"
-
-
 def dump(copy_folder, sections, order, to, planted=""):
     """Writes the dump of a copy, and returns what it counted."""
     words = [f"{copy_folder}/target/release/examples/dump", sections, order]
@@ -210,8 +194,10 @@ def compare_dumps(now, files, folders, work):
     shown = set()
     for i, path in enumerate(files):
         sections = f"{work}/{i}"
-        os.mkdir(sections)
-        order = sections_of(path, sections)
+        names, is_big = put_sections(path, sections)
+        if not names:
+            raise Failed(f"{path} has no debug sections, so there is nothing to dump")
+        order = "be" if is_big else "le"
         texts = [f"{work}/gimli", f"{work}/library", f"{work}/planted"]
         said = [dump(folder, sections, order, text) for folder, text in zip(folders, texts)]
         is_equal = said[0] == said[1] and filecmp.cmp(*texts[:2], shallow=False)

@@ -187,23 +187,30 @@ def decompressed(path, whole):
     raise Failed(f"{path} can't be read as an ELF file: {' '.join(said.split())}")
 
 
-def is_big_endian(path):
-    with open(path, "rb") as file:
-        return file.read(6)[5:] == b"\x02"
+def put_sections(path, folder, wanted=()):
+    """Puts the sections of an ELF file with these names, or those of debug information that it names, into a new folder,
+    inflated. Returns the names of those that are there, and whether the file has the highest byte first."""
+    os.mkdir(folder)
+    whole, copy = f"{folder}/whole", f"{folder}/copy"
+    tool = decompressed(path, whole)
+    with open(whole, "rb") as file:
+        content = file.read()
+    names = wanted or sorted({it.decode() for it in re.findall(rb"\0\.(debug_\w+)(?=\0)", content)})
+    for name in names:
+        run([tool, "--dump-section", f".{name}={folder}/{name}", whole, copy])
+    for it in (whole, copy):
+        if os.path.isfile(it):
+            os.unlink(it)
+    return [it for it in names if os.path.isfile(f"{folder}/{it}")], content[5:6] == b"\x02"
 
 
 def sections(path, folder):
     """The words for the program about the sections of an ELF file, whose bytes are put into the folder."""
-    whole, copy, words = f"{folder}/whole", f"{folder}/copy", []
-    tool, is_big = decompressed(path, whole), is_big_endian(path)
-    for name in SECTIONS:
-        at = f"{folder}/{name}"
-        _, status = run([tool, "--dump-section", f".{name}={at}", whole, copy])
-        if status == 0 and os.path.isfile(at) and os.path.getsize(at):
-            words += ["--section", path, f"{name}, big" if is_big and name in BY_ORDER else name, at]
-    for it in (whole, copy):
-        if os.path.isfile(it):
-            os.unlink(it)
+    words, (names, is_big) = [], put_sections(path, folder, SECTIONS)
+    for name in names:
+        if os.path.getsize(f"{folder}/{name}"):
+            kind = f"{name}, big" if is_big and name in BY_ORDER else name
+            words += ["--section", path, kind, f"{folder}/{name}"]
     if not words:
         say(f"{path} has none of the sections {', '.join(SECTIONS)}")
     return words

@@ -84,7 +84,6 @@ def measure(is_timed, given):
     with tempfile.TemporaryDirectory(prefix="compare-") as work:
         words = []
         for i, path in enumerate(given.files or (own_files(program, work) if given.elf else [])):
-            os.mkdir(f"{work}/{i}")
             words += sections(path, f"{work}/{i}")
         rows = list(timed(given.debian, words) if is_timed else counted_rows(program, words))
     print(f"gimli {what}; {what_ran()}\n")
