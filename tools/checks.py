@@ -1,4 +1,5 @@
 """What scripts have in common: checks, with a line for each and their counts, and how a script begins and ends."""
+import os
 import shutil
 import signal
 import subprocess
@@ -66,4 +67,12 @@ def run(main):
     """Runs a script, and ends with its exit status. If it is interrupted, its scratch folder goes first."""
     for it in (signal.SIGINT, signal.SIGTERM, signal.SIGHUP):
         signal.signal(it, lambda number, _: sys.exit(128 + number))
-    sys.exit(main(sys.argv[1:]))
+    try:
+        status = main(sys.argv[1:])
+        if sys.stdout:
+            sys.stdout.flush()
+    except BrokenPipeError:
+        # Whoever reads the output has enough of it. What is still to be written would fail again.
+        os.dup2(os.open(os.devnull, os.O_WRONLY), sys.stdout.fileno())
+        status = 1
+    sys.exit(status)
