@@ -227,10 +227,11 @@ class Body:
             error.filename = self.file.name
             raise
 
-    def chunks(self, at=0):
-        """The bytes from an offset on, with the offset of each chunk."""
-        for low in range(at, self.size, CHUNK):
-            yield low, self[low : low + CHUNK]
+    def chunks(self, at=0, end=None):
+        """The bytes from an offset on, up to another one, with the offset of each chunk."""
+        end = self.size if end is None else end
+        for low in range(at, end, CHUNK):
+            yield low, self[low : min(low + CHUNK, end)]
 
 
 class Relocations:
@@ -437,13 +438,12 @@ class DebugFile:
     def zeros(self, section, body, at):
         """How many bytes of value 0 are at an offset, in fours, as padding is. They are told."""
         found = 0
-        while body[at + found : at + found + 4] == bytes(4):
-            found += 4
-            for _, chunk in body.chunks(at + found):
-                many = (len(chunk) - len(chunk.lstrip(b"\0"))) // 4 * 4
-                found += many
-                if many < len(chunk):
-                    break
+        # (most places have none, and are told by the first four)
+        for _, chunk in body.chunks(at) if body[at : at + 4] == bytes(4) else ():
+            many = (len(chunk) - len(chunk.lstrip(b"\0"))) // 4 * 4
+            found += many
+            if many < len(chunk):
+                break
         if found:
             self.say(f"the {found} bytes at 0x{at:x} of {section} are zero, and passed over")
         return found

@@ -6,7 +6,7 @@ import subprocess
 import sys
 import tempfile
 
-from debug_file import CHUNK, Unlisted
+from debug_file import Unlisted
 
 ROOT = pathlib.Path(__file__).resolve().parent.parent
 # After so many errors in a section the rest of it isn't listed, since each takes a process.
@@ -93,11 +93,9 @@ class Listing:
 
     def keep(self, body, at=0, end=None, before=b""):
         """Writes bytes of a section into the file that the programs read, a part at a time."""
-        end = len(body) if end is None else end
         with open(self.path, "wb") as file:
             file.write(before)
-            for low in range(at, end, CHUNK):
-                file.write(body[low : min(low + CHUNK, end)])
+            file.writelines(chunk for _, chunk in body.chunks(at, end))
 
     def parts(self, section, body):
         """The contributions that a package's index has to a section, and what is between them, which is told. Of a file
@@ -186,30 +184,27 @@ class Listing:
 
     def list_with_headers(self, section, body, at, end, units):
         """Lists the sets in a part of a section. Those that follow each other are listed together."""
-        is_mixed, sets, self.errors = any(it.version < 5 for it in units), [], 0
+        is_mixed, groups, self.errors = any(it.version < 5 for it in units), [[]], 0
         while at < end:
             found = self.next_set(section, body, at, end, {it.address_size for it in units}) if is_mixed else at
             if found > at:
-                self.list_together(section, body, sets)
                 why = "since a unit of DWARF 4 may have them, as a set without a header"
                 self.report.say(f"{section}: the bytes from 0x{at:x} to 0x{found:x} aren't listed, {why}")
-                at, sets = found, []
-                continue
             try:
-                padding = self.file.zeros(section, body, at)
-                if padding:
-                    self.list_together(section, body, sets)
-                    at, sets = at + padding, []
+                found += self.file.zeros(section, body, found) if found < end else 0
+                if found > at:
+                    groups.append([])
+                    at = found
                     continue
                 length, _, begin = self.file.initial_length(body, at)
             except Unlisted as error:
-                self.list_together(section, body, sets)
-                name = f"the set at 0x{at:x} of {section}"
+                name = f"the set at 0x{found:x} of {section}"
                 self.report.say(f"{name} {error}, and what follows isn't read up to 0x{end:x}")
-                return
-            sets.append((at, min(begin + length, end)))
+                break
+            groups[-1].append((at, min(begin + length, end)))
             at = begin + length
-        self.list_together(section, body, sets)
+        for sets in groups:
+            self.list_together(section, body, sets)
 
     def list_together(self, section, body, sets):
         """Lists sets that follow each other by one process. If one of them has an error, it prints nothing, and each
@@ -292,7 +287,8 @@ class Listing:
         self.keep(body, start, start + many, length + fields)
         last = f"address size {size}" if is_addr else f"{8 * size}-bit"
         line = f"set {start}: no header, {many} bytes, {last}\n".encode()
-        status, error = run([self.program(), self.command, self.order], self.path, lambda it: line if it.startswith(b"set ") else it)
+        change = lambda it: line if it.startswith(b"set ") else it
+        status, error = run([self.program(), self.command, self.order], self.path, change)
         if status:
             self.report.say(f"{section}: the set at 0x{start:x}: {error}", status)
 
