@@ -3,7 +3,7 @@
 //!
 //! The words are the folder, whose files have the names of the sections, and `le` or `be`.
 
-use gimli::{AttributeValue, EndianSlice, Reader, RunTimeEndian};
+use gimli::{EndianSlice, RunTimeEndian};
 use std::error::Error;
 use std::io::{self, BufWriter, Write};
 
@@ -19,16 +19,8 @@ struct Dump<'a, W> {
 impl<'a, W: Write> Dump<'a, W> {
     fn attribute(&mut self, unit: &gimli::Unit<Section<'a>>, found: &gimli::Attribute<Section<'a>>) -> io::Result<()> {
         let value = found.value();
-        write!(self.to, "  {} ", found.name())?;
-        match value {
-            AttributeValue::Exprloc(code) => return writeln!(self.to, "code of {} bytes", code.0.len()),
-            AttributeValue::Block(block) => return writeln!(self.to, "block of {} bytes", block.len()),
-            _ => {}
-        }
-        let raw = found.raw_value();
-        let numbers = (value.udata_value(), value.sdata_value(), value.offset_value(), raw.udata_value());
-        write!(self.to, "{:?} {numbers:?}", std::mem::discriminant(&raw))?;
-        if let Ok(Some(address)) = self.dwarf.attr_address(unit, value) {
+        write!(self.to, "  {} {value:?}", found.name())?;
+        if let Ok(Some(address)) = self.dwarf.attr_address(unit, found.value()) {
             write!(self.to, " at {address:#x}")?;
         }
         if let Ok(string) = self.dwarf.attr_string(unit, value) {
