@@ -18,7 +18,6 @@ import os
 import shutil
 import subprocess
 import sys
-import threading
 import time
 from contextlib import suppress
 
@@ -133,52 +132,37 @@ def in_words(seconds):
     return f"{int(seconds) // 60} min {int(seconds) % 60} s"
 
 
-class Proof:
-    """The proof of a program and of the crates below it. It prints every five seconds how far it is."""
+def step(log, started, jobs, crate, verb, *words):
+    """Runs a command of the kit in the folder of a crate, and says how far it is. Returns it as it has ended."""
+    tell = lambda what: say(f"{in_words(time.time() - started)}: {crate}: {what}")
 
-    def __init__(self, name, jobs):
-        self.name, self.jobs, self.state = name, jobs, ""
-        self.log = f"{kit.ROOT}/crates/{name}/out/prove.log"
-        self.started, self.ended = time.time(), threading.Event()
+    def see(line):
+        log.write(line)
+        if line.startswith("so far: "):
+            tell(line[8:].partition(";")[0].strip())
 
-    def tell(self):
-        while not self.ended.wait(5):
-            say(f"{in_words(time.time() - self.started)}: {self.state}")
+    tell("reading the sources")
+    return kit.run(["rt", verb, "--jobs", str(jobs), *words], see, cwd=f"{kit.ROOT}/crates/{crate}")
 
-    def step(self, log, crate, verb, *words):
-        """Runs a command of the kit in the folder of a crate. Returns whether it ended well."""
-        self.state = f"{crate}: reading the sources"
 
-        def see(line):
-            log.write(line)
-            if line.startswith("so far: "):
-                self.state = f"{crate}: {line[8:].partition(';')[0].strip()}"
-            elif line.startswith("crate "):
-                self.state = f"{crate}: compiling"
-
-        ran = kit.run(["rt", verb, "--jobs", str(self.jobs), *words], see, cwd=f"{kit.ROOT}/crates/{crate}")
-        return ran.returncode == 0
-
-    def run(self):
-        """Proves and builds. Ends the run if that fails."""
-        program = kit.programs(self.name)[0]
-        os.makedirs(os.path.dirname(program), exist_ok=True)
-        # An edit during the proof makes the program older than its source. The kit leaves one whose text is the same.
-        begun = max(self.started, kit.newest(self.name))
-        count = len(os.sched_getaffinity(0))
-        say(f"proving and building {self.name}, and the libraries below it, by {self.jobs} jobs on {count} processors")
-        threading.Thread(target=self.tell, daemon=True).start()
-        try:
-            with open(self.log, "w", encoding="utf-8", buffering=1) as log:
-                well = all(self.step(log, it, "lib") for it in kit.below(self.name))
-                well = well and self.step(log, self.name, "run", "--", *PROGRAMS[self.name])
-        finally:
-            self.ended.set()
-        if not well or not os.path.isfile(program):
-            os.write(2, "".join(kit.text_of(self.log).splitlines(True)[-20:]).encode())
-            stop(f"the program wasn't built; the whole log is {self.log}")
-        os.utime(program, (begun, begun))
-        say(f"built in {in_words(time.time() - self.started)}: {program}")
+def prove_one(name, jobs):
+    """Proves and builds a program and the crates below it. Ends the run if that fails."""
+    program, path, started = kit.programs(name)[0], f"{kit.ROOT}/crates/{name}/out/prove.log", time.time()
+    os.makedirs(os.path.dirname(program), exist_ok=True)
+    # An edit during the proof makes the program older than its source. The kit leaves one whose text is the same.
+    begun = max(started, kit.newest(name))
+    count = len(os.sched_getaffinity(0))
+    say(f"proving and building {name}, and the libraries below it, by {jobs} jobs on {count} processors")
+    with open(path, "w", encoding="utf-8", buffering=1) as log:
+        for it in [*((it, "lib") for it in kit.below(name)), (name, "run", "--", *PROGRAMS[name])]:
+            ran = step(log, started, jobs, *it)
+            if ran.returncode:
+                break
+    if ran.returncode or not os.path.isfile(program):
+        os.write(2, "".join(ran.stdout.splitlines(True)[-20:]).encode())
+        stop(f"the program wasn't built; the whole log is {path}")
+    os.utime(program, (begun, begun))
+    say(f"built in {in_words(time.time() - started)}: {program}")
 
 
 def prove():
@@ -194,7 +178,7 @@ def prove():
         )
     for it in PROGRAMS:
         if it in left:
-            Proof(it, jobs).run()
+            prove_one(it, jobs)
         else:
             say(f"built already: {kit.programs(it)[0]}")
     say(f"done in {in_words(time.time() - started)}")
