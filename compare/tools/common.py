@@ -188,8 +188,8 @@ def decompressed(path, whole):
 
 
 def put_sections(path, folder, wanted=()):
-    """Puts the sections of an ELF file with these names, or those of debug information that it names, into a new folder,
-    inflated. Returns the names of those that are there, and whether the file has the highest byte first."""
+    """Puts the sections of an ELF file with these names, or all of debug information, into a new folder, inflated.
+    Returns the names of those that are there, and whether the file has the highest byte first."""
     os.mkdir(folder)
     whole, copy = f"{folder}/whole", f"{folder}/copy"
     tool = decompressed(path, whole)
