@@ -118,28 +118,28 @@ impl ops::BitOr for DwEhPe {
 }
 
 impl DwEhPe {
-    /// The format of the number alone: the low four bits, as `DW_EH_PE_uleb128` of 0x11.
+    /// Returns the format of the number alone: the low four bits, as `DW_EH_PE_uleb128` of 0x11.
     pub fn format(self) -> DwEhPe
         ensures { result.0 ≡ self.0 % 16 }
     {
         DwEhPe(self.0 & DW_EH_PE_FORMAT_MASK)
     }
 
-    /// What the number is relative to: bits 4 to 6 in their place, such as `DW_EH_PE_pcrel` of 0x11.
+    /// Returns what the number is relative to: bits 4 to 6 in their place, as `DW_EH_PE_pcrel` of 0x11.
     pub fn application(self) -> DwEhPe
         ensures { result.0 ≡ bit_and self.0 0x70 }
     {
         DwEhPe(self.0 & DW_EH_PE_APPLICATION_MASK)
     }
 
-    /// Whether this is `DW_EH_PE_omit`: there is no pointer.
+    /// Returns whether this is `DW_EH_PE_omit`: there is no pointer.
     pub fn is_absent(self) -> bool
         ensures { IsTrue result ↔ (self ≡ DW_EH_PE_omit) }
     {
         self == DW_EH_PE_omit
     }
 
-    /// Whether bit 7 is set: the number is the address of the pointer. It is set in
+    /// Returns whether bit 7 is set: the number is the address of the pointer. It is set in
     /// `DW_EH_PE_omit` too.
     pub fn is_indirect(self) -> bool
         ensures { IsTrue result ↔ IsBitSet self.0 7 }
@@ -147,8 +147,8 @@ impl DwEhPe {
         self.0 & DW_EH_PE_indirect.0 != 0
     }
 
-    /// Whether the value is an encoding: `DW_EH_PE_omit`, or else a format and an application that
-    /// are among the constants above, with or without `DW_EH_PE_indirect`.
+    /// Returns whether the value is an encoding: `DW_EH_PE_omit`, or else a format and an application
+    /// that are among the constants above, with or without `DW_EH_PE_indirect`.
     pub fn is_valid_encoding(self) -> bool
         ensures { IsTrue result ↔ IsValidEncoding self.0 }
     {

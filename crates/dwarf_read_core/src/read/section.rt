@@ -24,7 +24,7 @@ pub trait Section<R>: From<R> + Sized {
     // What `reader` returns, for contracts.
     ghost section_reader: { Self → R };
 
-    /// Which section this is.
+    /// Returns which section this is.
     fn id() -> SectionId
         ensures { result ≡ section_id };
 
