@@ -1,4 +1,4 @@
-"""Reads tables of 10^2 to 10^7 declarations on either side: tables of time, memory and instructions."""
+"""Reads tables of 10^2 to 10^7 declarations on either side: tables of time, touched pages and instructions."""
 from common import build, must, need
 from measure import counted, what_ran
 
