@@ -34,6 +34,7 @@ const PLANT_TIME: Duration = Duration::from_secs(10);
 const BIG: &str = ", big";
 
 /// What the words ask for.
+#[derive(Default)]
 struct Wanted {
     seconds: f64,
     seed: u64,
@@ -68,17 +69,7 @@ fn question_of(text: &str) -> Option<(Question, Vec<u8>)> {
 }
 
 fn wanted(words: &mut dyn Iterator<Item = String>) -> Result<Wanted, String> {
-    let mut found = Wanted {
-        seconds: 60.0,
-        seed: 1,
-        sections: vec![],
-        alone: None,
-        again: "compare --case".into(),
-        measured: None,
-        table: None,
-        is_all: false,
-        plants: vec![],
-    };
+    let mut found = Wanted { seconds: 60.0, seed: 1, again: "compare --case".into(), ..Wanted::default() };
     while let Some(word) = words.next() {
         let mut next = || words.next().ok_or(format!("{word} needs a word behind it"));
         match word.as_str() {
