@@ -83,12 +83,12 @@ fn name_of(family: Family, digits: &str) -> Option<&'static str> {
     }
 }
 
-// Each line has a name, and the value that is published for it. The macro `names!` makes the name of a value from
+// Each word has a name, and the value that is published for it. The macro `names!` makes the name of a value from
 // the constant itself. So the constant has the value, too.
-fn check_lines(rt: &impl Abort, family: Family, lines: &str) {
-    for line in lines.lines() {
-        let (name, digits) = line.split_once(" = 0x").unwrap_or((line, ""));
-        same(rt, name_of(family, digits), Some(name), line);
+fn check_names(rt: &impl Abort, family: Family, published: &str) {
+    for word in published.split_ascii_whitespace() {
+        let (name, digits) = word.split_once("=0x").unwrap_or((word, ""));
+        same(rt, name_of(family, digits), Some(name), word);
     }
 }
 

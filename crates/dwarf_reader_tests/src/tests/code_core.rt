@@ -1,6 +1,6 @@
 //! The constants of dwarf_code_core: values, names and texts, and what pointer encodings tell.
 
-use super::{Family, check_lines, check_text, same};
+use super::{Family, check_names, check_text, same};
 use dwarf_code_core::accessibility::*;
 use dwarf_code_core::address_class::*;
 use dwarf_code_core::array_ordering::*;
@@ -69,13 +69,13 @@ pub(super) fn name_of(family: Family, value: u8) -> Option<&'static str> {
 
 #[test]
 fn operations_are_as_published(rt: HostRuntime) {
-    check_lines(&rt, Family::Op, operations::OPERATIONS);
+    check_names(&rt, Family::Op, operations::OPERATIONS);
 }
 
 #[test]
 fn codes_are_as_published(rt: HostRuntime) {
-    for (family, lines) in codes::CODES {
-        check_lines(&rt, *family, lines);
+    for (family, published) in codes::CODES {
+        check_names(&rt, *family, published);
     }
 }
 

@@ -1,6 +1,6 @@
 //! The constants of dwarf_const_core: values, names and texts, and what languages tell.
 
-use super::{Family, check_lines, check_text, same};
+use super::{Family, check_names, check_text, same};
 use dwarf_const_core::attribute::*;
 use dwarf_const_core::form::*;
 use dwarf_const_core::index_attribute::*;
@@ -27,13 +27,13 @@ pub(super) fn name_of(family: Family, value: u16) -> Option<&'static str> {
 
 #[test]
 fn attributes_are_as_published(rt: HostRuntime) {
-    check_lines(&rt, Family::At, attributes::ATTRIBUTES);
+    check_names(&rt, Family::At, attributes::ATTRIBUTES);
 }
 
 #[test]
 fn tags_and_forms_are_as_published(rt: HostRuntime) {
-    for (family, lines) in families::FAMILIES {
-        check_lines(&rt, *family, lines);
+    for (family, published) in families::FAMILIES {
+        check_names(&rt, *family, published);
     }
     same(&rt, name_of(Family::Tag, 0x1234), None, "no tag");
 }
@@ -69,68 +69,28 @@ fn texts_are_padded(rt: HostRuntime) -> Result<(), Fail> {
 }
 
 // The languages whose arrays begin at 0, at 1, and at no bound that the standard tells.
+#[rattlefmt::skip]
 static FROM_ZERO: &[DwLang] = &[
-    DW_LANG_C89,
-    DW_LANG_C,
-    DW_LANG_C_plus_plus,
-    DW_LANG_Java,
-    DW_LANG_C99,
-    DW_LANG_ObjC,
-    DW_LANG_ObjC_plus_plus,
-    DW_LANG_UPC,
-    DW_LANG_D,
-    DW_LANG_Python,
-    DW_LANG_OpenCL,
-    DW_LANG_Go,
-    DW_LANG_Haskell,
-    DW_LANG_C_plus_plus_03,
-    DW_LANG_C_plus_plus_11,
-    DW_LANG_OCaml,
-    DW_LANG_Rust,
-    DW_LANG_C11,
-    DW_LANG_Swift,
-    DW_LANG_Dylan,
-    DW_LANG_C_plus_plus_14,
-    DW_LANG_RenderScript,
+    DW_LANG_C89, DW_LANG_C, DW_LANG_C_plus_plus, DW_LANG_Java, DW_LANG_C99, DW_LANG_ObjC,
+    DW_LANG_ObjC_plus_plus, DW_LANG_UPC, DW_LANG_D, DW_LANG_Python, DW_LANG_OpenCL, DW_LANG_Go,
+    DW_LANG_Haskell, DW_LANG_C_plus_plus_03, DW_LANG_C_plus_plus_11, DW_LANG_OCaml, DW_LANG_Rust,
+    DW_LANG_C11, DW_LANG_Swift, DW_LANG_Dylan, DW_LANG_C_plus_plus_14, DW_LANG_RenderScript,
     DW_LANG_BLISS,
 ];
 
+#[rattlefmt::skip]
 static FROM_ONE: &[DwLang] = &[
-    DW_LANG_Ada83,
-    DW_LANG_Cobol74,
-    DW_LANG_Cobol85,
-    DW_LANG_Fortran77,
-    DW_LANG_Fortran90,
-    DW_LANG_Pascal83,
-    DW_LANG_Modula2,
-    DW_LANG_Ada95,
-    DW_LANG_Fortran95,
-    DW_LANG_PLI,
-    DW_LANG_Modula3,
-    DW_LANG_Julia,
-    DW_LANG_Fortran03,
-    DW_LANG_Fortran08,
+    DW_LANG_Ada83, DW_LANG_Cobol74, DW_LANG_Cobol85, DW_LANG_Fortran77, DW_LANG_Fortran90,
+    DW_LANG_Pascal83, DW_LANG_Modula2, DW_LANG_Ada95, DW_LANG_Fortran95, DW_LANG_PLI,
+    DW_LANG_Modula3, DW_LANG_Julia, DW_LANG_Fortran03, DW_LANG_Fortran08,
 ];
 
+#[rattlefmt::skip]
 static WITHOUT_BOUND: &[DwLang] = &[
-    DW_LANG_Kotlin,
-    DW_LANG_Zig,
-    DW_LANG_Crystal,
-    DW_LANG_C_plus_plus_17,
-    DW_LANG_C_plus_plus_20,
-    DW_LANG_C17,
-    DW_LANG_Fortran18,
-    DW_LANG_Ada2005,
-    DW_LANG_Ada2012,
-    DW_LANG_lo_user,
-    DW_LANG_hi_user,
-    DW_LANG_Mips_Assembler,
-    DW_LANG_GOOGLE_RenderScript,
-    DW_LANG_SUN_Assembler,
-    DW_LANG_ALTIUM_Assembler,
-    DW_LANG_BORLAND_Delphi,
-    DwLang(0),
-    DwLang(0x29),
+    DW_LANG_Kotlin, DW_LANG_Zig, DW_LANG_Crystal, DW_LANG_C_plus_plus_17, DW_LANG_C_plus_plus_20,
+    DW_LANG_C17, DW_LANG_Fortran18, DW_LANG_Ada2005, DW_LANG_Ada2012, DW_LANG_lo_user,
+    DW_LANG_hi_user, DW_LANG_Mips_Assembler, DW_LANG_GOOGLE_RenderScript, DW_LANG_SUN_Assembler,
+    DW_LANG_ALTIUM_Assembler, DW_LANG_BORLAND_Delphi, DwLang(0), DwLang(0x29),
 ];
 
 #[test]

@@ -17,24 +17,17 @@ const SIXTEEN: &[u8] = &[0xfe, 1, 2, 3, 4, 5, 6, 7, 8, 9, 10, 11, 12, 13, 14, 15
 const ONE: &[u8] = &[1, 0, 0, 0, 0, 0, 0, 0, 0, 0, 0, 0, 0, 0, 0, 0];
 
 // Numbers of 1, 2, 4, 8 and 3 bytes.
+#[rattlefmt::skip]
 static WIDTHS: &[Row] = &[
     (LITTLE, SIXTEEN, &[(Call::Unsigned(1), Ok(0xfe), 1)]),
     (LITTLE, SIXTEEN, &[(Call::Signed(1), Ok(-2), 1)]),
     (LITTLE, SIXTEEN, &[(Call::Unsigned(2), Ok(0x01fe), 2)]),
     (LITTLE, SIXTEEN, &[(Call::Unsigned(4), Ok(0x0302_01fe), 4)]),
-    (
-        LITTLE,
-        SIXTEEN,
-        &[(Call::Unsigned(8), Ok(0x0706_0504_0302_01fe), 8)],
-    ),
+    (LITTLE, SIXTEEN, &[(Call::Unsigned(8), Ok(0x0706_0504_0302_01fe), 8)]),
     (BIG, SIXTEEN, &[(Call::Unsigned(2), Ok(0xfe01), 2)]),
     (BIG, SIXTEEN, &[(Call::Signed(2), Ok(-511), 2)]),
     (BIG, SIXTEEN, &[(Call::Signed(4), Ok(-0x01fe_fdfd), 4)]),
-    (
-        BIG,
-        SIXTEEN,
-        &[(Call::Signed(8), Ok(-0x01fe_fdfc_fbfa_f9f9), 8)],
-    ),
+    (BIG, SIXTEEN, &[(Call::Signed(8), Ok(-0x01fe_fdfc_fbfa_f9f9), 8)]),
     (LITTLE, &[1, 2, 3], &[(Call::Unsigned(3), Ok(197_121), 3)]),
     (BIG, &[1, 2, 3], &[(Call::Unsigned(3), Ok(66_051), 3)]),
 ];
@@ -52,24 +45,13 @@ const LONG: &[u8] = &[
     0xff, 0xff, 0xff, 0xff, 0x12, 0x34, 0x56, 0x78, 0x9a, 0xbc, 0xde, 0xff,
 ];
 
+#[rattlefmt::skip]
 static LENGTHS: Numbers = &[
     (&[0x12, 0x34, 0x56, 0x78], Ok(0x7856_3412), 4),
     (LONG, Ok(0xffde_bc9a_7856_3412), 12),
-    (
-        &[0xfe, 0xff, 0xff, 0xff],
-        Err(Error::UnknownReservedLength(0xffff_fffe)),
-        4,
-    ),
-    (
-        &[0xf0, 0xff, 0xff, 0xff],
-        Err(Error::UnknownReservedLength(0xffff_fff0)),
-        4,
-    ),
-    (
-        &[0xff, 0xff, 0xff, 0xff, 0x12, 0x34, 0x56, 0x78],
-        Err(eof!(4)),
-        4,
-    ),
+    (&[0xfe, 0xff, 0xff, 0xff], Err(Error::UnknownReservedLength(0xffff_fffe)), 4),
+    (&[0xf0, 0xff, 0xff, 0xff], Err(Error::UnknownReservedLength(0xffff_fff0)), 4),
+    (&[0xff, 0xff, 0xff, 0xff, 0x12, 0x34, 0x56, 0x78], Err(eof!(4)), 4),
     (&[0xff, 0xff, 0xff], Err(eof!(0)), 0),
 ];
 
@@ -83,22 +65,16 @@ fn lengths_tell_their_format(rt: HostRuntime) {
 }
 
 // Numbers of the 32-bit and of the 64-bit format.
+#[rattlefmt::skip]
 static SHORT: Numbers = &[
     (&[0x67, 0x45, 0x23, 0x01], Ok(0x0123_4567), 4),
-    (
-        &[0xef, 0xcd, 0xab, 0x89, 0x67, 0x45, 0x23, 0x01],
-        Ok(0x89ab_cdef),
-        4,
-    ),
+    (&[0xef, 0xcd, 0xab, 0x89, 0x67, 0x45, 0x23, 0x01], Ok(0x89ab_cdef), 4),
 ];
 
+#[rattlefmt::skip]
 static WIDE: Numbers = &[
     (&[0x67, 0x45, 0x23, 0x01, 0, 0, 0, 0], Ok(0x0123_4567), 8),
-    (
-        &[0xef, 0xcd, 0xab, 0x89, 0x67, 0x45, 0x23, 0x01],
-        Ok(0x0123_4567_89ab_cdef),
-        8,
-    ),
+    (&[0xef, 0xcd, 0xab, 0x89, 0x67, 0x45, 0x23, 0x01], Ok(0x0123_4567_89ab_cdef), 8),
     (&[0xef, 0xcd, 0xab, 0x89, 0x67, 0x45, 0x23], Err(eof!(0)), 0),
 ];
 
@@ -112,52 +88,33 @@ fn offsets_have_the_width_of_the_format(rt: HostRuntime) {
 }
 
 // What fails because bytes are missing, or for a size, consumes nothing.
+#[rattlefmt::skip]
 static SIZES: &[Row] = &[
-    (
-        LITTLE,
-        &[1, 2, 3],
-        &[
-            (Call::Unsigned(4), Err(eof!(0)), 0),
-            (Call::Array, Ok(0x03_0201), 3),
-            (Call::Array, Err(eof!(3)), 3),
-        ],
-    ),
-    (
-        LITTLE,
-        &[1, 2, 3, 4],
-        &[
-            (
-                Call::SizedOffset(3),
-                Err(Error::UnsupportedOffsetSize(3)),
-                0,
-            ),
-            (Call::Address(3), Err(Error::UnsupportedAddressSize(3)), 0),
-            (Call::SizedOffset(8), Err(eof!(0)), 0),
-            (Call::Address(8), Err(eof!(0)), 0),
-            (Call::Truncate(5), Err(eof!(0)), 0),
-            (Call::Len, Ok(4), 0),
-            (Call::SizedOffset(2), Ok(0x0201), 2),
-            (Call::Address(1), Ok(3), 3),
-            (Call::AddressSize, Ok(4), 4),
-        ],
-    ),
-    (
-        LITTLE,
-        &[4, 5, 6, 7, 8, 9],
-        &[
-            (Call::Unsigned(8), Err(eof!(0)), 0),
-            (Call::Unsigned(4), Ok(0x0706_0504), 4),
-            (Call::Unsigned(2), Ok(0x0908), 6),
-        ],
-    ),
-    (
-        LITTLE,
-        &[3],
-        &[
-            (Call::AddressSize, Err(Error::UnsupportedAddressSize(3)), 1),
-            (Call::AddressSize, Err(eof!(1)), 1),
-        ],
-    ),
+    (LITTLE, &[1, 2, 3], &[
+        (Call::Unsigned(4), Err(eof!(0)), 0),
+        (Call::Array, Ok(0x03_0201), 3),
+        (Call::Array, Err(eof!(3)), 3),
+    ]),
+    (LITTLE, &[1, 2, 3, 4], &[
+        (Call::SizedOffset(3), Err(Error::UnsupportedOffsetSize(3)), 0),
+        (Call::Address(3), Err(Error::UnsupportedAddressSize(3)), 0),
+        (Call::SizedOffset(8), Err(eof!(0)), 0),
+        (Call::Address(8), Err(eof!(0)), 0),
+        (Call::Truncate(5), Err(eof!(0)), 0),
+        (Call::Len, Ok(4), 0),
+        (Call::SizedOffset(2), Ok(0x0201), 2),
+        (Call::Address(1), Ok(3), 3),
+        (Call::AddressSize, Ok(4), 4),
+    ]),
+    (LITTLE, &[4, 5, 6, 7, 8, 9], &[
+        (Call::Unsigned(8), Err(eof!(0)), 0),
+        (Call::Unsigned(4), Ok(0x0706_0504), 4),
+        (Call::Unsigned(2), Ok(0x0908), 6),
+    ]),
+    (LITTLE, &[3], &[
+        (Call::AddressSize, Err(Error::UnsupportedAddressSize(3)), 1),
+        (Call::AddressSize, Err(eof!(1)), 1),
+    ]),
 ];
 
 #[test]
@@ -166,47 +123,32 @@ fn sizes_are_judged(rt: HostRuntime) {
 }
 
 // Cuts, the bytes that are left, and the strings one and two, of which no zero byte ends the second.
+#[rattlefmt::skip]
 static CUTS: &[Row] = &[
-    (
-        LITTLE,
-        &[1, 2, 3, 4],
-        &[
-            (Call::Skip(3), Ok(0), 3),
-            (Call::IsEmpty, Ok(0), 3),
-            (Call::Empty, Ok(0), 3),
-            (Call::IsEmpty, Ok(1), 3),
-        ],
-    ),
-    (
-        LITTLE,
-        TEN,
-        &[
-            (Call::Skip(11), Err(eof!(0)), 0),
-            (Call::Skip(4), Ok(0), 4),
-            (Call::Truncate(7), Err(eof!(4)), 4),
-            (Call::Truncate(6), Ok(0), 4),
-            (Call::Len, Ok(6), 4),
-            (Call::Find(9), Ok(5), 4),
-            (Call::Find(3), Err(eof!(4)), 4),
-            (Call::SplitPosition(0), Ok(4), 4),
-            (Call::Split(2), Ok(0x0504), 6),
-            (Call::Unsigned(4), Ok(0x0908_0706), 10),
-        ],
-    ),
-    (
-        LITTLE,
-        TEN,
-        &[(Call::Skip(3), Ok(0), 3), (Call::OffsetBehind(4), Ok(4), 7)],
-    ),
-    (
-        LITTLE,
-        b"one\0two",
-        &[
-            (Call::String, Ok(0x65_6e6f), 4),
-            (Call::String, Err(eof!(4)), 4),
-            (Call::Unsigned(3), Ok(0x6f_7774), 7),
-        ],
-    ),
+    (LITTLE, &[1, 2, 3, 4], &[
+        (Call::Skip(3), Ok(0), 3),
+        (Call::IsEmpty, Ok(0), 3),
+        (Call::Empty, Ok(0), 3),
+        (Call::IsEmpty, Ok(1), 3),
+    ]),
+    (LITTLE, TEN, &[
+        (Call::Skip(11), Err(eof!(0)), 0),
+        (Call::Skip(4), Ok(0), 4),
+        (Call::Truncate(7), Err(eof!(4)), 4),
+        (Call::Truncate(6), Ok(0), 4),
+        (Call::Len, Ok(6), 4),
+        (Call::Find(9), Ok(5), 4),
+        (Call::Find(3), Err(eof!(4)), 4),
+        (Call::SplitPosition(0), Ok(4), 4),
+        (Call::Split(2), Ok(0x0504), 6),
+        (Call::Unsigned(4), Ok(0x0908_0706), 10),
+    ]),
+    (LITTLE, TEN, &[(Call::Skip(3), Ok(0), 3), (Call::OffsetBehind(4), Ok(4), 7)]),
+    (LITTLE, b"one\0two", &[
+        (Call::String, Ok(0x65_6e6f), 4),
+        (Call::String, Err(eof!(4)), 4),
+        (Call::Unsigned(3), Ok(0x6f_7774), 7),
+    ]),
 ];
 
 #[test]
@@ -280,15 +222,14 @@ fn slices_are_equal_by_bytes_and_order(rt: HostRuntime) {
 }
 
 // Bytes, their text, and their lossy text.
+#[rattlefmt::skip]
 static TEXTS: &[(&[u8], Result<&str>, &str)] = &[
     (b"", Ok(""), ""),
     (b"a\xc3\xa9", Ok("a\u{e9}"), "a\u{e9}"),
     (&[0xff], Err(Error::BadUtf8), "\u{fffd}"),
     (&[0xe2, 0x82, 0x61], Err(Error::BadUtf8), "\u{fffd}a"),
     (
-        &[
-            0x61, 0xf1, 0x80, 0x80, 0xe1, 0x80, 0xc2, 0x62, 0x80, 0x63, 0x80, 0xbf, 0x64,
-        ],
+        &[0x61, 0xf1, 0x80, 0x80, 0xe1, 0x80, 0xc2, 0x62, 0x80, 0x63, 0x80, 0xbf, 0x64],
         Err(Error::BadUtf8),
         "a\u{fffd}\u{fffd}\u{fffd}b\u{fffd}c\u{fffd}\u{fffd}d",
     ),
