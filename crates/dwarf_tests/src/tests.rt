@@ -1,7 +1,8 @@
 //! The public calls of dwarf_read_core and dwarf_uses, each by worked results.
 
 use dwarf_read_core::{
-    EndianSlice, Endianity, Error, LittleEndian, Reader, ReaderOffsetId, Result,
+    EndianSlice, Endianity, Error, HeaderFields, LittleEndian, Reader, ReaderOffsetId, Result,
+    SetHeaderIter,
 };
 use std::alloc::Global;
 use std::fmt::Debug;
@@ -14,13 +15,6 @@ macro_rules! eof {
     };
 }
 
-// What four calls return of which the first returns this, and the others no item.
-macro_rules! ended {
-    ($first:expr) => {
-        [$first, Ok(None), Ok(None), Ok(None)]
-    };
-}
-
 mod addresses;
 mod cache;
 mod callers;
@@ -28,7 +22,6 @@ mod copies;
 mod examples;
 mod names;
 mod owned;
-mod readings;
 mod sections;
 mod shared;
 mod string_offset_sets;
@@ -47,15 +40,37 @@ fn check_bytes<R: Reader>(rt: &impl Abort, part: &R, wanted: &[u8]) -> Result<()
     Ok(())
 }
 
+// Ends the test if a reader has other bytes or another position.
+fn check_part<R: Reader>(rt: &impl Abort, part: &R, bytes: &[u8], position: u64) -> Result<()> {
+    check_bytes(rt, part, bytes)?;
+    same(rt, part.offset_id().0, position, bytes);
+    Ok(())
+}
+
+// Whether a set follows.
+fn has_next<R: Reader, H: HeaderFields>(headers: &mut SetHeaderIter<R, H>) -> Result<bool> {
+    Ok(headers.next()?.is_some())
+}
+
+// Ends the test if the sets don't end so, or one follows their end, however often it is requested.
+fn check_end<R: Reader, H: HeaderFields, W: Debug + Copy>(
+    rt: &impl Abort,
+    headers: &mut SetHeaderIter<R, H>,
+    end: Result<()>,
+    what: W,
+) {
+    same(rt, has_next(headers), end.map(|()| false), what);
+    for _ in 0..3 {
+        same(rt, has_next(headers), Ok(false), what);
+    }
+}
+
 // A reader of at most a thousand bytes whose first position is this one. The prover has to see that no position
 // is past the greatest number of 64 bits.
 fn reader_at<E: Endianity>(bytes: &[u8], order: E, first: u8) -> EndianSlice<'_, E> {
     let bytes = &bytes[..bytes.len().min(1000)];
     EndianSlice::with_first_id(bytes, order, ReaderOffsetId(u64::from(first)))
 }
-
-// What four calls of an iterator's `next` return.
-type Four = [Result<Option<u64>>; 4];
 
 // The error that bytes are missing at a position.
 fn eof(position: u64) -> Error {

@@ -1,257 +1,207 @@
-//! Addresses by their index, and the sets of addresses. The worked cases of `dwarf_list` have whole sets, and the
-//! first errors without their positions.
+//! Addresses by their index, and the sets of addresses.
 
-use super::readings::{Check, Reading, alone, check_slices, four_at};
 use super::worked::{CUT_SET, FOUR_ADDRESSES, TWO_SETS, twenty_words};
-use super::{Four, eof, same};
+use super::{check_end, eof, reader_at, same};
+use dwarf_read_core::Error::{
+    UnknownReservedLength, UnknownVersion, UnsupportedAddressSize, UnsupportedOffset,
+    UnsupportedSegmentSize,
+};
+use dwarf_read_core::Format::{self, Dwarf32, Dwarf64};
+use dwarf_read_core::RunTimeEndian::{self, Big, Little};
 use dwarf_read_core::{
-    AddrEntryIter, AddrHeader, AddrHeaderIter, DebugAddr, Error, Format, Reader, ReaderOffset,
-    Result, RunTimeEndian,
+    AddrEntryIter, AddrHeader, AddrHeaderIter, DebugAddr, DebugAddrBase, DebugAddrIndex, Encoding,
+    EndianSlice, LittleEndian, Reader, ReaderOffset, Result,
 };
 use std::alloc::Global;
+use std::fmt::Debug;
 use std::process::Abort;
 use std::test::Fail;
-
-const LITTLE: RunTimeEndian = RunTimeEndian::Little;
-
-const BIG: RunTimeEndian = RunTimeEndian::Big;
 
 const BYTES: &[u8] =
     b"\x2c\0\0\0\x05\0\x04\0\x78\x56\x34\x12\xef\xbe\xad\xde\xf0\xde\xbc\x9a\x78\x56\x34\x12";
 
+const ZEROS: &[u8] = &[0; 64];
+
+// Two zero bytes more.
+const MORE_ZEROS: &[u8] = &[0; 66];
+
 // Bytes, their order, a size, a base and an index, and the address that they name.
-static ADDRESSES: &[(&[u8], RunTimeEndian, u8, u64, u64, Result<u64>)] = &[
-    (BYTES, LITTLE, 4, 8, 0, Ok(0x1234_5678)),
-    (BYTES, LITTLE, 4, 8, 1, Ok(0xdead_beef)),
-    (BYTES, LITTLE, 4, 8, 3, Ok(0x1234_5678)),
-    (BYTES, LITTLE, 8, 8, 0, Ok(0xdead_beef_1234_5678)),
-    (BYTES, LITTLE, 8, 8, 1, Ok(0x1234_5678_9abc_def0)),
-    (BYTES, LITTLE, 2, 8, 1, Ok(0x1234)),
-    (BYTES, LITTLE, 1, 8, 3, Ok(0x12)),
-    (BYTES, BIG, 4, 8, 0, Ok(0x7856_3412)),
-    (BYTES, BIG, 4, 8, 1, Ok(0xefbe_adde)),
-    (BYTES, BIG, 4, 8, 3, Ok(0x7856_3412)),
-    (BYTES, BIG, 8, 8, 0, Ok(0x7856_3412_efbe_adde)),
-    (BYTES, BIG, 8, 8, 1, Ok(0xf0de_bc9a_7856_3412)),
-    (BYTES, BIG, 2, 8, 1, Ok(0x3412)),
-    (BYTES, BIG, 1, 8, 3, Ok(0x12)),
-    (BYTES, LITTLE, 4, 8, 4, Err(eof!(24))),
-    (BYTES, LITTLE, 4, 8, 5, Err(eof!(8))),
-    (BYTES, LITTLE, 4, 10, 3, Err(eof!(22))),
-    (BYTES, LITTLE, 8, 8, 2, Err(eof!(24))),
-    (BYTES, LITTLE, 4, 24, 0, Err(eof!(24))),
-    (BYTES, LITTLE, 4, 25, 0, Err(eof!(0))),
-    (
-        BYTES,
-        LITTLE,
-        0,
-        8,
-        7,
-        Err(Error::UnsupportedAddressSize(0)),
-    ),
-    (
-        &[0; 64],
-        LITTLE,
-        8,
-        0,
-        1 << 61,
-        Err(Error::UnsupportedOffset),
-    ),
-    (
-        &[0; 66],
-        LITTLE,
-        8,
-        0,
-        1 << 61,
-        Err(Error::UnsupportedOffset),
-    ),
-    (&[0; 64], LITTLE, 8, 65, 1 << 61, Err(eof!(0))),
-    (
-        &[0; 64],
-        LITTLE,
-        3,
-        0,
-        21,
-        Err(Error::UnsupportedAddressSize(3)),
-    ),
-    (
-        &[0; 66],
-        LITTLE,
-        3,
-        0,
-        21,
-        Err(Error::UnsupportedAddressSize(3)),
-    ),
-    (&[0; 64], LITTLE, 3, 0, 22, Err(eof!(0))),
-    (
-        &[0; 66],
-        LITTLE,
-        3,
-        0,
-        22,
-        Err(Error::UnsupportedAddressSize(3)),
-    ),
-    (
-        &[0; 64],
-        LITTLE,
-        3,
-        0,
-        u64::MAX,
-        Err(Error::UnsupportedOffset),
-    ),
-    (
-        &[0; 64],
-        LITTLE,
-        255,
-        0,
-        u64::MAX,
-        Err(Error::UnsupportedOffset),
-    ),
-    (&[0; 64], LITTLE, 8, 60, 0, Err(eof!(60))),
-    (&[0; 64], LITTLE, 8, 1, 8, Err(eof!(1))),
-    (&[], LITTLE, 4, 0, 0, Err(eof!(0))),
+#[rattlefmt::skip]
+static ADDRESSES: &[(&[u8], RunTimeEndian, u8, usize, usize, Result<u64>)] = &[
+    (BYTES, Little, 4, 8, 0, Ok(0x1234_5678)),
+    (BYTES, Little, 4, 8, 1, Ok(0xdead_beef)),
+    (BYTES, Little, 4, 8, 3, Ok(0x1234_5678)),
+    (BYTES, Little, 8, 8, 0, Ok(0xdead_beef_1234_5678)),
+    (BYTES, Little, 8, 8, 1, Ok(0x1234_5678_9abc_def0)),
+    (BYTES, Little, 2, 8, 1, Ok(0x1234)),
+    (BYTES, Little, 1, 8, 3, Ok(0x12)),
+    (BYTES, Big, 4, 8, 0, Ok(0x7856_3412)),
+    (BYTES, Big, 4, 8, 1, Ok(0xefbe_adde)),
+    (BYTES, Big, 4, 8, 3, Ok(0x7856_3412)),
+    (BYTES, Big, 8, 8, 0, Ok(0x7856_3412_efbe_adde)),
+    (BYTES, Big, 8, 8, 1, Ok(0xf0de_bc9a_7856_3412)),
+    (BYTES, Big, 2, 8, 1, Ok(0x3412)),
+    (BYTES, Big, 1, 8, 3, Ok(0x12)),
+    (BYTES, Little, 4, 8, 4, Err(eof!(24))),
+    (BYTES, Little, 4, 8, 5, Err(eof!(8))),
+    (BYTES, Little, 4, 10, 3, Err(eof!(22))),
+    (BYTES, Little, 8, 8, 2, Err(eof!(24))),
+    (BYTES, Little, 4, 24, 0, Err(eof!(24))),
+    (BYTES, Little, 4, 25, 0, Err(eof!(0))),
+    (BYTES, Little, 0, 8, 7, Err(UnsupportedAddressSize(0))),
+    (ZEROS, Little, 8, 0, 1 << 61, Err(UnsupportedOffset)),
+    (MORE_ZEROS, Little, 8, 0, 1 << 61, Err(UnsupportedOffset)),
+    (ZEROS, Little, 8, 65, 1 << 61, Err(eof!(0))),
+    (ZEROS, Little, 3, 0, 21, Err(UnsupportedAddressSize(3))),
+    (MORE_ZEROS, Little, 3, 0, 21, Err(UnsupportedAddressSize(3))),
+    (ZEROS, Little, 3, 0, 22, Err(eof!(0))),
+    (MORE_ZEROS, Little, 3, 0, 22, Err(UnsupportedAddressSize(3))),
+    (ZEROS, Little, 3, 0, usize::MAX, Err(UnsupportedOffset)),
+    (ZEROS, Little, 255, 0, usize::MAX, Err(UnsupportedOffset)),
+    (ZEROS, Little, 8, 60, 0, Err(eof!(60))),
+    (ZEROS, Little, 8, 1, 8, Err(eof!(1))),
+    (b"", Little, 4, 0, 0, Err(eof!(0))),
 ];
+
+// The address of a size that an index names behind a base.
+fn address_in(
+    bytes: &[u8],
+    order: RunTimeEndian,
+    size: u8,
+    base: usize,
+    index: usize,
+) -> Result<u64> {
+    let section = DebugAddr::from(EndianSlice::new(bytes, order));
+    section.get_address(size, DebugAddrBase(base), DebugAddrIndex(index))
+}
 
 #[test]
 fn addresses_are_looked_up(rt: HostRuntime) {
     for (bytes, order, size, base, index, wanted) in ADDRESSES {
-        let address = four_at(bytes, *order, 0, Reading::Address(*size, *base, *index));
-        same(&rt, address, alone(*wanted), index);
+        let address = address_in(bytes, *order, *size, *base, *index);
+        same(&rt, address, *wanted, (*size, *base, *index));
     }
 }
 
 // Ends the test where twenty addresses of a size aren't 1000 and what follows.
-fn check_twenty(rt: &impl Abort, bytes: &[u8], size: u8, base: u64) {
-    for index in 0..20 {
-        let address = four_at(bytes, LITTLE, 0, Reading::Address(size, base, index));
-        same(rt, address, alone(Ok(1000 + index)), index);
+fn check_twenty(rt: &impl Abort, bytes: &[u8], size: u8, base: usize) {
+    for index in 0..20usize {
+        let address = address_in(bytes, Little, size, base, index);
+        same(rt, address, Ok(1000 + index as u64), (size, base, index));
     }
 }
 
 #[test]
 fn twenty_addresses_are_looked_up(rt: HostRuntime) -> std::result::Result<(), Fail> {
-    let words = twenty_words(rt.alloc(), Format::Dwarf32, false)?;
+    let words = twenty_words(rt.alloc(), Dwarf32, false)?;
     check_twenty(&rt, &words, 4, 8);
-    let words = twenty_words(rt.alloc(), Format::Dwarf64, false)?;
+    let words = twenty_words(rt.alloc(), Dwarf64, false)?;
     check_twenty(&rt, &words, 8, 16);
     Ok(())
 }
 
-// What four calls return of a section's sets: of each its length.
-fn next_lengths<R: Reader>(headers: &mut AddrHeaderIter<R>) -> Four {
-    [
-        next_length(headers),
-        next_length(headers),
-        next_length(headers),
-        next_length(headers),
-    ]
-}
+// A set: its offset, its length, its format, the size of its addresses, these, and how they end.
+pub(super) type Set = (u64, u64, Format, u8, &'static [u64], Result<()>);
 
-fn next_length<R: Reader>(headers: &mut AddrHeaderIter<R>) -> Result<Option<u64>> {
-    match headers.next()? {
-        Some(header) => Ok(Some(header.length().into_u64())),
-        None => Ok(None),
-    }
-}
-
-pub(super) fn lengths_of<R: Reader>(section: &DebugAddr<R>) -> Result<Four> {
-    Ok(next_lengths(&mut section.headers()?))
-}
-
-// The next header, where there has to be one.
-fn next_header<R: Reader>(headers: &mut AddrHeaderIter<R>) -> Result<AddrHeader<R>> {
-    headers.next()?.ok_or(Error::NoEntryAtGivenOffset(0))
-}
-
-pub(super) fn first_set_of<R: Reader>(section: &DebugAddr<R>) -> Result<Four> {
-    Ok(fields_of(&next_header(&mut section.headers()?)?))
-}
-
-fn fields_of<R: Reader>(header: &AddrHeader<R>) -> Four {
-    let encoding = header.encoding();
-    [
-        Ok(Some(header.offset().0.into_u64())),
-        Ok(Some(header.length().into_u64())),
-        Ok(Some(u64::from(encoding.address_size))),
-        Ok(Some(u64::from(encoding.format.word_size()))),
-    ]
-}
-
-// What four calls return of the first set's addresses, behind so many, or the error in place of all addresses.
-pub(super) fn addresses_of<R: Reader>(section: &DebugAddr<R>, count: u8) -> Result<Four> {
-    let header = next_header(&mut section.headers()?)?;
-    Ok(match header.entries() {
-        Ok(mut entries) => next_addresses(&mut entries, count),
-        Err(error) => ended!(Err(error)),
-    })
-}
-
-fn next_addresses<R: Reader>(entries: &mut AddrEntryIter<R>, count: u8) -> Four {
-    for _ in 0..count {
-        let _ = entries.next();
-    }
-    [
-        entries.next(),
-        entries.next(),
-        entries.next(),
-        entries.next(),
-    ]
-}
-
-// The first position, bytes, and what four calls return of their sets. No set follows an error.
-static LENGTHS: &[(u8, &[u8], Four)] = &[
-    (0, b"\0\0\0\0", ended!(Err(eof!(4)))),
-    (0, b"\x01\0\0\0\x05", ended!(Err(eof!(4)))),
-    (0, b"\x02\0\0\0\x05\0", ended!(Err(eof!(6)))),
-    (0, b"\x03\0\0\0\x05\0\x08", ended!(Err(eof!(7)))),
-    (0, b"\x05\0\0\0\x05\0\x08\0", ended!(Err(eof!(4)))),
-    (
-        0,
-        b"\x04\0\0\0\x05\0\x03\0",
-        ended!(Err(Error::UnsupportedAddressSize(3))),
-    ),
-    (
-        0,
-        b"\x04\0\0\0\x05\0\x08\x01",
-        ended!(Err(Error::UnsupportedSegmentSize(1))),
-    ),
-    (
-        0,
-        b"\xf0\xff\xff\xff",
-        ended!(Err(Error::UnknownReservedLength(0xffff_fff0))),
-    ),
-    (0, b"\xff\xff\xff", ended!(Err(eof!(0)))),
-    (0, b"\xff\xff\xff\xff\x12\x34\x56\x78", ended!(Err(eof!(4)))),
-    (
-        0,
-        b"\x04\0\0\0\x04\0\x08\0",
-        ended!(Err(Error::UnknownVersion(4))),
-    ),
-    (
-        0,
-        b"\x04\0\0\0\x04\0\x08\0\x09\0\0\0\x05\0\x04\0\x78\x56\x34\x12\xaa",
-        ended!(Err(Error::UnknownVersion(4))),
-    ),
-    (0, CUT_SET, ended!(Ok(Some(9)))),
-    (100, b"\xff\xff\xff", ended!(Err(eof!(100)))),
-    (100, b"\x05\0\0\0\x05\0\x08\0", ended!(Err(eof!(104)))),
-    (100, b"\x03\0\0\0\x05\0\x08", ended!(Err(eof!(107)))),
+// The first position, bytes, the sets that they have, and what follows these.
+#[rattlefmt::skip]
+static SETS: &[(u8, &[u8], &[Set], Result<()>)] = &[
+    (0, b"", &[], Ok(())),
+    (0, b"\x04\0\0\0\x05\0\x08\0", &[(0, 4, Dwarf32, 8, &[], Ok(()))], Ok(())),
+    (0, CUT_SET, &[(0, 9, Dwarf32, 4, &[0x1234_5678], Err(eof!(12)))], Ok(())),
+    (0, TWO_SETS, &[
+        (0, 12, Dwarf32, 4, &[0x1234_5678, 0xdead_beef], Ok(())),
+        (16, 20, Dwarf64, 8, &[0x1234_5678_9abc_def0, 0xdead_beef_dead_beef], Ok(())),
+    ], Ok(())),
+    // A header is cut short, or the set's length reaches past the end.
+    (0, b"\0\0\0\0", &[], Err(eof!(4))),
+    (0, b"\x01\0\0\0\x05", &[], Err(eof!(4))),
+    (0, b"\x02\0\0\0\x05\0", &[], Err(eof!(6))),
+    (0, b"\x03\0\0\0\x05\0\x08", &[], Err(eof!(7))),
+    (0, b"\x05\0\0\0\x05\0\x08\0", &[], Err(eof!(4))),
+    (0, b"\xff\xff\xff", &[], Err(eof!(0))),
+    (0, b"\xff\xff\xff\xff\x12\x34\x56\x78", &[], Err(eof!(4))),
+    (100, CUT_SET, &[(0, 9, Dwarf32, 4, &[0x1234_5678], Err(eof!(112)))], Ok(())),
+    (100, b"\xff\xff\xff", &[], Err(eof!(100))),
+    (100, b"\x05\0\0\0\x05\0\x08\0", &[], Err(eof!(104))),
+    (100, b"\x03\0\0\0\x05\0\x08", &[], Err(eof!(107))),
+    // A field of a header has a value that isn't supported.
+    (0, b"\x04\0\0\0\x05\0\x03\0", &[], Err(UnsupportedAddressSize(3))),
+    (0, b"\x04\0\0\0\x05\0\x08\x01", &[], Err(UnsupportedSegmentSize(1))),
+    (0, b"\xf0\xff\xff\xff", &[], Err(UnknownReservedLength(0xffff_fff0))),
+    (0, b"\x04\0\0\0\x04\0\x08\0", &[], Err(UnknownVersion(4))),
+    // No set follows an error.
+    (0, b"\x04\0\0\0\x04\0\x08\0\x09\0\0\0\x05\0\x04\0\x78\x56\x34\x12\xaa", &[],
+        Err(UnknownVersion(4))),
 ];
 
-// Appends the addresses of a set, up to the first error.
-fn append<R: Reader>(entries: AddrEntryIter<R>, addresses: &mut Vec<u64>) -> Result<()> {
-    for address in entries {
-        push(address, addresses)?;
+// Ends the test where a set has other addresses, or where one follows the last or an error.
+fn check_entries<R: Reader>(
+    rt: &impl Abort,
+    entries: &mut AddrEntryIter<R>,
+    wanted: &[u64],
+    end: Result<()>,
+) {
+    for address in wanted {
+        same(rt, entries.next(), Ok(Some(*address)), wanted);
+    }
+    same(rt, entries.next(), end.map(|()| None), wanted);
+    for _ in 0..8 {
+        same(rt, entries.next(), Ok(None), wanted);
+    }
+}
+
+fn check_set<R: Reader>(rt: &impl Abort, header: &AddrHeader<R>, wanted: &Set) {
+    let (offset, length, format, size, addresses, end) = wanted;
+    let fields = (header.offset().0.into_u64(), header.length().into_u64());
+    same(rt, fields, (*offset, *length), wanted);
+    let encoding = Encoding {
+        address_size: *size,
+        format: *format,
+        version: 5,
+    };
+    same(rt, header.encoding(), encoding, wanted);
+    match header.entries() {
+        Ok(mut entries) => check_entries(rt, &mut entries, addresses, *end),
+        Err(error) => same(rt, Err(error), *end, wanted),
+    }
+}
+
+// Ends the test where the next set is another one, or there is none.
+fn check_next<R: Reader>(
+    rt: &impl Abort,
+    headers: &mut AddrHeaderIter<R>,
+    wanted: &Set,
+) -> Result<()> {
+    match headers.next()? {
+        Some(header) => check_set(rt, &header, wanted),
+        None => assert!(rt; false, "no set {wanted:?}"),
     }
     Ok(())
 }
 
-fn push(address: Result<u64>, addresses: &mut Vec<u64>) -> Result<()> {
-    Ok(addresses.push(address?)?)
+// Ends the test where a section has other sets, or where one follows the last or an error.
+pub(super) fn check_sets<R: Reader, W: Debug + Copy>(
+    rt: &impl Abort,
+    section: &DebugAddr<R>,
+    (sets, end): (&[Set], Result<()>),
+    what: W,
+) -> Result<()> {
+    let mut headers = section.headers()?;
+    for set in sets {
+        check_next(rt, &mut headers, set)?;
+    }
+    check_end(rt, &mut headers, end, what);
+    Ok(())
 }
 
-fn append_set<R: Reader>(header: Result<AddrHeader<R>>, addresses: &mut Vec<u64>) -> Result<()> {
-    append(header?.entries()?, addresses)
+#[test]
+fn sets_end_at_the_first_error(rt: HostRuntime) {
+    for (first, bytes, sets, end) in SETS {
+        let section = DebugAddr::from(reader_at(bytes, LittleEndian, *first));
+        let checked = check_sets(&rt, &section, (*sets, *end), *bytes);
+        same(&rt, checked, Ok(()), bytes);
+    }
 }
 
 // Appends the addresses of a section's sets, up to the first error.
@@ -262,49 +212,24 @@ pub(super) fn walk<R: Reader>(section: &DebugAddr<R>, addresses: &mut Vec<u64>) 
     Ok(())
 }
 
-#[test]
-fn sets_have_lengths_up_to_the_first_error(rt: HostRuntime) {
-    for (first, bytes, wanted) in LENGTHS {
-        let lengths = four_at(bytes, LITTLE, *first, Reading::AddressSets);
-        same(&rt, lengths, Ok(*wanted), bytes);
+fn append_set<R: Reader>(header: Result<AddrHeader<R>>, addresses: &mut Vec<u64>) -> Result<()> {
+    for address in header?.entries()? {
+        push(address, addresses)?;
     }
+    Ok(())
 }
 
-// Bytes, how many addresses of their first set come first, and what four calls then return. The set has one address, and
-// a byte too few for another. No address follows the error, however often the next one is requested.
-static CUT: &[(&[u8], u8, Four)] = &[
-    (
-        CUT_SET,
-        0,
-        [Ok(Some(0x1234_5678)), Err(eof!(12)), Ok(None), Ok(None)],
-    ),
-    (CUT_SET, 2, ended!(Ok(None))),
-    (CUT_SET, 6, ended!(Ok(None))),
-];
-
-#[test]
-fn no_address_follows_an_error(rt: HostRuntime) {
-    let fields = [Ok(Some(0)), Ok(Some(9)), Ok(Some(4)), Ok(Some(4))];
-    let set = four_at(CUT_SET, LITTLE, 0, Reading::AddressSet);
-    same(&rt, set, Ok(fields), "a cut set");
-    for (bytes, count, wanted) in CUT {
-        let addresses = four_at(bytes, LITTLE, 0, Reading::Addresses(*count));
-        same(&rt, addresses, Ok(*wanted), count);
-    }
+fn push(address: Result<u64>, addresses: &mut Vec<u64>) -> Result<()> {
+    Ok(addresses.push(address?)?)
 }
 
-// Ends the test where a section's sets don't have so many of the four addresses up to the first error, or have another
-// error.
-pub(super) fn check_walk<R: Reader>(
-    rt: &impl Abort,
-    mem: Global,
-    section: &DebugAddr<R>,
-    count: usize,
-    outcome: Result<()>,
-) {
+// Ends the test where the sets in these bytes don't have so many of the four addresses up to the first error, or have
+// another error.
+fn check_walk(rt: &impl Abort, mem: Global, bytes: &[u8], count: usize, end: Result<()>) {
     let (mut found, wanted) = (Vec::new(mem), &FOUR_ADDRESSES[..count.min(4)]);
-    same(rt, walk(section, &mut found), outcome, wanted);
-    same(rt, found.as_slice(), wanted, outcome);
+    let section = DebugAddr::from(EndianSlice::new(bytes, LittleEndian));
+    same(rt, walk(&section, &mut found), end, bytes);
+    same(rt, found.as_slice(), wanted, bytes);
 }
 
 // How many addresses the first bytes of two sets have, and their first error.
@@ -324,10 +249,7 @@ fn cut(len: usize) -> (usize, Result<()>) {
 #[test]
 fn cut_sets_end_early(rt: HostRuntime) {
     for len in 0..49usize {
-        let (count, outcome) = cut(len);
-        let check = Check::Walk(count, outcome);
-        check_slices(&rt, rt.alloc(), check, 0, [&TWO_SETS[..len], b"", b""]);
+        let (count, end) = cut(len);
+        check_walk(&rt, rt.alloc(), &TWO_SETS[..len], count, end);
     }
-    let check = Check::Walk(1, Err(eof(112)));
-    check_slices(&rt, rt.alloc(), check, 100, [CUT_SET, b"", b""]);
 }

@@ -1,6 +1,5 @@
 //! The small callers, on worked sections.
 
-use super::readings::{Check, check_slices};
 use super::worked::{FOUR_ADDRESSES, STRINGS, THREE, TWO_SETS, UNIT};
 use super::{check_bytes, little, same};
 use dwarf_read_core::constants::{DW_TAG_compile_unit, DwTag};
@@ -50,19 +49,12 @@ fn check_lengths<R: Reader<Offset = usize>>(
     Ok(())
 }
 
-pub(super) fn check_tables<R: Reader<Offset = usize>>(
-    rt: &impl Abort,
-    mem: Global,
-    unit: R,
-    three: R,
-) -> Result<()> {
-    check_unit(rt, mem, &unit.into())?;
-    check_lengths(rt, mem, &three.into())
-}
-
 #[test]
 fn tables_are_walked(rt: HostRuntime) {
-    check_slices(&rt, rt.alloc(), Check::Tables, 0, [UNIT, THREE, b""]);
+    let unit = check_unit(&rt, rt.alloc(), &little(UNIT).into());
+    same(&rt, unit, Ok(()), "a unit");
+    let lengths = check_lengths(&rt, rt.alloc(), &little(THREE).into());
+    same(&rt, lengths, Ok(()), "lengths");
 }
 
 const OFFSETS: &[u8] = b"\x0c\0\0\0\x05\0\0\0\0\0\0\0\x04\0\0\0";
@@ -99,21 +91,11 @@ fn check_sets<R: Reader>(rt: &impl Abort, mem: Global, sets: &DebugAddr<R>) {
     same(rt, found.as_slice(), wanted, "addresses");
 }
 
-pub(super) fn check_sections<R: Reader>(
-    rt: &impl Abort,
-    mem: Global,
-    offsets: R,
-    strings: R,
-    sets: R,
-) -> Result<()> {
-    check_sets(rt, mem, &sets.into());
-    check_string(rt, &offsets.into(), &strings.into())
-}
-
 #[test]
 fn sections_are_looked_up(rt: HostRuntime) {
-    let sections = [OFFSETS, STRINGS, TWO_SETS];
-    check_slices(&rt, rt.alloc(), Check::Lookups, 0, sections);
+    let string = check_string(&rt, &little(OFFSETS).into(), &little(STRINGS).into());
+    same(&rt, string, Ok(()), "a string");
+    check_sets(&rt, rt.alloc(), &little(TWO_SETS).into());
 }
 
 #[test]

@@ -1,14 +1,16 @@
 //! The owned reader: 32-bit offsets, and clones that fail.
 
-use super::addresses::walk;
-use super::readings::{Reading, four_of};
+use super::addresses::{Set, check_sets, walk};
 use super::tables::is_table;
 use super::worked::{FOUR_ADDRESSES, STRINGS, TWO_SETS, UNIT, UNIT_TABLE};
-use super::{Four, check_bytes, end_requests, same};
+use super::{check_bytes, check_end, end_requests, same};
+use dwarf_read_core::Error::{OutOfMemory, UnsupportedOffset};
+use dwarf_read_core::Format::{self, Dwarf32, Dwarf64};
 use dwarf_read_core::{
-    Abbreviations, AbbreviationsCache, AbbreviationsCacheStrategy, DebugAbbrev, DebugAbbrevOffset,
-    DebugAddr, DebugAddrBase, DebugAddrIndex, DebugStr, DebugStrOffset, EndianSlice, Error, Format,
-    LittleEndian, Reader, ReaderOffset, Result, RunTimeEndian, Section, read_u8_array,
+    Abbreviations, AbbreviationsCache, AbbreviationsCacheStrategy, AddrHeaderIter, DebugAbbrev,
+    DebugAbbrevOffset, DebugAddr, DebugAddrBase, DebugAddrIndex, DebugStr, DebugStrOffset,
+    DebugStrOffsets, DebugStrOffsetsBase, DebugStrOffsetsIndex, EndianSlice, Error, LittleEndian,
+    Reader, ReaderOffset, Result, RunTimeEndian, Section, read_u8_array,
 };
 use dwarf_uses::{OwnedReader, SharedReader};
 use std::alloc::Global;
@@ -18,32 +20,46 @@ use std::rc::Rc;
 use std::test::Fail;
 
 // A reader whose clones may go so deep.
-fn owned(mem: Global, bytes: &[u8], depth: u8) -> Result<OwnedReader> {
+pub(super) fn owned(mem: Global, bytes: &[u8], depth: u8) -> Result<OwnedReader> {
     OwnedReader::new(mem, bytes.to_vec(mem)?, RunTimeEndian::Little, depth)
 }
 
 #[test]
 fn constants_tell_of_clones(rt: HostRuntime) {
     let of_slices = <EndianSlice<'_, LittleEndian> as Reader>::CLONE_IS_FREE;
+    same(&rt, of_slices, true, "slices");
+    let of_owned = <OwnedReader as Reader>::CLONE_IS_FREE;
+    same(&rt, of_owned, false, "owned bytes");
     let of_shared = <SharedReader as Reader>::CLONE_IS_FREE;
-    let constants = (of_slices, <OwnedReader as Reader>::CLONE_IS_FREE, of_shared);
-    same(
-        &rt,
-        constants,
-        (true, false, false),
-        "slices, owned and shared bytes",
-    );
+    same(&rt, of_shared, false, "shared bytes");
 }
 
 // Ends the test where the strings one and two aren't there, or one has a clone.
-fn check_parts<R: Reader>(rt: &impl Abort, mem: Global, mut strings: R) -> Result<()> {
-    check_first(rt, mem, &mut strings)?;
+fn check_parts<R: Reader>(rt: &impl Abort, mem: Global, strings: &mut R) -> Result<()> {
+    check_one(rt, mem, &mut strings.read_null_terminated_slice()?)?;
     same(rt, strings.offset_id().0, 4, "behind one");
     check_two(rt, &mut strings.split(R::Offset::from_u8(3))?)
 }
 
-fn check_first<R: Reader>(rt: &impl Abort, mem: Global, strings: &mut R) -> Result<()> {
-    check_one(rt, mem, &mut strings.read_null_terminated_slice()?)
+fn check_one<R: Reader>(rt: &impl Abort, mem: Global, one: &mut R) -> Result<()> {
+    same(rt, one.len().into_u64(), 3, "the length of one");
+    check_refused(rt, one);
+    same(rt, one.offset_id().0, 0, "the position of one");
+    check_text(rt, mem, one)?;
+    same(rt, read_u8_array::<_, 3>(one)?, *b"one", "three bytes");
+    Ok(())
+}
+
+fn check_refused<R: Reader>(rt: &impl Abort, one: &mut R) {
+    same(rt, one.try_clone().err(), Some(OutOfMemory), "a clone");
+    let part = one.split(R::Offset::from_u8(1));
+    same(rt, part.err(), Some(OutOfMemory), "a part");
+}
+
+fn check_text<R: Reader>(rt: &impl Abort, mem: Global, one: &R) -> Result<()> {
+    same(rt, one.to_string()?.as_str(), "one", "text");
+    same(rt, one.to_string_lossy(mem)?.as_str(), "one", "lossy");
+    Ok(())
 }
 
 fn check_two<R: Reader>(rt: &impl Abort, two: &mut R) -> Result<()> {
@@ -54,93 +70,59 @@ fn check_two<R: Reader>(rt: &impl Abort, two: &mut R) -> Result<()> {
     Ok(())
 }
 
-fn check_refused<R: Reader>(rt: &impl Abort, one: &mut R) {
-    same(rt, one.len().into_u64(), 3, "one");
-    same(rt, one.try_clone().err(), Some(Error::OutOfMemory), "one");
-    let part = one.split(R::Offset::from_u8(1));
-    same(rt, part.err(), Some(Error::OutOfMemory), "one");
-    same(rt, one.offset_id().0, 0, "one");
-}
-
-fn check_text<R: Reader>(rt: &impl Abort, mem: Global, one: &R) -> Result<()> {
-    same(rt, one.to_string()?.as_str(), "one", "one");
-    same(rt, one.to_string_lossy(mem)?.as_str(), "one", "one");
-    Ok(())
-}
-
-fn check_one<R: Reader>(rt: &impl Abort, mem: Global, one: &mut R) -> Result<()> {
-    check_refused(rt, one);
-    check_text(rt, mem, one)?;
-    same(rt, read_u8_array::<_, 3>(one)?, *b"one", "one");
-    Ok(())
-}
-
 #[test]
 fn parts_have_one_clone_fewer(rt: HostRuntime) -> std::result::Result<(), Fail> {
-    let strings = owned(rt.alloc(), b"one\0two\0", 1)?;
-    check_parts(&rt, rt.alloc(), strings)?;
+    let mut strings = owned(rt.alloc(), b"one\0two\0", 1)?;
+    check_parts(&rt, rt.alloc(), &mut strings)?;
     Ok(())
 }
 
 // A length of 2^32 in the 64-bit format.
 const LONG: &[u8] = &[0xff, 0xff, 0xff, 0xff, 0, 0, 0, 0, 1, 0, 0, 0];
 
-// What four calls return of bytes by a reader whose clones may go so deep.
-pub(super) fn four(mem: Global, bytes: &[u8], depth: u8, reading: Reading) -> Result<Four> {
-    four_of(owned(mem, bytes, depth)?, reading)
+#[test]
+fn lengths_have_32_bits(rt: HostRuntime) -> std::result::Result<(), Fail> {
+    let mut reader = owned(rt.alloc(), LONG, 0)?;
+    let error = reader.read_initial_length().err();
+    same(&rt, error, Some(UnsupportedOffset), "a length");
+    same(&rt, reader.offset_id().0, 12, "behind the length");
+    let section = DebugAddr::from(owned(rt.alloc(), LONG, 2)?);
+    let checked = check_sets(&rt, &section, (&[], Err(UnsupportedOffset)), LONG);
+    same(&rt, checked, Ok(()), "a set");
+    Ok(())
 }
 
 // In a section of one word of 2^32: a format, an index, and the error in place of the offset that it names.
-static FAULTS: &[(Format, u64, Error)] = &[
-    (Format::Dwarf64, 0, Error::UnsupportedOffset),
-    (Format::Dwarf32, 1 << 30, Error::UnsupportedOffset),
-    (Format::Dwarf32, (1 << 30) - 1, eof!(0)),
+static ERRORS: &[(Format, u32, Error)] = &[
+    (Dwarf64, 0, UnsupportedOffset),
+    (Dwarf32, 1 << 30, UnsupportedOffset),
+    (Dwarf32, (1 << 30) - 1, eof!(0)),
 ];
 
 #[test]
-fn offsets_have_32_bits(rt: HostRuntime) {
-    let (mem, fault) = (rt.alloc(), Error::UnsupportedOffset);
-    let length = four(mem, LONG, 0, Reading::Length);
-    let wanted = Ok([Err(fault), Ok(Some(12)), Ok(None), Ok(None)]);
-    same(&rt, length, wanted, "a length");
-    let sets = four(mem, LONG, 2, Reading::AddressSets);
-    same(&rt, sets, Ok(ended!(Err(fault))), "a set");
-    for (format, index, fault) in FAULTS {
-        let offset = four(mem, &LONG[4..], 1, Reading::Offset(*format, 0, *index));
-        same(&rt, offset, Err(*fault), index);
+fn offsets_have_32_bits(rt: HostRuntime) -> std::result::Result<(), Fail> {
+    let section = DebugStrOffsets::from(owned(rt.alloc(), &LONG[4..], 1)?);
+    for (format, index, wanted) in ERRORS {
+        let (base, place) = (DebugStrOffsetsBase(0), DebugStrOffsetsIndex(*index));
+        let error = section.get_str_offset(*format, base, place).err();
+        same(&rt, error, Some(*wanted), index);
     }
+    Ok(())
 }
 
 // Whether a call returns the whole of what is wanted.
 type Answer = Result<bool>;
 
-// What a call returns where clones may go 0, 1, 2 and 3 deep: first OutOfMemory, and from some depth
-// on what is wanted.
-fn check_depths(rt: &impl Abort, results: [Answer; 4], what: &str) {
-    let mut is_refused = true;
-    for result in &results {
-        let was_refused = is_refused;
-        is_refused = *result == Err(Error::OutOfMemory);
-        if is_refused {
-            assert!(rt; was_refused, "{what}");
-        } else {
-            same(rt, *result, Ok(true), what);
-        }
-    }
-    same(rt, results[0], Err(Error::OutOfMemory), what);
-    assert!(rt; !is_refused, "{what}");
-}
-
-// The table of one unit at 0: as it is read, as it is read strictly, from a cache that keeps nothing, and from one that
-// keeps it.
-fn are_units<R: Reader>(mem: Global, section: &DebugAbbrev<R>) -> [Answer; 4] {
-    let offset = DebugAbbrevOffset(R::Offset::from_u8(0));
-    [
-        is_unit(section.abbreviations(mem, offset)),
-        is_unit(section.abbreviations_strict(mem, offset)),
-        is_shared_unit(AbbreviationsCache::new(mem).get(section, offset)),
-        is_kept_unit(mem, section, offset),
-    ]
+// Ends the test where a call returns something else: OutOfMemory if clones may not go as deep as it needs, and else
+// what is wanted.
+fn check_depth(rt: &impl Abort, depth: u8, needed: u8, answer: Answer, what: &str) {
+    let is_refused = depth < needed;
+    let wanted = if is_refused {
+        Err(OutOfMemory)
+    } else {
+        Ok(true)
+    };
+    same(rt, answer, wanted, (what, depth));
 }
 
 fn is_unit(table: Result<Abbreviations>) -> Answer {
@@ -161,7 +143,22 @@ fn is_kept_unit<R: Reader>(
     is_shared_unit(cache.get(section, offset))
 }
 
-// The second string, and its position.
+fn check_tables<R: Reader>(rt: &impl Abort, mem: Global, depth: u8, section: &DebugAbbrev<R>) {
+    let offset = DebugAbbrevOffset(R::Offset::from_u8(0));
+    let lenient = is_unit(section.abbreviations(mem, offset));
+    check_depth(rt, depth, 1, lenient, "lenient");
+    let strict = is_unit(section.abbreviations_strict(mem, offset));
+    check_depth(rt, depth, 1, strict, "strict");
+    let fresh = is_shared_unit(AbbreviationsCache::new(mem).get(section, offset));
+    check_depth(rt, depth, 1, fresh, "fresh");
+    let kept = is_kept_unit(mem, section, offset);
+    check_depth(rt, depth, 1, kept, "kept");
+}
+
+fn is_two<R: Reader>(part: &R) -> Answer {
+    Ok(part.to_slice()?.as_slice() == b"two".as_slice() && part.offset_id().0 == 4)
+}
+
 fn is_second_string<R: Reader>(section: &DebugStr<R>) -> Answer {
     is_two(&section.get_str(DebugStrOffset(R::Offset::from_u8(4)))?)
 }
@@ -171,8 +168,9 @@ fn is_range<R: Reader>(section: &DebugStr<R>) -> Answer {
     is_two(section.dwp_range(4, 3)?.reader())
 }
 
-fn is_two<R: Reader>(part: &R) -> Answer {
-    Ok(part.to_slice()?.as_slice() == b"two".as_slice() && part.offset_id().0 == 4)
+fn check_strings<R: Reader>(rt: &impl Abort, depth: u8, section: &DebugStr<R>) {
+    check_depth(rt, depth, 2, is_second_string(section), "a string");
+    check_depth(rt, depth, 1, is_range(section), "a range");
 }
 
 // The second address of the first set.
@@ -182,102 +180,57 @@ fn is_second_address<R: Reader>(section: &DebugAddr<R>) -> Answer {
     Ok(address == FOUR_ADDRESSES[1])
 }
 
-// The addresses of all sets.
 fn are_all_addresses<R: Reader>(mem: Global, section: &DebugAddr<R>) -> Answer {
     let mut found = Vec::new(mem);
     walk(section, &mut found)?;
     Ok(found.as_slice() == FOUR_ADDRESSES.as_slice())
 }
 
-// What a call of each kind returns.
-type Answers = [Answer; 8];
-
-// The results of these readers' sections.
-fn answers_of<R: Reader>(
-    mem: Global,
-    tables: Result<R>,
-    strings: Result<R>,
-    addresses: Result<R>,
-) -> Result<Answers> {
-    let (tables, strings) = (DebugAbbrev::from(tables?), DebugStr::from(strings?));
-    Ok(answers_in(mem, &tables, &strings, &DebugAddr::from(addresses?)))
-}
-
-fn answers_in<R: Reader>(
-    mem: Global,
-    tables: &DebugAbbrev<R>,
-    strings: &DebugStr<R>,
-    addresses: &DebugAddr<R>,
-) -> Answers {
-    let [lenient, strict, fresh, kept] = are_units(mem, tables);
-    [
-        lenient,
-        strict,
-        fresh,
-        kept,
-        is_second_string(strings),
-        is_range(strings),
-        is_second_address(addresses),
-        are_all_addresses(mem, addresses),
-    ]
-}
-
-// The results where clones may go so deep.
-fn answers_at(mem: Global, depth: u8) -> Result<Answers> {
-    let tables = owned(mem, UNIT, depth);
-    let strings = owned(mem, STRINGS, depth);
-    answers_of(mem, tables, strings, owned(mem, TWO_SETS, depth))
-}
-
-// What each call reads.
-static READ: [&str; 8] = [
-    "lenient",
-    "strict",
-    "fresh",
-    "kept",
-    "a string",
-    "a range",
-    "an address",
-    "sets",
-];
-
-fn check_answers(rt: &impl Abort, by_depth: [Answers; 4]) {
-    for (index, what) in READ.iter().enumerate() {
-        let [none, one, two, three] = by_depth;
-        check_depths(
-            rt,
-            [none[index], one[index], two[index], three[index]],
-            what,
-        );
-    }
+fn check_addresses<R: Reader>(rt: &impl Abort, mem: Global, depth: u8, section: &DebugAddr<R>) {
+    check_depth(rt, depth, 1, is_second_address(section), "an address");
+    check_depth(rt, depth, 3, are_all_addresses(mem, section), "sets");
 }
 
 #[test]
 fn refused_clones_are_returned(rt: HostRuntime) -> std::result::Result<(), Fail> {
     let mem = rt.alloc();
-    let (none, one) = (answers_at(mem, 0)?, answers_at(mem, 1)?);
-    check_answers(&rt, [none, one, answers_at(mem, 2)?, answers_at(mem, 3)?]);
+    for depth in 0..4u8 {
+        check_tables(&rt, mem, depth, &owned(mem, UNIT, depth)?.into());
+        check_strings(&rt, depth, &owned(mem, STRINGS, depth)?.into());
+        check_addresses(&rt, mem, depth, &owned(mem, TWO_SETS, depth)?.into());
+    }
     Ok(())
 }
 
-// Appends the addresses of two sets, by a reader whose clones may go so deep, up to the first error.
-fn walk_at(mem: Global, depth: u8, found: &mut Vec<u64>) -> Result<()> {
-    walk(&DebugAddr::from(owned(mem, TWO_SETS, depth)?), found)
-}
+// How deep clones may go, the sets that are read of two sets, what follows these, and whether a walk can begin.
+#[rattlefmt::skip]
+static REFUSED: &[(u8, &[Set], Result<()>, Result<()>)] = &[
+    (0, &[], Ok(()), Err(OutOfMemory)),
+    (1, &[], Err(OutOfMemory), Ok(())),
+    (2, &[
+        (0, 12, Dwarf32, 4, &[], Err(OutOfMemory)),
+        (16, 20, Dwarf64, 8, &[], Err(OutOfMemory)),
+    ], Ok(()), Ok(())),
+    (3, &[
+        (0, 12, Dwarf32, 4, &[0x1234_5678, 0xdead_beef], Ok(())),
+        (16, 20, Dwarf64, 8, &[0x1234_5678_9abc_def0, 0xdead_beef_dead_beef], Ok(())),
+    ], Ok(()), Ok(())),
+];
 
 // An iterator that returned OutOfMemory has no other item.
 #[test]
-fn refused_clones_end_a_walk(rt: HostRuntime) {
-    let (mem, refused) = (rt.alloc(), Error::OutOfMemory);
-    let sets = four(mem, TWO_SETS, 1, Reading::AddressSets);
-    same(&rt, sets, Ok(ended!(Err(refused))), "1");
-    let entries = four(mem, TWO_SETS, 2, Reading::Addresses(0));
-    same(&rt, entries, Ok(ended!(Err(refused))), "2");
-    let mut found = Vec::new(mem);
-    same(&rt, walk_at(mem, 2, &mut found), Err(refused), "2");
-    same(&rt, found.is_empty(), true, "2");
-    same(&rt, walk_at(mem, 3, &mut found), Ok(()), "3");
-    same(&rt, found.as_slice(), FOUR_ADDRESSES.as_slice(), "3");
+fn refused_clones_end_a_walk(rt: HostRuntime) -> std::result::Result<(), Fail> {
+    for (depth, sets, end, begins) in REFUSED {
+        let section = DebugAddr::from(owned(rt.alloc(), TWO_SETS, *depth)?);
+        let checked = check_sets(&rt, &section, (*sets, *end), *depth);
+        same(&rt, checked, *begins, depth);
+    }
+    Ok(())
+}
+
+// Appends the addresses of two sets up to the first error.
+fn walk_owned(mem: Global, found: &mut Vec<u64>) -> Result<()> {
+    walk(&DebugAddr::from(owned(mem, TWO_SETS, 3)?), found)
 }
 
 // If an allocation fails, the addresses up to some are there, and all if the outcome isn't OutOfMemory.
@@ -285,28 +238,47 @@ fn refused_clones_end_a_walk(rt: HostRuntime) {
 fn refused_memory_for_clones(rt: HostRuntime) {
     let mem = rt.alloc();
     let mut found = Vec::new(mem);
-    let outcome = walk_at(mem, 3, &mut found);
+    let outcome = walk_owned(mem, &mut found);
     let count = found.len().min(4);
     same(&rt, found.as_slice(), &FOUR_ADDRESSES[..count], "sets");
     match outcome {
         Ok(()) => same(&rt, count, 4, "sets"),
-        Err(fault) => same(&rt, fault, Error::OutOfMemory, "sets"),
+        Err(error) => same(&rt, error, OutOfMemory, "sets"),
     }
     end_requests(&rt, mem);
 }
 
-// No set follows an allocation that failed.
+// Ends the test where the next set has another length, or is refused for another reason than memory.
+fn check_length<R: Reader>(
+    rt: &impl Abort,
+    headers: &mut AddrHeaderIter<R>,
+    wanted: u64,
+) -> Result<()> {
+    match headers.next()? {
+        Some(header) => same(rt, header.length().into_u64(), wanted, "a length"),
+        None => assert!(rt; false, "no set of {wanted}"),
+    }
+    Ok(())
+}
+
+fn check_lengths<R: Reader>(rt: &impl Abort, headers: &mut AddrHeaderIter<R>) -> Result<()> {
+    check_length(rt, headers, 12)?;
+    check_length(rt, headers, 20)
+}
+
+// Ends the test where a set follows an allocation that failed.
+fn check_headers(rt: &impl Abort, mem: Global) -> Result<()> {
+    let section = DebugAddr::from(owned(mem, TWO_SETS, 3)?);
+    let mut headers = section.headers()?;
+    let checked = check_lengths(rt, &mut headers);
+    check_end(rt, &mut headers, Ok(()), "sets");
+    checked
+}
+
 #[test]
 fn refused_memory_for_headers(rt: HostRuntime) {
-    if let Ok(sets) = four(rt.alloc(), TWO_SETS, 3, Reading::AddressSets) {
-        let wanted = if sets[0].is_err() {
-            [Err(Error::OutOfMemory), Ok(None), Ok(None), Ok(None)]
-        } else if sets[1].is_err() {
-            [Ok(Some(12)), Err(Error::OutOfMemory), Ok(None), Ok(None)]
-        } else {
-            [Ok(Some(12)), Ok(Some(20)), Ok(None), Ok(None)]
-        };
-        same(&rt, sets, wanted, "sets");
+    if let Err(error) = check_headers(&rt, rt.alloc()) {
+        same(&rt, error, OutOfMemory, "sets");
     }
     end_requests(&rt, rt.alloc());
 }

@@ -1,10 +1,9 @@
 //! Sections: their names, and what they have in common.
 
-use super::readings::{Check, check_slices};
-use super::{check_bytes, little, same};
+use super::{check_part, little, reader_at, same};
 use dwarf_read_core::{
-    DebugAbbrev, DebugAddr, DebugLineStr, DebugStr, DebugStrOffsets, EndianSlice, Error,
-    LittleEndian, Reader, ReaderOffset, ReaderOffsetId, Result, Section, SectionId,
+    DebugAbbrev, DebugAddr, DebugLineStr, DebugStr, DebugStrOffsets, EndianSlice, LittleEndian,
+    Reader, ReaderOffsetId, Result, Section, SectionId,
 };
 use std::process::Abort;
 
@@ -15,9 +14,9 @@ static RANGES: &[(u32, u32, Result<(&[u8], u64)>)] = &[
     (4, 6, Ok((b"456789", 4))),
     (0, 3, Ok((b"012", 0))),
     (10, 0, Ok((b"", 10))),
-    (4, 7, Err(Error::UnexpectedEof(ReaderOffsetId(4)))),
-    (11, 0, Err(Error::UnexpectedEof(ReaderOffsetId(0)))),
-    (1, u32::MAX, Err(Error::UnexpectedEof(ReaderOffsetId(1)))),
+    (4, 7, Err(eof!(4))),
+    (11, 0, Err(eof!(0))),
+    (1, u32::MAX, Err(eof!(1))),
 ];
 
 // Ends the test where a range of a section has other bytes, another position or another error.
@@ -35,24 +34,14 @@ fn check_range<R: Reader, S: Section<R> + Drop>(
     }
 }
 
-// Ends the test where a reader has other bytes or another position.
-fn check_part<R: Reader>(rt: &impl Abort, part: &R, bytes: &[u8], position: u64) -> Result<()> {
-    check_bytes(rt, part, bytes)?;
-    same(rt, part.offset_id().0, position, bytes);
-    Ok(())
-}
-
-fn check_ranges<R: Reader, S: Section<R> + Drop>(rt: &impl Abort, section: &S, id: SectionId) {
-    for row in RANGES {
-        let checked = check_range::<R, S>(rt, section, *row);
-        same(rt, checked, Ok(()), id);
-    }
-}
-
+// Ends the test where a kind of section has another identifier, another name or other ranges.
 fn check_section<R: Reader, S: Section<R> + Drop>(rt: &impl Abort, reader: R, id: SectionId) {
     same(rt, S::id(), id, id);
     same(rt, S::section_name(), id.name(), id);
-    check_ranges::<R, S>(rt, &S::from(reader), id);
+    let section = S::from(reader);
+    for row in RANGES {
+        same(rt, check_range::<R, S>(rt, &section, *row), Ok(()), id);
+    }
 }
 
 fn check_sections<R: Reader + Copy>(rt: &impl Abort, reader: R) {
@@ -63,33 +52,26 @@ fn check_sections<R: Reader + Copy>(rt: &impl Abort, reader: R) {
     check_section::<R, DebugLineStr<R>>(rt, reader, SectionId::DebugLineStr);
 }
 
-// Ends the test where positions beside and in three bytes at position 100 are other places.
-fn check_places<R: Reader>(rt: &impl Abort, section: &DebugLineStr<R>) {
-    let lines = SectionId::DebugLineStr;
-    for (id, wanted) in [
-        (99, None),
-        (100, Some((lines, 0))),
-        (103, Some((lines, 3))),
-        (104, None),
-    ] {
-        let found = match section.lookup_offset_id(ReaderOffsetId(id)) {
-            Some((section, offset)) => Some((section, offset.into_u64())),
-            None => None,
-        };
-        same(rt, found, wanted, id);
-    }
+#[test]
+fn sections_have_identifiers_and_ranges(rt: HostRuntime) {
+    check_sections(&rt, little(b"0123456789"));
 }
 
-// Ends the test where a section of ten bytes or one of three at position 100 is read otherwise.
-pub(super) fn check_ranges_and_places<R: Reader + Copy>(rt: &impl Abort, ten: R, three_at_100: R) {
-    check_sections(rt, ten);
-    check_places(rt, &DebugLineStr::from(three_at_100));
-}
+// Positions, and their places in three bytes at position 100.
+static PLACES: &[(u64, Option<(SectionId, usize)>)] = &[
+    (99, None),
+    (100, Some((SectionId::DebugLineStr, 0))),
+    (103, Some((SectionId::DebugLineStr, 3))),
+    (104, None),
+];
 
 #[test]
-fn sections_have_identifiers_ranges_and_places(rt: HostRuntime) {
-    let sections = [b"abc".as_slice(), b"0123456789", b""];
-    check_slices(&rt, rt.alloc(), Check::Ranges, 100, sections);
+fn positions_are_looked_up(rt: HostRuntime) {
+    let section = DebugLineStr::from(reader_at(b"abc", LittleEndian, 100));
+    for (position, wanted) in PLACES {
+        let place = section.lookup_offset_id(ReaderOffsetId(*position));
+        same(&rt, place, *wanted, position);
+    }
 }
 
 // A loader that has strings alone.
@@ -122,32 +104,34 @@ fn borrowed<'a>(bytes: &'a [u8; 4]) -> Slice<'a> {
 
 const ABC: [u8; 4] = *b"abc\0";
 
-// Whether a section of owned bytes lends a reader of them, for each kind of section.
-fn strings_are_borrowed() -> bool {
-    *DebugStr::from(ABC).borrow(borrowed).reader() == little(&ABC)
-}
-
-fn lines_are_borrowed() -> bool {
-    *DebugLineStr::from(ABC).borrow(borrowed).reader() == little(&ABC)
-}
-
-fn offsets_are_borrowed() -> bool {
-    *DebugStrOffsets::from(ABC).borrow(borrowed).reader() == little(&ABC)
-}
-
-fn addresses_are_borrowed() -> bool {
-    *DebugAddr::from(ABC).borrow(borrowed).reader() == little(&ABC)
-}
-
-fn tables_are_borrowed() -> bool {
-    *DebugAbbrev::from(ABC).borrow(borrowed).reader() == little(&ABC)
-}
-
 #[test]
 fn sections_are_borrowed(rt: HostRuntime) {
-    same(&rt, strings_are_borrowed(), true, "strings");
-    same(&rt, lines_are_borrowed(), true, "lines");
-    same(&rt, offsets_are_borrowed(), true, "offsets");
-    same(&rt, addresses_are_borrowed(), true, "addresses");
-    same(&rt, tables_are_borrowed(), true, "tables");
+    let (strings, lines) = (DebugStr::from(ABC), DebugLineStr::from(ABC));
+    same(
+        &rt,
+        *strings.borrow(borrowed).reader(),
+        little(&ABC),
+        "strings",
+    );
+    same(&rt, *lines.borrow(borrowed).reader(), little(&ABC), "lines");
+    let (offsets, addresses) = (DebugStrOffsets::from(ABC), DebugAddr::from(ABC));
+    same(
+        &rt,
+        *offsets.borrow(borrowed).reader(),
+        little(&ABC),
+        "offsets",
+    );
+    same(
+        &rt,
+        *addresses.borrow(borrowed).reader(),
+        little(&ABC),
+        "addresses",
+    );
+    let tables = DebugAbbrev::from(ABC);
+    same(
+        &rt,
+        *tables.borrow(borrowed).reader(),
+        little(&ABC),
+        "tables",
+    );
 }

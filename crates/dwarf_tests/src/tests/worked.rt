@@ -12,30 +12,29 @@ pub(super) type Attribute = (DwAt, DwForm, Option<i64>);
 // A tag, whether there are children, and the attributes.
 pub(super) type Declaration = (DwTag, bool, &'static [Attribute]);
 
-// A table whose declarations differ in their codes alone: the codes by rising value, a declaration, and whether a code
-// of value 0 closes the table.
-pub(super) type Table = (&'static [u64], Declaration, bool);
+// Declarations with their codes, by rising code, and whether a code of value 0 closes the table.
+pub(super) type Table = (&'static [(u64, Declaration)], bool);
 
 pub(super) const NAME: Attribute = (DW_AT_name, DW_FORM_string, None);
 
 // A unit without children and attributes.
-pub(super) const BARE_UNIT: Declaration = (DW_TAG_compile_unit, false, &[]);
+pub(super) const BARE: Declaration = (DW_TAG_compile_unit, false, &[]);
 
 // A table without declarations that a code of value 0 closes.
-pub(super) const CLOSED_TABLE: Table = (&[], BARE_UNIT, true);
+pub(super) const CLOSED_TABLE: Table = (&[], true);
 
 // A table without declarations that the section's end follows.
-pub(super) const NO_TABLE: Table = (&[], BARE_UNIT, false);
+pub(super) const NO_TABLE: Table = (&[], false);
 
 // A declaration with one attribute and children, a code of value 0, and a byte behind it.
 pub(super) const UNIT: &[u8] = b"\x01\x11\x01\x03\x08\0\0\0\xff";
 
-pub(super) const UNIT_TABLE: Table = (&[1], (DW_TAG_compile_unit, true, &[NAME]), true);
+pub(super) const UNIT_TABLE: Table = (&[(1, (DW_TAG_compile_unit, true, &[NAME]))], true);
 
 // A declaration that the section's end follows.
 pub(super) const ENDED: &[u8] = b"\x01\x11\0\0\0";
 
-pub(super) const ENDED_TABLE: Table = (&[1], BARE_UNIT, false);
+pub(super) const ENDED_TABLE: Table = (&[(1, BARE)], false);
 
 // A declaration whose attribute has the value -42 in the table itself.
 pub(super) const IMPLICIT: &[u8] = b"\x01\x2e\0\x03\x21\x56\0\0\0";
@@ -58,6 +57,18 @@ pub(super) const MANY: &[u8] = b"\
     \x19\x11\0\0\0\x1a\x11\0\0\0\x1b\x11\0\0\0\x1c\x11\0\0\0\x1d\x11\0\0\0\x1e\x11\0\0\0\
     \x1f\x11\0\0\0\x20\x11\0\0\0\x21\x11\0\0\0\0";
 
+#[rattlefmt::skip]
+pub(super) const MANY_TABLE: Table = (
+    &[
+        (1, BARE), (2, BARE), (3, BARE), (4, BARE), (5, BARE), (6, BARE), (7, BARE), (8, BARE),
+        (9, BARE), (10, BARE), (11, BARE), (12, BARE), (13, BARE), (14, BARE), (15, BARE),
+        (16, BARE), (17, BARE), (18, BARE), (19, BARE), (20, BARE), (21, BARE), (22, BARE),
+        (23, BARE), (24, BARE), (25, BARE), (26, BARE), (27, BARE), (28, BARE), (29, BARE),
+        (30, BARE), (31, BARE), (32, BARE), (33, BARE),
+    ],
+    true,
+);
+
 // A declaration of 17 attributes: one more than the list that collects them first has room for.
 pub(super) const LONG: &[u8] = b"\
     \x01\x11\0\x03\x08\x03\x08\x03\x08\x03\x08\x03\x08\x03\x08\x03\x08\x03\x08\x03\x08\x03\x08\
@@ -70,8 +81,10 @@ pub(super) const STRINGS: &[u8] = b"one\0two\0\0";
 pub(super) const CUT_SET: &[u8] = b"\x09\0\0\0\x05\0\x04\0\x78\x56\x34\x12\xaa";
 
 // Two sets of two addresses each, one in the 32-bit and one in the 64-bit format.
-pub(super) const TWO_SETS: &[u8] =
-    b"\x0c\0\0\0\x05\0\x04\0\x78\x56\x34\x12\xef\xbe\xad\xde\xff\xff\xff\xff\x14\0\0\0\0\0\0\0\x05\0\x08\0\xf0\xde\xbc\x9a\x78\x56\x34\x12\xef\xbe\xad\xde\xef\xbe\xad\xde";
+pub(super) const TWO_SETS: &[u8] = b"\
+    \x0c\0\0\0\x05\0\x04\0\x78\x56\x34\x12\xef\xbe\xad\xde\
+    \xff\xff\xff\xff\x14\0\0\0\0\0\0\0\x05\0\x08\0\
+    \xf0\xde\xbc\x9a\x78\x56\x34\x12\xef\xbe\xad\xde\xef\xbe\xad\xde";
 
 // A header of string offsets, and then the words 1000 to 1019.
 pub(super) fn twenty_words(
