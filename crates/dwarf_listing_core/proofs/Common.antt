@@ -7,7 +7,8 @@ pub use Rattle.std.proofs.Common.{flat_map, drop-cons, length-set}
 pub use Rattle.dwarf_listing_core.specs.Sets.{SetListing, ListsLine, ListsSet, address_listing, offset_listing}
 pub use Rattle.dwarf_listing_core.specs.Sets.{HasSets, ListsSection, sets_section}
 pub use Rattle.dwarf_read_core.specs.declared.Error.{Error}
-pub use Rattle.std.proofs.lemmas.List.{drop-set, take_more, map-append, length-map, drop_all, length-drop, take_all}
+pub use Rattle.std.proofs.lemmas.List.{drop-set, take_more, map-append, length-map, drop_all, length-drop}
+pub use Rattle.std.proofs.lemmas.List.{take_all, take_rest}
 pub use Rattle.std.proofs.lemmas.List.{drop-take, drop-append-le, length-append, take_more_set, take-append-drop}
 pub use Rattle.dwarf_listing_core.specs.Items.{Joins, in_front, AppendsText, ListsItemsOf, ListsRun, nothing}
 pub use Rattle.dwarf_listing_core.specs.Items.{bad_item, bad_text, item, ListsItems}

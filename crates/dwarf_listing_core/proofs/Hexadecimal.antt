@@ -1,4 +1,5 @@
 -- Bytes in hexadecimal.
+use Rattle.std.proofs.lemmas.Fmt.{hex_byte as hex_byte-written}
 use Rattle.dwarf_listing_core.proofs.Common.{common_steps, ◌≡◌, ℕ, ◌+◌, ◌<◌, List, [], ◌∷◌, ◌++◌, length, take, get_or, map, refl, arith, append_assoc, length-take, take_more, map-append, length-map, join_with_byte, hex_byte, hex_text}
 
 -- one more piece is joined to the others behind a separator
@@ -21,3 +22,6 @@ hex_text-next bytes i positive within =
 
 -- the hexadecimal text of one byte after the other
 pub ruleset hex_steps = (common_steps, hex_text-first, hex_text-next)
+
+-- the two digits of a byte
+pub ruleset hex_digits = (hex_byte-written)

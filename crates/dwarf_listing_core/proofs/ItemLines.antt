@@ -1,7 +1,9 @@
 -- The texts of items that are read one after the other.
 use Rattle.dwarf_listing_core.proofs.Common.{arith, ◌≡◌, ℕ, ◌-◌, length, Bool, List, [], ◌∷◌, ◌++◌, Result, Ok, Err, refl, ap, ◌∙◌, append_assoc, inl, inr, Error, OutOfMemory, RepresentsEntries, Set, AppendsText, ListsItemsOf, ListsRun, nothing, bad_item, bad_text, item, in_front, SetListing, HasSets, ListsLine, ListsSection, ListsSet}
 use Rattle.std.proofs.Common.{subst}
-use Rattle.std.specs.Prelude.{◌≢◌}
+use Rattle.std.specs.Prelude.{◌≢◌, Vec}
+use Rattle.std.specs.declared.alloc.Global.{Global}
+use Rattle.dwarf_listing_core.specs.Listing.{ReturnsText}
 use Rattle.std.specs.declared.cmp.PartialEq.{Ghosts as PartialEq}
 use Rattle.std.specs.declared.default.Default.{Ghosts as Default}
 use Rattle.std.specs.declared.fmt.Debug.{Ghosts as Debug}
@@ -55,21 +57,20 @@ module _ {endianity : Endianity RunTimeEndian} {debug : Debug RunTimeEndian} {de
     is_big = is_big_at_run_time s.endian;
   }
 
-  -- what an iterator over the sets of a section yields is listed as these sets, unless memory ran out
-  pub sets_of_run : {H : Type 0} (listing : SetListing H) (is_free : Bool)
-      {now : HeadersOf (EndianSlice RunTimeEndian endianity debug default eq)} {start : Headers}
-      {listed : Result (List ℕ) Error} → remaining_by slice_input now ≡ start
-      → ListsRun (GivesFirst (λ h. HasSets listing (remaining_by slice_input h)) (seen_by slice_input) is_free)
-      (λ x. ListsSet listing (seen_by slice_input x)) now listed
-      → listed ≢ Err OutOfMemory → ListsSection listing start listed
-  sets_of_run listing is_free {listed = listed} same run memory =
-      subst (λ h. ListsSection listing h listed) same (items_of_run (λ h. HasSets listing (remaining_by slice_input h))
-      (seen_by slice_input) (ListsSet listing) run memory)
-
--- what is appended to no text is the whole text
-pub whole_text : (Lists : Result (List ℕ) Error → Type 0) (old added new : List ℕ) → old ≡ [] → new ≡ old ++ added
-    → Lists (Ok added) → Lists (Ok new)
-whole_text Lists old added new none appended h = grind arith
+  -- the text of what an iterator over the sets of a section yields is that of these sets
+  pub text_of_sets : {H : Type 0} (listing : SetListing H) (is_free : Bool)
+      (now : HeadersOf (EndianSlice RunTimeEndian endianity debug default eq)) {start : Headers}
+      → remaining_by slice_input now ≡ start → (result : Result (Vec ℕ Global) Error)
+      → ReturnsText (ListsRun (GivesFirst (λ h. HasSets listing (remaining_by slice_input h)) (seen_by slice_input)
+      is_free) (λ x. ListsSet listing (seen_by slice_input x)) now) result
+      → ReturnsText (ListsSection listing start) result
+  text_of_sets listing is_free now same (Ok text) run =
+      subst (λ h. ListsSection listing h (Ok text.items)) same (items_of_run
+      (λ h. HasSets listing (remaining_by slice_input h)) (seen_by slice_input) (ListsSet listing) run (λ ran. cc))
+  text_of_sets listing is_free now same (Err e) run = λ memory.
+      subst (λ h. ListsSection listing h (Err e)) same (items_of_run
+      (λ h. HasSets listing (remaining_by slice_input h)) (seen_by slice_input) (ListsSet listing) (run memory)
+      (λ ran. memory cc))
 
 -- the line of a set and the lines that its entries append are those of the set
 pub set_appended : {H X : Type 0} (listing : SetListing H) (s : Set H) (view : X → ℕ) (is_free : Bool)

@@ -9,3 +9,4 @@ pub mod OneText
 pub mod SetTexts
 pub mod StringLines
 pub mod Texts
+pub mod Written

@@ -1,12 +1,12 @@
 -- How `parse` reads digits.
-use Rattle.dwarf_listing_core.proofs.Common.{◌≡◌, ℕ, Bool, true, false, ◌+◌, ◌<◌, ◌≤◌, List, length, get_or, ℤ, neg_ℤ, None, rules, refl, arith, Result, Ok, Err, All, option_map, IsUtf8, nat_tests, common_steps, is_all_digits, number_below, signed_of, unsigned_of, without_minus}
+use Rattle.dwarf_listing_core.proofs.Common.{◌≡◌, ℕ, true, ◌+◌, ◌<◌, ◌≤◌, List, length, get_or, ℤ, neg_ℤ, None, rules, arith, Result, Ok, Err, All, option_map, IsUtf8, nat_tests, common_steps, is_all_digits, number_below, signed_of, unsigned_of, without_minus}
 use Rattle.std.specs.Int.{w64}
 use Rattle.std.proofs.lemmas.Str.{IsUtf8-from_ascii}
 use Rattle.std.proofs.lemmas.Str.Ascii.{IsAscii-from_all}
 use Rattle.std.proofs.lemmas.Str.Parse.{IsNumeralModel, numerals_by_value, parse_digits, parse_signed_digits, parse_signed_minus}
 use Rattle.std.specs.Char.{is_ascii_digit}
 use Rattle.std.specs.Result.{result_ok, OkIff}
-use Rattle.std.specs.Str.Parse.{digits_value, ParsesSigned, ParsesUnsigned, starts_with_minus}
+use Rattle.std.specs.Str.Parse.{digits_value, ParsesSigned, ParsesUnsigned}
 
 -- the test for digits and their value are those of `parse`
 numerals : IsNumeralModel (λ text. is_all_digits text ≡ true) (digits_value 10)
@@ -16,8 +16,7 @@ numerals = numerals_by_value _ (search rules)
 below_by_cases : {T E : Type 0} → (sign : ℕ → T) (limit : ℕ) (text : List ℕ) (parsed : Result T E)
     → is_all_digits text ≡ true → OkIff parsed ((0 < length text) × (digits_value 10 text < limit))
     (sign (digits_value 10 text)) → result_ok parsed ≡ option_map sign (number_below limit text)
-below_by_cases sign limit text (Ok n) digits told = grind (arith, common_steps, nat_tests)
-below_by_cases sign limit text (Err e) digits told = grind (arith, common_steps, nat_tests)
+below_by_cases sign limit text parsed digits told = grind (arith, common_steps, nat_tests)
 
 -- a text of digits is parsed as the number of its digits
 pub parsed_unsigned : {E : Type 0} → (text : List ℕ) (parsed : Result ℕ E) → ParsesUnsigned 64 10 text parsed
@@ -32,19 +31,11 @@ below_next : {T E : Type 0} → (parsed : Result T E) (text : List ℕ) (limit :
 below_next (Ok n) text limit value digits told = ((told.0.1, omega arith), told.1)
 below_next (Err e) text limit value digits told = λ inside. told (digits, inside.0, omega arith)
 
--- a text of digits, with or without a minus in front, is parsed as its signed number
-signed_by_sign : {E : Type 0} → (text : List ℕ) (parsed : Result ℤ E) → ParsesSigned w64 10 text parsed
-    → is_all_digits (without_minus text) ≡ true → (minus : Bool) → starts_with_minus text ≡ minus
-    → result_ok parsed ≡ signed_of text
-signed_by_sign text parsed told digits true sign =
-    grind (arith, common_steps, below_by_cases, neg_ℤ, below_next, parse_signed_minus, numerals)
-signed_by_sign text parsed told digits false sign =
-    grind (arith, common_steps, below_by_cases, parse_signed_digits, numerals)
-
 -- a text of digits behind an optional minus is parsed as its signed number
 pub parsed_signed : {E : Type 0} → (text : List ℕ) (parsed : Result ℤ E) → ParsesSigned w64 10 text parsed
     → is_all_digits (without_minus text) ≡ true → result_ok parsed ≡ signed_of text
-parsed_signed text parsed told digits = signed_by_sign text parsed told digits (starts_with_minus text) refl
+parsed_signed text parsed told digits = grind
+    (arith, common_steps, below_by_cases, neg_ℤ, below_next, parse_signed_minus, parse_signed_digits, numerals)
 
 -- a digit is below 128
 below_by_test : (byte : ℕ) → is_ascii_digit byte ≡ true → byte < 128

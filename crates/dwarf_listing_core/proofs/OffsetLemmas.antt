@@ -1,5 +1,5 @@
 -- The offsets of an input, read one line after the other.
-use Rattle.dwarf_listing_core.proofs.Common.{arith, ◌≡◌, ◌<◌, ◌≤◌, ◌+◌, ◌-◌, ℕ, Bool, cond, List, [], ◌∷◌, ◌++◌, length, take, drop, nat_eq, nat_lt, Some, None, nat_tests, common_steps, drop_all, length-drop, map-append, take_all, after_first, before_first, position, unsigned_of, AreOffsets, lines_of}
+use Rattle.dwarf_listing_core.proofs.Common.{arith, ◌≡◌, ◌<◌, ◌≤◌, ◌+◌, ◌-◌, ℕ, Bool, cond, List, [], ◌∷◌, ◌++◌, length, take, drop, nat_eq, nat_lt, Some, None, nat_tests, common_steps, drop_all, map-append, take_all, take_rest, after_first, before_first, position, unsigned_of, AreOffsets, lines_of}
 
 -- one more line that is an offset adds that offset to the offsets
 pub offsets_more : (lines : List (List ℕ)) (line : List ℕ) (offsets : List ℕ) (offset : ℕ)
@@ -26,14 +26,10 @@ first_is first end here found = grind (arith, common_steps, nat_tests)
 none_is : (first end : ℕ) → None ≡ cond (nat_lt first end) (Some first) None → end ≤ first
 none_is first end found = grind (arith, common_steps, nat_tests)
 
--- the bytes behind a position are all that remain there
-behind : (bytes : List ℕ) (here : ℕ) → take (length bytes - (here + 1)) (drop (here + 1) bytes) ≡ drop (here + 1) bytes
-behind bytes here = grind (arith, take_all, length-drop)
-
 -- the first line ends at the first newline
 pub lines-at : (bytes : List ℕ) (here : ℕ) → Some here ≡ position is_end bytes
     → lines_of bytes ≡ take here bytes ∷ lines_of (take (length bytes - (here + 1)) (drop (here + 1) bytes))
-lines-at bytes here found = grind (arith, first_is, behind, lines-first)
+lines-at bytes here found = grind (arith, first_is, take_rest, lines-first)
 
 -- bytes without a newline are one line
 pub lines-none : (bytes : List ℕ) → 0 < length bytes → None ≡ position is_end bytes → lines_of bytes ≡ bytes ∷ []

@@ -32,3 +32,6 @@ pub string_error-not_memory : (section : Input) (offset : ℕ) (e : Error) → S
 unfolding StringAt string_at
 string_error-not_memory section offset e is =
     At_error_has (λ e. e ≢ OutOfMemory) (λ position same. absurd cc) (string_at offset) (tt, λ _. tt) section is
+
+-- where a string ends, and which error is not that of one
+pub ruleset string_place = (string-ends_inside, string_error-not_memory)

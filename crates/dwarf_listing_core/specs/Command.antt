@@ -30,13 +30,9 @@ command_of _ = None
 
 -- whether the command reads the input
 abbrev pub reads_input : Command → Bool
-reads_input (Abbrev _) = true
-reads_input (Str _) = true
-reads_input (Addr _) = true
 reads_input (Uleb _) = false
 reads_input (Sleb _) = false
-reads_input (AbbrevStrict _) = true
-reads_input (StrOffsets _) = true
+reads_input _ = true
 
 -- the arguments name no command
 abbrev pub IsUsage : List (List ℕ) → Type 0

@@ -27,5 +27,4 @@ IsMemoryFault fault = fault ≡ Section OutOfMemory
 abbrev pub IsReadFault : Fault → Type 0
 IsReadFault (Section error) = error ≡ OutOfMemory
 IsReadFault Read = ⊤
-IsReadFault Usage = ⊥
-IsReadFault Write = ⊥
+IsReadFault _ = ⊥

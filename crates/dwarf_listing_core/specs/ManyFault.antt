@@ -2,7 +2,7 @@
 use Rattle.std.specs.Prelude.{◌≡◌, ◌⊎◌, ℕ, List, ◌++◌, ⊤, codes, decimal}
 use Rattle.dwarf_read_core.specs.ErrorText.{error_text, hexadecimal}
 use Rattle.dwarf_listing_core.specs.Fault.{IsMemoryFault, fault_status, fault_text}
-use Rattle.dwarf_listing_core.specs.declared.fault.Fault.TheVariants.{Section, Usage, Read, Write}
+use Rattle.dwarf_listing_core.specs.declared.fault.Fault.TheVariants.{Usage, Write}
 use Rattle.dwarf_listing_core.specs.declared.many.fault.ManyFault.{ManyFault}
 use Rattle.dwarf_listing_core.specs.declared.many.fault.ManyFault.TheVariants.{At, Line, ReadSection, ReadOffsets, Other}
 
@@ -13,9 +13,7 @@ many_fault_text (Line number) = codes "error: line " ++ decimal number ++ codes 
 many_fault_text ReadSection = codes "error: cannot read the section"
 many_fault_text ReadOffsets = codes "error: cannot read the offsets"
 many_fault_text (Other Usage) = codes "usage: dwarf_list_many [--keep-going] abbrev|str SECTION [OFFSETS]"
-many_fault_text (Other (Section error)) = fault_text (Section error)
-many_fault_text (Other Read) = fault_text Read
-many_fault_text (Other Write) = fault_text Write
+many_fault_text (Other fault) = fault_text fault
 
 -- the exit status: 1 for malformed input, 3 for an input that can't be read
 abbrev pub many_fault_status : ManyFault → ℕ
@@ -27,16 +25,12 @@ many_fault_status (Other fault) = fault_status fault
 
 -- an error of parsing the offsets: a line that isn't an offset, or memory ran out
 abbrev pub IsOffsetsFault : ManyFault → Type 0
-IsOffsetsFault (At _ _) = ⊥
 IsOffsetsFault (Line _) = ⊤
-IsOffsetsFault ReadSection = ⊥
-IsOffsetsFault ReadOffsets = ⊥
 IsOffsetsFault (Other fault) = IsMemoryFault fault
+IsOffsetsFault _ = ⊥
 
 -- an error of writing listings: that of an offset, of the output, or memory ran out
 abbrev pub IsListingFault : ManyFault → Type 0
 IsListingFault (At _ _) = ⊤
-IsListingFault (Line _) = ⊥
-IsListingFault ReadSection = ⊥
-IsListingFault ReadOffsets = ⊥
 IsListingFault (Other fault) = (fault ≡ Write) ⊎ IsMemoryFault fault
+IsListingFault _ = ⊥

@@ -11,7 +11,7 @@ use Rattle.dwarf_listing_core.specs.Command.{command_of}
 use Rattle.dwarf_listing_core.specs.declared.command.Command.{Command}
 use Rattle.dwarf_listing_core.specs.declared.command.Command.TheVariants.{Abbrev, Str, Addr, Uleb, Sleb, AbbrevStrict, StrOffsets}
 use Rattle.dwarf_listing_core.specs.declared.fault.Fault.{Fault}
-use Rattle.dwarf_listing_core.specs.declared.fault.Fault.TheVariants.{Section, Usage, Read, Write}
+use Rattle.dwarf_listing_core.specs.declared.fault.Fault.TheVariants.{Section, Usage}
 use Rattle.dwarf_listing_core.specs.declared.text.Text.{Text}
 use Rattle.dwarf_listing_core.specs.declared.text.Text.TheVariants.{Table, Bytes}
 
@@ -45,8 +45,7 @@ abbrev pub IsTextOf : Option Command → List ℕ → Result (List ℕ) Fault �
 IsTextOf named input (Ok text) = IsSomeAnd named (λ command. Lists command input (Ok text))
 IsTextOf named input (Err (Section error)) = IsSomeAnd named (λ command. Lists command input (Err error))
 IsTextOf named input (Err Usage) = named ≡ None
-IsTextOf named input (Err Read) = ⊥
-IsTextOf named input (Err Write) = ⊥
+IsTextOf named input (Err _) = ⊥
 
 -- the text that the arguments request of an input, or the error
 abbrev pub IsText : List (List ℕ) → List ℕ → Result (List ℕ) Fault → Type 0

@@ -85,15 +85,13 @@ fn named_inputs<'a>(
     if section == STANDARD_INPUT && offsets == STANDARD_INPUT {
         return None;
     }
-    match kind_of(name) {
-        Some(kind) => Some(Arguments {
-            on_error,
-            kind,
-            section,
-            offsets,
-        }),
-        None => None,
-    }
+    let kind = kind_of(name)?;
+    Some(Arguments {
+        on_error,
+        kind,
+        section,
+        offsets,
+    })
 }
 
 fn kind_of(name: &str) -> Option<Kind>

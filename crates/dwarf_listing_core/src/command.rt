@@ -66,11 +66,7 @@ pub fn reads_input(command: Command) -> bool
     ensures { result ≡ reads_input command }
 {
     match command {
-        Command::Abbrev(_)
-        | Command::Str(_)
-        | Command::Addr(_)
-        | Command::AbbrevStrict(_)
-        | Command::StrOffsets(_) => true,
         Command::Uleb(_) | Command::Sleb(_) => false,
+        _ => true,
     }
 }

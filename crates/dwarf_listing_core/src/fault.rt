@@ -5,7 +5,7 @@ ghost use Rattle.std.specs.Process.{exit_status};
 ghost use Rattle.dwarf_listing_core.specs.Fault.{fault_status};
 
 use dwarf_read_core::Error;
-use std::alloc::{AllocError, AllocFailed};
+use std::alloc::AllocError;
 use std::fmt;
 use std::process::ExitCode;
 
@@ -94,18 +94,6 @@ impl From<AllocError> for Fault {
     ghost from_gives = { λ _ fault. fault ≡ Section OutOfMemory };
 
     fn from(_refused: AllocError) -> Fault {
-        Fault::out_of_memory()
-    }
-}
-
-impl<T: Drop> From<AllocFailed<T>> for Fault {
-    ghost use Rattle.dwarf_listing_core.specs.declared.fault.Fault.TheVariants.{Section};
-    ghost use Rattle.dwarf_read_core.specs.declared.Error.TheVariants.{OutOfMemory};
-    ghost use Rattle.std.specs.Prelude.{◌≡◌};
-
-    ghost from_gives = { λ _ fault. fault ≡ Section OutOfMemory };
-
-    fn from(_failed: AllocFailed<T>) -> Fault {
         Fault::out_of_memory()
     }
 }

@@ -30,6 +30,7 @@ pub fn string(mem: Global, section: &[u8], offset: u64) -> Result<Vec<u8>, Error
 /// # Errors
 ///
 /// That of [`DebugStr::get_str`]. The call doesn't allocate.
+#[tactic(auto, using(crate::proofs::StringLines::string_place))]
 pub fn string_in_place(mut section: Vec<u8>, offset: u64) -> Result<Vec<u8>, Error>
     ensures answer { ReturnsText (ListsString section.items offset) result }
     ensures memory { IsErrOf result Error.OutOfMemory → ⊥ }
@@ -63,6 +64,7 @@ pub fn hex_line(mem: Global, bytes: &[u8]) -> Result<Vec<u8>, AllocError>
     Ok(text.into_bytes())
 }
 
+#[tactic(auto, using(crate::proofs::Hexadecimal::hex_digits))]
 fn push_hex(text: &mut String, byte: u8) -> Result<(), AllocError>
     ensures { OnOk result (string_bytes text.new ≡ string_bytes text.old ++ hex_byte byte) }
 {

@@ -26,9 +26,7 @@ pub fn addresses(mem: Global, section: &[u8], endian: RunTimeEndian) -> Result<V
     ensures { ReturnsText (ListsAddresses endian section.now) result }
 {
     let debug_addr = DebugAddr::from(EndianSlice::new(section, endian));
-    let mut text = Vec::new(mem);
-    push_items(&mut text, debug_addr.headers()?)?;
-    Ok(text)
+    text_of(mem, debug_addr.headers()?)
 }
 
 /// Returns the sets of string offsets of a whole `.debug_str_offsets`: a line for each header, and
@@ -41,9 +39,7 @@ pub fn string_offsets(mem: Global, section: &[u8], endian: RunTimeEndian) -> Res
     ensures { ReturnsText (ListsStringOffsets endian section.now) result }
 {
     let debug_str_offsets = DebugStrOffsets::from(EndianSlice::new(section, endian));
-    let mut text = Vec::new(mem);
-    push_items(&mut text, debug_str_offsets.headers()?)?;
-    Ok(text)
+    text_of(mem, debug_str_offsets.headers()?)
 }
 
 /// An item of a section, such as a set or an entry of a set, which is listed by lines.
@@ -55,6 +51,20 @@ trait Listed: Drop {
     /// Appends the lines of the item, or returns the error that takes their place.
     fn push_lines(&self, text: &mut Vec<u8>) -> Result<(), Error>
         ensures { AppendsText (lists self.now) text.old.items text.new.items result };
+}
+
+// Returns the lines of items, one after the other.
+fn text_of<T: Listed, I: Iterator<Item = Result<T, Error>>>(
+    mem: Global,
+    items: I,
+) -> Result<Vec<u8>, Error>
+    requires can { I.can_next items }
+    requires ends { IsFinite (I.remaining items) }
+    ensures { ReturnsText (ListsRun I.next_gives T.lists items) result }
+{
+    let mut text = Vec::new(mem);
+    push_items(&mut text, items)?;
+    Ok(text)
 }
 
 // Appends the lines of items, one after the other.

@@ -57,6 +57,7 @@ pub(crate) fn write_table<O: Write>(output: &mut O, table: &Abbreviations) -> io
     Ok(())
 }
 
+#[tactic(auto, using(crate::proofs::Written::one_text))]
 fn write_declaration<O: Write>(output: &mut O, abbreviation: &Abbreviation) -> io::Result<()>
     ensures { OnOk result (Appends (O.contents output.old) (O.contents output.new)
         (declaration_lines abbreviation.now)) }

@@ -7,9 +7,9 @@ use crate::arguments::Kind::{Strings, Tables};
 use crate::arguments::OnError::{GoOn, Stop};
 use crate::arguments::{Kind, OnError, parse_arguments};
 use crate::fault::Fault;
-use crate::run::tests::ends::{FailingReader, FailingWriter};
+use crate::run::tests::ends::Failing;
 use crate::words::command_line;
-use crate::words::tests::Given;
+use crate::words::tests::{Given, check_last};
 use dwarf_read_core::{Error, ReaderOffsetId};
 use std::alloc::Global;
 use std::io::{ErrorKind, Write};
@@ -55,38 +55,7 @@ const GOES_ON: Run = (
     Ok(true),
 );
 
-static RUNS: &[Run] = &[
-    STRINGS,
-    TABLES,
-    GOES_ON,
-    (Stop, Strings, b"one\0two", b"", b"", Ok(false)),
-    (
-        Stop,
-        Strings,
-        b"one\0two",
-        b"0\n4\n0\n",
-        b"0x0: one\n",
-        Err(ManyFault::At(4, Error::UnexpectedEof(ReaderOffsetId(4)))),
-    ),
-    // With `GoOn` an error is a line.
-    (
-        GoOn,
-        Strings,
-        b"one\0two",
-        b"0\n4\n0\n",
-        b"0x0: one\nerror at 0x4, status 1: unexpected end of input\n0x0: one\n",
-        Ok(true),
-    ),
-    (
-        GoOn,
-        Strings,
-        b"one\0",
-        b"4\n",
-        b"error at 0x4, status 1: unexpected end of input\n",
-        Ok(true),
-    ),
-    (GoOn, Strings, b"one\0", b"0", b"0x0: one\n", Ok(false)),
-];
+const RUNS: [Run; 3] = [STRINGS, TABLES, GOES_ON];
 
 // Offsets, and the number of the first line that isn't one.
 static BAD_LINES: &[(&[u8], u64)] = &[
@@ -104,30 +73,16 @@ fn write_run<O: Write>(mem: Global, run: &Run, output: &mut O) -> Result<bool, M
     run_many(mem, on_error, kind, &mut section, &mut offsets, output)
 }
 
-fn check(rt: &impl Abort, mem: Global, run: &Run) -> Result<(), Fail> {
-    let (_, _, _, offsets, text, wanted) = run;
-    let mut output = Vec::new(mem);
-    let outcome = write_run(mem, run, &mut output);
-    assert_eq!(rt; outcome, *wanted, "{offsets:?}");
-    assert_eq!(rt; output.as_slice(), *text, "{offsets:?}");
-    Ok(())
-}
-
-#[test]
-fn lists_each_offset(rt: HostRuntime) -> Result<(), Fail> {
-    for run in RUNS {
-        check(&rt, rt.alloc(), run)?;
-    }
-    Ok(())
-}
-
 #[test]
 fn a_bad_line_ends_the_run(rt: HostRuntime) -> Result<(), Fail> {
+    let mem = rt.alloc();
     for (offsets, line) in BAD_LINES {
         for on_error in [Stop, GoOn] {
             let end = Err(ManyFault::Line(*line));
             let run = (on_error, Strings, *offsets, *offsets, b"".as_slice(), end);
-            check(&rt, rt.alloc(), &run)?;
+            let mut output = Vec::new(mem);
+            assert_eq!(rt; write_run(mem, &run, &mut output), end, "{offsets:?}");
+            assert_eq!(rt; output.len(), 0, "{offsets:?}");
         }
     }
     Ok(())
@@ -141,25 +96,12 @@ type Named = (
 
 static NAMED: &[Named] = &[
     (&[b"abbrev", b"x"], Some((Stop, Tables, "x", "-"))),
-    (&[b"str", b"x", b"-"], Some((Stop, Strings, "x", "-"))),
     (&[b"str", b"-", b"x"], Some((Stop, Strings, "-", "x"))),
-    (&[b"str", b"x", b"x"], Some((Stop, Strings, "x", "x"))),
     (
         &[b"--keep-going", b"str", b"x"],
         Some((GoOn, Strings, "x", "-")),
     ),
-    (
-        &[b"str", b"--keep-going", b"x"],
-        Some((Stop, Strings, "--keep-going", "x")),
-    ),
-    (&[b"--keep-going"], None),
-    (&[b"--keep-going", b"--keep-going", b"str", b"x"], None),
-    (&[], None),
-    (&[b"abbrev"], None),
-    (&[b"addr", b"x"], None),
     (&[b"abbrev", b"-"], None),
-    (&[b"abbrev", b"-", b"-"], None),
-    (&[b"abbrev", b"x", b"-", b"0"], None),
 ];
 
 #[test]
@@ -177,17 +119,20 @@ fn takes_names(rt: HostRuntime) -> Result<(), Fail> {
     Ok(())
 }
 
-// Ends the test if a run with these inputs has another outcome, or writes another number of bytes.
+// Ends the test if a run with these inputs has another outcome, or writes another text.
 fn check_ends(
     rt: &impl Abort,
     mem: Global,
-    (on_error, kind): (OnError, Kind),
-    (mut section, mut offsets): (FailingReader<'_>, FailingReader<'_>),
-    wanted: (usize, Result<bool, ManyFault>),
+    run: &Run,
+    (section_calls, calls): (usize, usize),
+    wanted: (&[u8], Result<bool, ManyFault>),
 ) -> Result<(), Fail> {
+    let (on_error, kind, section, offsets, _, _) = *run;
+    let mut section = Failing::new(section, section_calls, ErrorKind::OutOfMemory);
+    let mut offsets = Failing::new(offsets, calls, ErrorKind::OutOfMemory);
     let mut output = Vec::new(mem);
     let outcome = run_many(mem, on_error, kind, &mut section, &mut offsets, &mut output);
-    assert_eq!(rt; (output.len(), outcome), wanted);
+    assert_eq!(rt; (output.as_slice(), outcome), wanted);
     Ok(())
 }
 
@@ -195,20 +140,18 @@ fn check_ends(
 #[test]
 fn inputs_fail_at_each_call(rt: HostRuntime) -> Result<(), Fail> {
     let mem = rt.alloc();
-    for (on_error, kind, section, offsets, text, outcome) in [STRINGS, TABLES, GOES_ON] {
-        let how = (on_error, kind);
-        let reader = |bytes, calls| FailingReader::new(bytes, calls, ErrorKind::OutOfMemory);
+    for run in RUNS {
+        let (_, _, section, offsets, text, outcome) = run;
         let (section_calls, calls) = (section.len() + 1, offsets.len() + 1);
         for good_calls in 0..section_calls {
-            let inputs = (reader(section, good_calls), reader(offsets, calls));
-            check_ends(&rt, mem, how, inputs, (0, Err(ManyFault::ReadSection)))?;
+            let end = (b"".as_slice(), Err(ManyFault::ReadSection));
+            check_ends(&rt, mem, &run, (good_calls, calls), end)?;
         }
         for good_calls in 0..calls {
-            let inputs = (reader(section, section_calls), reader(offsets, good_calls));
-            check_ends(&rt, mem, how, inputs, (0, Err(ManyFault::ReadOffsets)))?;
+            let end = (b"".as_slice(), Err(ManyFault::ReadOffsets));
+            check_ends(&rt, mem, &run, (section_calls, good_calls), end)?;
         }
-        let inputs = (reader(section, section_calls), reader(offsets, calls));
-        check_ends(&rt, mem, how, inputs, (text.len(), outcome))?;
+        check_ends(&rt, mem, &run, (section_calls, calls), (text, outcome))?;
     }
     Ok(())
 }
@@ -217,38 +160,28 @@ fn inputs_fail_at_each_call(rt: HostRuntime) -> Result<(), Fail> {
 // output is flushed.
 #[test]
 fn outputs_fail_at_each_call(rt: HostRuntime) -> Result<(), Fail> {
-    for run in [STRINGS, TABLES, GOES_ON] {
+    let mem = rt.alloc();
+    for run in RUNS {
         let (_, _, _, _, text, outcome) = run;
         for good_calls in 0..text.len() + 2 {
-            let mut output = FailingWriter::new(good_calls, ErrorKind::OutOfMemory);
-            let ended = write_run(rt.alloc(), &run, &mut output);
+            let mut output = Failing::new(Vec::new(mem), good_calls, ErrorKind::OutOfMemory);
+            let ended = write_run(mem, &run, &mut output);
             let wanted = if good_calls > text.len() {
                 outcome
             } else {
                 Err(ManyFault::Other(Fault::Write))
             };
             assert_eq!(rt; ended, wanted, "{good_calls}");
+            let written = &text[..good_calls.min(text.len())];
+            assert_eq!(rt; output.inner.as_slice(), written, "{good_calls}");
         }
-    }
-    Ok(())
-}
-
-// The last allocation. If it fails, each one before it failed in an earlier run.
-fn check_last(rt: &impl Print, mem: Global) -> Result<(), Fail> {
-    if Vec::from_slice(mem, &[0u8]).is_err() {
-        println!(rt; "every request was refused")?;
     }
     Ok(())
 }
 
 // A run writes the whole text, or it returns that memory ran out and has written the text of the
 // offsets before: so many bytes. `tools/fail-alloc` makes each allocation fail.
-fn check_refused<R: Abort + Print>(
-    rt: &R,
-    mem: Global,
-    run: &Run,
-    stops: &[usize],
-) -> Result<(), Fail> {
+fn check_refused(rt: &impl Abort, mem: Global, run: &Run, stops: &[usize]) -> Result<(), Fail> {
     let Ok(mut output) = Vec::with_capacity(mem, 128) else {
         return Ok(());
     };
@@ -261,72 +194,14 @@ fn check_refused<R: Abort + Print>(
         assert_eq!(rt; outcome, wanted, "{offsets:?}");
         assert_eq!(rt; output.as_slice(), text, "{offsets:?}");
     }
-    check_last(rt, mem)
-}
-
-#[test]
-fn refused_memory_for_many_strings(rt: HostRuntime) -> Result<(), Fail> {
-    check_refused(&rt, rt.alloc(), &STRINGS, &[0, 9, 18])
-}
-
-#[test]
-fn refused_memory_for_many_tables(rt: HostRuntime) -> Result<(), Fail> {
-    check_refused(&rt, rt.alloc(), &TABLES, &[0, 36, 47])
-}
-
-#[test]
-fn refused_memory_for_a_run_that_goes_on(rt: HostRuntime) -> Result<(), Fail> {
-    check_refused(&rt, rt.alloc(), &GOES_ON, &[0, 36, 91])
-}
-
-// Errors, each with its line and its status.
-static SAID: &[(ManyFault, &str, u8)] = &[
-    (
-        ManyFault::At(31, Error::AbbreviationTagZero),
-        "error at 0x1f: invalid abbreviation tag: zero",
-        1,
-    ),
-    (
-        ManyFault::Line(12),
-        "error: line 12 of the offsets is no offset",
-        1,
-    ),
-    (
-        ManyFault::Other(Fault::Section(Error::OutOfMemory)),
-        "error: out of memory",
-        1,
-    ),
-    (
-        ManyFault::Other(Fault::Usage),
-        "usage: dwarf_list_many [--keep-going] abbrev|str SECTION [OFFSETS]",
-        2,
-    ),
-    (ManyFault::ReadSection, "error: cannot read the section", 3),
-    (ManyFault::ReadOffsets, "error: cannot read the offsets", 3),
-    (
-        ManyFault::Other(Fault::Write),
-        "error: cannot write output",
-        3,
-    ),
-];
-
-// Ends the test where an error has another line or another status.
-fn check_said(
-    rt: &impl Abort,
-    mem: Global,
-    fault: ManyFault,
-    line: &str,
-    status: u8,
-) -> Result<(), Fail> {
-    assert_eq!(rt; fault.to_string(mem)?.as_str(), line);
-    assert_eq!(rt; fault.status(), status, "{line}");
     Ok(())
 }
 
 #[test]
-fn says_what_failed(rt: HostRuntime) -> Result<(), Fail> {
-    for (fault, line, status) in SAID {
-        check_said(&rt, rt.alloc(), *fault, line, *status)?;
-    }
-    Ok(())
+fn refused_memory_for_many_offsets(rt: HostRuntime) -> Result<(), Fail> {
+    let mem = rt.alloc();
+    check_refused(&rt, mem, &STRINGS, &[0, 9, 18])?;
+    check_refused(&rt, mem, &TABLES, &[0, 36, 47])?;
+    check_refused(&rt, mem, &GOES_ON, &[0, 36, 91])?;
+    check_last(&rt, mem)
 }

@@ -2,7 +2,7 @@
 
 use super::run;
 use crate::fault::Fault;
-use ends::{InterruptedReader, InterruptedWriter};
+use crate::words::tests::check_last;
 use std::alloc::{AllocError, Global};
 use std::io::Read;
 use std::process::Abort;
@@ -10,8 +10,6 @@ use std::test::Fail;
 
 mod cuts;
 pub(crate) mod ends;
-mod long;
-mod memory;
 
 const CUT: &str = "error: unexpected end of input";
 
@@ -64,7 +62,8 @@ fn check_outcome(
 }
 
 // A row for each command, and for both byte orders: arguments, an input, and the text. A command
-// that takes a number doesn't read the input, which is empty here.
+// that takes a number doesn't read the input, which is empty here. What the program prints of other
+// inputs is in the worked cases of `dwarf_list`, which are data.
 type Row = (&'static [&'static str], &'static [u8], &'static [u8]);
 
 static TEXTS: &[Row] = &[
@@ -96,25 +95,27 @@ static TEXTS: &[Row] = &[
     (&["sleb", "-65"], b"", b"bf 7f\n"),
 ];
 
-// Each command, with a reader that returns one byte a call. What the program prints of whole inputs
-// is in the worked cases of `dwarf_list`, which are data.
-#[test]
-fn lists_byte_by_byte(rt: HostRuntime) -> Result<(), Fail> {
-    for (texts, bytes, text) in TEXTS {
-        let mut input = InterruptedReader::new(bytes);
-        check(&rt, rt.alloc(), texts, &mut input, Ok(text))?;
-    }
-    Ok(())
+// A run writes the whole text, or it returns that memory ran out and writes nothing.
+fn check_refused(rt: &impl Abort, mem: Global, (texts, mut input, text): Row) -> Result<(), Fail> {
+    let Ok(words) = words(mem, texts) else {
+        return Ok(());
+    };
+    let Ok(mut output) = Vec::with_capacity(mem, 256) else {
+        return Ok(());
+    };
+    let outcome = run(mem, &words, &mut input, &mut output);
+    let wanted = match outcome {
+        Ok(()) => Ok(text),
+        Err(_) => Err(("error: out of memory", 1)),
+    };
+    check_outcome(rt, mem, outcome, &output, wanted)
 }
 
-// Each command, with a writer that takes one byte a call.
+// `tools/fail-alloc` makes the first allocation of the test fail, then the second, and so on.
 #[test]
-fn writes_byte_by_byte(rt: HostRuntime) -> Result<(), Fail> {
-    let mem = rt.alloc();
-    for (texts, bytes, text) in TEXTS {
-        let mut output = InterruptedWriter::new(mem);
-        let outcome = run(mem, &words(mem, texts)?, &mut &**bytes, &mut output);
-        check_outcome(&rt, mem, outcome, &output.bytes, Ok(text))?;
+fn refused_memory_for_each_command(rt: HostRuntime) -> Result<(), Fail> {
+    for row in TEXTS {
+        check_refused(&rt, rt.alloc(), *row)?;
     }
-    Ok(())
+    check_last(&rt, rt.alloc())
 }

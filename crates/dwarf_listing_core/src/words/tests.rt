@@ -63,7 +63,11 @@ fn refused_memory_for_words(rt: HostRuntime) -> Result<(), Fail> {
         Ok(text) => assert_eq!(rt; text.as_str(), "abbrev;0;"),
         Err(fault) => assert_eq!(rt; fault, Fault::out_of_memory()),
     }
-    // The last allocation. If it fails, each one before it failed in an earlier run.
+    check_last(&rt, mem)
+}
+
+// The last allocation. If it fails, each one before it failed in an earlier run.
+pub(crate) fn check_last(rt: &impl Print, mem: Global) -> Result<(), Fail> {
     if Vec::from_slice(mem, &[0u8]).is_err() {
         println!(rt; "every request was refused")?;
     }

@@ -1,9 +1,10 @@
-use Rattle.dwarf_listing_core.proofs.Common.{arith, ◌≡◌, ◌<◌, ℕ, suc, List, [], Bool, true, false, length, take, drop, get_or, Err, drop-cons, take-append-drop, take_more, err_from_is_err_and, Error, EndsAt, ListsAll, ListsOne, one_more, sym, refl}
+use Rattle.dwarf_listing_core.proofs.Common.{arith, ◌≡◌, ◌<◌, ℕ, suc, List, [], Bool, true, false, length, take, drop, get_or, Err, drop-cons, take-append-drop, take_more, err_from_is_err_and, Error, EndsAt, ListsAll, ListsOne, one_more, refl}
 use Rattle.std.proofs.KnownBytes.{Appends-nil, Appends-trans}
 use Rattle.dwarf_listing_core.specs.declared.arguments.Kind.{Kind}
 use Rattle.dwarf_listing_core.specs.declared.arguments.OnError.{OnError}
 use Rattle.dwarf_listing_core.specs.declared.arguments.OnError.TheVariants.{Stop}
-use Rattle.dwarf_listing_core.specs.Many.{ListsAt, ListsFirst, nothing}
+use Rattle.dwarf_listing_core.specs.Many.{ListsAt, nothing}
+use Rattle.dwarf_listing_core.proofs.Written.{first_offsets}
 use Rattle.dwarf_listing_core.proofs.many.write_each_at.Goals as goal
 
 -- if the next offset has an error, and that ends the run, it is the first error
@@ -18,18 +19,6 @@ first_error {kind} {section} {offset} {error} offsets i within listed stops none
   place = grind (arith, take-append-drop, drop-cons);
   listed = rw (stops, none) at listed;
   fails = rw same fails;
-}
-
--- the text of the offsets so far is that of the first offsets
-first_offsets : {on_error : OnError} {kind : Kind} {section text : List ℕ} {failed : Bool}
-    (offsets : List ℕ) (i : ℕ) → ListsAll on_error kind section (take i offsets) text failed
-    → ListsFirst on_error kind section offsets text
-first_offsets {failed = failed} offsets i listed = record {
-  before = take i offsets;
-  after = drop i offsets;
-  place = sym (take-append-drop i offsets);
-  failed = failed;
-  listed = listed;
 }
 
 -- with `Stop` no line of an error is written

@@ -1,8 +1,12 @@
-use Rattle.dwarf_listing_core.proofs.Common.{common_steps, arith, ◌≡◌, ℕ, List, Option, Some, None, Ok, IsTrue, map, string_bytes, refl, command_of, Lists, Command}
+use Rattle.dwarf_listing_core.proofs.Common.{common_steps, arith, ◌≡◌, ℕ, List, Option, Some, None, Ok, IsTrue, map, string_bytes, command_of, Lists, Command}
 use Rattle.std.specs.Prelude.{IfSome, IsSomeAnd}
 use Rattle.dwarf_listing_core.specs.Command.{reads_input}
-use Rattle.dwarf_listing_core.specs.declared.command.Command.TheVariants.{Abbrev, Str, Addr, Uleb, Sleb, AbbrevStrict, StrOffsets}
 use Rattle.dwarf_listing_core.proofs.run.run.Goals as goal
+
+-- a command lists the same of the bytes that were read as of the input
+same_text : (command : Command) (left bytes text : List ℕ) → (IsTrue (reads_input command) → bytes ≡ left)
+    → Lists command bytes (Ok text) → Lists command left (Ok text)
+same_text command left bytes text read listed = grind arith
 
 -- what the named command lists of the bytes that were read is a text of the arguments and the input
 has_text : (words : List (List ℕ)) (input : Option (List ℕ)) (command : Command) (bytes text : List ℕ)
@@ -10,15 +14,8 @@ has_text : (words : List (List ℕ)) (input : Option (List ℕ)) (command : Comm
     → (IsTrue (reads_input command) → IfSome input (λ left. bytes ≡ left)) → Lists command bytes (Ok text)
     → IfSome input (λ left. (x : List ℕ) × IsSomeAnd (command_of words) (λ c. Lists c left (Ok x)))
 has_text words None command bytes text named read listed = tt
-has_text words (Some left) (Abbrev offset) bytes text named read listed = (text, rw named (rw (read refl) at listed))
-has_text words (Some left) (Str offset) bytes text named read listed = (text, rw named (rw (read refl) at listed))
-has_text words (Some left) (Addr endian) bytes text named read listed = (text, rw named (rw (read refl) at listed))
-has_text words (Some left) (Uleb value) bytes text named read listed = (text, rw named listed)
-has_text words (Some left) (Sleb value) bytes text named read listed = (text, rw named listed)
-has_text words (Some left) (AbbrevStrict offset) bytes text named read listed =
-    (text, rw named (rw (read refl) at listed))
-has_text words (Some left) (StrOffsets endian) bytes text named read listed =
-    (text, rw named (rw (read refl) at listed))
+has_text words (Some left) command bytes text named read listed =
+    (text, rw named (same_text command left bytes text read listed))
 
 pub returns-clause-write : goal.returns-clause-write
 returns-clause-write g c failed =

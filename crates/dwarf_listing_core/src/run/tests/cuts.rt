@@ -1,7 +1,12 @@
-//! Sections that are cut at each byte.
+//! Sections that are cut at each byte, and a long one.
 
 use super::{CUT, UNIT, UNIT_TEXT, check};
 use std::test::Fail;
+
+const CONSTANT: &[u8] = b"1 DW_TAG_subprogram no\n  DW_AT_name DW_FORM_implicit_const -42\n";
+
+const THREE_UNITS: &[u8] =
+    b"1 DW_TAG_compile_unit no\n2 DW_TAG_compile_unit no\n3 DW_TAG_compile_unit no\n";
 
 // Arguments, an input, and the lengths of its beginnings that have a text, each with its text.
 static CUTS: &[(&[&str], &[u8], &[(usize, &[u8])])] = &[
@@ -13,17 +18,7 @@ static CUTS: &[(&[&str], &[u8], &[(usize, &[u8])])] = &[
     (
         &["abbrev", "0"],
         b"\x01\x2e\0\x03\x21\x56\0\0\0",
-        &[
-            (0, b""),
-            (
-                8,
-                b"1 DW_TAG_subprogram no\n  DW_AT_name DW_FORM_implicit_const -42\n",
-            ),
-            (
-                9,
-                b"1 DW_TAG_subprogram no\n  DW_AT_name DW_FORM_implicit_const -42\n",
-            ),
-        ],
+        &[(0, b""), (8, CONSTANT), (9, CONSTANT)],
     ),
     (
         &["abbrev", "0"],
@@ -32,14 +27,8 @@ static CUTS: &[(&[&str], &[u8], &[(usize, &[u8])])] = &[
             (0, b""),
             (5, b"1 DW_TAG_compile_unit no\n"),
             (10, b"1 DW_TAG_compile_unit no\n3 DW_TAG_compile_unit no\n"),
-            (
-                15,
-                b"1 DW_TAG_compile_unit no\n2 DW_TAG_compile_unit no\n3 DW_TAG_compile_unit no\n",
-            ),
-            (
-                16,
-                b"1 DW_TAG_compile_unit no\n2 DW_TAG_compile_unit no\n3 DW_TAG_compile_unit no\n",
-            ),
+            (15, THREE_UNITS),
+            (16, THREE_UNITS),
         ],
     ),
     (
@@ -76,4 +65,20 @@ fn cut_inputs_end_early(rt: HostRuntime) -> Result<(), Fail> {
         }
     }
     Ok(())
+}
+
+#[test]
+fn lists_seventy_declarations_in_rising_order(rt: HostRuntime) -> Result<(), Fail> {
+    let mem = rt.alloc();
+    let mut bytes = Vec::new(mem);
+    let mut text = String::new(mem);
+    for code in 1..71u8 {
+        bytes.extend_from_slice(&[71 - code, 0x11, 0, 0, 0])?;
+        write!(text, "{code} DW_TAG_compile_unit no\n")?;
+    }
+    let words = ["abbrev", "0"];
+    check(&rt, mem, &words, &mut bytes.as_slice(), Ok(text.as_bytes()))?;
+    bytes.extend_from_slice(&[35, 0x11, 0, 0, 0, 0])?;
+    let line = "error: duplicate abbreviation code: 35";
+    check(&rt, mem, &words, &mut bytes.as_slice(), Err((line, 1)))
 }

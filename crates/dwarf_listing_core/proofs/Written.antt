@@ -1,0 +1,30 @@
+-- What is written one after the other.
+use Rattle.dwarf_listing_core.proofs.Common.{◌≡◌, ℕ, Bool, Option, List, [], ◌∷◌, ◌++◌, take, drop, flat_map, sym, take-append-drop, common_steps, Appends, ListsAll}
+use Rattle.std.proofs.Common.{subst}
+use Rattle.std.proofs.KnownBytes.{Appends-trans}
+use Rattle.std.proofs.lemmas.List.{flat_map_more}
+use Rattle.dwarf_listing_core.specs.Many.{ListsFirst}
+use Rattle.dwarf_listing_core.specs.declared.arguments.Kind.{Kind}
+use Rattle.dwarf_listing_core.specs.declared.arguments.OnError.{OnError}
+
+-- two texts that are written one after the other are one
+pub ruleset one_text = (common_steps, Appends-trans)
+
+-- the texts of the items so far, and that of the next one, are those of one item more
+pub text_more : {A : Type 0} (text_of : A → List ℕ) (old now new : Option (List ℕ)) (items : List A) (next : A)
+    → Appends old now (flat_map text_of items) → Appends now new (text_of next)
+    → Appends old new (flat_map text_of (items ++ next ∷ []))
+text_more text_of old now new items next before one =
+    subst (Appends old new) (flat_map_more text_of [] items next) (Appends-trans old now new _ _ before one)
+
+-- the text of the offsets so far is that of the first offsets
+pub first_offsets : {on_error : OnError} {kind : Kind} {section text : List ℕ} {failed : Bool}
+    (offsets : List ℕ) (i : ℕ) → ListsAll on_error kind section (take i offsets) text failed
+    → ListsFirst on_error kind section offsets text
+first_offsets {failed = failed} offsets i listed = record {
+  before = take i offsets;
+  after = drop i offsets;
+  place = sym (take-append-drop i offsets);
+  failed = failed;
+  listed = listed;
+}
