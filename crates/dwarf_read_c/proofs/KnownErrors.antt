@@ -5,7 +5,7 @@ use Rattle.dwarf_read_core.specs.InitialLength.{initial_length, long_length}
 use Rattle.dwarf_read_core.specs.Layout.{Layout}
 use Rattle.dwarf_read_core.specs.Words.{Slot, WordAt, AddressAt, to_slot, word, address}
 use Rattle.dwarf_read_core.proofs.LayoutErrors.{Names, At_error_has, error_has, number_names, byte_names, when_names, check_names}
-use Rattle.dwarf_read_c.proofs.Common.{◌≡◌, ℕ, List, Err, arith, Error, eof, Input, Kind, address_header, set, string_offsets_header, StringAt, string_at, DwarfFault, IsKnown, Rejects, fault_of, kind_of, LacksNumber, LacksSet, set_at, outside, faulty}
+use Rattle.dwarf_read_c.proofs.Common.{ℕ, List, Err, arith, Error, eof, Input, Kind, address_header, set, string_offsets_header, StringAt, string_at, IsKnown, LacksNumber, LacksSet, set_at, outside, faulty}
 
 -- the error of bytes that begin with no number has a number of its own
 pub known_number : {k : Kind} {bytes : List ℕ} {e : Error} → LacksNumber k bytes e → IsKnown e
@@ -25,23 +25,18 @@ pub known_string : (section : Input) (offset : ℕ) (e : Error) → StringAt sec
 unfolding StringAt string_at
 known_string section offset e is = At_error_has IsKnown known_end (string_at offset) (tt, λ _. tt) section is
 
--- a call that writes the error of a lookup of a word refuses the lookup
-pub word_refused : (greatest : ℕ) (s : Slot) (section : Input) {e : Error} {status : ℕ} {fault : DwarfFault}
-    → WordAt greatest section s (Err e) → status ≡ kind_of e → fault ≡ fault_of e
-    → Rejects (λ e. WordAt greatest section s (Err e)) status fault
+-- the error of a lookup of a word has a number of its own
+pub known_word : (greatest : ℕ) (s : Slot) (section : Input) (e : Error) → WordAt greatest section s (Err e) → IsKnown e
 unfolding word to_slot string_offset
-word_refused greatest s section {e} is numbered reported =
-    let known = At_error_has IsKnown known_end (word greatest s) (search (arith, names) depth 20) section is in
-    record { error = e; is = is; known = known; numbered = numbered; reported = reported }
+known_word greatest s section e is =
+    At_error_has IsKnown known_end (word greatest s) (search (arith, names) depth 20) section is
 
--- a call that writes the error of a lookup of an address refuses the lookup
-pub address_refused : (greatest : ℕ) (s : Slot) (section : Input) {e : Error} {status : ℕ} {fault : DwarfFault}
-    → AddressAt greatest section s (Err e) → status ≡ kind_of e → fault ≡ fault_of e
-    → Rejects (λ e. AddressAt greatest section s (Err e)) status fault
+-- the error of a lookup of an address has a number of its own
+pub known_address : (greatest : ℕ) (s : Slot) (section : Input) (e : Error) → AddressAt greatest section s (Err e)
+    → IsKnown e
 unfolding address to_slot
-address_refused greatest s section {e} is numbered reported =
-    let known = At_error_has IsKnown known_end (address greatest s) (search (arith, names) depth 20) section is in
-    record { error = e; is = is; known = known; numbered = numbered; reported = reported }
+known_address greatest s section e is =
+    At_error_has IsKnown known_end (address greatest s) (search (arith, names) depth 20) section is
 
 -- the error in place of a set has a number of its own, if each error of the header has
 known_set : {H : Type 0} {header : Layout H} {section : Input} {offset : ℕ} {e : Error} → Names IsKnown header

@@ -9,10 +9,10 @@ lacks_number {bytes = bytes} {e} (inl ends) =
     let same : e ≡ eof (length bytes) = grind arith in rw same (cut ends.cut)
 lacks_number (inr no_number) = rw no_number.fault (bad no_number.bad)
 
--- a call that writes the error of reading a number refuses the bytes
-pub number_refused : {k : Kind} {bytes : List ℕ} {e : Error} {new : Input} {status : ℕ} {fault : DwarfFault}
+-- a call that writes the error of reading a number rejects the bytes
+pub number_rejected : {k : Kind} {bytes : List ℕ} {e : Error} {new : Input} {status : ℕ} {fault : DwarfFault}
     → RejectsNumber k (section_of bytes false) e new → status ≡ kind_of e → fault ≡ fault_of e
     → Rejects (LacksNumber k bytes) status fault
-number_refused {e = e} refuses numbered reported =
-    let is = lacks_number refuses in
+number_rejected {e = e} rejects numbered reported =
+    let is = lacks_number rejects in
     record { error = e; is = is; known = known_number is; numbered = numbered; reported = reported }

@@ -19,7 +19,7 @@ pub struct DwarfFault {
 // Returns the number and the value of an error. The header has the list of numbers.
 fn fault_of(error: Error) -> DwarfFault
     ensures reported { result ≡ fault_of error }
-    ensures refused { 0 < result.kind }
+    ensures nonzero { 0 < result.kind }
 {
     let (kind, value) = match error {
         Error::UnexpectedEof(ReaderOffsetId(position)) => (1, position),
@@ -47,10 +47,10 @@ fn fault_of(error: Error) -> DwarfFault
 }
 
 // Writes the error of a call, and returns its number.
-pub(crate) fn refuse(error: Error, fault: &mut DwarfFault) -> u32
+pub(crate) fn reject(error: Error, fault: &mut DwarfFault) -> u32
     ensures reported { fault.new ≡ fault_of error }
     ensures status { result ≡ kind_of error }
-    ensures refused { 0 < result }
+    ensures nonzero { 0 < result }
 {
     *fault = fault_of(error);
     fault.kind

@@ -5,7 +5,7 @@ ghost use Rattle.dwarf_read_core.specs.Leb128.{unsigned64, signed64, HasNumber};
 ghost use Rattle.dwarf_read_c.specs.Fault.{Rejects};
 ghost use Rattle.dwarf_read_c.specs.Numbers.{LacksNumber, PutsShortest};
 
-use crate::fault::{DwarfFault, refuse};
+use crate::fault::{DwarfFault, reject};
 use crate::room::put;
 use crate::status::DWARF_OK;
 use dwarf_read_core::leb128::write::Leb128;
@@ -26,7 +26,7 @@ pub extern "C" fn dwarf_uleb128(
     fault: &mut DwarfFault,
 ) -> u32
     ensures read { result ≡ DWARF_OK → HasNumber unsigned64 bytes.now value.new len.new }
-    ensures refused { result ≢ DWARF_OK
+    ensures rejected { result ≢ DWARF_OK
         → Rejects (LacksNumber unsigned64 bytes.now) result fault.new }
     ensures no_value { result ≢ DWARF_OK → (value.new ≡ value.old) × (len.new ≡ len.old) }
     ensures no_fault { result ≡ DWARF_OK → fault.new ≡ fault.old }
@@ -38,7 +38,7 @@ pub extern "C" fn dwarf_uleb128(
             *len = bytes.len() - input.len();
             DWARF_OK
         }
-        Err(error) => refuse(error, fault),
+        Err(error) => reject(error, fault),
     }
 }
 
@@ -58,7 +58,7 @@ pub extern "C" fn dwarf_sleb128(
     fault: &mut DwarfFault,
 ) -> u32
     ensures read { result ≡ DWARF_OK → HasNumber signed64 bytes.now value.new len.new }
-    ensures refused { result ≢ DWARF_OK
+    ensures rejected { result ≢ DWARF_OK
         → Rejects (LacksNumber signed64 bytes.now) result fault.new }
     ensures no_value { result ≢ DWARF_OK → (value.new ≡ value.old) × (len.new ≡ len.old) }
     ensures no_fault { result ≡ DWARF_OK → fault.new ≡ fault.old }
@@ -70,7 +70,7 @@ pub extern "C" fn dwarf_sleb128(
             *len = bytes.len() - input.len();
             DWARF_OK
         }
-        Err(error) => refuse(error, fault),
+        Err(error) => reject(error, fault),
     }
 }
 

@@ -7,7 +7,7 @@ ghost use Rattle.dwarf_read_core.specs.Words.{AddressAt, WordAt, slot};
 ghost use Rattle.dwarf_read_c.specs.Fault.{Rejects};
 ghost use Rattle.dwarf_read_c.specs.Sections.{offset_size, part_of, section_of};
 
-use crate::fault::{DwarfFault, refuse};
+use crate::fault::{DwarfFault, reject};
 use crate::status::DWARF_OK;
 use dwarf_read_core::{
     DebugAddr, DebugAddrBase, DebugAddrIndex, DebugStr, DebugStrOffset, DebugStrOffsets,
@@ -31,7 +31,7 @@ pub extern "C" fn dwarf_string(
 ) -> u32
     ensures found { let s = section_of section.now false in
         result ≡ DWARF_OK → StringAt s offset (Ok (part_of s offset len.new)) }
-    ensures refused { let s = section_of section.now false in
+    ensures rejected { let s = section_of section.now false in
         result ≢ DWARF_OK → Rejects (λ e. StringAt s offset (Err e)) result fault.new }
     ensures no_length { result ≢ DWARF_OK → len.new ≡ len.old }
     ensures no_fault { result ≡ DWARF_OK → fault.new ≡ fault.old }
@@ -41,7 +41,7 @@ pub extern "C" fn dwarf_string(
             *len = string.slice().len();
             DWARF_OK
         }
-        Err(error) => refuse(error, fault),
+        Err(error) => reject(error, fault),
     }
 }
 
@@ -57,6 +57,7 @@ pub extern "C" fn dwarf_string(
 /// - 1 at `base` if the entry begins past the end;
 /// - 1 at the entry if it ends past the end.
 #[unsafe(no_mangle)]
+#[tactic(auto, using(crate::proofs::KnownErrors::known_word))]
 pub extern "C" fn dwarf_str_offset(
     section: &[u8],
     is_big: bool,
@@ -69,7 +70,7 @@ pub extern "C" fn dwarf_str_offset(
     ensures found { let s = section_of section.now is_big in
         let place = slot base index (offset_size is_64) in
         result ≡ DWARF_OK → WordAt (2 ^ 64 - 1) s place (Ok offset.new) }
-    ensures refused { let s = section_of section.now is_big in
+    ensures rejected { let s = section_of section.now is_big in
         let place = slot base index (offset_size is_64) in
         result ≢ DWARF_OK → Rejects (λ e. WordAt (2 ^ 64 - 1) s place (Err e)) result fault.new }
     ensures no_offset { result ≢ DWARF_OK → offset.new ≡ offset.old }
@@ -87,7 +88,7 @@ pub extern "C" fn dwarf_str_offset(
             *offset = found;
             DWARF_OK
         }
-        Err(error) => refuse(error, fault),
+        Err(error) => reject(error, fault),
     }
 }
 
@@ -104,6 +105,7 @@ pub extern "C" fn dwarf_str_offset(
 /// - 12 (`UnsupportedAddressSize`) if `size` isn't 1, 2, 4 or 8;
 /// - 1 at the address if it ends past the end.
 #[unsafe(no_mangle)]
+#[tactic(auto, using(crate::proofs::KnownErrors::known_address))]
 pub extern "C" fn dwarf_address(
     section: &[u8],
     is_big: bool,
@@ -115,7 +117,7 @@ pub extern "C" fn dwarf_address(
 ) -> u32
     ensures found { let s = section_of section.now is_big in
         result ≡ DWARF_OK → AddressAt (2 ^ 64 - 1) s (slot base index size) (Ok address.new) }
-    ensures refused { let s = section_of section.now is_big in result ≢ DWARF_OK
+    ensures rejected { let s = section_of section.now is_big in result ≢ DWARF_OK
         → Rejects (λ e. AddressAt (2 ^ 64 - 1) s (slot base index size) (Err e)) result fault.new }
     ensures no_address { result ≢ DWARF_OK → address.new ≡ address.old }
     ensures no_fault { result ≡ DWARF_OK → fault.new ≡ fault.old }
@@ -126,7 +128,7 @@ pub extern "C" fn dwarf_address(
             *address = found;
             DWARF_OK
         }
-        Err(error) => refuse(error, fault),
+        Err(error) => reject(error, fault),
     }
 }
 

@@ -10,7 +10,7 @@ ghost use Rattle.dwarf_read_c.specs.Fault.{Rejects};
 ghost use Rattle.dwarf_read_c.specs.Sections.{section_of};
 ghost use Rattle.dwarf_read_c.specs.Sets.{LacksSet, TellsSet, set_from};
 
-use crate::fault::{DwarfFault, refuse};
+use crate::fault::{DwarfFault, reject};
 use crate::sections::order;
 use crate::status::{DWARF_END, DWARF_OK};
 use dwarf_read_core::{
@@ -68,7 +68,7 @@ pub extern "C" fn dwarf_address_set(
     ensures found { let s = section_of section.now is_big in
         result ≡ DWARF_OK → TellsSet address_header addresses_of s offset set.new }
     ensures end { result ≡ DWARF_END → (offset ≡ length section.now) × (fault.new ≡ fault.old) }
-    ensures refused { let s = section_of section.now is_big in result ≢ DWARF_OK
+    ensures rejected { let s = section_of section.now is_big in result ≢ DWARF_OK
         → result ≢ DWARF_END → Rejects (LacksSet address_header s offset) result fault.new }
     ensures no_set { result ≢ DWARF_OK → set.new ≡ set.old }
     ensures no_fault { result ≡ DWARF_OK → fault.new ≡ fault.old }
@@ -79,7 +79,7 @@ pub extern "C" fn dwarf_address_set(
             DWARF_OK
         }
         Ok(None) => DWARF_END,
-        Err(error) => refuse(error, fault),
+        Err(error) => reject(error, fault),
     }
 }
 
@@ -113,7 +113,7 @@ pub extern "C" fn dwarf_str_offset_set(
     ensures found { let s = section_of section.now is_big in
         result ≡ DWARF_OK → TellsSet string_offsets_header string_offsets_of s offset set.new }
     ensures end { result ≡ DWARF_END → (offset ≡ length section.now) × (fault.new ≡ fault.old) }
-    ensures refused { let s = section_of section.now is_big in result ≢ DWARF_OK
+    ensures rejected { let s = section_of section.now is_big in result ≢ DWARF_OK
         → result ≢ DWARF_END → Rejects (LacksSet string_offsets_header s offset) result fault.new }
     ensures no_set { result ≢ DWARF_OK → set.new ≡ set.old }
     ensures no_fault { result ≡ DWARF_OK → fault.new ≡ fault.old }
@@ -124,7 +124,7 @@ pub extern "C" fn dwarf_str_offset_set(
             DWARF_OK
         }
         Ok(None) => DWARF_END,
-        Err(error) => refuse(error, fault),
+        Err(error) => reject(error, fault),
     }
 }
 

@@ -7,9 +7,9 @@ ghost use Rattle.dwarf_read_core.specs.Grammar.{Table, attribute_count};
 ghost use Rattle.dwarf_read_c.specs.Fault.{Rejects};
 ghost use Rattle.dwarf_read_c.specs.Room.{Fills};
 ghost use Rattle.dwarf_read_c.specs.Sections.{section_of};
-ghost use Rattle.dwarf_read_c.specs.Tables.{LacksRoom, abbreviations_of, attribute_of, attributes_of, bit_of, measure_of};
+ghost use Rattle.dwarf_read_c.specs.Tables.{LacksRoom, abbreviations_of, attribute_of, attributes_of, measure_of};
 
-use crate::fault::{DwarfFault, refuse};
+use crate::fault::{DwarfFault, reject};
 use crate::status::{DWARF_NO_ROOM, DWARF_OK};
 use dwarf_read_core::{
     Abbreviations, AttributeSpecification, DebugAbbrev, DebugAbbrevOffset, Error, LittleEndian,
@@ -81,7 +81,7 @@ pub extern "C" fn dwarf_table_measure(
 ) -> u32
     ensures measured { let s = section_of section.now false in result ≡ DWARF_OK
         → (t : Table) × Answer s offset (Ok t) × (measure.new ≡ measure_of t) }
-    ensures refused { let s = section_of section.now false in result ≢ DWARF_OK
+    ensures rejected { let s = section_of section.now false in result ≢ DWARF_OK
         → Rejects (λ e. Answers (Err e) s offset) result fault.new }
     ensures no_measure { result ≢ DWARF_OK → measure.new ≡ measure.old }
     ensures no_fault { result ≡ DWARF_OK → fault.new ≡ fault.old }
@@ -91,7 +91,7 @@ pub extern "C" fn dwarf_table_measure(
             *measure = measure_of(&table);
             DWARF_OK
         }
-        Err(error) => refuse(error, fault),
+        Err(error) => reject(error, fault),
     }
 }
 
@@ -124,7 +124,7 @@ pub extern "C" fn dwarf_table_read(
         → (t : Table) × Answer s offset (Ok t) × (measure.new ≡ measure_of t)
         × LacksRoom measure.new (length abbreviations.old) (length attributes.old)
         × (fault.new ≡ fault.old) }
-    ensures refused { let s = section_of section.now false in
+    ensures rejected { let s = section_of section.now false in
         result ≢ DWARF_OK → result ≢ DWARF_NO_ROOM
         → Rejects (λ e. Answers (Err e) s offset) result fault.new × (measure.new ≡ measure.old) }
     ensures no_items { result ≢ DWARF_OK
@@ -133,7 +133,7 @@ pub extern "C" fn dwarf_table_read(
 {
     let table = match table_at(mem, section, offset) {
         Ok(table) => table,
-        Err(error) => return refuse(error, fault),
+        Err(error) => return reject(error, fault),
     };
     *measure = measure_of(&table);
     if abbreviations.len() < measure.abbreviations || attributes.len() < measure.attributes {
@@ -164,7 +164,7 @@ fn measure_of(table: &Abbreviations) -> DwarfMeasure
     DwarfMeasure {
         abbreviations: table.len(),
         attributes,
-        closed_by_null: bit_of(table.closed_by_null()),
+        closed_by_null: u8::from(table.closed_by_null()),
     }
 }
 
@@ -181,7 +181,7 @@ fn fill_abbreviations(table: &Abbreviations, places: &mut [DwarfAbbreviation])
         places[index] = DwarfAbbreviation {
             code: abbreviation.code(),
             tag: abbreviation.tag().0,
-            has_children: bit_of(abbreviation.has_children()),
+            has_children: u8::from(abbreviation.has_children()),
             first_attribute,
             attribute_count,
         };
@@ -223,11 +223,4 @@ fn attribute_of(attribute: &AttributeSpecification) -> DwarfAttribute
         form: attribute.form().0,
         implicit_const: attribute.implicit_const_value().unwrap_or(0),
     }
-}
-
-// 1 for true, and 0 for false.
-fn bit_of(is_set: bool) -> u8
-    ensures { result ≡ bit_of is_set }
-{
-    is_set.into()
 }

@@ -14,6 +14,10 @@ mod texts;
 // The kind and the value of an error.
 type Fault = (u32, u64);
 
+fn pair(fault: &DwarfFault) -> Fault {
+    (fault.kind, fault.value)
+}
+
 const SEVEN: DwarfFault = DwarfFault { kind: 7, value: 7 };
 
 // Asserts equality; `what` names the case if the assertion fails.

@@ -55,7 +55,7 @@ fn error_of(fault: &DwarfFault) -> Option<Error>
         6 => Some(Error::AttributeNameZero),
         7 => Some(Error::AttributeFormZero),
         8 => Some(Error::DuplicateAbbreviationCode(value)),
-        9 => Some(Error::UnknownReservedLength(word_of(value)?)),
+        9 => Some(Error::UnknownReservedLength(u32::try_from(value).ok()?)),
         10 => Some(Error::UnsupportedOffset),
         11 => Some(Error::UnknownVersion(value)),
         12 => Some(Error::UnsupportedAddressSize(byte_of(value)?)),
@@ -74,10 +74,4 @@ fn byte_of(value: u64) -> Option<u8>
     ensures { result ≡ (if nat_lt value (2 ^ 8) then Some value else None) }
 {
     u8::try_from(value).ok()
-}
-
-fn word_of(value: u64) -> Option<u32>
-    ensures { result ≡ (if nat_lt value (2 ^ 32) then Some value else None) }
-{
-    u32::try_from(value).ok()
 }

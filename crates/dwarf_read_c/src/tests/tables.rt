@@ -1,12 +1,11 @@
 //! Abbreviation tables.
 
-use super::{Fault, SEVEN, same};
+use super::{Fault, SEVEN, pair, same};
 use crate::fault::DwarfFault;
 use crate::status::DWARF_NO_ROOM;
 use crate::tables::{
     DwarfAbbreviation, DwarfAttribute, DwarfMeasure, dwarf_table_measure, dwarf_table_read,
 };
-use std::alloc::Global;
 use std::process::Abort;
 
 // A subprogram with a constant name, and then a unit with a string and a language.
@@ -38,99 +37,63 @@ type Outcome = (u32, (usize, usize, u8), Fault);
 // Offsets, and what measuring the table there returns and writes.
 static MEASURES: &[(usize, Outcome)] = &[
     (0, (0, (2, 3, 1), (7, 7))),
-    (8, (0, (1, 2, 1), (7, 7))),
     (18, (0, (0, 0, 0), (7, 7))),
     (19, (1, (7, 7, 7), (1, 0))),
-    (1, (4, (7, 7, 7), (4, 0))),
     (3, (5, (7, 7, 7), (5, 0x56))),
 ];
 
 fn outcome(status: u32, m: &DwarfMeasure, fault: &DwarfFault) -> Outcome {
     let measure = (m.abbreviations, m.attributes, m.closed_by_null);
-    (status, measure, (fault.kind, fault.value))
-}
-
-fn measured(mem: Global, offset: usize) -> Outcome {
-    let (mut m, mut fault) = (NOTHING, SEVEN);
-    let status = dwarf_table_measure(mem, TABLE, offset, &mut m, &mut fault);
-    outcome(status, &m, &fault)
+    (status, measure, pair(fault))
 }
 
 #[test]
 fn tables_are_measured(rt: HostRuntime) {
     for (offset, wanted) in MEASURES {
-        same(&rt, measured(rt.alloc(), *offset), *wanted, offset);
+        let (mut m, mut fault) = (NOTHING, SEVEN);
+        let status = dwarf_table_measure(rt.alloc(), TABLE, *offset, &mut m, &mut fault);
+        same(&rt, outcome(status, &m, &fault), *wanted, offset);
     }
 }
 
-fn check_abbreviation(
-    rt: &impl Abort,
-    it: &DwarfAbbreviation,
-    wanted: (u64, u16, u8, usize, usize),
-) {
-    let got = (
-        it.code,
-        it.tag,
-        it.has_children,
-        it.first_attribute,
-        it.attribute_count,
-    );
+// The code, the tag and the children, and where the attributes are.
+type Abbreviation = (u64, u16, u8, (usize, usize));
+
+fn check_abbreviation(rt: &impl Abort, it: &DwarfAbbreviation, wanted: Abbreviation) {
+    let place = (it.first_attribute, it.attribute_count);
+    let got = (it.code, it.tag, it.has_children, place);
     same(rt, got, wanted, "abbreviation");
 }
 
 fn check_attribute(rt: &impl Abort, it: &DwarfAttribute, wanted: (u16, u16, i64)) {
-    same(
-        rt,
-        (it.name, it.form, it.implicit_const),
-        wanted,
-        "attribute",
-    );
+    let got = (it.name, it.form, it.implicit_const);
+    same(rt, got, wanted, "attribute");
 }
 
+// There are too few places for attributes at first, and then more than are needed.
 #[test]
 fn tables_are_read(rt: HostRuntime) {
-    let mut abbreviations = [NO_ABBREVIATION; 3];
-    let mut attributes = [NO_ATTRIBUTE; 4];
+    let mem = rt.alloc();
+    let (mut ours, mut its) = ([NO_ABBREVIATION; 3], [NO_ATTRIBUTE; 4]);
     let (mut m, mut fault) = (NOTHING, SEVEN);
-    let status = dwarf_table_read(
-        rt.alloc(),
-        TABLE,
-        0,
-        &mut abbreviations,
-        &mut attributes,
-        &mut m,
-        &mut fault,
-    );
-    same(&rt, status, 0, "status");
-    let [first, second, third] = &abbreviations;
-    check_abbreviation(&rt, first, (1, 0x11, 1, 0, 2));
-    check_abbreviation(&rt, second, (2, 0x2e, 0, 2, 1));
-    check_abbreviation(&rt, third, (7, 7, 7, 7, 7));
-    let [first, second, third, fourth] = &attributes;
+    let (places, few) = (&mut ours, &mut its[..2]);
+    let status = dwarf_table_read(mem, TABLE, 0, places, few, &mut m, &mut fault);
+    let wanted = (DWARF_NO_ROOM, (2, 3, 1), (7, 7));
+    same(&rt, outcome(status, &m, &fault), wanted, "few places");
+    check_abbreviation(&rt, &ours[0], (7, 7, 7, (7, 7)));
+    check_attribute(&rt, &its[0], (7, 7, 7));
+    let status = dwarf_table_read(mem, TABLE, 0, &mut ours, &mut its, &mut m, &mut fault);
+    let wanted = (0, (2, 3, 1), (7, 7));
+    same(&rt, outcome(status, &m, &fault), wanted, "places");
+    let [first, second, third] = &ours;
+    check_abbreviation(&rt, first, (1, 0x11, 1, (0, 2)));
+    check_abbreviation(&rt, second, (2, 0x2e, 0, (2, 1)));
+    check_abbreviation(&rt, third, (7, 7, 7, (7, 7)));
+    let [first, second, third, fourth] = &its;
     check_attribute(&rt, first, (3, 8, 0));
     check_attribute(&rt, second, (0x13, 5, 0));
     check_attribute(&rt, third, (3, 0x21, -42));
     check_attribute(&rt, fourth, (7, 7, 7));
-}
-
-#[test]
-fn few_places_are_left_alone(rt: HostRuntime) {
-    let (mut m, mut fault) = (NOTHING, SEVEN);
-    let mut abbreviations = [NO_ABBREVIATION; 2];
-    let mut attributes = [NO_ATTRIBUTE; 2];
-    let status = dwarf_table_read(
-        rt.alloc(),
-        TABLE,
-        0,
-        &mut abbreviations,
-        &mut attributes,
-        &mut m,
-        &mut fault,
-    );
-    let wanted = (DWARF_NO_ROOM, (2, 3, 1), (7, 7));
-    same(&rt, outcome(status, &m, &fault), wanted, "measure");
-    check_abbreviation(&rt, &abbreviations[0], (7, 7, 7, 7, 7));
-    check_attribute(&rt, &attributes[0], (7, 7, 7));
 }
 
 // Meant for runs in which an allocation fails. The other tests need all their memory.

@@ -1,7 +1,7 @@
-use Rattle.dwarf_read_c.proofs.NumberLemmas.{number_refused}
+use Rattle.dwarf_read_c.proofs.NumberLemmas.{number_rejected}
 use Rattle.dwarf_read_c.proofs.numbers.dwarf_sleb128.Goals as goal
 
-pub returns-in-Err-clause-refused : goal.returns-in-Err-clause-refused
-returns-in-Err-clause-refused c =
-    λ _. number_refused (rw c.new-input.ensures.view at c.in-Err.ensures.err) c.refuse.ensures.status
-    c.refuse.ensures.reported
+pub returns-in-Err-clause-rejected : goal.returns-in-Err-clause-rejected
+returns-in-Err-clause-rejected c =
+    λ _. number_rejected (rw c.new-input.ensures.view at c.in-Err.ensures.err) c.reject.ensures.status
+    c.reject.ensures.reported
