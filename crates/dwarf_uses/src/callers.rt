@@ -23,10 +23,7 @@ pub fn tag_of(table: &Abbreviations, code: u64) -> Option<DwTag>
     ensures { option_map (λ tag. tag.0) result
         ≡ option_map (λ declaration. declaration.tag) (finite.get table.now.by_code code) }
 {
-    match table.get(code) {
-        Some(abbreviation) => Some(abbreviation.tag()),
-        None => None,
-    }
+    Some(table.get(code)?.tag())
 }
 
 /// Returns the table at `offset`, a line for each declaration and for each of its attributes.
