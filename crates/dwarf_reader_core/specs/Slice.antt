@@ -8,7 +8,7 @@ use Rattle.dwarf_reader_core.specs.declared.endian_slice.EndianSlice.{EndianSlic
 use Rattle.dwarf_reader_core.specs.Input.{Input}
 
 -- the bytes that remain, the position of the first of them, and whether the highest byte of a number comes first
-abbrev pub input_of : {E : Type 0} {o : order.Ghosts E} {d : debug.Ghosts E} {z : default.Ghosts E} {p : equality.Ghosts E}
-    → EndianSlice E o d z p → Input
+abbrev pub input_of : {E : Type 0} {o : order.Ghosts E} {d : debug.Ghosts E} {z : default.Ghosts E}
+    {p : equality.Ghosts E} → EndianSlice E o d z p → Input
 input_of {o = o} s =
     record { bytes = s.slice.now; position = s.end - length s.slice.now; is_big = o.is_big s.endian }

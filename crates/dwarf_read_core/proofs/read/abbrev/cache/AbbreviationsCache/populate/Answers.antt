@@ -12,7 +12,8 @@ returns-clause-ok g c = rw c.drop.view_is (
 
 pub returns-clause-faithful : goal.returns-clause-faithful
 returns-clause-faithful g c =
-    rw c.drop.view_is (faithful_of_kept (least_count c.args.strategy) (g.R.Reader.view (debug_abbrev_reader c.args.debug_abbrev.now))
+    rw c.drop.view_is
+    (faithful_of_kept (least_count c.args.strategy) (g.R.Reader.view (debug_abbrev_reader c.args.debug_abbrev.now))
     (map (λ offset. g.R.Offset.ReaderOffset.value offset.0) c.in_ok-offsets.offsets.items) c.in_ok-cache.cache
     c.in_ok-cache.ensures.ok)
 
