@@ -10,17 +10,17 @@ import kit
 
 
 class Checks:
-    """A run of checks of a script, in a scratch folder."""
+    """A run of checks of a script, in a scratch folder. It tells of all checks, or of those that fail."""
 
-    def __init__(self, name, work):
+    def __init__(self, name, work, tells_all=True):
         self.name, self.work, self.passed, self.failed, self.skipped = name, work, 0, 0, 0
-        self.lock = threading.Lock()
+        self.tells_all, self.lock = tells_all, threading.Lock()
 
-    def tell(self, well, what, is_told=True):
+    def tell(self, well, what):
         """Counts a check, and prints a line that says whether it passed."""
         with self.lock:
             self.passed, self.failed = self.passed + bool(well), self.failed + (not well)
-            if is_told or not well:
+            if self.tells_all or not well:
                 print(f"{self.name}: {what}: {'ok' if well else 'FAILED'}", flush=True)
         return well
 
