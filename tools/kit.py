@@ -102,14 +102,14 @@ def load_rt():
 
 
 @functools.cache
-def is_known():
-    """Whether the kit here is one that these scripts were written for."""
-    return version() in KITS
-
-
 def version():
     """What the kit here says that it is."""
     return run([of_path("rt"), "version"], stderr=subprocess.DEVNULL).stdout.strip()
+
+
+def is_known():
+    """Whether the kit here is one that these scripts were written for."""
+    return version() in KITS
 
 
 def unproved():
@@ -236,11 +236,6 @@ def build_libraries(crates):
             if ran.returncode:
                 return f"{it} is not proved:\n{ran.stdout.strip()[-2000:]}"
     return None
-
-
-def folder():
-    """The folder of the kit."""
-    return load_rt().KIT
 
 
 def root_file(crate):

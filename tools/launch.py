@@ -57,28 +57,27 @@ def stop(why):
 # Running a program.
 
 
-def is_current(program, name):
-    """Whether a program is there and current. If so, it gets this time, by which the launcher sees that at once."""
-    begun = time.time()
-    if not kit.is_fresh(program, name):
-        return False
-    with suppress(OSError):
-        os.utime(program, (begun, max(begun, os.path.getmtime(program))))
-    return True
+def current(name):
+    """The program of a crate that is there and current, or None. It gets this time, by which the launcher sees that at
+    once."""
+    for program in kit.programs(name):
+        begun = time.time()
+        if kit.is_fresh(program, name):
+            with suppress(OSError):
+                os.utime(program, (begun, max(begun, os.path.getmtime(program))))
+            return program
+    return None
 
 
 def last_built(name):
     """The program of a crate that was built last, or None."""
-    there = [it for it in kit.programs(name) if os.path.isfile(it)]
-    return max(there, key=os.path.getmtime) if there else None
+    return max(filter(os.path.isfile, kit.programs(name)), key=os.path.getmtime, default=None)
 
 
 def find(name):
     """The program of a crate that is to be run, built if need be, or None if none can be kept."""
-    proved, unproved = kit.programs(name)
-    for it in (proved, unproved):
-        if is_current(it, name):
-            return it
+    if program := current(name):
+        return program
     if not shutil.which("rt"):
         there = last_built(name) or stop(f"{NO_KIT}, and no program is there")
         say(f"the program is older than the sources, and {NO_KIT}")
@@ -86,7 +85,7 @@ def find(name):
     status = kit.build_unproved(name)
     if status not in (0, NOT_HERE):
         sys.exit(FAILED)
-    return None if status else unproved
+    return None if status else kit.programs(name)[1]
 
 
 def run(name, words):
@@ -167,7 +166,7 @@ def prove_one(name, jobs):
 
 def prove():
     started = time.time()
-    left = [it for it in PROGRAMS if not is_current(kit.programs(it)[0], it)]
+    left = [it for it in PROGRAMS if current(it) != kit.programs(it)[0]]
     if left and not shutil.which("rt"):
         stop(NO_KIT)
     jobs = kit.lanes(JOB_BYTES, CHECK_BYTES - JOB_BYTES)
@@ -186,12 +185,12 @@ def prove():
 
 def state(name):
     """Whether the program of a crate that would be run is proved."""
-    proved, unproved = kit.programs(name)
-    program = next((it for it in (proved, unproved) if kit.is_fresh(it, name)), None) or last_built(name)
+    is_current = current(name)
+    program = is_current or last_built(name)
     if not program:
         return "not built yet"
-    is_old = "" if kit.is_fresh(program, name) else ", and older than the sources"
-    return ("proved" if program == proved else "unproved") + is_old
+    is_proved = "unproved" if program.endswith(".unproved") else "proved"
+    return is_proved if is_current else f"{is_proved}, and older than the sources"
 
 
 def tell_versions():
