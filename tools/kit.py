@@ -34,9 +34,11 @@ def text_of(path):
         return file.read()
 
 
-def put(path, text):
-    with open(path, "w", encoding="utf-8") as file:
-        file.write(text)
+def put(path, content):
+    """Writes a text or bytes to a file, in a folder that is made if there is none."""
+    os.makedirs(os.path.dirname(path), exist_ok=True)
+    with open(path, "wb") as file:
+        file.write(content if isinstance(content, bytes) else content.encode())
 
 
 def run(words, each=None, **how):
