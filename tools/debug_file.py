@@ -14,7 +14,7 @@ import io
 import re
 import struct
 import zlib
-from dataclasses import dataclass, field
+from dataclasses import dataclass
 
 from elftools.elf.elffile import ELFFile
 
@@ -25,7 +25,7 @@ NAME = re.compile(r"(\.gnu\.debuglto_)?\.(z?)(debug\w*)(\.dwo)?")
 UNITS = ("debug_info", "debug_types")
 INDEXES = ("debug_cu_index", "debug_tu_index")
 # The columns of the index of a package: DW_SECT_INFO, DW_SECT_TYPES, DW_SECT_ABBREV, DW_SECT_STR_OFFSETS.
-COLUMNS = {"debug_info": 1, "debug_types": 2, "debug_abbrev": 3, "debug_str_offsets": 6}
+COLUMNS = {1: "debug_info", 2: "debug_types", 3: "debug_abbrev", 6: "debug_str_offsets"}
 # So many bytes are read at a time.
 CHUNK = 1 << 20
 # The relocations that store a symbol's value plus an addend: the bytes of each type, by the machine's number. Those of
@@ -114,16 +114,6 @@ def by_zstd(raw, limit):
 INFLATE = {1: by_zlib, 2: by_zstd}
 
 
-def ask_to_inflate(inflate, raw, limit):
-    try:
-        return inflate(raw, limit)
-    except ImportError as error:
-        how = "`apt-get install python3-zstandard` or `pip install zstandard` helps"
-        raise Unlisted(f"is compressed by zstd, which this Python can't inflate: {how}") from error
-    except Exception as error:
-        raise Unlisted(f"can't be inflated: {reason(error)}") from error
-
-
 @dataclass(eq=False)
 class Section:
     """A debug section. Its family are those sections that belong to the same units."""
@@ -154,38 +144,33 @@ class Unit:
         return f"the unit at 0x{self.offset:x} of {self.section}"
 
 
-@dataclass
 class Package:
-    """The rows of the indexes of a package, by the section of units that they are for. A row has the offset and the
-    size of each contribution, by its column."""
+    """The rows of the indexes of a package, by the section of units that they are for and where their units begin. A
+    row has the offset and the size of each contribution, by its section."""
 
-    rows: dict = field(default_factory=lambda: {base: [] for base in UNITS})
-    starts: dict = field(default_factory=dict)
+    def __init__(self):
+        self.rows = {base: [] for base in UNITS}
 
     def add(self, row, is_new):
         # DWARF 5 has no section of types, and the column's number is reserved.
         for base in UNITS[: 1 if is_new else 2]:
-            if COLUMNS[base] in row:
-                self.rows[base].append((*row[COLUMNS[base]], row))
+            if base in row:
+                self.rows[base].append(row)
 
     def sort(self):
         for base, rows in self.rows.items():
-            rows.sort(key=lambda it: it[0])
-            self.starts[base] = [it[0] for it in rows]
+            rows.sort(key=lambda it: it[base][0])
 
     def row(self, unit):
-        """The row of a unit, or None."""
+        """The row of a unit. It is empty if the indexes have none."""
         base = unit.section.base
-        at = bisect.bisect_right(self.starts[base], unit.offset) - 1
-        if at < 0:
-            return None
-        start, size, row = self.rows[base][at]
-        return row if unit.offset < start + size else None
+        at = bisect.bisect(self.rows[base], unit.offset, key=lambda it: it[base][0])
+        start, size = self.rows[base][at - 1][base] if at else (0, 0)
+        return self.rows[base][at - 1] if unit.offset < start + size else {}
 
     def contributions(self, base):
         """Where the contributions to a section are."""
-        column = COLUMNS[base]
-        return sorted({row[column] for rows in self.rows.values() for _, _, row in rows if column in row})
+        return sorted({row[base] for rows in self.rows.values() for row in rows if base in row})
 
 
 def number_at(body, at, size, order, end=None):
@@ -244,7 +229,9 @@ class Relocations:
         rows = ((kind, size, sign) for sign, it in TABLES for kind, size in it.get(self.machine, {}).items())
         self.sizes = {kind: (size, sign) for kind, size, sign in rows}
         word = "q" if self.is_long else "i"
-        self.row = struct.Struct(f"{'<' if self.order == 'little' else '>'}2{word.upper()}{word * has_addends}")
+        self.row = struct.Struct(f"{file.mark}2{word.upper()}{word * has_addends}")
+        # Only a symbol of the 64-bit class has its section before its value.
+        self.symbol_row = struct.Struct(file.mark + ("6xHQ8x" if self.is_long else "4xI6xH"))
 
     @functools.cached_property
     def places(self):
@@ -289,22 +276,17 @@ class Relocations:
             if part.stop > len(data):
                 raise Unlisted(f"has a relocation at 0x{place:x} that is past the end")
             stored = int.from_bytes(data[part], self.order)
-            value = self.value(symbol) + (stored if addend is None else addend)
+            value = self.symbol(symbol)[0] + (stored if addend is None else addend)
             value = stored + sign * value if sign else value
             data[part] = (value % (1 << 8 * size)).to_bytes(size, self.order)
 
-    def value(self, symbol):
-        return self.of_symbol(symbol, *((24, 8, 8) if self.is_long else (16, 4, 4)))
-
-    def home(self, symbol):
-        """The number of the section of a symbol."""
-        return self.of_symbol(symbol, *((24, 6, 2) if self.is_long else (16, 14, 2)))
-
-    def of_symbol(self, symbol, row, at, size):
-        try:
-            return number_at(self.symbols, symbol * row + at, size, self.order)
-        except Unlisted:
-            raise Unlisted(f"has a relocation by the symbol {symbol}, which isn't there") from None
+    def symbol(self, number):
+        """The value of a symbol, and the number of its section."""
+        row = self.symbols[number * self.symbol_row.size : (number + 1) * self.symbol_row.size]
+        if len(row) < self.symbol_row.size:
+            raise Unlisted(f"has a relocation by the symbol {number}, which isn't there")
+        first, second = self.symbol_row.unpack(row)
+        return (second, first) if self.is_long else (first, second)
 
 
 class DebugFile:
@@ -321,7 +303,7 @@ class DebugFile:
             what = next((what for it, what in OTHERS if start.startswith(it)), "" if start else "an empty one")
             raise Unlisted(f"this isn't an ELF file{', but ' + what if what else ''}")
         self.elf = ask("the header of the file", ELFFile, self.file)
-        self.order = "little" if self.elf.little_endian else "big"
+        self.order, self.mark = ("little", "<") if self.elf.little_endian else ("big", ">")
         self.machine = self.number(whole, 18, 2)
         self.sections, self.relocations = [], {}
         for number in range(self.count()):
@@ -417,8 +399,14 @@ class DebugFile:
         limit = max(INFLATED_BYTES, INFLATED_TIMES * len(raw))
         if size > limit:
             raise Unlisted(f"claims {size} bytes in {len(raw)} compressed ones, and at most {limit} are read")
-        # One byte more, to see whether there are too many.
-        body, is_whole = ask_to_inflate(inflate, raw, size + 1)
+        try:
+            # One byte more, to see whether there are too many.
+            body, is_whole = inflate(raw, size + 1)
+        except ImportError as error:
+            how = "`apt-get install python3-zstandard` or `pip install zstandard` helps"
+            raise Unlisted(f"is compressed by zstd, which this Python can't inflate: {how}") from error
+        except Exception as error:
+            raise Unlisted(f"can't be inflated: {reason(error)}") from error
         if len(body) != size or not is_whole:
             more = "more" if len(body) > size else "other bytes" if len(body) == size else f"{len(body)}"
             self.say(f"{section} is to inflate to {size} bytes, and inflates to {more}")
@@ -517,7 +505,7 @@ class DebugFile:
         for table in self.relocations_of(unit.section):
             for _, symbol, _, _ in table.between(unit.table_place, unit.table_place + 1):
                 for section in sections:
-                    if section.number == table.home(symbol):
+                    if section.number == table.symbol(symbol)[1]:
                         return section
         raise Unlisted(f"doesn't say in which of {len(sections)} sections its table is")
 
@@ -526,9 +514,9 @@ class DebugFile:
         if not self.package or unit.section.family[1] != ".dwo":
             return unit.table
         row = self.package.row(unit)
-        if not row or COLUMNS["debug_abbrev"] not in row:
+        if "debug_abbrev" not in row:
             raise Unlisted("has no row with a table in the package's index, so its table isn't found")
-        start, size = row[COLUMNS["debug_abbrev"]]
+        start, size = row["debug_abbrev"]
         if unit.table >= size:
             raise Unlisted(f"names the table at 0x{unit.table:x} of its contribution, which has 0x{size:x} bytes")
         return start + unit.table
@@ -539,8 +527,7 @@ class DebugFile:
         """The units that use what is at an offset of a section. In a package the rows say it, and else all do."""
         if not self.package or not section.family[1]:
             return units
-        column, rows = COLUMNS[section.base], [(it, self.package.row(it)) for it in units]
-        return [it for it, row in rows if row and row.get(column, (None,))[0] == start]
+        return [it for it in units if self.package.row(it).get(section.base, (None,))[0] == start]
 
     def indexed(self):
         """The indexes of a package, or None if the file is none."""
@@ -568,8 +555,8 @@ class DebugFile:
             raise Unlisted(f"is too short for its {slots} slots and {units} rows, and isn't read")
         if units and not columns:
             raise Unlisted("has no columns, and isn't read")
-        word = struct.Struct(f"{'<' if self.order == 'little' else '>'}{columns}I")
-        names = word.unpack_from(body, start)
+        word = struct.Struct(f"{self.mark}{columns}I")
+        names = [COLUMNS.get(it) for it in word.unpack_from(body, start)]
         for row in range(units):
             place = 4 * columns * row
             offsets = word.unpack_from(body, start + 4 * columns + place)
