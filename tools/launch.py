@@ -24,7 +24,7 @@ from contextlib import suppress
 sys.dont_write_bytecode = True
 import checks
 import kit
-from unproved import NOT_HERE
+from unproved import NOT_HERE, say
 
 # The programs, and for each the words of a run that prints little.
 PROGRAMS = {"dwarf_list": ["uleb", "0"], "dwarf_list_many": ["str", os.devnull, os.devnull]}
@@ -34,11 +34,6 @@ PROOF_MINUTES = 45
 CHECK_BYTES, JOB_BYTES = 4_000_000_000, 2_000_000_000
 NO_KIT = "the command rt of the Rattle kit isn't on PATH"
 FAILED = 3
-
-
-def say(text):
-    with suppress(OSError):
-        os.write(2, os.fsencode(f"dwarf_list: {text}\n"))
 
 
 def put(line):
