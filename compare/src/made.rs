@@ -371,14 +371,12 @@ const LISTED_ADDRESSES: u32 = 100_000;
 pub fn listed_section(kind: &str, bytes: usize) -> Option<Vec<u8>> {
     let (mut random, mut to) = (Random(88_172_645_463_325_252), vec![]);
     match kind {
-        "rising" | "far" => {
-            let step = if kind == "far" { 0x1_0000_0001 } else { 1 };
-            for code in 1.. {
-                if to.len() >= bytes {
-                    break;
-                }
+        "rising" | "gaps" => {
+            let (mut code, step) = (0, if kind == "gaps" { 0x1_0000_0001 } else { 1 });
+            while to.len() < bytes {
+                code += step;
                 let tag = random.pick(&TAGS);
-                shaped_declaration(&mut random, code * step, tag, &mut |random| random.pick(&ATTRIBUTES), &mut to);
+                shaped_declaration(&mut random, code, tag, &mut |random| random.pick(&ATTRIBUTES), &mut to);
             }
             to.push(0);
         }

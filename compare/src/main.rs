@@ -3,7 +3,7 @@
 //! `tools/compare` runs this program, and its documentation says what the words mean.
 
 mod all;
-mod clock;
+mod cost;
 #[allow(dead_code)] // The copy of gimli needs more of it.
 mod library;
 mod made;
@@ -14,7 +14,6 @@ mod question;
 mod shrink;
 mod tally;
 mod theirs;
-mod touched;
 
 use made::Random;
 use measure::Measured;
@@ -40,8 +39,8 @@ struct Wanted {
     seed: u64,
     /// Sections of files: a name, what is in it, and its bytes.
     sections: Vec<(String, String, Vec<u8>)>,
-    /// One question to ask alone, and its bytes.
-    alone: Option<(Question, Vec<u8>)>,
+    /// One question that is asked alone, and its bytes.
+    case: Option<(Question, Vec<u8>)>,
     /// The command that asks a question alone, up to the question.
     again: String,
     /// What is measured in place of comparing.
@@ -78,7 +77,7 @@ fn wanted(words: &mut dyn Iterator<Item = String>) -> Result<Wanted, String> {
             "--case" => {
                 let text = next()?;
                 let case = question_of(&text);
-                found.alone = Some(case.ok_or(format!("'{text}' is no question with bytes in hexadecimal behind it"))?);
+                found.case = Some(case.ok_or(format!("'{text}' is no question with bytes in hexadecimal behind it"))?);
             }
             "--time" => found.measured = Some(Measured::Time),
             "--count" => found.measured = Some(Measured::Calls),
@@ -164,10 +163,10 @@ fn is_found(plant: usize, wanted: &Wanted) -> bool {
 
 fn compare(wanted: &Wanted) -> ExitCode {
     let mut tally = Tally::new(&wanted.again);
-    if let Some((question, bytes)) = &wanted.alone {
+    if let Some((question, bytes)) = &wanted.case {
         plain::plant(wanted.plants.first().map_or(0, |it| it + 1));
         tally.ask_aloud(question, bytes);
-        return if tally.differences == 0 { ExitCode::SUCCESS } else { ExitCode::from(1) };
+        return ExitCode::from(u8::from(tally.differences != 0));
     }
     println!("seed {}, gimli {}", wanted.seed, env!("GIMLI_VERSION"));
     let found = wanted.plants.iter().filter(|it| is_found(**it, wanted)).count();
@@ -193,31 +192,7 @@ fn compare(wanted: &Wanted) -> ExitCode {
         }
     }
     tally.print(found, lost);
-    if tally.differences == 0 && lost == 0 {
-        ExitCode::SUCCESS
-    } else {
-        ExitCode::from(1)
-    }
-}
-
-fn refused(why: &str) -> ExitCode {
-    eprintln!("compare: {why}");
-    ExitCode::from(2)
-}
-
-fn run(wanted: &Wanted) -> ExitCode {
-    let what = match wanted.measured {
-        None => return compare(wanted),
-        Some(what) => what,
-    };
-    let workloads = match &wanted.table {
-        None => measure::workloads(&wanted.sections),
-        Some((kind, count)) => measure::of_table(kind, *count),
-    };
-    match measure::measure(&workloads, what) {
-        Ok(()) => ExitCode::SUCCESS,
-        Err(why) => refused(&why),
-    }
+    ExitCode::from(u8::from(tally.differences != 0 || lost != 0))
 }
 
 /// Writes a section to be listed into a file.
@@ -227,20 +202,29 @@ fn make(kind: &str, bytes: &str, path: &str) -> Result<(), String> {
     std::fs::write(path, section).map_err(|error| format!("{path} can't be written: {error}"))
 }
 
-fn main() -> ExitCode {
-    let words: Vec<String> = std::env::args().skip(1).collect();
+fn run(words: Vec<String>) -> Result<ExitCode, String> {
     match words.iter().map(String::as_str).collect::<Vec<_>>()[..] {
-        ["--gimli"] => {
-            println!("{}", env!("GIMLI_VERSION"));
-            return ExitCode::SUCCESS;
+        ["--gimli"] => println!("{}", env!("GIMLI_VERSION")),
+        ["--make", kind, bytes, path] => make(kind, bytes, path)?,
+        _ => {
+            let wanted = wanted(&mut words.iter().cloned())?;
+            let what = match wanted.measured {
+                None => return Ok(compare(&wanted)),
+                Some(what) => what,
+            };
+            let workloads = match &wanted.table {
+                None => measure::workloads(&wanted.sections),
+                Some((kind, count)) => measure::of_table(kind, *count),
+            };
+            measure::measure(&workloads, what)?;
         }
-        ["--make", kind, bytes, path] => {
-            return make(kind, bytes, path).map_or_else(|why| refused(&why), |()| ExitCode::SUCCESS);
-        }
-        _ => {}
     }
-    match wanted(&mut words.into_iter()) {
-        Ok(wanted) => run(&wanted),
-        Err(why) => refused(&why),
-    }
+    Ok(ExitCode::SUCCESS)
+}
+
+fn main() -> ExitCode {
+    run(std::env::args().skip(1).collect()).unwrap_or_else(|why| {
+        eprintln!("compare: {why}");
+        ExitCode::from(2)
+    })
 }

@@ -4,10 +4,9 @@
 //! The library's side is a call of `crates/dwarf_compare` that does the whole loop. What fills a cache from units
 //! is left out, since units belong to gimli's upper layers, and so are written numbers, which another feature has.
 
-use crate::clock::{hidden, nanos_of};
+use crate::cost::{hidden, nanos_of, touched_bytes};
 use crate::made::{made_sets, put_signed, put_unsigned, shaped_table, Random};
 use crate::plain;
-use crate::touched::touched_bytes;
 use gimli::{
     DebugAbbrev, DebugAbbrevOffset, DebugAddr, DebugAddrBase, DebugAddrIndex, DebugStr, DebugStrOffset,
     DebugStrOffsets, DebugStrOffsetsBase, DebugStrOffsetsIndex, EndianSlice, Format, LittleEndian, Reader,
@@ -163,13 +162,9 @@ fn of_tables(name: &str, section: Vec<u8>, given: Vec<Table>, all: &mut Vec<Work
     let theirs = move || given.iter().map(|it| walk(s, it.0, &it.1)).fold(0, u64::wrapping_add);
     all.push(workload(format!("a declaration read and looked at, {name}"), count, theirs, walk_all));
     if is_dense {
+        let (name, count) = (format!("`Abbreviations::get`, {name}"), (CODES * ROUNDS) as usize);
         let ours = move || unsafe { compare_get_sum(s.as_ptr(), s.len(), 0, CODES, ROUNDS) };
-        all.push(workload(
-            format!("`Abbreviations::get`, {name}"),
-            (CODES * ROUNDS) as usize,
-            move || get_sum(s),
-            ours,
-        ));
+        all.push(workload(name, count, move || get_sum(s), ours));
     }
 }
 
@@ -360,7 +355,7 @@ pub fn workloads(sections: &[(String, String, Vec<u8>)]) -> Vec<Workload> {
 pub fn of_table(kind: &str, count: u64) -> Vec<Workload> {
     let codes = (1..=count).map(|it| match kind {
         "falling" => count + 1 - it,
-        "far" => it * 0x1_0000_0001,
+        "gaps" => it * 0x1_0000_0001,
         _ => it,
     });
     let mut section = vec![];

@@ -40,60 +40,61 @@ extern "C" {
     ) -> usize;
 }
 
-/// The library, with places for tables that are used again.
+/// The library, with places for tables that are used again. There are as many as a table has needed so far.
+#[derive(Default)]
 pub struct Ours {
     abbreviations: Vec<Abbreviation>,
     attributes: Vec<Attribute>,
 }
 
 impl Ours {
-    pub fn new() -> Ours {
-        Ours { abbreviations: vec![Default::default(); 1024], attributes: vec![Default::default(); 8192] }
-    }
-
     /// What the library gives.
     pub fn answer(&mut self, question: &Question, bytes: &[u8]) -> Answer {
-        let (data, len, Question { at, more, list, .. }) = (bytes.as_ptr(), bytes.len(), question);
-        match question.what {
-            What::Unsigned | What::Signed | What::Short | What::Skipped => number(question.what, bytes),
+        let Question { what, is_big, size, at, more, ref list } = *question;
+        let (data, len, length) = (bytes.as_ptr(), bytes.len(), |it: usize| Answer::value(it as u64));
+        match what {
+            What::Unsigned | What::Signed | What::Short | What::Skipped => number(what, bytes),
             What::WrittenUnsigned => {
-                written(|to, room, len| unsafe { dwarf_uleb128_write(*more as u64, to, room, len) })
+                written(|to, room, len| unsafe { dwarf_uleb128_write(more as u64, to, room, len) })
             }
-            What::WrittenSigned => written(|to, room, len| unsafe { dwarf_sleb128_write(*more as i64, to, room, len) }),
-            What::Table => self.table(bytes, *at),
-            What::Strict => strict(bytes, *at),
-            What::Grown => count(|count, fault| unsafe { compare_grown(data, len, *more, *at, count, fault) }),
-            What::Found => found(bytes, *at, list),
+            What::WrittenSigned => written(|to, room, len| unsafe { dwarf_sleb128_write(more as i64, to, room, len) }),
+            What::Table => self.table(bytes, at),
+            What::Strict => strict(bytes, at),
+            What::Grown => returned(|it, fault| unsafe { compare_grown(data, len, more, at, it, fault) }, length),
+            What::Found => found(bytes, at, list),
             What::Cached => Answer::value(unsafe { compare_cached(data, len, list.as_ptr(), list.len()) }),
+            What::Text => returned(|it, fault| unsafe { dwarf_string(data, len, at, it, fault) }, length),
+            What::StrOffset => returned(
+                |it, fault| unsafe { dwarf_str_offset(data, len, is_big, size == 8, at, more, it, fault) },
+                length,
+            ),
+            What::Address => returned(
+                |it, fault| unsafe { dwarf_address(data, len, is_big, size, at, more, it, fault) },
+                Answer::value,
+            ),
+            What::AddressSet => {
+                returned(|it, fault| unsafe { dwarf_address_set(data, len, is_big, at, it, fault) }, Answer::Set)
+            }
+            What::StrOffsetSet => {
+                returned(|it, fault| unsafe { dwarf_str_offset_set(data, len, is_big, at, it, fault) }, Answer::Set)
+            }
             What::Addresses => Answer::value(unsafe { compare_addresses(data, len) }),
-            _ => lookup(question, bytes),
         }
     }
 
     fn table(&mut self, bytes: &[u8], offset: usize) -> Answer {
         let (mut measure, mut fault) = (Measure::default(), Fault::default());
         loop {
-            let (abbreviations, attributes) = (&mut self.abbreviations, &mut self.attributes);
-            let status = unsafe {
-                dwarf_table_read(
-                    bytes.as_ptr(),
-                    bytes.len(),
-                    offset,
-                    abbreviations.as_mut_ptr(),
-                    abbreviations.len(),
-                    attributes.as_mut_ptr(),
-                    attributes.len(),
-                    &mut measure,
-                    &mut fault,
-                )
-            };
-            match status {
+            let (room, more_room) = (self.abbreviations.len(), self.attributes.len());
+            let (to, more) = (self.abbreviations.as_mut_ptr(), self.attributes.as_mut_ptr());
+            let (data, len) = (bytes.as_ptr(), bytes.len());
+            match unsafe { dwarf_table_read(data, len, offset, to, room, more, more_room, &mut measure, &mut fault) } {
                 OK => return self.shown(&measure),
                 NO_ROOM => {
-                    abbreviations.resize(measure.abbreviations.max(abbreviations.len()), Default::default());
-                    attributes.resize(measure.attributes.max(attributes.len()), Default::default());
+                    self.abbreviations.resize(measure.abbreviations.max(room), Default::default());
+                    self.attributes.resize(measure.attributes.max(more_room), Default::default());
                 }
-                _ => return refused(status, fault, None),
+                status => return failed(status, fault, None),
             }
         }
     }
@@ -110,8 +111,8 @@ impl Ours {
     }
 }
 
-/// The error of a call. A number that differs from the fault's is told as one that no error has.
-fn refused(status: u32, fault: Fault, rest: Option<usize>) -> Answer {
+/// The error of a call. A number that differs from the fault's is shown as one that no error has.
+fn failed(status: u32, fault: Fault, rest: Option<usize>) -> Answer {
     let kind = error_name(if status == fault.kind { status } else { u32::MAX });
     Answer::Fault { kind, value: Some(fault.value), rest }
 }
@@ -130,7 +131,7 @@ fn number(what: What, bytes: &[u8]) -> Answer {
         rest = if status == OK { len - size } else { rest_of_error(what, bytes) };
     }
     if status != OK {
-        return refused(status, fault, Some(rest));
+        return failed(status, fault, Some(rest));
     }
     // (two of the three are 0)
     Answer::Value { value: i128::from(unsigned) + i128::from(signed) + i128::from(short), rest: Some(rest) }
@@ -154,70 +155,28 @@ fn written(call: impl FnOnce(*mut u8, usize, &mut usize) -> u32) -> Answer {
     Answer::Written(bytes)
 }
 
-fn count(call: impl FnOnce(&mut usize, &mut Fault) -> u32) -> Answer {
-    let (mut count, mut fault) = (0, Fault::default());
-    match call(&mut count, &mut fault) {
-        OK => Answer::value(count as u64),
-        status => refused(status, fault, None),
+/// What a call returns that writes a value or an error.
+fn returned<T: Default>(call: impl FnOnce(&mut T, &mut Fault) -> u32, shown: impl FnOnce(T) -> Answer) -> Answer {
+    let (mut value, mut fault) = (T::default(), Fault::default());
+    match call(&mut value, &mut fault) {
+        OK => shown(value),
+        END => Answer::End,
+        status => failed(status, fault, None),
     }
 }
 
 /// The table at an offset, strictly read.
 pub fn strict(bytes: &[u8], offset: usize) -> Answer {
-    count(|count, fault| unsafe { compare_strict(bytes.as_ptr(), bytes.len(), offset, count, fault) })
+    let call = |it: &mut _, fault: &mut _| unsafe { compare_strict(bytes.as_ptr(), bytes.len(), offset, it, fault) };
+    returned(call, |it| Answer::value(it as u64))
 }
 
 fn found(bytes: &[u8], offset: usize, codes: &[u64]) -> Answer {
     let (mut tags, mut fault) = (vec![0; codes.len()], Fault::default());
-    let status = unsafe {
-        compare_found(
-            bytes.as_ptr(),
-            bytes.len(),
-            offset,
-            codes.as_ptr(),
-            codes.len(),
-            tags.as_mut_ptr(),
-            tags.len(),
-            &mut fault,
-        )
-    };
-    match status {
+    let (data, at, to, room) = (bytes.as_ptr(), codes.as_ptr(), tags.as_mut_ptr(), tags.len());
+    match unsafe { compare_found(data, bytes.len(), offset, at, codes.len(), to, room, &mut fault) } {
         OK => Answer::Tags(tags),
-        _ => refused(status, fault, None),
-    }
-}
-
-/// Strings, words and sets.
-fn lookup(question: &Question, bytes: &[u8]) -> Answer {
-    let (data, len) = (bytes.as_ptr(), bytes.len());
-    let (mut length, mut word, mut set, mut fault) = (0, 0, Set::default(), Fault::default());
-    let Question { is_big, size, at, more, .. } = *question;
-    let (status, answer) = match question.what {
-        What::Text => {
-            let status = unsafe { dwarf_string(data, len, at, &mut length, &mut fault) };
-            (status, Answer::value(length as u64))
-        }
-        What::StrOffset => {
-            let status = unsafe { dwarf_str_offset(data, len, is_big, size == 8, at, more, &mut length, &mut fault) };
-            (status, Answer::value(length as u64))
-        }
-        What::Address => {
-            let status = unsafe { dwarf_address(data, len, is_big, size, at, more, &mut word, &mut fault) };
-            (status, Answer::value(word))
-        }
-        What::AddressSet => {
-            let status = unsafe { dwarf_address_set(data, len, is_big, at, &mut set, &mut fault) };
-            (status, Answer::Set(set))
-        }
-        _ => {
-            let status = unsafe { dwarf_str_offset_set(data, len, is_big, at, &mut set, &mut fault) };
-            (status, Answer::Set(set))
-        }
-    };
-    match status {
-        OK => answer,
-        END => Answer::End,
-        _ => refused(status, fault, None),
+        status => failed(status, fault, None),
     }
 }
 
@@ -233,7 +192,7 @@ pub fn by_readers(question: &Question, bytes: &[u8], ours: &Answer) -> Vec<(&'st
     for (reader, name) in READERS.iter().enumerate() {
         if let Some(found) = by_reader(reader as u32, question, bytes) {
             let is_beyond = matches!(found, Answer::Fault { kind: "UnsupportedOffset", .. });
-            if !found.agrees(&wanted) && !(is_beyond && *name == OWNED) {
+            if !found.agrees(&wanted) && (!is_beyond || *name != OWNED) {
                 differing.push((*name, found));
             }
         }

@@ -54,9 +54,8 @@ fn has(plant: Plant) -> bool {
 /// An error by its name, with its value or position.
 type Fault = (&'static str, u64);
 
-fn fault(kind: &'static str) -> Fault {
-    (kind, 0)
-}
+const BAD_UNSIGNED: Fault = ("BadUnsignedLeb128", 0);
+const BAD_SIGNED: Fault = ("BadSignedLeb128", 0);
 
 fn eof(at: usize) -> Fault {
     ("UnexpectedEof", at as u64)
@@ -91,49 +90,36 @@ impl Input<'_> {
         Ok(digits)
     }
 
-    /// An unsigned number (DWARF 4, 7.6): each byte has seven bits, the lowest first.
-    fn unsigned(&mut self, limit: usize, bits: u32) -> Result<u64, Fault> {
+    /// The bytes of a number that ends within the limit, and what they are without a sign (DWARF 4, 7.6): each byte has
+    /// seven bits, the lowest first.
+    fn number(&mut self, limit: usize, too_long: Fault) -> Result<(Vec<u8>, i128), Fault> {
         let digits = self.digits(limit)?;
-        let mut value: u128 = 0;
-        for (i, digit) in digits.iter().enumerate() {
-            value += u128::from(digit & 0x7f) << (7 * i);
+        if digits[digits.len() - 1] >= 128 {
+            return Err(too_long);
         }
-        if digits.len() == 10 && has(Plant::Value) {
-            value &= !(1 << 63);
-        }
-        let is_ended = digits.last().map_or(false, |it| *it < 128);
-        if is_ended && value < 1 << bits {
-            Ok(value as u64)
-        } else {
-            Err(fault("BadUnsignedLeb128"))
-        }
+        let value = digits.iter().rev().fold(0, |value, it| value << 7 | i128::from(it & 0x7f));
+        Ok((digits, value))
     }
 
     fn long(&mut self) -> Result<u64, Fault> {
-        self.unsigned(10, 64)
+        let (digits, mut value) = self.number(10, BAD_UNSIGNED)?;
+        if digits.len() == 10 && has(Plant::Value) {
+            value &= !(1 << 63);
+        }
+        u64::try_from(value).map_err(|_| BAD_UNSIGNED)
     }
 
     fn short(&mut self) -> Result<u16, Fault> {
-        Ok(self.unsigned(3, 16)? as u16)
+        u16::try_from(self.number(3, BAD_UNSIGNED)?.1).map_err(|_| BAD_UNSIGNED)
     }
 
     /// A signed number: bit 6 of the last byte says that the bits in front of it are ones.
     fn signed(&mut self) -> Result<i64, Fault> {
-        let digits = self.digits(10)?;
-        let mut value: i128 = 0;
-        for (i, digit) in digits.iter().enumerate() {
-            value += i128::from(digit & 0x7f) << (7 * i);
-        }
-        if digits.last().map_or(false, |it| it & 0x40 != 0) {
+        let (digits, mut value) = self.number(10, BAD_SIGNED)?;
+        if digits[digits.len() - 1] & 0x40 != 0 {
             value -= 1 << (7 * digits.len());
         }
-        let is_ended = digits.last().map_or(false, |it| *it < 128);
-        let is_in_range = value >= i128::from(i64::MIN) && value <= i128::from(i64::MAX);
-        if is_ended && is_in_range {
-            Ok(value as i64)
-        } else {
-            Err(fault("BadSignedLeb128"))
-        }
+        i64::try_from(value).map_err(|_| BAD_SIGNED)
     }
 
     /// The number of so many bytes.
@@ -151,47 +137,40 @@ impl Input<'_> {
     }
 }
 
-fn shown(result: Result<Answer, Fault>) -> Answer {
-    match result {
-        Ok(answer) => answer,
-        Err((kind, value)) => Answer::Fault { kind, value: Some(value), rest: None },
-    }
-}
-
 /// What the standard says.
 pub fn answer(question: &Question, bytes: &[u8]) -> Answer {
+    found(question, bytes).unwrap_or_else(|(kind, value)| Answer::Fault { kind, value: Some(value), rest: None })
+}
+
+fn found(question: &Question, bytes: &[u8]) -> Result<Answer, Fault> {
     let Question { what, is_big, size, at, more, ref list } = *question;
-    match what {
+    Ok(match what {
         What::Unsigned | What::Signed | What::Short | What::Skipped => number(what, bytes),
         What::WrittenUnsigned => written(more as i128, false),
         What::WrittenSigned => written((more as i64).into(), true),
-        What::Table => shown(table(bytes, at).map(|(by_code, is_null)| Answer::Table {
-            declarations: by_code.into_iter().map(|it| it.1).collect(),
-            closed_by_null: Some(is_null),
-        })),
-        What::Strict => shown(table(bytes, at).and_then(|(by_code, is_null)| {
-            if is_null || has(Plant::Missing) {
-                Ok(Answer::value(by_code.len() as u64))
-            } else {
-                Err(("UnterminatedAbbreviations", bytes.len() as u64))
-            }
-        })),
+        What::Table => {
+            let (by_code, is_null) = table(bytes, at)?;
+            Answer::Table { declarations: by_code.into_values().collect(), closed_by_null: Some(is_null) }
+        }
+        What::Strict => match table(bytes, at)? {
+            (by_code, is_null) if is_null || has(Plant::Missing) => Answer::value(by_code.len() as u64),
+            _ => return Err(("UnterminatedAbbreviations", bytes.len() as u64)),
+        },
         // A section that grew is read as if it had always been so.
-        What::Grown => shown(table(bytes, at).map(|it| Answer::value(it.0.len() as u64))),
+        What::Grown => Answer::value(table(bytes, at)?.0.len() as u64),
         What::Cached => {
             let length = |it: &u64| table(bytes, *it as usize).map_or(1 << 32, |it| it.0.len() as u64);
             Answer::value(2 * list.iter().map(length).sum::<u64>())
         }
         What::Found => {
-            shown(table(bytes, at).map(|(by_code, _)| {
-                Answer::Tags(list.iter().map(|it| by_code.get(it).map_or(0, |it| it.tag)).collect())
-            }))
+            let (by_code, _) = table(bytes, at)?;
+            Answer::Tags(list.iter().map(|it| by_code.get(it).map_or(0, |it| it.tag)).collect())
         }
-        What::Text => shown(string(bytes, at)),
-        What::StrOffset | What::Address => shown(slot(bytes, size, at, more, is_big).map(Answer::value)),
-        What::AddressSet | What::StrOffsetSet => shown(set(bytes, is_big, at, what == What::AddressSet)),
+        What::Text => string(bytes, at)?,
+        What::StrOffset | What::Address => Answer::value(slot(bytes, size, at, more, is_big)?),
+        What::AddressSet | What::StrOffsetSet => set(bytes, is_big, at, what == What::AddressSet)?,
         What::Addresses => Answer::value(addresses(bytes).unwrap_or(0)),
-    }
+    })
 }
 
 fn number(what: What, bytes: &[u8]) -> Answer {
@@ -264,7 +243,7 @@ fn next_table(input: &mut Input) -> Result<(BTreeMap<u64, Declaration>, bool), F
 fn declaration(input: &mut Input, code: u64) -> Result<Declaration, Fault> {
     let tag = input.short()?;
     if tag == 0 {
-        return Err(fault("AbbreviationTagZero"));
+        return Err(("AbbreviationTagZero", 0));
     }
     let children = input.byte()?;
     if children > 1 {
@@ -276,8 +255,8 @@ fn declaration(input: &mut Input, code: u64) -> Result<Declaration, Fault> {
         let form = input.short()?;
         match (name, form) {
             (0, 0) => break,
-            (0, _) => return Err(fault("AttributeNameZero")),
-            (_, 0) => return Err(fault("AttributeFormZero")),
+            (0, _) => return Err(("AttributeNameZero", 0)),
+            (_, 0) => return Err(("AttributeFormZero", 0)),
             (_, DW_FORM_IMPLICIT_CONST) => attributes.push((name, form, input.signed()?)),
             _ => attributes.push((name, form, 0)),
         }
@@ -305,7 +284,7 @@ fn slot(bytes: &[u8], size: u8, base: usize, index: usize, is_big: bool) -> Resu
     let mut distance = index as u128 * u128::from(size);
     if distance >= 1 << 64 {
         if !has(Plant::Product) {
-            return Err(fault("UnsupportedOffset"));
+            return Err(("UnsupportedOffset", 0));
         }
         distance %= 1 << 64;
     }

@@ -38,12 +38,11 @@ const OLD_NAMES: [(&str, &str); 2] =
 
 /// An error as its debug text tells it: its name, and the number in it, if there is one.
 pub fn fault_of_text(text: &str, rest: Option<usize>) -> Answer {
-    let mut parts = text.split('(');
-    let name = parts.next().unwrap_or_default();
+    let name = text.split('(').next().unwrap_or_default();
     let name = OLD_NAMES.iter().find(|it| it.0 == name).map_or(name, |it| it.1);
     let kind = ERRORS.iter().find(|it| **it == name).copied().unwrap_or("an error without a number");
-    let digits = parts.last().map(|it| it.trim_end_matches(')'));
-    Answer::Fault { kind, value: digits.and_then(|it| it.parse().ok()), rest }
+    let value = text.rsplit('(').next().and_then(|it| it.trim_end_matches(')').parse().ok());
+    Answer::Fault { kind, value, rest }
 }
 
 /// Declares what is asked, each with the word that asks it.
@@ -149,7 +148,7 @@ pub enum Answer {
     },
 }
 
-fn same_if_told<T: PartialEq>(one: &Option<T>, other: &Option<T>) -> bool {
+fn same_if_known<T: PartialEq>(one: &Option<T>, other: &Option<T>) -> bool {
     one.is_none() || other.is_none() || one == other
 }
 
@@ -164,11 +163,11 @@ impl Answer {
             (
                 Answer::Fault { kind, value, rest },
                 Answer::Fault { kind: other_kind, value: other_value, rest: other_rest },
-            ) => kind == other_kind && same_if_told(value, other_value) && same_if_told(rest, other_rest),
+            ) => kind == other_kind && same_if_known(value, other_value) && same_if_known(rest, other_rest),
             (
                 Answer::Table { declarations, closed_by_null },
                 Answer::Table { declarations: others, closed_by_null: other },
-            ) => declarations == others && same_if_told(closed_by_null, other),
+            ) => declarations == others && same_if_known(closed_by_null, other),
             _ => self == other,
         }
     }

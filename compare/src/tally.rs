@@ -30,6 +30,7 @@ impl Given {
 }
 
 /// What was asked and given so far.
+#[derive(Default)]
 pub struct Tally {
     ours: Ours,
     theirs: Theirs,
@@ -54,18 +55,7 @@ pub fn hexadecimal(bytes: &[u8]) -> String {
 
 impl Tally {
     pub fn new(again: &str) -> Tally {
-        Tally {
-            again: again.into(),
-            title: "difference".into(),
-            ours: Ours::new(),
-            theirs: Theirs::new(),
-            inputs: 0,
-            asked_of_gimli: 0,
-            by_all: 0,
-            differences: 0,
-            questions: BTreeMap::new(),
-            reached: BTreeMap::new(),
-        }
+        Tally { again: again.into(), title: "difference".into(), theirs: Theirs::new(), ..Tally::default() }
     }
 
     fn given(&mut self, question: &Question, bytes: &[u8], is_by_all: bool) -> Given {

@@ -10,6 +10,7 @@ use gimli::{
 };
 
 /// gimli, and what its version reads otherwise.
+#[derive(Default)]
 pub struct Theirs {
     /// A table that the section's end closes is an error.
     pub is_strict: bool,
@@ -60,7 +61,8 @@ fn lookup(question: &Question, bytes: &[u8]) -> Option<Answer> {
     if !MULTIPLIES_CHECKED {
         more.checked_mul(size.into())?;
     }
-    let input = EndianSlice::new(bytes, order(is_big));
+    let order = if is_big { RunTimeEndian::Big } else { RunTimeEndian::Little };
+    let input = EndianSlice::new(bytes, order);
     let found = match question.what {
         What::Text => {
             DebugStr::new(bytes, LittleEndian).get_str(DebugStrOffset(at)).map(|it| Answer::value(it.len() as u64))
@@ -74,17 +76,9 @@ fn lookup(question: &Question, bytes: &[u8]) -> Option<Answer> {
         What::Address => {
             DebugAddr::from(input).get_address(size, DebugAddrBase(at), DebugAddrIndex(more)).map(Answer::value)
         }
-        _ => return sets(question, bytes),
+        _ => return sets(question, input),
     };
     Some(found.unwrap_or_else(|error| fault(error, bytes, None)))
-}
-
-fn order(is_big: bool) -> RunTimeEndian {
-    if is_big {
-        RunTimeEndian::Big
-    } else {
-        RunTimeEndian::Little
-    }
 }
 
 /// An error by its number. gimli's positions are addresses in memory; here they are counted from the first byte.
@@ -136,15 +130,16 @@ pub const HAS_SETS: bool = cfg!(gimli_0_34);
 const MULTIPLIES_CHECKED: bool = cfg!(gimli_0_34);
 
 #[cfg(not(gimli_0_34))]
-fn sets(_question: &Question, _bytes: &[u8]) -> Option<Answer> {
+fn sets(_question: &Question, _input: EndianSlice<RunTimeEndian>) -> Option<Answer> {
     None
 }
 
 #[cfg(gimli_0_34)]
-fn sets(question: &Question, bytes: &[u8]) -> Option<Answer> {
+fn sets(question: &Question, input: EndianSlice<RunTimeEndian>) -> Option<Answer> {
+    let bytes = input.slice();
     match question.what {
         What::AddressSet => {
-            let section = DebugAddr::from(EndianSlice::new(bytes.get(question.at..)?, order(question.is_big)));
+            let section = DebugAddr::from(EndianSlice::new(bytes.get(question.at..)?, input.endian()));
             Some(match section.headers().next() {
                 Ok(Some(header)) => {
                     let (length, format) = (header.length(), header.encoding().format);

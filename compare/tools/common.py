@@ -49,11 +49,6 @@ def need(tool, package):
         raise Missing(f"there is no {tool}: `apt-get install {package}` installs it")
 
 
-def need_kit():
-    if not shutil.which("rt") or not shutil.which("rattle"):
-        raise Missing("there is no rt: CONTRIBUTING.md names the kit that has it")
-
-
 def check_files(paths):
     """Says which of these files can't be read, before anything is built for them."""
     for path in paths:
@@ -79,8 +74,7 @@ def put_in_front(count):
     # The R keeps a linker from leaving the section out.
     text = f'.section .text.in_front, "axR", @progbits\n.balign 64\n.skip {64 + count}, 0x90\n'
     kit.put(source, text + '.section .note.GNU-stack, "", @progbits\n')
-    made = make_library(source)
-    put(made, f"{OUT}/lib/libin_front.a")
+    put(make_library(source), f"{OUT}/lib/libin_front.a")
 
 
 def make_library(source):
@@ -96,8 +90,9 @@ def make_library(source):
 def link_libraries():
     """Puts both static libraries, and the functions by which they request memory, into one folder."""
     for crate in LIBRARIES:
-        if not kit.is_fresh(f"{kit.ROOT}/crates/{crate}/out/lib{crate}.a", crate):
-            need_kit()
+        is_built = kit.is_fresh(f"{kit.ROOT}/crates/{crate}/out/lib{crate}.a", crate)
+        if not is_built and not (shutil.which("rt") and shutil.which("rattle")):
+            raise Missing("there is no rt: CONTRIBUTING.md names the kit that has it")
         words = [f"{kit.ROOT}/tools/static-library", crate]
         if subprocess.run(words, stdin=subprocess.DEVNULL, check=False).returncode:
             raise Failed(f"the static library of {crate} isn't built")
@@ -118,19 +113,19 @@ def copy_package(folder, is_locked):
             put(f"{at}/{name}", f"{folder}/{os.path.relpath(at, PACKAGE)}/{name}")
 
 
-def refusal_of_fetch(folder):
+def why_not_fetched(folder):
     """Why cargo can't fetch what the package needs, or None if it can."""
     said, status = run(["timeout", str(FETCH_SECONDS), "cargo", "fetch", "--quiet"], cwd=folder)
-    said = f"it didn't come within {FETCH_SECONDS} seconds" if status == 124 else said or f"status {status}"
-    last = said.splitlines()[-1].strip()
-    return last if status else None
+    if status == 124:
+        return f"it didn't come within {FETCH_SECONDS} seconds"
+    return (said or f"status {status}").splitlines()[-1].strip() if status else None
 
 
 def sources_of_gimli(is_debian):
     """Where gimli is taken from: a folder of the package for it, and words for cargo."""
     if not is_debian:
         copy_package(f"{OUT}/crates-io", True)
-        why = refusal_of_fetch(f"{OUT}/crates-io")
+        why = why_not_fetched(f"{OUT}/crates-io")
         if why is None:
             return f"{OUT}/crates-io", []
         say(f"cargo can't fetch gimli from crates.io ({why}), so Debian's is used")

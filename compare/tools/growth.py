@@ -3,7 +3,7 @@ from common import build, must, need
 from measure import counted, what_ran
 
 COUNTS = [10**power for power in range(2, 8)]
-KINDS = {"rising": "that rise from 1", "falling": "that fall", "far": "with gaps"}
+KINDS = {"rising": "that rise from 1", "falling": "that fall", "gaps": "with gaps"}
 
 
 def timed(program, words, _count):

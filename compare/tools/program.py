@@ -12,22 +12,15 @@ from measure import what_ran
 
 BYTES, TURNS = 20_000_000, 9
 ABBREV = (["--debug-dump=abbrev"], ["--debug-abbrev"])
-# Of each listing: what is made, the words for dwarf_list and for the plain program, the section's name, and the words
-# for readelf and llvm-dwarfdump if they print the same things.
+# Of each listing: its name, what is made, the words for dwarf_list and for the plain program, the section's name, and
+# the words for readelf and llvm-dwarfdump if they print the same things.
 LISTINGS = [
-    ("rising", "abbrev 0", "abbrev 0 1", "debug_abbrev", ABBREV),
-    ("far", "abbrev 0", "abbrev 0 4294967297", "debug_abbrev", ABBREV),
-    ("addresses", "addr le", "addr", "debug_addr", (None, ["--debug-addr"])),
-    ("string", "str 0", "str 0", "debug_str", (["-p", ".debug_str"], ["--debug-str"])),
-    ("strings", "str 0", "str 0", "debug_str", (None, None)),
+    ("`abbrev`, codes that rise from 1", "rising", "abbrev 0", "abbrev 0 1", "debug_abbrev", ABBREV),
+    ("`abbrev`, codes that rise with gaps", "gaps", "abbrev 0", "abbrev 0 4294967297", "debug_abbrev", ABBREV),
+    ("`addr`", "addresses", "addr le", "addr", "debug_addr", (None, ["--debug-addr"])),
+    ("`str`, one string of 20 MB", "string", "str 0", "str 0", "debug_str", (["-p", ".debug_str"], ["--debug-str"])),
+    ("`str`, a short string at the front", "strings", "str 0", "str 0", "debug_str", (None, None)),
 ]
-NAMES = {
-    "rising": "`abbrev`, codes that rise from 1",
-    "far": "`abbrev`, codes that rise with gaps",
-    "addresses": "`addr`",
-    "string": "`str`, one string of 20 MB",
-    "strings": "`str`, a short string at the front",
-}
 
 
 def ran(words, given, to):
@@ -51,7 +44,7 @@ def elf_with(section, given, work):
 
 def sides(program, listing, given, work):
     """What is run of a listing: names and words."""
-    _, ours, plain, section, (readelf, dwarfdump) = listing
+    _, _, ours, plain, section, (readelf, dwarfdump) = listing
     yield "here", [f"{kit.ROOT}/crates/dwarf_list/out/dwarf_list", *ours.split()]
     yield "gimli", [os.path.join(os.path.dirname(program), "plain_list"), *plain.split()]
     path = elf_with(section, given, work)
@@ -63,7 +56,7 @@ def sides(program, listing, given, work):
 def time_all(listing, program, work):
     """The middle times and memory of all programs on one listing."""
     given, found = f"{work}/given", {}
-    must([program, "--make", listing[0], str(BYTES), given], "the section isn't made")
+    must([program, "--make", listing[1], str(BYTES), given], "the section isn't made")
     chosen = dict(sides(program, listing, given, work))
     texts = [f"{work}/here", f"{work}/gimli"]
     for side, text in zip(("here", "gimli"), texts):
@@ -80,7 +73,7 @@ def time_all(listing, program, work):
 def row_of(name, found):
     ratios = sorted(here[0] / gimli[0] for here, gimli in zip(found["here"], found["gimli"]))
     low, middle, high = (ratios[(len(ratios) - 1) * part // 4] for part in (1, 2, 3))
-    cells = [NAMES[name]]
+    cells = [name]
     for side in ("gimli", "here", "readelf", "llvm-dwarfdump"):
         times, memory = zip(*found[side]) if side in found else ((), ())
         cells.append(f"{statistics.median(times):.2f} s, {statistics.median(memory):.0f} MB" if times else "")
