@@ -9,6 +9,7 @@ memory: a section may inflate to 256 MiB, or to 64 times its compressed size if 
 """
 import array
 import bisect
+import contextlib
 import functools
 import io
 import re
@@ -173,14 +174,6 @@ class Package:
         return sorted({row[base] for rows in self.rows.values() for row in rows if base in row})
 
 
-def number_at(body, at, size, order, end=None):
-    """The number at an offset, which has to be before an end."""
-    found = body[at : at + size if end is None else min(at + size, end)]
-    if len(found) < size:
-        raise Unlisted("is too short for its header")
-    return int.from_bytes(found, order)
-
-
 class Body:
     """The bytes of a section, with its relocations, of which the parts that are asked for are read from a file."""
 
@@ -226,8 +219,8 @@ class Relocations:
     def __init__(self, file, body, symbols, has_addends):
         self.machine, self.order, self.is_long = file.machine, file.order, file.elf.elfclass == 64
         self.body, self.symbols = body, symbols
-        rows = ((kind, size, sign) for sign, it in TABLES for kind, size in it.get(self.machine, {}).items())
-        self.sizes = {kind: (size, sign) for kind, size, sign in rows}
+        tables = [(sign, it.get(self.machine, {})) for sign, it in TABLES]
+        self.sizes = {kind: (size, sign) for sign, it in tables for kind, size in it.items()}
         word = "q" if self.is_long else "i"
         self.row = struct.Struct(f"{file.mark}2{word.upper()}{word * has_addends}")
         # Only a symbol of the 64-bit class has its section before its value.
@@ -345,11 +338,23 @@ class DebugFile:
             family = (early, ".dwo" if base in INDEXES else split)
             self.sections.append(Section(number, f"{early}.{base}{split}", base, family, found))
 
+    @contextlib.contextmanager
+    def telling(self, what):
+        """Tells why this can't be read, if so, and goes on."""
+        try:
+            yield
+        except Unlisted as error:
+            self.say(f"{what} {error}")
+
     def named(self, *bases):
         return [it for it in self.sections if it.base in bases]
 
     def number(self, body, at, size, end=None):
-        return number_at(body, at, size, self.order, end)
+        """The number at an offset, which has to be before an end."""
+        found = body[at : at + size if end is None else min(at + size, end)]
+        if len(found) < size:
+            raise Unlisted("is too short for its header")
+        return int.from_bytes(found, self.order)
 
     # The bytes of sections.
 
@@ -441,10 +446,8 @@ class DebugFile:
         found = []
         for section in self.named(*UNITS):
             if section.family == family:
-                try:
+                with self.telling(section):
                     found += self.walk(section, self.body(section))
-                except Unlisted as error:
-                    self.say(f"{section} {error}")
         return found
 
     def walk(self, section, body):
@@ -464,11 +467,9 @@ class DebugFile:
             at = begin + length
             if at > len(body):
                 self.say(f"{unit} has the length 0x{length:x}, which is past the section's end")
-            try:
+            with self.telling(unit):
                 self.read_header(unit, body, begin, min(at, len(body)))
                 found.append(unit)
-            except Unlisted as error:
-                self.say(f"{unit} {error}")
         return found
 
     def read_header(self, unit, body, begin, end):
@@ -488,11 +489,8 @@ class DebugFile:
         for family in dict.fromkeys(it.family for it in self.named(*UNITS)):
             own = [it for it in homes if it.family == family]
             for unit in self.units(family):
-                try:
-                    home = self.home(unit, own)
-                    homes[home].setdefault(self.place_of_table(unit), unit)
-                except Unlisted as error:
-                    self.say(f"{unit} {error}")
+                with self.telling(unit):
+                    homes[self.home(unit, own)].setdefault(self.place_of_table(unit), unit)
         return homes
 
     def home(self, unit, sections):
@@ -533,10 +531,8 @@ class DebugFile:
         """The indexes of a package, or None if the file is none."""
         found, package = self.named(*INDEXES), Package()
         for section in found:
-            try:
+            with self.telling(section):
                 self.read_index(self.body(section)[:], package)
-            except Unlisted as error:
-                self.say(f"{section} {error}")
         package.sort()
         return package if found else None
 

@@ -1,4 +1,5 @@
 """What `tools/dwarf_elf` lists of the debug sections of a file, by the programs dwarf_list and dwarf_list_many."""
+import functools
 import pathlib
 import re
 import shutil
@@ -54,21 +55,21 @@ class Listing:
         self.kind = command.replace("line-", "")
         self.order = "le" if file.order == "little" else "be"
         self.path, self.offsets = f"{folder}/section", f"{folder}/offsets"
-        self.sections, self.programs, self.errors = file.named(SECTIONS[command]), {}, 0
+        self.sections, self.errors = file.named(SECTIONS[command]), 0
 
+    @functools.cache
     def program(self, *option):
         """Where dwarf_list is, or by `--many` dwarf_list_many. The launcher is asked once, and may have to build it."""
         if not (ROOT / "dwarf_list").is_file():
             # This file is installed, as PREFIX/share/dwarf-read/debug_listing.py.
             return ROOT.parent / "bin" / ("dwarf_list_many" if option else "dwarf_list")
-        if option not in self.programs:
-            ran = subprocess.run([ROOT / "dwarf_list", *option, "--path"], stdout=subprocess.PIPE, text=True)
-            if ran.returncode:
-                sys.exit(ran.returncode)
-            self.programs[option] = ran.stdout.rstrip("\n")
-            if self.programs[option].endswith(".unproved"):
-                self.report.say("the programs are unproved; ./dwarf_list --prove builds proved ones", 0)
-        return self.programs[option]
+        ran = subprocess.run([ROOT / "dwarf_list", *option, "--path"], stdout=subprocess.PIPE, text=True)
+        if ran.returncode:
+            sys.exit(ran.returncode)
+        program = ran.stdout.rstrip("\n")
+        if program.endswith(".unproved"):
+            self.report.say("the programs are unproved; ./dwarf_list --prove builds proved ones", 0)
+        return program
 
     def list(self, offset):
         """Lists what is at an offset of each section, or everything."""
@@ -76,7 +77,7 @@ class Listing:
             raise Unlisted(f"there is no section .{SECTIONS[self.command]}")
         tables = self.file.tables() if self.command == "abbrev" and offset is None else {}
         for section in self.sections:
-            try:
+            with self.file.telling(section):
                 body = self.file.body(section)
                 if len(self.sections) > 1:
                     put(f"{section}:\n")
@@ -88,8 +89,6 @@ class Listing:
                     self.list_strings(section, body)
                 else:
                     self.list_sets(section, body)
-            except Unlisted as error:
-                self.report.say(f"{section} {error}")
 
     def keep(self, body, at=0, end=None, before=b""):
         """Writes bytes of a section into the file that the programs read, a part at a time."""
@@ -276,15 +275,11 @@ class Listing:
         fields = (5).to_bytes(2, self.file.order) + (bytes([size, 0]) if is_addr else b"\0\0")
         # The format of a set of addresses says nothing of its entries.
         width = 8 if is_addr else size
-        length = (len(fields) + many).to_bytes(8, self.file.order)
-        if width == 8:
-            length = b"\xff\xff\xff\xff" + length
-        elif many < 0xFFFFFF00:
-            length = length[:4] if self.order == "le" else length[4:]
-        else:
+        if width == 4 and many >= 0xFFFFFF00:
             self.report.say(f"{section}: the set at 0x{start:x} is too long for the 32-bit format, and isn't listed")
             return
-        self.keep(body, start, start + many, length + fields)
+        length = (len(fields) + many).to_bytes(width, self.file.order)
+        self.keep(body, start, start + many, b"\xff\xff\xff\xff" * (width == 8) + length + fields)
         last = f"address size {size}" if is_addr else f"{8 * size}-bit"
         line = f"set {start}: no header, {many} bytes, {last}\n".encode()
         change = lambda it: line if it.startswith(b"set ") else it
