@@ -1,7 +1,7 @@
 -- Names that the proofs of this crate cite from elsewhere, passed on from one place.
 pub use Rattle.std.proofs.Common.{set, Bool, true, false, cond, refl, ◌≡◌, ◌≢◌, ◌∙◌, Result, Ok, Err, subst, ℕ, ◌+◌}
 pub use Rattle.std.proofs.Common.{◌<◌, ◌≤◌, eqb, List, [], ◌∷◌, ◌++◌, length, take, get_or, map, Option, Some, None}
-pub use Rattle.std.proofs.Common.{MatchOption, sym, arith, All, IsPermutation, option_map, ap, filter, HoldsAt}
+pub use Rattle.std.proofs.Common.{MatchOption, sym, arith, All, IsPermutation, option_map, ap, filter}
 pub use Rattle.std.proofs.Common.{nat_cmp, Less, Equal, Greater, suc, zero, ◌-◌, inl, inr, IfSome, OnErr, ◌*◌, ◌/◌}
 pub use Rattle.std.proofs.Common.{◌^◌, IfErr, leb, leb-true, leb-false, drop, ◌⊎◌, slice_index, IfOk, IsTrue, rules}
 pub use Rattle.std.proofs.Common.{◌==◌, ltb-true, is_some, sum_by, append_assoc, nat_lt}
@@ -13,24 +13,21 @@ pub use Rattle.std.specs.FinMap.{get, insert, from_entries, contains_key, empty,
 pub use Rattle.std.specs.FinMap.{from_entries_push, get-from_entries, nat_cmp-IsAntisymmetric, same_map, entries, len}
 pub use Rattle.std.specs.FinMap.{entries-insert, len-insert, len-empty, len-entries, get-entries, values, get-insert}
 pub use Rattle.std.specs.List.{AllWithin, AllByRecursion}
-pub use Rattle.std.specs.List.Sorted.{IsPartitionPoint, IsNonDecreasingBy}
+pub use Rattle.std.specs.List.Sorted.{IsNonDecreasingBy}
 unfoldable pub use Rattle.std.specs.List.Sorted.{IsStrictlySortedBy}
-pub use Rattle.std.specs.Map.{lookup, keys_of, set_value, values_of}
-pub use Rattle.std.specs.Ordering.{ordering_index, ordering_reverse}
+pub use Rattle.std.specs.Map.{lookup, keys_of, values_of}
 pub use Rattle.std.proofs.lemmas.Bool.{eqb-true, eqb-false, eq-eqb, cases_lt, le-leb, lt-leb, true≢false, and_parts}
 pub use Rattle.std.proofs.lemmas.Bool.Decides.{nat_tests}
-pub use Rattle.std.proofs.lemmas.Cmp.{ranked}
-pub use Rattle.std.proofs.lemmas.Fn.{called_at, filter_same}
+pub use Rattle.std.proofs.lemmas.Fn.{called_at}
 pub use Rattle.std.proofs.lemmas.Grind.{common_steps}
-pub use Rattle.std.proofs.lemmas.List.{take_more, map_push, get_or-map, get_or_default, take_all}
+pub use Rattle.std.proofs.lemmas.List.{take_more, map_push, get_or_default, take_all}
 pub use Rattle.std.proofs.lemmas.List.{drop-append-le, take-append-le, nil_from_length}
-pub use Rattle.std.proofs.lemmas.List.Elements.{All-head, All-tail, All-from_recursion, same_from_all_zip, All-push}
-pub use Rattle.std.proofs.lemmas.List.Sorted.{sum_by-IsPermutation, searchable_from_sorted, IsPermutation-map}
+pub use Rattle.std.proofs.lemmas.List.Elements.{All-head, All-tail, same_from_all_zip, All-push}
+pub use Rattle.std.proofs.lemmas.List.Sorted.{sum_by-IsPermutation, IsPermutation-map}
 pub use Rattle.std.proofs.lemmas.List.Sorted.{IsNonDecreasingBy-from_sort_by_key}
 pub use Rattle.std.proofs.lemmas.List.Sums.{sum_by_push, sum_by-cons}
-pub use Rattle.std.proofs.lemmas.Map.Entries.{option_filter, lookup-filter-values, length-keys_of, lookup_from_place}
-pub use Rattle.std.proofs.lemmas.Map.Entries.{lookup_at_gap}
-pub use Rattle.std.proofs.lemmas.Map.Keys.{IsDistinct-from_sorted, sorted_from_strictly_increasing}
+pub use Rattle.std.proofs.lemmas.Map.Entries.{option_filter, lookup-filter-values}
+pub use Rattle.std.proofs.lemmas.Map.Keys.{IsDistinct-from_sorted}
 pub use Rattle.std.proofs.lemmas.Map.Made.{lookup-map_values}
 pub use Rattle.dwarf_base_core.specs.declared.error.Error.{Error}
 pub use Rattle.dwarf_base_core.specs.declared.error.Error.TheVariants.{OutOfMemory, UnsupportedOffset}
@@ -40,10 +37,10 @@ pub use Rattle.dwarf_base_core.specs.declared.error.Error.TheVariants.{Attribute
 pub use Rattle.dwarf_base_core.specs.declared.error.Error.TheVariants.{InvalidAbbreviationChildren}
 pub use Rattle.dwarf_base_core.specs.declared.error.Error.TheVariants.{UnterminatedAbbreviations}
 pub use Rattle.dwarf_reader_core.specs.Appended.{followed_by, IsNotEof}
-pub use Rattle.dwarf_reader_core.specs.Faults.{IsTooShort, end_fault, is_number_size, HasNoByte, RejectsWord, CloneRanOutOfMemory, ExceedsOffset}
+pub use Rattle.dwarf_reader_core.specs.Faults.{IsTooShort, end_fault, is_number_size, HasNoByte, RejectsWord, CloneRanOutOfMemory}
 pub use Rattle.dwarf_reader_core.specs.Faults.{RejectsAddress, eof}
 pub use Rattle.dwarf_reader_core.specs.Input.{Input, first, Takes, after, TakesNumber, TakesString, end_of}
-pub use Rattle.dwarf_reader_core.specs.Layout.{Layout, part, fixed, pure, without_rest, AreItems, none, more}
+pub use Rattle.dwarf_reader_core.specs.Layout.{Layout, part, fixed, pure, AreItems, none, more}
 unfoldable pub use Rattle.dwarf_reader_core.specs.Layout.{read, check}
 pub use Rattle.dwarf_reader_core.specs.Leb128.{Kind, Number, IsEncoding, NoneIsLast, IsNumber, IsMalformed, unsigned64}
 pub use Rattle.dwarf_reader_core.specs.Leb128.{unsigned16, signed64, overflow_error, limit, value, is_in_range, HasNumber}
@@ -55,7 +52,7 @@ pub use Rattle.dwarf_reader_core.proofs.Layouts.{takes-both, ReadsAs_more, At_re
 pub use Rattle.dwarf_reader_core.proofs.Layouts.{part_read, then_reads, then_fails, error_is, after_check, no_check}
 pub use Rattle.dwarf_reader_core.proofs.Layouts.{TakesLeast, spans_least, number_spans, pure_spans, check_spans}
 pub use Rattle.dwarf_reader_core.proofs.Layouts.{then_spans, pure_reads, after_number, no_number, read_more}
-pub use Rattle.dwarf_reader_core.proofs.Layouts.{error_more, after_inside, Spans, spanned, byte_spans, fail_spans}
+pub use Rattle.dwarf_reader_core.proofs.Layouts.{error_more, after_inside, Spans, spanned, fail_spans}
 pub use Rattle.dwarf_reader_core.proofs.Layouts.{number_read, number_failed, byte_read, byte_failed, check_read}
 pub use Rattle.dwarf_reader_core.proofs.Layouts.{check_failed, pure_failed, part_failed, inside_failed, then_failed}
 pub use Rattle.dwarf_reader_core.proofs.Layouts.{when_spans, part_spans, inside_spans, inside_read, pure_read}
@@ -67,10 +64,10 @@ pub use Rattle.dwarf_read_core.specs.Answer.{StrictAnswer, AnswersStrictly, IsSt
 pub use Rattle.dwarf_read_core.specs.Cache.{KeepsAnswers, occurrences, Cache, answer_of, kept_at}
 pub use Rattle.dwarf_read_core.specs.Cache.{shown_entries, is_final, still_kept, IsFaithful, HasFirstItem, KeepsNoOutOfMemory}
 pub use Rattle.dwarf_read_core.specs.Cache.{least_count}
-pub use Rattle.dwarf_read_core.specs.Entries.{Entries, RepresentsAddresses, RepresentsEntries, RepresentsStringOffsets}
+pub use Rattle.dwarf_read_core.specs.Entries.{Entries, RepresentsAddresses, RepresentsStringOffsets}
 unfoldable pub use Rattle.dwarf_read_core.specs.Entries.{string_offset}
 pub use Rattle.dwarf_read_core.specs.Grammar.{Table, by_null, by_end, Declaration, closed, implicit_const}
-pub use Rattle.dwarf_read_core.specs.Grammar.{IsTable, closed_by_null, closed_by_end, Declares, AreDistinct}
+pub use Rattle.dwarf_read_core.specs.Grammar.{IsTable, IsTableBefore, closed_by_null, closed_by_end, Declares, AreDistinct}
 pub use Rattle.dwarf_read_core.specs.Grammar.{by_code_of, Specification, Sequence, IsSpecification, IsNull, IsFront}
 pub use Rattle.dwarf_read_core.specs.Grammar.{children_byte, IsCode, IsHead, IsDeclaration, IsImplicit, ByCode}
 pub use Rattle.dwarf_read_core.specs.Grammar.{attribute_count, AreDeclarations}

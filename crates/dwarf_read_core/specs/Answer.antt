@@ -1,12 +1,12 @@
 -- The one result that a section has at an offset: the table there, or the first error.
-use Rattle.std.specs.Prelude.{◌≡◌, ◌≢◌, ℕ, ◌<◌, ◌≤◌, ◌⊎◌, List, [], ◌∷◌, ◌++◌, length, drop, Result, Ok, Err, ⊤, if◌then◌else◌}
+use Rattle.std.specs.Prelude.{◌≡◌, ◌≢◌, ℕ, ◌+◌, ◌<◌, ◌≤◌, ◌⊎◌, List, [], ◌∷◌, ◌++◌, length, drop, Result, Ok, Err, ⊤, if◌then◌else◌}
 use Rattle.dwarf_base_core.specs.declared.error.Error.{Error}
 use Rattle.dwarf_base_core.specs.declared.error.Error.TheVariants.{AbbreviationTagZero, InvalidAbbreviationChildren, AttributeNameZero, AttributeFormZero, DuplicateAbbreviationCode, OutOfMemory, UnterminatedAbbreviations}
 use Rattle.dwarf_reader_core.specs.Leb128.{Kind, unsigned64, unsigned16, signed64, overflow_error, IsNumber, IsTruncated, IsMalformed}
 use Rattle.dwarf_reader_core.specs.Faults.{eof, end_fault}
 use Rattle.dwarf_reader_core.specs.Input.{Input, end_of}
 use Rattle.dwarf_reader_core.specs.Appended.{IsNotEof}
-use Rattle.dwarf_read_core.specs.Grammar.{Declaration, implicit_const, Table, by_null, is_by_null, IsCode, IsHead, IsFront, IsDeclaration, Declares, AreDeclarations, IsTable}
+use Rattle.dwarf_read_core.specs.Grammar.{Declaration, implicit_const, Table, by_null, is_by_null, IsCode, IsHead, IsFront, IsDeclaration, Declares, AreDeclarations, IsTable, IsTableBefore}
 
 -- the beginning of a declaration, up to a number of this kind
 pub data IsBeginning : List ℕ → Kind → Type 0 where
@@ -53,6 +53,11 @@ pub data Answer (section : Input) (offset : ℕ) : Result Table Error → Type 0
   first_error : (e : Error) → offset ≤ length section.bytes
       → IsFirstError (end_of section) (drop offset section.bytes) e
       → Answer section offset (Err e)
+
+-- the table at an offset ends at this one: behind the code of value 0 that closes it, or at the section's end
+abbrev pub EndsAt : Input → ℕ → Table → ℕ → Type 0
+EndsAt section offset t end =
+    (rest : List ℕ) × IsTableBefore (drop offset section.bytes) t rest × (end + length rest ≡ length section.bytes)
 
 -- what a call returned is the section's result at the offset, unless memory ran out
 abbrev pub Answers : Result Table Error → Input → ℕ → Type 0

@@ -1,5 +1,5 @@
 -- What a cache keeps after one more offset.
-use Rattle.dwarf_read_core.proofs.Common.{common_steps, ◌≡◌, ◌≢◌, ℕ, ◌+◌, ◌<◌, ◌≤◌, cond, eqb, List, [], ◌∷◌, ◌++◌, length, take, get_or, map, Option, Some, None, Result, refl, arith, All, IsPermutation, take_more, map_push, nat_tests, All-head, All-tail, sum_by-IsPermutation, sum_by_push, Error, Input, Answer, KeepsAnswers, occurrences, Table, ap, Cache, get, insert, get-insert, nat_cmp_total, nat_cmp, empty, least_count}
+use Rattle.dwarf_read_core.proofs.Common.{common_steps, ◌≡◌, ◌≢◌, ℕ, ◌+◌, ◌<◌, ◌≤◌, cond, eqb, List, [], ◌∷◌, ◌++◌, length, take, get_or, map, Option, Some, Result, refl, arith, All, IsPermutation, take_more, map_push, nat_tests, All-head, All-tail, sum_by-IsPermutation, sum_by_push, Error, Input, Answer, KeepsAnswers, occurrences, Table, ap, Cache, get, insert, get-insert, nat_cmp_total, nat_cmp, empty, least_count}
 use Rattle.std.specs.FinMap.{get-empty}
 use Rattle.dwarf_read_core.specs.declared.read.abbrev.cache.AbbreviationsCacheStrategy.{AbbreviationsCacheStrategy}
 

@@ -1,5 +1,5 @@
 -- A cache keeps no `OutOfMemory`.
-use Rattle.dwarf_read_core.proofs.Common.{arith, ◌≡◌, ◌≢◌, ℕ, Ok, Err, Result, List, nat_cmp, nat_cmp_total, Error, OutOfMemory, Table, Answer, IsFirstError, Cache, KeepsAnswers, KeepsNoOutOfMemory, still_kept, Input}
+use Rattle.dwarf_read_core.proofs.Common.{arith, ◌≡◌, ◌≢◌, ℕ, Err, Result, List, nat_cmp, nat_cmp_total, Error, OutOfMemory, Table, Answer, IsFirstError, Cache, KeepsAnswers, KeepsNoOutOfMemory, still_kept, Input}
 use Rattle.std.specs.FinMap as finite
 
 -- the empty cache keeps no `OutOfMemory`

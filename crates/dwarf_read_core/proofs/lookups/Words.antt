@@ -1,5 +1,5 @@
 -- Lookups of numbers by an index, as layouts.
-use Rattle.dwarf_read_core.proofs.Common.{common_steps, ◌≡◌, ℕ, ◌<◌, ◌≤◌, List, Bool, Result, Ok, Err, refl, sym, ◌∙◌, arith, ◌⊎◌, inl, inr, IsTrue, IfOk, IfErr, OnOk, le-leb, lt-leb, Error, UnsupportedOffset, IsTooShort, RejectsAddress, RejectsWord, is_number_size, Input, after, first, Takes, TakesNumber, followed_by, IsNotEof, read, AnswersBy, ReadsAs_more, ReadsAs_value, ReadsAs_error, then_reads, then_fails, error_is, part_reads, part_fails, number_reads, number_fails, after_part, no_part, after_check, no_check, rest-length, takes-both, StaysBy}
+use Rattle.dwarf_read_core.proofs.Common.{common_steps, ◌≡◌, ℕ, ◌<◌, ◌≤◌, List, Bool, Result, Ok, Err, refl, sym, ◌∙◌, arith, inl, inr, IsTrue, IfOk, IfErr, OnOk, le-leb, lt-leb, Error, UnsupportedOffset, IsTooShort, RejectsAddress, RejectsWord, is_number_size, Input, after, first, Takes, TakesNumber, followed_by, IsNotEof, read, AnswersBy, ReadsAs_more, ReadsAs_value, ReadsAs_error, then_reads, then_fails, error_is, part_reads, part_fails, number_reads, number_fails, after_part, no_part, after_check, no_check, rest-length, takes-both, StaysBy}
 use Rattle.dwarf_reader_core.proofs.Reading.{after-after}
 use Rattle.dwarf_read_core.specs.Words.{Slot, distance, place, IsPlaced, Misplaced, Holds, to_slot, word, address, WordAt, AddressAt}
 use Rattle.dwarf_read_core.proofs.sets.Entries.{offset_reads, offset_fails}

@@ -1,5 +1,5 @@
 -- The entries of sets, as layouts, and what `next` returns of them.
-use Rattle.dwarf_read_core.proofs.Common.{◌≡◌, ◌≢◌, ℕ, ◌<◌, ◌≤◌, List, [], length, Result, Ok, Err, sym, ◌∙◌, arith, inl, inr, ◌⊎◌, sum_by, IsTrue, le-leb, lt-leb, Error, is_number_size, RejectsAddress, RejectsWord, Input, TakesNumber, HasOne, Entries, RepresentsAddresses, RepresentsStringOffsets, string_offset, ComesFirst, least_taken, Layout, read, AreItems, more, fixed, TakesLeast, spans_least, number_spans, pure_spans, check_spans, then_spans, number_reads, number_fails, pure_reads, after_number, no_number, after_check, no_check}
+use Rattle.dwarf_read_core.proofs.Common.{◌≡◌, ◌≢◌, ℕ, ◌<◌, ◌≤◌, List, [], length, Result, Ok, Err, sym, ◌∙◌, arith, inl, inr, sum_by, IsTrue, le-leb, lt-leb, Error, is_number_size, RejectsAddress, RejectsWord, Input, TakesNumber, HasOne, Entries, RepresentsAddresses, RepresentsStringOffsets, string_offset, ComesFirst, least_taken, Layout, read, AreItems, more, fixed, TakesLeast, spans_least, number_spans, pure_spans, check_spans, then_spans, number_reads, number_fails, pure_reads, after_number, no_number, after_check, no_check}
 use Rattle.dwarf_base_core.specs.declared.common.Format.{Format}
 use Rattle.dwarf_base_core.specs.declared.common.Format.TheVariants.{Dwarf32, Dwarf64}
 use Rattle.dwarf_base_core.specs.Format.{word_size}

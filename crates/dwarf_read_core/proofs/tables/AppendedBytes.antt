@@ -1,5 +1,5 @@
 -- Appended bytes change no result that is final.
-use Rattle.dwarf_read_core.proofs.Common.{zero, suc, ◌<◌, ◌≤◌, inl, inr, ◌≡◌, ℕ, List, [], ◌∷◌, ◌++◌, length, take, Result, append_assoc, arith, cases_lt, length-append, drop-append-le, length-take-le, take-append-le, Input, Error, Kind, IsEncoding, NoneIsLast, IsMalformed, Table, by_null, IsTable, closed_by_null, followed_by, IsNotEof, HasError, number_bad, tag_zero, children_bad, name_zero, form_zero, IsFirstError, in_declaration, repeated, Answer, table, first_error, IsFinal, Answers}
+use Rattle.dwarf_read_core.proofs.Common.{zero, suc, ◌<◌, ◌≤◌, inl, inr, ◌≡◌, ℕ, List, [], ◌∷◌, ◌++◌, length, take, Result, append_assoc, arith, cases_lt, length-append, drop-append-le, length-take-le, take-append-le, Input, Error, Kind, IsEncoding, NoneIsLast, IsMalformed, Table, by_null, IsTable, closed_by_null, closed_by_end, followed_by, IsNotEof, HasError, number_bad, tag_zero, children_bad, name_zero, form_zero, IsFirstError, in_declaration, repeated, Answer, outside, table, first_error, end_of, IsFinal, Answers}
 use Rattle.dwarf_read_core.proofs.sets.ItemLists.{bytes-still_some}
 
 -- ---- bad numbers
@@ -42,7 +42,10 @@ bad_more k bytes more bad = record {
 -- bytes that begin with a table that a code of value 0 closes still do with more bytes behind them
 table_more : {bytes : List ℕ} {t : Table} (more : List ℕ) → IsTable bytes t → t.close ≡ by_null
     → IsTable (bytes ++ more) t
-table_more more h final = grind (arith, append_assoc, closed_by_null)
+table_more more (_, closed_by_null bytes zero_code rest ds are is) final =
+    rw (append_assoc (bytes ++ zero_code) rest more)
+    (rest ++ more, closed_by_null bytes zero_code (rest ++ more) ds are is)
+table_more more (_, closed_by_end bytes ds are) final = absurd cc
 
 -- an error in a declaration, unless it is an `UnexpectedEof`, stays the error with more bytes behind
 declaration_error_more : {end : ℕ} {bytes : List ℕ} {e : Error} (longer : ℕ) (more : List ℕ) → HasError end bytes e
@@ -70,8 +73,13 @@ first_error_more longer more h final =
 -- a final result is still the result when bytes are appended to the section
 pub answer_more : {section : Input} {offset : ℕ} {r : Result Table Error} (more : List ℕ) → Answer section offset r
     → IsFinal r → Answer (followed_by section more) offset r
-answer_more more h final =
-    grind (arith, length-append, drop-append-le, table, first_error, table_more, first_error_more)
+answer_more {section} {offset} more (table t le is) final =
+    table t (omega (arith, length-append section.bytes more, le))
+    (rw (drop-append-le offset section.bytes more le) (table_more more is final))
+answer_more {section} {offset} more (first_error e le is) final =
+    first_error e (omega (arith, length-append section.bytes more, le))
+    (rw (drop-append-le offset section.bytes more le) (first_error_more (end_of (followed_by section more)) more is final))
+answer_more more (outside lt) final = grind arith
 
 -- a final result that a call returned is still the section's result when bytes are appended
 pub returned_stays : (r : Result Table Error) (section : Input) (offset : ℕ) → Answers r section offset → IsFinal r

@@ -1,5 +1,5 @@
 -- An attribute that is read has a value exactly if its form has one.
-use Rattle.dwarf_read_core.proofs.Common.{arith, ◌≡◌, ℕ, zero, suc, List, [], ◌∷◌, Option, Some, None, Result, Ok, Err, refl, sym, ◌∙◌, All, Error, Specification, ◌>>=◌, and_others, specification_at, value_at, attributes_at, attributes_in}
+use Rattle.dwarf_read_core.proofs.Common.{arith, ◌≡◌, ℕ, zero, suc, List, Option, Some, None, Result, Ok, Err, refl, All, Error, Specification, ◌>>=◌, and_others, specification_at, value_at, attributes_at, attributes_in}
 use Rattle.std.proofs.lemmas.List.Elements.{All-nil, All-cons}
 use Rattle.dwarf_read_core.specs.Equality.{HasValueByForm}
 

@@ -93,9 +93,9 @@ found_in_table bytes ds code d are is =
 -- a table has each declaration by its code, which isn't 0
 found_in_bytes : (bytes : List ℕ) (t : Table) (code : ℕ) (d : Declaration) → IsTable bytes t
     → get t.by_code code ≡ Some d → (d.code ≡ code) × (0 < code)
-found_in_bytes _ _ code d (closed_by_null bytes zero_code rest ds are is) found =
+found_in_bytes _ _ code d (_, closed_by_null bytes zero_code rest ds are is) found =
     found_in_table bytes ds code d are found
-found_in_bytes _ _ code d (closed_by_end bytes ds are) found = found_in_table bytes ds code d are found
+found_in_bytes _ _ code d (_, closed_by_end bytes ds are) found = found_in_table bytes ds code d are found
 
 -- no table has code 0, and each declaration is found by its own code
 pub code_is_key : (section : Input) (offset code : ℕ) (t : Table) (d : Declaration) → Answer section offset (Ok t)

@@ -1,9 +1,10 @@
 -- A section has exactly one result at each offset, and the parser returns it.
-use Rattle.dwarf_read_core.proofs.Common.{common_steps, ◌≡◌, ℕ, ◌+◌, ◌≤◌, cond, ltb, List, [], length, drop, None, Ok, Err, refl, sym, ap, subst, ◌∙◌, arith, inl, inr, lt-ltb, le-ltb, empty, length-drop, nil_from_length, Error, Input, end_of, Takes, end_fault, IsTooShort, HasOutcome, returned, failed, IsTable, HasOne, Answer, Answers, IsFirstError, TakesNoMemory, outside, table, first_error, ReturnsUnlessOutOfMemory, declaration_at, table_in, cases_lt}
+use Rattle.dwarf_read_core.proofs.Common.{common_steps, ◌≡◌, ◌≢◌, ℕ, ◌+◌, ◌≤◌, cond, ltb, List, length, drop, None, Result, Ok, Err, IfErr, refl, sym, ap, subst, ◌∙◌, arith, inl, inr, lt-ltb, le-ltb, empty, length-drop, nil_from_length, Error, OutOfMemory, Input, end_of, Takes, end_fault, IsTooShort, HasOutcome, returned, failed, IsTable, HasOne, Answer, Answers, IsFirstError, TakesNoMemory, outside, table, first_error, declaration_at, table_in, cases_lt}
+use Rattle.std.specs.Result.{IsErrAnd}
 use Rattle.dwarf_read_core.proofs.tables.ReadingNumbers.{end_after}
 use Rattle.dwarf_read_core.proofs.tables.ReadingIsComplete.{zero_again, end_again}
 use Rattle.dwarf_read_core.proofs.tables.ReadingTables.{TableRead}
-use Rattle.dwarf_read_core.proofs.tables.TablesAreRead.{table_behind, table_read_again, first_error_again}
+use Rattle.dwarf_read_core.proofs.tables.TablesAreRead.{begins_with_none, table_behind, table_read_again, first_error_again}
 
 -- what the functions read at an offset of a section
 unfoldable pub answer_at : Input → ℕ → TableRead
@@ -17,8 +18,7 @@ unfolding answer_at table_in
 is_answer section offset = elim (cases_lt (length section.bytes) offset) [
   | inl lt ↦ rw (lt-ltb (length section.bytes) offset lt) (outside lt)
   | inr le ↦ rw (le-ltb (length section.bytes) offset le) (read le
-      (table_behind (length bytes + 1) (end_of section) [] bytes bytes [] refl (omega arith)
-      (record { each = refl; distinct = tt })))
+      (table_behind (length bytes + 1) (end_of section) bytes bytes empty (begins_with_none bytes) (omega arith)))
 ]
   where
     bytes : List ℕ
@@ -34,20 +34,29 @@ pub only_answer : {section : Input} {offset : ℕ} {r : TableRead} → Answer se
     → answer_at section offset ≡ r
 unfolding answer_at
 only_answer {section} {offset} (outside lt) = rw (lt-ltb (length section.bytes) offset lt) refl
-only_answer {section} {offset} (table t le is) = grind (arith, table_read_again)
+only_answer {section} {offset} (table t le is) =
+    rw (le-ltb (length section.bytes) offset le, table_read_again (end_of section) is) refl
 only_answer {section} {offset} (first_error e le is) =
     rw (le-ltb (length section.bytes) offset le, first_error_again is) refl
 
--- what the parser returns behind the offset is the section's result there
-pub answer_returned : (r : TableRead) (section : Input) (offset : ℕ) (rest : Input) → Takes offset section rest
-    → ReturnsUnlessOutOfMemory (λ t. t) r (table_in (end_of rest) empty rest.bytes) → Answers r section offset
+-- what is read behind the offset is the section's result there
+pub answer_read : (r : TableRead) (section : Input) (offset : ℕ) (rest : Input) → Takes offset section rest
+    → table_in (end_of rest) empty rest.bytes ≡ r → Answer section offset r
 unfolding answer_at
-answer_returned r section offset rest takes given =
+answer_read r section offset rest takes read =
     let e : end_of rest ≡ end_of section = ap end_of takes.left ∙ end_after offset section takes.enough in
     let b : rest.bytes ≡ drop offset section.bytes = ap (λ (i : Input). i.bytes) takes.left in
     let same : table_in (end_of rest) empty rest.bytes ≡ answer_at section offset =
     rw (e, b, le-ltb (length section.bytes) offset takes.enough) refl in
-    let is = is_answer section offset in grind arith
+    subst (Answer section offset) (sym same ∙ read) (is_answer section offset)
+
+-- an error that `?` propagates is the section's result at the offset, if it is read there, unless memory ran out
+pub error_read : {X : Type 0} (r : Result X Error) (e : Error) (section : Input) (offset : ℕ) (rest : Input)
+    → IsErrAnd r (λ x. x ≡ e) → Takes offset section rest
+    → (e ≢ OutOfMemory → table_in (end_of rest) empty rest.bytes ≡ Err e)
+    → IfErr r (λ x. Answers (Err x) section offset)
+error_read r e section offset rest is takes read =
+    let answer = answer_read (Err e) section offset rest takes in grind arith
 
 -- a section has exactly one result at each offset
 pub answer_exactly_one : (section : Input) (offset : ℕ) → HasOne (Answer section offset)

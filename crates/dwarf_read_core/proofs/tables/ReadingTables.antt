@@ -1,5 +1,5 @@
 -- How a table changes with the next entry that its parser reads.
-use Rattle.dwarf_read_core.proofs.Common.{common_steps, ◌≡◌, ◌≢◌, ℕ, zero, suc, ◌<◌, true, false, cond, eqb, List, [], length, Option, Some, None, Result, Ok, Err, refl, ap, arith, ne_eqb, insert, contains_key, nil_from_length, Error, DuplicateAbbreviationCode, Declaration, ByCode, Table, closed, by_null, ◌>>=◌, declaration_at, close_of, and_declared, ◌∷◌, ◌∙◌, ◌↔◌, IsTrue, Bool, table_at, table_in}
+use Rattle.dwarf_read_core.proofs.Common.{common_steps, ◌≡◌, ℕ, zero, suc, ◌<◌, true, false, cond, List, [], length, Option, Some, None, Result, Ok, Err, refl, ap, arith, ne_eqb, insert, contains_key, nil_from_length, Error, DuplicateAbbreviationCode, Declaration, ByCode, Table, closed, ◌>>=◌, declaration_at, close_of, and_declared, ◌↔◌, IsTrue, Bool, table_at, table_in}
 use Rattle.std.proofs.Common.{not}
 use Rattle.dwarf_read_core.specs.Grammar.{close_from}
 use Rattle.dwarf_read_core.proofs.tables.ReadingIsSound.{declaration_shorter}
@@ -40,12 +40,18 @@ pub table_ends : (end : ℕ) (t : ByCode) (bytes rest : List ℕ) → declaratio
 unfolding table_in table_at
 table_ends end t bytes rest q = grind arith
 
+-- what closes a table, by a test for the end of the bytes
+pub close_by_test : (bytes : List ℕ) (is_end : Bool) → (IsTrue is_end ↔ (bytes ≡ []))
+    → close_from (not is_end) ≡ close_of bytes
+close_by_test bytes true test = grind (arith, common_steps)
+close_by_test bytes false test = grind (arith, common_steps, ne_eqb, nil_from_length)
+
 -- the same, by a test for the end of the bytes
 pub table_ends_by : (end : ℕ) (t : ByCode) (bytes rest : List ℕ) (is_end : Bool)
     → declaration_at end bytes ≡ Ok (None, rest) → (IsTrue is_end ↔ (bytes ≡ []))
     → table_in end t bytes ≡ Ok (closed t (close_from (not is_end)))
-table_ends_by end t bytes rest true q test = grind (arith, common_steps, table_ends)
-table_ends_by end t bytes rest false q test = grind (arith, common_steps, ne_eqb, nil_from_length, table_ends)
+table_ends_by end t bytes rest is_end q test =
+    rw (close_by_test bytes is_end test) (table_ends end t bytes rest q)
 
 -- reading a table fails with `DuplicateAbbreviationCode` if the table has the code of the next declaration
 pub table_repeats : (end : ℕ) (t : ByCode) (bytes : List ℕ) (d : Declaration) (rest : List ℕ)

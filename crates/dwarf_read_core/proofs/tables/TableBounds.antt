@@ -1,10 +1,9 @@
 -- A table has no more declarations and attributes than fit its bytes.
-use Rattle.dwarf_read_core.proofs.Common.{common_steps, ◌≡◌, ℕ, ◌+◌, ◌*◌, ◌≤◌, false, List, [], ◌∷◌, length, map, Result, Ok, sym, ap, ◌∙◌, arith, IfOk, is_some, sum_by, nat_cmp, nat_cmp_total, find, empty, len, entries, entries-insert, len-insert, len-empty, len-entries, get-entries, length-append, length-drop, nil_from_length, sum_by-cons, Error, Specification, Declaration, Sequence, IsSpecification, IsDeclaration, AreDistinct, Table, by_code_of, attribute_count, IsTable, Input, Takes, end_of, ReturnsUnlessOutOfMemory, table_in, Answer, table}
+use Rattle.dwarf_read_core.proofs.Common.{common_steps, ◌≡◌, ℕ, ◌+◌, ◌*◌, ◌≤◌, false, List, [], ◌∷◌, length, map, Ok, sym, ap, ◌∙◌, arith, is_some, sum_by, nat_cmp, nat_cmp_total, find, len, entries, entries-insert, len-insert, len-empty, len-entries, get-entries, length-append, length-drop, nil_from_length, sum_by-cons, Specification, Declaration, Sequence, IsSpecification, IsDeclaration, AreDistinct, Table, by_code_of, attribute_count, IsTable, Input, Answer, table}
 use Rattle.std.specs.FinMap.Entries.{put}
 use Rattle.dwarf_read_core.proofs.tables.ReadingNumbers.{encoding-nonempty}
 use Rattle.dwarf_read_core.proofs.tables.ReadingSpecifications.{specification_long, null_long}
 use Rattle.dwarf_read_core.proofs.tables.CodesOnce.{fresh_code}
-use Rattle.dwarf_read_core.proofs.tables.ExactlyOneAnswer.{answer_returned}
 
 -- the number of attributes that a declaration has
 attributes : Declaration → ℕ
@@ -71,13 +70,6 @@ table_bound : {bytes : List ℕ} {t : Table} → IsTable bytes t
 table_bound h = grind (arith, len_is, count_is, declarations_long, length-append)
 
 -- a section with a table at an offset has five bytes there for each declaration and two for each attribute
-answer_bound : {section : Input} {offset : ℕ} {t : Table} → Answer section offset (Ok t)
+pub answer_bound : {section : Input} {offset : ℕ} {t : Table} → Answer section offset (Ok t)
     → 5 * len t.by_code + 2 * attribute_count t.by_code + offset ≤ length section.bytes
 answer_bound {section} {offset} (table t le is) = omega (arith, table_bound is, length-drop offset section.bytes)
-
--- a table that the parser returned has no more declarations and attributes than fit the section there
-pub bounded_read : (r : Result Table Error) (section : Input) (offset : ℕ) (rest : Input)
-    → Takes offset section rest → ReturnsUnlessOutOfMemory (λ t. t) r (table_in (end_of rest) empty rest.bytes)
-    → IfOk r (λ t. 5 * len t.by_code + 2 * attribute_count t.by_code + offset ≤ length section.bytes)
-bounded_read r section offset rest takes given =
-    grind (arith, answer_bound, answer_returned r section offset rest takes given)

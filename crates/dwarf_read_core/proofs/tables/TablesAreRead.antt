@@ -1,56 +1,104 @@
 -- A whole table that is read, or its first error, is what the grammar says, and conversely.
-use Rattle.dwarf_read_core.proofs.Common.{◌≡◌, ℕ, zero, suc, ◌<◌, List, [], ◌∷◌, ◌++◌, length, Option, Some, None, Ok, Err, refl, sym, ap, subst, ◌∙◌, append_assoc, arith, append-nil, contains_key, Error, DuplicateAbbreviationCode, Declaration, Sequence, IsDeclaration, AreDistinct, AreDeclarations, ByCode, Table, closed, by_code_of, by_end, IsTable, closed_by_null, closed_by_end, IsFirstError, in_declaration, repeated, close_of, and_declared, table_at, table_in, HasOutcome, returned, failed, outcome-bind, outcome-cond, outcome-map}
+use Rattle.dwarf_read_core.proofs.Common.{◌≡◌, ◌↔◌, ℕ, zero, suc, ◌<◌, ◌≤◌, Bool, IsTrue, false, List, [], ◌∷◌, ◌++◌, length, Option, Some, None, Ok, Err, refl, sym, ap, subst, ◌∙◌, append_assoc, arith, append-nil, length-append, empty, insert, contains_key, Error, DuplicateAbbreviationCode, Declaration, Sequence, IsDeclaration, AreDistinct, AreDeclarations, ByCode, Table, closed, by_code_of, IsTable, IsTableBefore, closed_by_null, closed_by_end, IsFirstError, in_declaration, repeated, close_of, and_declared, table_at, table_in, HasOutcome, returned, failed, outcome-bind, outcome-cond, outcome-map, outcome-ok, declaration_at}
+use Rattle.std.proofs.Common.{not}
+use Rattle.dwarf_read_core.specs.Grammar.{close_from}
 use Rattle.dwarf_read_core.proofs.tables.ReadingNumbers.{encoding-begins}
 use Rattle.dwarf_read_core.proofs.tables.ReadingAttributes.{Sequence-push}
-use Rattle.dwarf_read_core.proofs.tables.ReadingIsSound.{EndFound, at_end, at_zero, EntryFound, declaration_outcome, declaration_found_shorter}
+use Rattle.dwarf_read_core.proofs.tables.ReadingIsSound.{DeclarationFound, EndFound, at_end, at_zero, EntryFound, declaration_outcome, declaration_found_shorter}
 use Rattle.dwarf_read_core.proofs.tables.ReadingIsComplete.{declaration_again, zero_again, end_again, error_again}
-use Rattle.dwarf_read_core.proofs.tables.ReadingTables.{table_fails, table_ends, table_repeats, table_goes_on}
+use Rattle.dwarf_read_core.proofs.tables.ReadingTables.{close_by_test, table_fails, table_ends, table_repeats, table_goes_on}
 use Rattle.dwarf_read_core.proofs.tables.CodesOnce.{fresh_code, repeated_code, declared_from_key, fresh_from_key, table_push, distinct_push, distinct_front}
 
 -- ---- what is read is in the grammar
 
+-- declarations at the front of bytes, by their codes, and the bytes behind them
+pub record BeginsWith (bytes : List ℕ) (t : ByCode) (rest : List ℕ) : Type 0 where
+  pub front : List ℕ
+  pub declarations : List Declaration
+  pub parts : bytes ≡ front ++ rest
+  pub are : AreDeclarations front declarations
+  pub by_code : t ≡ by_code_of declarations
+
+-- any bytes begin with no declarations
+pub begins_with_none : (bytes : List ℕ) → BeginsWith bytes empty bytes
+begins_with_none bytes =
+    record { front = []; declarations = []; parts = refl; are = record { each = refl; distinct = tt }; by_code = refl }
+
+-- a declaration with a new code behind some declarations is one more of them
+begins_with_more : {whole bytes rest : List ℕ} {t : ByCode} (d : Declaration) → BeginsWith whole t bytes
+    → DeclarationFound bytes d rest → contains_key t d.code ≡ false → BeginsWith whole (insert t d.code d) rest
+begins_with_more d b f fresh =
+    let new = fresh_from_key b.declarations d.code (rw b.by_code at fresh) in
+    record {
+      front = b.front ++ f.front;
+      declarations = b.declarations ++ d ∷ [];
+      parts = rw (b.parts, f.parts) (simp append_assoc);
+      are = record {
+        each = Sequence-push IsDeclaration b.front b.declarations f.front d b.are.each f.is_declaration;
+        distinct = distinct_push b.declarations d b.are.distinct new;
+      };
+      by_code = rw b.by_code (sym (table_push b.declarations d new));
+    }
+
 -- declarations and an end of the table behind them are a table with that close
-ended : {bytes rest : List ℕ} (front : List ℕ) (ds : List Declaration) → AreDeclarations front ds
-    → EndFound bytes rest → IsTable (front ++ bytes) (closed (by_code_of ds) (close_of bytes))
-ended front ds are at_end =
-    subst (λ (b : List ℕ). IsTable b (closed (by_code_of ds) by_end)) (sym (append-nil front))
-    (closed_by_end front ds are)
-ended front ds are (at_zero bytes rest z) =
-    rw (z.parts, encoding-begins z.front rest z.is_zero.encoding, ← append_assoc front z.front rest)
-    (closed_by_null front z.front rest ds are z.is_zero)
+begins_and_ends : {whole bytes rest : List ℕ} {t : ByCode} → BeginsWith whole t bytes → EndFound bytes rest
+    → IsTableBefore whole (closed t (close_of bytes)) rest
+begins_and_ends b at_end =
+    rw (b.parts, b.by_code, append-nil b.front) (closed_by_end b.front b.declarations b.are)
+begins_and_ends b (at_zero bytes rest z) =
+    rw (
+      b.parts,
+      b.by_code,
+      z.parts,
+      encoding-begins z.front rest z.is_zero.encoding,
+      ← append_assoc b.front z.front rest,
+    )
+    (closed_by_null b.front z.front rest b.declarations b.are z.is_zero)
+
+-- fewer or as many bytes are behind a table as there are in all
+pub table_before_fits : {bytes rest : List ℕ} {t : Table} → IsTableBefore bytes t rest → length rest ≤ length bytes
+table_before_fits (closed_by_null bytes zero_code rest ds are is) = omega (arith, length-append (bytes ++ zero_code) rest)
+table_before_fits (closed_by_end bytes ds are) = omega arith
+
+-- a declaration with a new code that is read behind some declarations is one more of them
+pub begins_with_read : {whole bytes rest : List ℕ} {t : ByCode} (end : ℕ) (d : Declaration) → BeginsWith whole t bytes
+    → declaration_at end bytes ≡ Ok (Some d, rest) → contains_key t d.code ≡ false
+    → BeginsWith whole (insert t d.code d) rest
+begins_with_read {bytes = bytes} end d b read fresh =
+    begins_with_more d b (outcome-ok (declaration_outcome end bytes) (Some d, _) read) fresh
+
+-- if no declaration is read behind some declarations, these are a table, by a test for the end of the bytes
+pub begins_and_closes : {whole bytes rest : List ℕ} {t : ByCode} (end : ℕ) (is_end : Bool) → BeginsWith whole t bytes
+    → declaration_at end bytes ≡ Ok (None, rest) → (IsTrue is_end ↔ (bytes ≡ []))
+    → IsTableBefore whole (closed t (close_from (not is_end))) rest
+begins_and_closes {bytes = bytes} end is_end b read test =
+    rw (close_by_test bytes is_end test)
+    (begins_and_ends b (outcome-ok (declaration_outcome end bytes) (None, _) read))
 
 -- what is read behind some declarations is the table that all bytes begin with, or their first error
-pub table_behind : (n end : ℕ) (front bytes whole : List ℕ) (ds : List Declaration) → whole ≡ front ++ bytes
-    → length bytes < n → AreDeclarations front ds
-    → HasOutcome (IsTable whole) (IsFirstError end whole) (table_at n end (by_code_of ds) bytes)
+pub table_behind : (n end : ℕ) (bytes whole : List ℕ) (t : ByCode) → BeginsWith whole t bytes → length bytes < n
+    → HasOutcome (IsTable whole) (IsFirstError end whole) (table_at n end t bytes)
 unfolding table_at
-table_behind zero end front bytes whole ds parts short are = absurd (omega arith)
-table_behind (suc n) end front bytes whole ds parts short are =
-    outcome-bind _ (outcome-map (λ x f. f) (λ e f. rw parts (in_declaration front bytes ds e are f.0 f.1))
-    (declaration_outcome end bytes))
-    (λ first f. go (λ front rest. table_behind n end front rest whole) first.0 first.1 f)
+table_behind zero end bytes whole t b short = absurd (omega arith)
+table_behind (suc n) end bytes whole t b short =
+    outcome-bind _ (outcome-map (λ x f. f)
+    (λ e f. rw b.parts (in_declaration b.front bytes b.declarations e b.are f.0 f.1)) (declaration_outcome end bytes))
+    (λ first f. go (λ rest. table_behind n end rest whole) first.0 first.1 f)
   where
-    go : ((front rest : List ℕ) (ds : List Declaration) → whole ≡ front ++ rest → length rest < n
-        → AreDeclarations front ds
-        → HasOutcome (IsTable whole) (IsFirstError end whole) (table_at n end (by_code_of ds) rest))
+    go : ((rest : List ℕ) (t : ByCode) → BeginsWith whole t rest → length rest < n
+        → HasOutcome (IsTable whole) (IsFirstError end whole) (table_at n end t rest))
         → (o : Option Declaration) (rest : List ℕ) → EntryFound bytes o rest
         → HasOutcome (IsTable whole) (IsFirstError end whole)
-        (and_declared (close_of bytes) (by_code_of ds) o (λ more. table_at n end more rest))
-    go others None rest f = returned _ (rw parts (ended front ds are f))
+        (and_declared (close_of bytes) t o (λ more. table_at n end more rest))
+    go others None rest f = returned _ (rest, begins_and_ends b f)
     go others (Some d) rest f =
-        let behind : whole ≡ front ++ f.front ++ rest = rw (parts, f.parts) (simp append_assoc) in
-        outcome-cond (contains_key (by_code_of ds) d.code)
+        let behind : whole ≡ b.front ++ f.front ++ rest = rw (b.parts, f.parts) (simp append_assoc) in
+        outcome-cond (contains_key t d.code)
         (λ e. failed (DuplicateAbbreviationCode d.code)
-        (rw behind (repeated front f.front rest ds d are f.is_declaration (declared_from_key ds d.code e))))
-        (λ e. let new = fresh_from_key ds d.code e in
-        subst (λ (t : ByCode). HasOutcome (IsTable whole) (IsFirstError end whole) (table_at n end t rest))
-        (table_push ds d new)
-        (others (front ++ f.front) rest (ds ++ d ∷ []) behind
-        (let h = declaration_found_shorter bytes d rest f in omega arith)
-        (record {
-          each = Sequence-push IsDeclaration front ds f.front d are.each f.is_declaration;
-          distinct = distinct_push ds d are.distinct new;
-        })))
+        (rw behind (repeated b.front f.front rest b.declarations d b.are f.is_declaration
+        (declared_from_key b.declarations d.code (rw b.by_code at e)))))
+        (λ e. others rest (insert t d.code d) (begins_with_more d b f e)
+        (let h = declaration_found_shorter bytes d rest f in omega arith))
 
 -- ---- what is in the grammar is read
 
@@ -71,11 +119,11 @@ feed end seen bytes rest (d ∷ ds) q h =
 -- bytes that begin with a table are read as that table
 pub table_read_again : {bytes : List ℕ} {t : Table} (end : ℕ) → IsTable bytes t
     → table_in end (by_code_of []) bytes ≡ Ok t
-table_read_again end (closed_by_null bytes zero_code rest ds are is) =
+table_read_again end (_, closed_by_null bytes zero_code rest ds are is) =
     let ends = table_ends end (by_code_of ds) (zero_code ++ rest) rest (zero_again end zero_code rest is) in
     rw (append_assoc, feed end [] bytes (zero_code ++ rest) ds are.each are.distinct)
     (rw (ends, encoding-begins zero_code rest is.encoding) refl)
-table_read_again end (closed_by_end bytes ds are) =
+table_read_again end (_, closed_by_end bytes ds are) =
     ap (table_in end (by_code_of [])) (sym (append-nil bytes)) ∙ feed end [] bytes [] ds are.each are.distinct
     ∙ table_ends end (by_code_of ds) [] [] (end_again end)
 

@@ -1,5 +1,5 @@
 -- A vector of the first abbreviations, and the others, are one finite map.
-use Rattle.dwarf_read_core.proofs.Common.{common_steps, ◌≡◌, ℕ, zero, suc, ◌+◌, ◌<◌, ◌≤◌, get_or, ◌++◌, arith, true, false, cond, List, [], ◌∷◌, length, Option, Some, None, Result, Ok, Err, OnOk, OnErr, Bor, refl, sym, ap, ◌∙◌, ◌⊎◌, length-append, is_some, option_copied, nat_cmp, Less, nat_cmp_total, eq_by_cmp_equiv, lookup, keys_of, values_of, is_at, find, get, insert, contains_key, values, from_entries, get-from_entries, get-insert, same_map, nat_cmp-IsAntisymmetric, len, len-empty, len-entries, entries, entries-insert, AllByRecursion, IsStrictlySortedBy, cases_lt, nil_from_length, Declaration, ByCode}
+use Rattle.dwarf_read_core.proofs.Common.{common_steps, ◌≡◌, ℕ, zero, suc, ◌+◌, ◌<◌, ◌≤◌, get_or, ◌++◌, arith, true, false, cond, List, [], ◌∷◌, length, Option, Some, None, Result, Ok, Err, OnOk, OnErr, refl, sym, ap, ◌∙◌, ◌⊎◌, length-append, is_some, nat_cmp, Less, nat_cmp_total, eq_by_cmp_equiv, lookup, keys_of, values_of, is_at, find, get, insert, contains_key, values, from_entries, get-from_entries, get-insert, same_map, nat_cmp-IsAntisymmetric, len, len-empty, len-entries, entries, entries-insert, AllByRecursion, IsStrictlySortedBy, cases_lt, nil_from_length, Declaration, ByCode}
 use Rattle.dwarf_read_core.specs.Others.{Adds, at_place}
 use Rattle.std.specs.FinMap.Entries.{put, by_order}
 use Rattle.dwarf_read_core.specs.Views.{numbered, entries_of, AreKeyed}

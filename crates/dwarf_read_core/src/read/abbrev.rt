@@ -4,14 +4,14 @@
 //! attributes. The unit's table of abbreviations says what a code means: the tag of the entry,
 //! whether it has children, and which attributes follow in which forms.
 
-ghost use Rattle.std.specs.Prelude.{◌≡◌, ◌+◌, ◌*◌, ◌≤◌, ℕ, List, length, true, IfOk, IsErrOf};
+ghost use Rattle.std.specs.Prelude.{◌≡◌, ◌+◌, ◌*◌, ◌≤◌, ℕ, List, length, true, Ok, Err, IfOk, IfErr, IsErrOf};
 ghost use Rattle.std.specs.FinMap as finite;
 ghost use Rattle.std.specs.Fn.{CalledAt, TakesAt};
 ghost use Rattle.dwarf_base_core.specs.declared.common.SectionId.TheVariants.{DebugAbbrev as debug_abbrev};
 ghost use Rattle.dwarf_reader_core.specs.Appended.{followed_by};
 ghost use Rattle.dwarf_reader_core.specs.Input.{end_of};
 ghost use Rattle.dwarf_reader_core.specs.Slice.{input_of};
-ghost use Rattle.dwarf_read_core.specs.Answer.{Answers, AnswersStrictly, IsFinal, IsStrictlyFinal, TakesNoMemory};
+ghost use Rattle.dwarf_read_core.specs.Answer.{Answer, Answers, AnswersStrictly, EndsAt, IsFinal, IsStrictlyFinal, TakesNoMemory};
 ghost use Rattle.dwarf_read_core.specs.Grammar.{attribute_count};
 
 use super::section::Section;
@@ -109,9 +109,47 @@ impl<R: Reader> DebugAbbrev<R> {
             IsFinal result → (more : List ℕ)
             → Answers result (followed_by section more) (R.Offset.value offset.0) }
     {
+        let (abbreviations, _) = self.abbreviations_and_end(mem, offset)?;
+        Ok(abbreviations)
+    }
+
+    /// Returns the table of abbreviations at `offset`, and the offset of its end, in bytes from the
+    /// section's start.
+    ///
+    /// A table ends behind the code of value 0 that closes it, or at the section's end. A section is
+    /// walked table by table if each is read at the end of the one before it.
+    ///
+    /// # Errors
+    ///
+    /// Those of [`abbreviations`](Self::abbreviations).
+    #[inline]
+    pub fn abbreviations_and_end(
+        &self,
+        mem: Global,
+        offset: DebugAbbrevOffset<R::Offset>,
+    ) -> Result<(Abbreviations, DebugAbbrevOffset<R::Offset>)>
+        ensures answer { let section = R.view (debug_abbrev_reader self.now) in
+            IfOk result (λ r. Answer section (R.Offset.value offset.0) (Ok r.0)) }
+        ensures end { let section = R.view (debug_abbrev_reader self.now) in
+            IfOk result (λ r. EndsAt section (R.Offset.value offset.0) r.0 (R.Offset.value r.1.0)) }
+        ensures err { let section = R.view (debug_abbrev_reader self.now) in
+            IfErr result (λ e. Answers (Err e) section (R.Offset.value offset.0)) }
+
+        // A declaration has at least five bytes, and an attribute two more.
+        ensures bound { let section = R.view (debug_abbrev_reader self.now) in
+            IfOk result (λ r. 5 * finite.len r.0.by_code + 2 * attribute_count r.0.by_code
+            + R.Offset.value offset.0 ≤ length section.bytes) }
+
+        // Only a declaration needs memory, or a clone that allocates.
+        ensures memory { let section = R.view (debug_abbrev_reader self.now) in
+            R.clone_is_free ≡ true → TakesNoMemory section (R.Offset.value offset.0)
+            → IsErrOf result Error.OutOfMemory → ⊥ }
+    {
         let mut input = self.debug_abbrev_section.try_clone()?;
+        let len = input.len();
         input.skip(offset.0)?;
-        Abbreviations::parse_from(mem, input)
+        let (abbreviations, remaining) = Abbreviations::parse_from(mem, input)?;
+        Ok((abbreviations, DebugAbbrevOffset(len - remaining)))
     }
 
     /// Returns the table of abbreviations at `offset`, which a code of value 0 has to close.

@@ -1,10 +1,10 @@
 //! Tables of abbreviations: how they are read, and how an abbreviation is found by its code.
 
-ghost use Rattle.std.specs.Prelude.{◌≡◌, ◌≢◌, ◌↔◌, ◌<◌, ◌∷◌, ◌++◌, [], ℕ, List, true, false, IsTrue, IsOk, IfOk, IfErr, IfSome, OnOk, OnErr, Ok, None, option_copied, ⊤};
+ghost use Rattle.std.specs.Prelude.{◌≡◌, ◌≢◌, ◌↔◌, ◌<◌, ◌∷◌, ◌++◌, [], ℕ, List, length, true, false, IsTrue, IsOk, IfOk, IfErr, IfSome, OnOk, OnErr, Ok, None, option_copied, ⊤};
 ghost use Rattle.std.specs.FinMap as finite;
 ghost use Rattle.std.specs.Iterator.{YieldsFirstRef, item_count};
 ghost use Rattle.dwarf_reader_core.specs.Input.{end_of};
-ghost use Rattle.dwarf_read_core.specs.Grammar.{by_end, is_by_null};
+ghost use Rattle.dwarf_read_core.specs.Grammar.{IsTableBefore, by_end, is_by_null};
 ghost use Rattle.dwarf_read_core.specs.Reading.{ReturnsUnlessOutOfMemory, declaration_at, table_in};
 
 use super::abbreviation::Abbreviation;
@@ -165,19 +165,24 @@ impl Abbreviations {
         self.others.trim();
     }
 
-    // Reads the table where the reader is. The reader is moved into a call out of line, since the
-    // compiler then keeps it in registers.
+    // Reads the table where the reader is, and returns how many bytes remain behind it. The reader is
+    // moved into a call out of line, since the compiler then keeps it in registers.
     #[inline(never)]
-    pub(super) fn parse_from<R: Reader>(mem: Global, mut input: R) -> Result<Abbreviations>
+    pub(super) fn parse_from<R: Reader>(
+        mem: Global,
+        mut input: R,
+    ) -> Result<(Abbreviations, R::Offset)>
         ensures ends { (rest : List ℕ)
             → declaration_at (end_of (R.view input)) (R.view input).bytes ≡ Ok (None, rest)
             → IsOk result }
-        ensures read { ReturnsUnlessOutOfMemory (λ t. t) result
+        ensures read { ReturnsUnlessOutOfMemory (λ r. r.0) result
             (table_in (end_of (R.view input)) finite.empty (R.view input).bytes) }
+        ensures behind { IfOk result (λ r. (rest : List ℕ)
+            × IsTableBefore (R.view input).bytes r.0 rest × (R.Offset.value r.1 ≡ length rest)) }
     {
         let mut abbreviations = Abbreviations::parse(mem, &mut input)?;
         abbreviations.trim();
-        Ok(abbreviations)
+        Ok((abbreviations, input.len()))
     }
 
     // Reads a table, and the code of value 0 that closes it, if there is one.
@@ -187,6 +192,8 @@ impl Abbreviations {
             → IsOk result }
         ensures read { ReturnsUnlessOutOfMemory (λ t. t) result
             (table_in (end_of (R.view input.old)) finite.empty (R.view input.old).bytes) }
+        ensures behind { IfOk result
+            (λ t. IsTableBefore (R.view input.old).bytes t (R.view input.new).bytes) }
     {
         let mut abbreviations = Abbreviations::empty(mem);
         // One serves the whole table; each declaration's attributes are collected in it.

@@ -229,7 +229,7 @@ static ROOMS: &[(u64, usize)] = &[(0, 0), (1, 32), (32, 32), (33, 33), (256, 256
 fn room_for_a_usual_table_is_given_back(rt: HostRuntime) -> std::result::Result<(), Fail> {
     for (count, room) in ROOMS {
         let section = section_up_to(rt.alloc(), *count)?;
-        let table = Abbreviations::parse_from(rt.alloc(), slice(&section))?;
+        let (table, _) = Abbreviations::parse_from(rt.alloc(), slice(&section))?;
         let found = (table.len() as u64, table.vec.capacity());
         assert_eq!(rt; found, (*count, *room));
     }

@@ -1,4 +1,4 @@
-use Rattle.dwarf_read_core.proofs.Common.{refl, rules, ℕ, ◌≡◌, ◌≢◌, ◌≤◌, ◌+◌, ◌++◌, ◌∷◌, [], get_or, map, take, ap, sym, subst, ◌∙◌, arith, All, IsNonDecreasingBy, eq-eqb, take_all, get_or_default, All-push, IsPermutation-map, IsNonDecreasingBy-from_sort_by_key, occurrences, least_count, KeepsAnswers, debug_abbrev_reader, get, answer_of}
+use Rattle.dwarf_read_core.proofs.Common.{refl, rules, ℕ, ◌≡◌, ◌≢◌, ◌≤◌, ◌+◌, ◌++◌, ◌∷◌, [], get_or, map, take, ap, sym, subst, ◌∙◌, arith, IsNonDecreasingBy, eq-eqb, take_all, get_or_default, All-push, IsPermutation-map, IsNonDecreasingBy-from_sort_by_key, occurrences, least_count, KeepsAnswers, debug_abbrev_reader, get, answer_of}
 use Rattle.dwarf_base_core.specs.declared.common.DebugAbbrevOffset.{DebugAbbrevOffset}
 use Rattle.dwarf_read_core.proofs.cache.CountingOffsets.{occurrences-push, occurrences_above, seen_more, kept_same, kept_more, kept_in_any_order, kept_nothing, get_inserted}
 use Rattle.dwarf_read_core.proofs.cache.NoMemoryError.{answer_not_memory}

@@ -8,7 +8,7 @@ returns-in_err-attribute-clause-read g c =
     let loop = c.attributes in
     gives_err _ _ c.from_residual.ensures.1
     (λ memory. front-fails _ _ _ _ _ (rw loop.invariant.same_end at
-    (c.in_err-attribute.ensures.read memory)) loop.invariant.told)
+    (c.in_err-attribute.ensures.read memory)) loop.invariant.read)
 
 pub attributes-preserved : goal.attributes-preserved
 attributes-preserved g c =
@@ -21,9 +21,9 @@ attributes-preserved g c =
     ] in
     let short : room.len < length loop.scratch = search rules in
     record {
-      told = rw (collected_push room.overflow.items loop.scratch room.len c.in-Some.attribute short, kept)
+      read = rw (collected_push room.overflow.items loop.scratch room.len c.in-Some.attribute short, kept)
           (front-goes_on _ _ _ c.in-Some.attribute _ _
-          (rw (loop.invariant.same_end, c.in-Some.is) at c.in_ok-attribute.ensures.read) loop.invariant.told);
+          (rw (loop.invariant.same_end, c.in-Some.is) at c.in_ok-attribute.ensures.read) loop.invariant.read);
       fits = search rules;
       same_end = c.in_ok-attribute.ensures.same_end ∙ loop.invariant.same_end;
     }
@@ -38,7 +38,7 @@ returns-in_ok-spill-2-clause-read g c =
           (take loop.len loop.scratch) some,
     )
     (front-ends _ _ _ _ _ _
-    (rw loop.invariant.same_end at c.in_ok-attribute.ensures.read) c.in_default.is loop.invariant.told)
+    (rw loop.invariant.same_end at c.in_ok-attribute.ensures.read) c.in_default.is loop.invariant.read)
 
 pub returns-else-not-is_empty-clause-read : goal.returns-else-not-is_empty-clause-read
 returns-else-not-is_empty-clause-read g c =
@@ -46,4 +46,4 @@ returns-else-not-is_empty-clause-read g c =
     let none : length loop.overflow.items ≡ 0 = search rules in
     rw (collected_scratch loop.len loop.scratch loop.overflow.items (nil_from_length loop.overflow.items none))
     (front-ends _ _ _ _ _ _
-    (rw loop.invariant.same_end at c.in_ok-attribute.ensures.read) c.in_default.is loop.invariant.told)
+    (rw loop.invariant.same_end at c.in_ok-attribute.ensures.read) c.in_default.is loop.invariant.read)

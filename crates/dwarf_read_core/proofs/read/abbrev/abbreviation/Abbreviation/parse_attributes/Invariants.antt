@@ -8,7 +8,7 @@ invariant-attributes g l =
     let view = g.R.Reader.view in
     let end = end_of (view l.initial.input) in
     record {
-      told : with_front (l.overflow.items ++ take l.len l.scratch) (attributes_in end (view l.input).bytes)
+      read : with_front (l.overflow.items ++ take l.len l.scratch) (attributes_in end (view l.input).bytes)
           ≡ attributes_in end (view l.initial.input).bytes;
       fits : l.len ≤ 16;
       same_end : end_of (view l.input) ≡ end;

@@ -1,4 +1,5 @@
 use Rattle.dwarf_read_core.proofs.Common.{◌≡◌, ℕ, List, length, None, Ok, empty, end_of, by_end, declaration_at, table_in}
+use Rattle.dwarf_read_core.proofs.tables.TablesAreRead.{BeginsWith}
 use Rattle.dwarf_read_core.proofs.read.abbrev.table.Abbreviations.parse.Given as goal
 
 -- the declarations so far and what is read behind them are the whole table
@@ -7,8 +8,9 @@ invariant-declarations g l =
     let view = g.R.Reader.view in
     let end = end_of (view l.initial.input) in
     record {
-      told : table_in end l.abbreviations.by_code (view l.input).bytes
+      read : table_in end l.abbreviations.by_code (view l.input).bytes
           ≡ table_in end empty (view l.initial.input).bytes;
+      begins : BeginsWith (view l.initial.input).bytes l.abbreviations.by_code (view l.input).bytes;
       unclosed : l.abbreviations.close ≡ by_end;
       first : (rest : List ℕ) → declaration_at end (view l.initial.input).bytes ≡ Ok (None, rest)
           → (view l.input).bytes ≡ (view l.initial.input).bytes;

@@ -1,0 +1,57 @@
+use Rattle.dwarf_read_core.proofs.Common.{arith, length, ap, subst, List, ℕ, Ok, Input, end_of, length-drop, debug_abbrev_reader}
+use Rattle.dwarf_read_core.proofs.tables.ExactlyOneAnswer.{answer_read, error_read, nothing_declared, outside_of}
+use Rattle.dwarf_read_core.proofs.tables.TableBounds.{answer_bound}
+use Rattle.dwarf_read_core.proofs.tables.TablesAreRead.{table_before_fits}
+use Rattle.dwarf_read_core.specs.Grammar.{IsTableBefore}
+use Rattle.std.proofs.lemmas.Result.{err_from_is_err_and}
+use Rattle.dwarf_read_core.proofs.read.abbrev.DebugAbbrev.abbreviations_and_end.Goals as goal
+
+pub returns-in_err-skip-clause-err : goal.returns-in_err-skip-clause-err
+returns-in_err-skip-clause-err g c = grind (arith, err_from_is_err_and, outside_of)
+
+pub returns-in_err-abbreviations-clause-err : goal.returns-in_err-abbreviations-clause-err
+returns-in_err-abbreviations-clause-err g c =
+    error_read _ _ _ _ _ c.from_residual-in_err-abbreviations.ensures.1
+    (rw c.in_ok-input.ensures.ok at c.in_ok-skip.ensures.ok) c.in_err-abbreviations.ensures.read
+
+pub returns-in_err-abbreviations-clause-memory : goal.returns-in_err-abbreviations-clause-memory
+returns-in_err-abbreviations-clause-memory g c =
+    let view = g.R.Reader.view in
+    let takes = rw c.in_ok-input.ensures.ok at c.in_ok-skip.ensures.ok in
+    λ free nothing failed.
+    let none = nothing_declared (end_of (view c.skip.new.self)) (view (debug_abbrev_reader c.args.self.now))
+    (g.R.Offset.ReaderOffset.value c.args.offset.0) (view c.skip.new.self).bytes nothing
+    (ap (λ (i : Input). i.bytes) takes.left) in
+    let ok = c.in_err-abbreviations.ensures.ends none.0 none.1 in
+    absurd cc
+
+pub sub-requires : goal.sub-requires
+sub-requires g c =
+    let takes = rw c.in_ok-input.ensures.ok at c.in_ok-skip.ensures.ok in
+    let bytes = ap (λ (i : Input). length i.bytes) takes.left in
+    let whole = ap (λ (i : Input). length i.bytes) c.in_ok-input.ensures.ok in
+    let behind = c.in_ok-abbreviations.ensures.behind in
+    g.met.R.Offset.ReaderOffset.can_sub_law _ _
+    (omega (arith, behind.2, table_before_fits behind.1, bytes, whole, c.len-len.ensures, length-drop {A = ℕ}))
+
+pub returns-clause-answer : goal.returns-clause-answer
+returns-clause-answer g c =
+    answer_read (Ok c.in_ok-abbreviations.abbreviations) _ _ _ (rw c.in_ok-input.ensures.ok at c.in_ok-skip.ensures.ok)
+    c.in_ok-abbreviations.ensures.read
+
+pub returns-clause-end : goal.returns-clause-end
+returns-clause-end g c =
+    let view = g.R.Reader.view in
+    let takes = rw c.in_ok-input.ensures.ok at c.in_ok-skip.ensures.ok in
+    let bytes = ap (λ (i : Input). length i.bytes) takes.left in
+    let whole = ap (λ (i : Input). length i.bytes) c.in_ok-input.ensures.ok in
+    let behind = c.in_ok-abbreviations.ensures.behind in
+    let less = g.met.R.Offset.ReaderOffset.sub_law _ _ _ c.sub.ensures in (
+      behind.0,
+      subst (λ (b : List ℕ). IsTableBefore b c.in_ok-abbreviations.abbreviations behind.0)
+          (ap (λ (i : Input). i.bytes) takes.left) behind.1,
+      omega (arith, less, behind.2, table_before_fits behind.1, bytes, whole, c.len-len.ensures, length-drop {A = ℕ}),
+    )
+
+pub returns-clause-bound : goal.returns-clause-bound
+returns-clause-bound g c = answer_bound (returns-clause-answer g c)
