@@ -56,9 +56,9 @@ begun_cut {old} {k = k} b ends =
     )
 
 -- a number that bytes are missing for, within the limit of its kind, is refused
-pub cut_refuses : {old mid new : Input} {k value : ℕ} {e : Error} (kind : Kind) → Begun old k mid value
+pub cut_rejects : {old mid new : Input} {k value : ℕ} {e : Error} (kind : Kind) → Begun old k mid value
     → k < limit kind → IsTooShort 1 mid e new → RejectsNumber kind old e new
-cut_refuses kind b within ends =
+cut_rejects kind b within ends =
     let cut = begun_cut b ends in
     let short : IsTruncated kind _ = record { short = rw (cut.1) at within; unended = cut.0.none } in
     inl (record { cut = short; left = cut.0.left; fault = cut.0.fault })
@@ -101,10 +101,10 @@ module _ {old mid new : Input} {k value byte : ℕ} (b : Begun old k mid value) 
       record { len = k + 1; is = is; left = next.2 }
 
   -- reading fails at the limit if no encoding that ends there has a value in range
-  next_refuses : (kind : Kind) → k + 1 ≡ limit kind
+  next_rejects : (kind : Kind) → k + 1 ≡ limit kind
       → (byte < 128 → IsTrue (is_in_range kind (value_of kind (take (k + 1) old.bytes))) → ⊥)
       → RejectsNumber kind old (overflow_error kind) new
-  next_refuses kind whole out =
+  next_rejects kind whole out =
       let none : (v : Number kind) (m : ℕ) → HasNumber kind old.bytes v m → ⊥ = λ v m found.
       let past = past_none old.bytes k m b.enough b.none found.is_number.encoding in
       let m_is : m ≡ k + 1 = omega (arith, past, found.is_number.within, length-take-le m old.bytes found.enough) in
@@ -139,10 +139,10 @@ module _ {old mid new : Input} {k value byte : ℕ} (b : Begun old k mid value) 
       (lt-ltb _ _ (omega (arith, sum)))
 
   -- ten bytes are no unsigned number if the tenth is above 1
-  pub refuses_tenth_unsigned : k ≡ 9 → 1 < byte → RejectsNumber unsigned64 old BadUnsignedLeb128 new
-  refuses_tenth_unsigned nine large =
+  pub rejects_tenth_unsigned : k ≡ 9 → 1 < byte → RejectsNumber unsigned64 old BadUnsignedLeb128 new
+  rejects_tenth_unsigned nine large =
       let worth = rw nine at next_worth in
-      next_refuses unsigned64 (omega arith) (λ last has. omega (arith, worth, ltb-true _ _ (rw nine at has)))
+      next_rejects unsigned64 (omega arith) (λ last has. omega (arith, worth, ltb-true _ _ (rw nine at has)))
 
   -- a short unsigned number ends with a byte without a continuation bit
   pub reads_short : (worth : ℕ) → byte < 128 → k < 3 → worth ≡ value + byte % 128 * 2 ^ (7 * k) → worth < 2 ^ 16
@@ -150,10 +150,10 @@ module _ {old mid new : Input} {k value byte : ℕ} (b : Begun old k mid value) 
   reads_short worth last short is fits = next_reads unsigned16 worth last short (next_worth ∙ sym is) (lt-ltb _ _ fits)
 
   -- three bytes are no short unsigned number if the third is above 3
-  pub refuses_third_short : k ≡ 2 → 3 < byte → RejectsNumber unsigned16 old BadUnsignedLeb128 new
-  refuses_third_short two large =
+  pub rejects_third_short : k ≡ 2 → 3 < byte → RejectsNumber unsigned16 old BadUnsignedLeb128 new
+  rejects_third_short two large =
       let worth = rw two at next_worth in
-      next_refuses unsigned16 (omega arith) (λ last has. omega (arith, worth, ltb-true _ _ (rw two at has)))
+      next_rejects unsigned16 (omega arith) (λ last has. omega (arith, worth, ltb-true _ _ (rw two at has)))
 
   -- a signed number ends with a byte without a continuation bit
   pub reads_signed : (v : ℤ) (worth bits : ℕ) (sign : Bool) → byte < 128 → k < 10
@@ -174,8 +174,8 @@ module _ {old mid new : Input} {k value byte : ℕ} (b : Begun old k mid value) 
       rw to_z-of_z (next_reads signed64 v (grind arith) (omega arith) value_is (in_range_i64 v fits))
 
   -- ten bytes are no signed number if the tenth is neither 0 nor 127
-  pub refuses_tenth_signed : k ≡ 9 → byte ≢ 0 → byte ≢ 127 → RejectsNumber signed64 old BadSignedLeb128 new
-  refuses_tenth_signed nine nonzero other = next_refuses signed64 (omega arith) (λ last has.
+  pub rejects_tenth_signed : k ≡ 9 → byte ≢ 0 → byte ≢ 127 → RejectsNumber signed64 old BadSignedLeb128 new
+  rejects_tenth_signed nine nonzero other = next_rejects signed64 (omega arith) (λ last has.
       tenth_out value (byte % 128) _ (begun_below_nine b nine) (omega arith) (omega arith) (omega arith)
       (next_signed _ 70 (nat_le 64 (byte % 128)) (rw nine refl) (omega arith) (grind arith)) has)
 

@@ -1,5 +1,5 @@
 use Rattle.dwarf_reader_core.proofs.Common.{unsigned64, rules, arith}
-use Rattle.dwarf_reader_core.proofs.Reading.{begun_below, cut_refuses, next_continues, reads_unsigned, reads_tenth_unsigned, refuses_tenth_unsigned}
+use Rattle.dwarf_reader_core.proofs.Reading.{begun_below, cut_rejects, next_continues, reads_unsigned, reads_tenth_unsigned, rejects_tenth_unsigned}
 use Rattle.dwarf_reader_core.proofs.endian_slice.EndianSliceReader.read_uleb128.Goals as goal
 
 pub with_digit-result-requires-in-loop-index-clause-below : goal.with_digit-result-requires-in-loop-index-clause-below
@@ -19,7 +19,7 @@ returns-then-not-has_continuation_bit-2-clause-ok g c =
 
 pub returns-then-byte-gt-MAX_TENTH_BYTE-clause-err : goal.returns-then-byte-gt-MAX_TENTH_BYTE-clause-err
 returns-then-byte-gt-MAX_TENTH_BYTE-clause-err g c =
-    refuses_tenth_unsigned c.loop-index.invariant.begun c.in_ok-byte-2.ensures.ok (omega arith) (omega arith)
+    rejects_tenth_unsigned c.loop-index.invariant.begun c.in_ok-byte-2.ensures.ok (omega arith) (omega arith)
 
 pub returns-clause-ok : goal.returns-clause-ok
 returns-clause-ok g c =
@@ -31,8 +31,8 @@ returns-then-not-has_continuation_bit-clause-ok g c = grind arith
 
 pub returns-in_err-byte-clause-err : goal.returns-in_err-byte-clause-err
 returns-in_err-byte-clause-err g c =
-    search (rules, cut_refuses unsigned64 c.loop-index.invariant.begun (omega arith) c.in_err-byte.ensures.err)
+    search (rules, cut_rejects unsigned64 c.loop-index.invariant.begun (omega arith) c.in_err-byte.ensures.err)
 
 pub returns-in_err-byte-2-clause-err : goal.returns-in_err-byte-2-clause-err
 returns-in_err-byte-2-clause-err g c =
-    search (rules, cut_refuses unsigned64 c.loop-index.invariant.begun (omega arith) c.in_err-byte-2.ensures.err)
+    search (rules, cut_rejects unsigned64 c.loop-index.invariant.begun (omega arith) c.in_err-byte-2.ensures.err)

@@ -1,5 +1,5 @@
 use Rattle.dwarf_reader_core.proofs.Common.{rules, signed64, true, false, arith, refl}
-use Rattle.dwarf_reader_core.proofs.Reading.{begun_none, cut_refuses, begun_below, begun_below_nine, next_below, next_continues, reads_signed, reads_tenth_signed, refuses_tenth_signed}
+use Rattle.dwarf_reader_core.proofs.Reading.{begun_none, cut_rejects, begun_below, begun_below_nine, next_below, next_continues, reads_signed, reads_tenth_signed, rejects_tenth_signed}
 use Rattle.dwarf_reader_core.proofs.reader.Reader.read_sleb128.Goals as goal
 
 pub with_digit-result-requires-in-loop-index-clause-below : goal.with_digit-result-requires-in-loop-index-clause-below
@@ -34,7 +34,7 @@ returns-in-127-clause-ok g c =
 
 pub returns-in_default-clause-err : goal.returns-in_default-clause-err
 returns-in_default-clause-err g c =
-    refuses_tenth_signed c.loop-index.invariant.begun c.in_ok-byte-2.ensures.ok (omega arith) (search rules)
+    rejects_tenth_signed c.loop-index.invariant.begun c.in_ok-byte-2.ensures.ok (omega arith) (search rules)
     (search rules)
 
 pub with_sign-requires-in-0-clause-below : goal.with_sign-requires-in-0-clause-below
@@ -50,8 +50,8 @@ returns-then-not-has_continuation_bit-clause-ok g c =
 
 pub returns-in_err-byte-clause-err : goal.returns-in_err-byte-clause-err
 returns-in_err-byte-clause-err g c =
-    search (rules, cut_refuses signed64 c.loop-index.invariant.begun (omega arith) c.in_err-byte.ensures.err)
+    search (rules, cut_rejects signed64 c.loop-index.invariant.begun (omega arith) c.in_err-byte.ensures.err)
 
 pub returns-in_err-byte-2-clause-err : goal.returns-in_err-byte-2-clause-err
 returns-in_err-byte-2-clause-err g c =
-    search (rules, cut_refuses signed64 c.loop-index.invariant.begun (omega arith) c.in_err-byte-2.ensures.err)
+    search (rules, cut_rejects signed64 c.loop-index.invariant.begun (omega arith) c.in_err-byte-2.ensures.err)

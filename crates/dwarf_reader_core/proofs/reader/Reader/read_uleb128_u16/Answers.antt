@@ -1,5 +1,5 @@
 use Rattle.dwarf_reader_core.proofs.Common.{rules, arith, refl}
-use Rattle.dwarf_reader_core.proofs.Reading.{begun_none, next_below, next_continues, reads_short, refuses_third_short}
+use Rattle.dwarf_reader_core.proofs.Reading.{begun_none, next_below, next_continues, reads_short, rejects_third_short}
 use Rattle.dwarf_reader_core.proofs.reader.Reader.read_uleb128_u16.Goals as goal
 
 pub returns-then-not-has_continuation_bit-clause-ok : goal.returns-then-not-has_continuation_bit-clause-ok
@@ -16,7 +16,7 @@ pub returns-then-third-gt-MAX_THIRD_BYTE-clause-err : goal.returns-then-third-gt
 returns-then-third-gt-MAX_THIRD_BYTE-clause-err g c =
     let one = next_continues (begun_none _) c.in_ok-first.ensures.ok _ (search rules) c.with_digit-one.ensures in
     let two = next_continues one c.in_ok-second.ensures.ok _ (search rules) c.with_digit-two.ensures in
-    refuses_third_short two c.in_ok-third.ensures.ok refl (omega arith)
+    rejects_third_short two c.in_ok-third.ensures.ok refl (omega arith)
 
 pub returns-clause-ok : goal.returns-clause-ok
 returns-clause-ok g c =
