@@ -150,28 +150,27 @@ class Package:
     row has the offset and the size of each contribution, by its section."""
 
     def __init__(self):
-        self.rows = {base: [] for base in UNITS}
+        self.rows, self.starts = {base: {} for base in UNITS}, {}
 
     def add(self, row, is_new):
         # DWARF 5 has no section of types, and the column's number is reserved.
         for base in UNITS[: 1 if is_new else 2]:
             if base in row:
-                self.rows[base].append(row)
+                self.rows[base][row[base][0]] = row
 
     def sort(self):
-        for base, rows in self.rows.items():
-            rows.sort(key=lambda it: it[base][0])
+        self.starts = {base: sorted(rows) for base, rows in self.rows.items()}
 
     def row(self, unit):
         """The row of a unit. It is empty if the indexes have none."""
         base = unit.section.base
-        at = bisect.bisect(self.rows[base], unit.offset, key=lambda it: it[base][0])
-        start, size = self.rows[base][at - 1][base] if at else (0, 0)
-        return self.rows[base][at - 1] if unit.offset < start + size else {}
+        at = bisect.bisect(self.starts[base], unit.offset)
+        row = self.rows[base][self.starts[base][at - 1]] if at else {base: (0, 0)}
+        return row if unit.offset < sum(row[base]) else {}
 
     def contributions(self, base):
         """Where the contributions to a section are."""
-        return sorted({row[base] for rows in self.rows.values() for row in rows if base in row})
+        return sorted({row[base] for rows in self.rows.values() for row in rows.values() if base in row})
 
 
 class Body:
