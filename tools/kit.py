@@ -187,10 +187,7 @@ def lanes(memory, others=0):
     """How many commands that take so much memory the machine has processors and room for, at least one. The second
     number is what all of them take together beside that."""
     processors = len(os.sched_getaffinity(0))
-    try:
-        free = int(re.search(r"MemAvailable:\s+(\d+) kB", text_of("/proc/meminfo"))[1]) * 1024
-    except (OSError, TypeError):
-        return processors
+    free = int(re.search(r"MemAvailable:\s+(\d+) kB", text_of("/proc/meminfo"))[1]) * 1024
     return max(1, min(processors, (free - others) // memory))
 
 
