@@ -213,9 +213,8 @@ class Listing:
         at, end = sets[0][0], sets[-1][1]
         try:
             self.keep(body, at, end)
-            moved = lambda line: b"set %d:%b" % (at + int(line[4 : line.index(b":")]), line[line.index(b":") + 1 :])
-            words = [self.program(), self.command, self.order]
-            status, error = run(words, self.path, lambda line: moved(line) if line.startswith(b"set ") else line)
+            moved = lambda line: re.sub(rb"^set (\d+)", lambda it: b"set %d" % (at + int(it[1])), line)
+            status, error = run([self.program(), self.command, self.order], self.path, moved)
         except Unlisted as fault:
             status, error = 1, f"{fault}, and isn't listed"
         if status and len(sets) > 1:
