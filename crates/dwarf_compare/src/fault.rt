@@ -14,10 +14,11 @@ pub struct Fault {
     pub value: u64,
 }
 
-// The error by its number and its value.
-fn fault_of(error: Error) -> Fault
-    ensures reported { result ≡ fault_of error }
-    ensures counted { 0 < result.kind }
+// Writes the number and the value of an error, and returns the number.
+pub(crate) fn reject(error: Error, fault: &mut Fault) -> u32
+    ensures reported { fault.new ≡ fault_of error }
+    ensures status { result ≡ kind_of error }
+    ensures nonzero { 0 < result }
 {
     let (kind, value) = match error {
         Error::UnexpectedEof(ReaderOffsetId(position)) => (1, position),
@@ -32,15 +33,6 @@ fn fault_of(error: Error) -> Fault
         Error::UnterminatedAbbreviations(ReaderOffsetId(position)) => (19, position),
         _ => (255, 0),
     };
-    Fault { kind, value }
-}
-
-// Writes an error, and returns its number.
-pub(crate) fn reported(error: Error, fault: &mut Fault) -> u32
-    ensures reported { fault.new ≡ fault_of error }
-    ensures status { result ≡ kind_of error }
-    ensures counted { 0 < result }
-{
-    *fault = fault_of(error);
-    fault.kind
+    *fault = Fault { kind, value };
+    kind
 }

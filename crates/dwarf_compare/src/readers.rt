@@ -71,12 +71,8 @@ fn by_reader(mem: Global, section: &[u8], asked: Asked, found: &mut Found) -> Re
         (1, _) => read(mem, EndianSlice::new(section, order), asked, found),
         (2, _) => {
             let bytes = Vec::from_slice(mem, section)?;
-            read(
-                mem,
-                OwnedReader::new(mem, bytes, order, u8::MAX)?,
-                asked,
-                found,
-            )
+            let input = OwnedReader::new(mem, bytes, order, u8::MAX)?;
+            read(mem, input, asked, found)
         }
         _ => {
             let bytes = Vec::from_slice(mem, section)?;
@@ -85,38 +81,32 @@ fn by_reader(mem: Global, section: &[u8], asked: Asked, found: &mut Found) -> Re
     }
 }
 
-// What a reader finds. The questions are those of `compare/src/ours.rs`.
+// What a reader finds. The questions are those of `compare/src/question.rs`.
 fn read<R: Reader>(mem: Global, input: R, asked: Asked, found: &mut Found) -> Result<()> {
-    match asked.question {
-        4 => table(mem, &input.into(), asked, found),
-        5 => strict(mem, &input.into(), asked, found),
-        6 => string(&input.into(), asked, found),
-        7 => str_offset(&input.into(), asked, found),
-        8 => address(&input.into(), asked, found),
-        9 => address_set(input, asked, found),
-        10 => str_offset_set(input, asked, found),
-        11 => addresses(&input.into(), found),
-        _ => number(input, asked, found),
-    }
-}
-
-fn number<R: Reader>(mut input: R, asked: Asked, found: &mut Found) -> Result<()> {
-    let number = number_of(&mut input, asked.question);
-    found.rest = input.len().into_u64();
-    found.value = number?;
+    found.value = match asked.question {
+        4 => return table(mem, &input.into(), asked, found),
+        5 => strict(mem, &input.into(), asked)?,
+        6 => string(&input.into(), asked)?,
+        7 => str_offset(&input.into(), asked)?,
+        8 => address(&input.into(), asked)?,
+        9 => return address_set(input, asked, found),
+        10 => return str_offset_set(input, asked, found),
+        11 => sum_of_sets(&DebugAddr::from(input))?,
+        _ => return number(input, asked, found),
+    };
     Ok(())
 }
 
-fn number_of<R: Reader>(input: &mut R, kind: u32) -> Result<u64> {
-    match kind {
+fn number<R: Reader>(mut input: R, asked: Asked, found: &mut Found) -> Result<()> {
+    let number = match asked.question {
         0 => input.read_uleb128(),
-        1 => Ok(input.read_sleb128()?.cast_unsigned()),
-        2 => Ok(u64::from(input.read_uleb128_u16()?)),
-        _ => {
-            input.skip_leb128()?;
-            Ok(0)
-        }
-    }
+        1 => input.read_sleb128().map(|number| number.cast_unsigned()),
+        2 => input.read_uleb128_u16().map(|number| u64::from(number)),
+        _ => input.skip_leb128().map(|()| 0),
+    };
+    found.rest = input.len().into_u64();
+    found.value = number?;
+    Ok(())
 }
 
 // The sum of all parts of a table, how many declarations it has, and what closes it.
@@ -134,45 +124,31 @@ fn table<R: Reader>(
     Ok(())
 }
 
-fn strict<R: Reader>(
-    mem: Global,
-    section: &DebugAbbrev<R>,
-    asked: Asked,
-    found: &mut Found,
-) -> Result<()> {
+fn strict<R: Reader>(mem: Global, section: &DebugAbbrev<R>, asked: Asked) -> Result<u64> {
     let offset = DebugAbbrevOffset(R::Offset::from_u64(asked.base)?);
-    found.value = section.abbreviations_strict(mem, offset)?.len() as u64;
-    Ok(())
+    Ok(section.abbreviations_strict(mem, offset)?.len() as u64)
 }
 
-fn string<R: Reader>(section: &DebugStr<R>, asked: Asked, found: &mut Found) -> Result<()> {
+fn string<R: Reader>(section: &DebugStr<R>, asked: Asked) -> Result<u64> {
     let offset = DebugStrOffset(R::Offset::from_u64(asked.base)?);
-    found.value = section.get_str(offset)?.len().into_u64();
-    Ok(())
+    Ok(section.get_str(offset)?.len().into_u64())
 }
 
-fn str_offset<R: Reader>(
-    section: &DebugStrOffsets<R>,
-    asked: Asked,
-    found: &mut Found,
-) -> Result<()> {
+fn str_offset<R: Reader>(section: &DebugStrOffsets<R>, asked: Asked) -> Result<u64> {
     let format = match asked.size {
         8 => Format::Dwarf64,
         _ => Format::Dwarf32,
     };
     let base = DebugStrOffsetsBase(R::Offset::from_u64(asked.base)?);
     let index = DebugStrOffsetsIndex(R::Offset::from_u64(asked.index)?);
-    let offset = section.get_str_offset(format, base, index)?;
-    found.value = offset.0.into_u64();
-    Ok(())
+    Ok(section.get_str_offset(format, base, index)?.0.into_u64())
 }
 
-fn address<R: Reader>(section: &DebugAddr<R>, asked: Asked, found: &mut Found) -> Result<()> {
+fn address<R: Reader>(section: &DebugAddr<R>, asked: Asked) -> Result<u64> {
     let size = (asked.size & 0xff) as u8;
     let base = DebugAddrBase(R::Offset::from_u64(asked.base)?);
     let index = DebugAddrIndex(R::Offset::from_u64(asked.index)?);
-    found.value = section.get_address(size, base, index)?;
-    Ok(())
+    section.get_address(size, base, index)
 }
 
 fn address_set<R: Reader>(mut input: R, asked: Asked, found: &mut Found) -> Result<()> {
@@ -199,10 +175,5 @@ fn str_offset_set<R: Reader>(mut input: R, asked: Asked, found: &mut Found) -> R
         }
         None => found.rest = 1,
     }
-    Ok(())
-}
-
-fn addresses<R: Reader>(section: &DebugAddr<R>, found: &mut Found) -> Result<()> {
-    found.value = sum_of_sets(section)?;
     Ok(())
 }

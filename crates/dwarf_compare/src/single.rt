@@ -5,11 +5,12 @@ ghost use Rattle.std.specs.FinMap as finite;
 ghost use Rattle.dwarf_read_core.specs.Answer.{Answer, Answers, AnswersStrictly, StrictAnswer};
 ghost use Rattle.dwarf_read_core.specs.Cache.{IsFaithful, answer_of};
 ghost use Rattle.dwarf_read_core.specs.Grammar.{Table};
-ghost use Rattle.dwarf_read_core.specs.Leb128.{unsigned16};
+ghost use Rattle.dwarf_read_core.specs.Input.{Input};
+ghost use Rattle.dwarf_read_core.specs.Leb128.{unsigned16, LacksEncoding, ReadsNumber, RejectsNumber, TakesEncoding};
 ghost use Rattle.dwarf_compare.specs.Fault.{Rejects};
-ghost use Rattle.dwarf_compare.specs.Sections.{HasLength, Lacks, LacksEnd, Reads, Skips, section_of, tag_in};
+ghost use Rattle.dwarf_compare.specs.Sections.{section_of, tag_in};
 
-use crate::fault::{Fault, reported};
+use crate::fault::{Fault, reject};
 use dwarf_read_core::{
     Abbreviations, AbbreviationsCache, AbbreviationsCacheStrategy, DebugAbbrev, DebugAbbrevOffset,
     EndianSlice, Error, LittleEndian, Reader, Result,
@@ -29,8 +30,11 @@ pub extern "C" fn compare_short(
     rest: &mut usize,
     fault: &mut Fault,
 ) -> u32
-    ensures read { result ≡ 0 → Reads unsigned16 bytes.now value.new rest.new }
-    ensures refused { result ≢ 0 → Rejects (Lacks unsigned16 bytes.now rest.new) result fault.new }
+    ensures read { result ≡ 0 → (left : Input)
+        × ReadsNumber unsigned16 (section_of bytes.now) value.new left × (rest.new ≡ length left.bytes) }
+    ensures rejected { result ≢ 0 → Rejects (λ e. (left : Input)
+        × RejectsNumber unsigned16 (section_of bytes.now) e left × (rest.new ≡ length left.bytes))
+        result fault.new }
 {
     let mut input = EndianSlice::new(bytes, LittleEndian);
     let found = input.read_uleb128_u16();
@@ -40,22 +44,25 @@ pub extern "C" fn compare_short(
             *value = number;
             0
         }
-        Err(error) => reported(error, fault),
+        Err(error) => reject(error, fault),
     }
 }
 
 /// Skips the number of any length that `bytes` begin with, otherwise as [`compare_short`].
 #[unsafe(no_mangle)]
 pub extern "C" fn compare_skipped(bytes: &[u8], rest: &mut usize, fault: &mut Fault) -> u32
-    ensures read { result ≡ 0 → Skips bytes.now rest.new }
-    ensures refused { result ≢ 0 → Rejects (LacksEnd bytes.now rest.new) result fault.new }
+    ensures read { result ≡ 0 → (left : Input)
+        × TakesEncoding (section_of bytes.now) left × (rest.new ≡ length left.bytes) }
+    ensures rejected { result ≢ 0 → Rejects (λ e. (left : Input)
+        × LacksEncoding (section_of bytes.now) e left × (rest.new ≡ length left.bytes))
+        result fault.new }
 {
     let mut input = EndianSlice::new(bytes, LittleEndian);
     let found = input.skip_leb128();
     *rest = input.len();
     match found {
         Ok(()) => 0,
-        Err(error) => reported(error, fault),
+        Err(error) => reject(error, fault),
     }
 }
 
@@ -72,7 +79,7 @@ pub extern "C" fn compare_strict(
 ) -> u32
     ensures read { let s = section_of section.now in result ≡ 0
         → (t : Table) × StrictAnswer s offset (Ok t) × (count.new ≡ finite.len t.by_code) }
-    ensures refused { let s = section_of section.now in
+    ensures rejected { let s = section_of section.now in
         result ≢ 0 → Rejects (λ e. AnswersStrictly (Err e) s offset) result fault.new }
 {
     match strict_at(mem, section, offset) {
@@ -80,7 +87,7 @@ pub extern "C" fn compare_strict(
             *count = table.len();
             0
         }
-        Err(error) => reported(error, fault),
+        Err(error) => reject(error, fault),
     }
 }
 
@@ -104,8 +111,9 @@ pub extern "C" fn compare_grown(
     count: &mut usize,
     fault: &mut Fault,
 ) -> u32
-    ensures read { let s = section_of section.now in result ≡ 0 → HasLength s offset count.new }
-    ensures refused { let s = section_of section.now in
+    ensures read { let s = section_of section.now in result ≡ 0
+        → (t : Table) × Answer s offset (Ok t) × (count.new ≡ finite.len t.by_code) }
+    ensures rejected { let s = section_of section.now in
         result ≢ 0 → Rejects (λ e. Answers (Err e) s offset) result fault.new }
 {
     match grown_at(mem, section, before, offset) {
@@ -113,7 +121,7 @@ pub extern "C" fn compare_grown(
             *count = table.len();
             0
         }
-        Err(error) => reported(error, fault),
+        Err(error) => reject(error, fault),
     }
 }
 
@@ -165,7 +173,7 @@ pub extern "C" fn compare_found(
 ) -> u32
     ensures found { let s = section_of section.now in result ≡ 0
         → (t : Table) × Answer s offset (Ok t) × (tags.new ≡ map (tag_in t) codes.now) }
-    ensures refused { let s = section_of section.now in result ≢ 0 → result ≢ NO_ROOM
+    ensures rejected { let s = section_of section.now in result ≢ 0 → result ≢ NO_ROOM
         → Rejects (λ e. Answers (Err e) s offset) result fault.new }
     ensures full { result ≡ NO_ROOM → length tags.old ≢ length codes.now }
 {
@@ -177,7 +185,7 @@ pub extern "C" fn compare_found(
             find_each(&table, codes, tags);
             0
         }
-        Err(error) => reported(error, fault),
+        Err(error) => reject(error, fault),
     }
 }
 

@@ -17,17 +17,12 @@ pub const FAILED: usize = 1 << 32;
 pub extern "C" fn compare_tables(mem: Global, section: &[u8], offsets: &[usize]) -> usize {
     let mut sum: usize = 0;
     for offset in offsets {
-        sum = sum.wrapping_add(counted(mem, section, *offset));
+        sum = sum.wrapping_add(match table_at(mem, section, *offset) {
+            Ok(table) => table.len(),
+            Err(_) => FAILED,
+        });
     }
     sum
-}
-
-// How many abbreviations the table at an offset has, or what an error counts as.
-fn counted(mem: Global, section: &[u8], offset: usize) -> usize {
-    match table_at(mem, section, offset) {
-        Ok(table) => table.len(),
-        Err(_) => FAILED,
-    }
 }
 
 // The sum of the tags that are found.
@@ -112,20 +107,15 @@ fn filled(mem: Global, section: &[u8], offsets: &[usize]) -> Result<Abbreviation
     Ok(cache)
 }
 
-// How many abbreviations the table has that a cache returns, or what an error counts as.
-fn count_cached(cache: &AbbreviationsCache, section: &[u8], offset: usize) -> usize {
-    let section = DebugAbbrev::new(section, LittleEndian);
-    match cache.get(&section, DebugAbbrevOffset(offset)) {
-        Ok(table) => table.len(),
-        Err(_) => FAILED,
-    }
-}
-
-// The sum of the lengths that a cache returns.
+// How many abbreviations the tables have together that a cache returns.
 fn get_cached(cache: &AbbreviationsCache, section: &[u8], offsets: &[usize]) -> usize {
+    let section = DebugAbbrev::new(section, LittleEndian);
     let mut sum: usize = 0;
     for offset in offsets {
-        sum = sum.wrapping_add(count_cached(cache, section, *offset));
+        sum = sum.wrapping_add(match cache.get(&section, DebugAbbrevOffset(*offset)) {
+            Ok(table) => table.len(),
+            Err(_) => FAILED,
+        });
     }
     sum
 }
