@@ -89,7 +89,7 @@ static void check_texts(void) {
 
 static void check_tables(void) {
     static const uint8_t section[] = {1, 0x11, 1, 3, 8, 0, 0, 0};
-    struct dwarf_measure measure = {7, 7, 7};
+    struct dwarf_measure measure = {7, 7, 7, 7};
     struct dwarf_fault fault = {7, 7};
     struct dwarf_abbreviation abbreviation;
     struct dwarf_attribute attribute;
@@ -103,6 +103,7 @@ static void check_tables(void) {
     status = dwarf_table_read(section, sizeof section, 0, &abbreviation, 1, &attribute, 1,
         &measure, &fault);
     check(status == DWARF_OK && measure.closed_by_null == 1 && fault.kind == 7, "a table");
+    check(measure.end == sizeof section, "its end");
     check(abbreviation.code == 1 && abbreviation.tag == 0x11 && abbreviation.has_children == 1,
         "its tag");
     check(abbreviation.first_attribute == 0 && abbreviation.attribute_count == 1, "its attributes");

@@ -52,10 +52,10 @@ none_first : {A : Type 0} {item : ℕ → Layout A} {offset : ℕ} {old : Input}
 none_first (none empty) = empty
 
 -- an offset from which on there is no item is the length of the section
-pub set_ended : {H : Type 0} (header : Layout H) (bytes : List ℕ) (is_big : Bool) {offset : ℕ} {old : Headers}
+pub set_after_the_last : {H : Type 0} (header : Layout H) (bytes : List ℕ) (is_big : Bool) {offset : ℕ} {old : Headers}
     → offset ≤ length bytes → old ≡ sets_from offset (section_of bytes is_big)
     → RepresentsSets header (2 ^ 64 - 1) old [] → offset ≡ length bytes
-set_ended header bytes is_big {offset} {old} within start ended =
+set_after_the_last header bytes is_big {offset} {old} within start ended =
     let empty = none_first (subst (λ (h : Headers). RepresentsSets header (2 ^ 64 - 1) h []) start ended) in
     omega (arith, within, length-drop offset bytes, ap length empty)
 

@@ -1,7 +1,9 @@
 -- A table of abbreviations, as C sees it.
-use Rattle.std.specs.Prelude.{ℕ, ◌+◌, ◌<◌, ◌⊎◌, List, [], ◌∷◌, map, length, Bool, true, false, unwrap_or, pos}
+use Rattle.std.specs.Prelude.{◌≡◌, ℕ, ◌+◌, ◌<◌, ◌⊎◌, List, [], ◌∷◌, map, length, Bool, true, false, unwrap_or, pos}
 use Rattle.std.specs.FinMap.{len, values}
 use Rattle.std.specs.List.{flat_map}
+use Rattle.dwarf_read_core.specs.Input.{Input}
+use Rattle.dwarf_read_core.specs.Answer.{EndsAt}
 use Rattle.dwarf_read_core.specs.Grammar.{Declaration, Specification, Table, attribute_count, is_by_null}
 use Rattle.dwarf_read_c.specs.declared.tables.DwarfAbbreviation.{DwarfAbbreviation}
 use Rattle.dwarf_read_c.specs.declared.tables.DwarfAttribute.{DwarfAttribute}
@@ -12,13 +14,18 @@ abbrev pub bit_of : Bool → ℕ
 bit_of true = 1
 bit_of false = 0
 
--- how many declarations and attributes a table has, and what closes it
-abbrev pub measure_of : Table → DwarfMeasure
-measure_of t = record {
+-- how many declarations and attributes a table has, where it ends, and what closes it
+abbrev pub measure_of : Table → ℕ → DwarfMeasure
+measure_of t end = record {
   abbreviations = len t.by_code;
   attributes = attribute_count t.by_code;
+  end = end;
   closed_by_null = bit_of (is_by_null t.close);
 }
+
+-- the measure of the table at an offset of a section
+abbrev pub Measures : DwarfMeasure → Input → ℕ → Table → Type 0
+Measures m section offset t = (end : ℕ) × EndsAt section offset t end × (m ≡ measure_of t end)
 
 -- a specification; one without a value has the value 0
 abbrev pub attribute_of : Specification → DwarfAttribute

@@ -1,13 +1,13 @@
 //! Abbreviation tables (DWARF 5, 7.5.3).
 
-ghost use Rattle.std.specs.Prelude.{◌≡◌, ◌≢◌, ◌≤◌, ◌<◌, ◌^◌, false, Ok, Err, length, map, IfOk};
+ghost use Rattle.std.specs.Prelude.{◌≡◌, ◌≢◌, ◌≤◌, ◌<◌, ◌^◌, false, Ok, Err, length, map, IfOk, IfErr};
 ghost use Rattle.std.specs.FinMap as finite;
-ghost use Rattle.dwarf_read_core.specs.Answer.{Answer, Answers};
+ghost use Rattle.dwarf_read_core.specs.Answer.{Answer, Answers, EndsAt};
 ghost use Rattle.dwarf_read_core.specs.Grammar.{Table, attribute_count};
 ghost use Rattle.dwarf_read_c.specs.Fault.{Rejects};
 ghost use Rattle.dwarf_read_c.specs.Room.{Fills};
 ghost use Rattle.dwarf_read_c.specs.Sections.{section_of};
-ghost use Rattle.dwarf_read_c.specs.Tables.{LacksRoom, abbreviations_of, attribute_of, attributes_of, measure_of};
+ghost use Rattle.dwarf_read_c.specs.Tables.{LacksRoom, Measures, abbreviations_of, attribute_of, attributes_of, measure_of};
 
 use crate::fault::{DwarfFault, reject};
 use crate::status::{DWARF_NO_ROOM, DWARF_OK};
@@ -16,7 +16,7 @@ use dwarf_read_core::{
 };
 use std::alloc::Global;
 
-/// How large an abbreviation table is, and what closes it.
+/// How large an abbreviation table is, where it ends, and what closes it.
 #[repr(C)]
 #[derive(Clone, Copy)]
 pub struct DwarfMeasure {
@@ -24,6 +24,8 @@ pub struct DwarfMeasure {
     pub abbreviations: usize,
     /// How many attributes they have together.
     pub attributes: usize,
+    /// The offset behind the code of value 0 that closes the table, or the section's length.
+    pub end: usize,
     /// 1 if a code of value 0 closes the table, and 0 if the section's end does.
     pub closed_by_null: u8,
 }
@@ -56,7 +58,7 @@ pub struct DwarfAttribute {
 }
 
 /// Measures the table at `offset` of `.debug_abbrev`: how many abbreviations and attributes it has,
-/// and what closes it.
+/// where it ends, and what closes it.
 ///
 /// # Errors
 ///
@@ -80,15 +82,15 @@ pub extern "C" fn dwarf_table_measure(
     fault: &mut DwarfFault,
 ) -> u32
     ensures measured { let s = section_of section.now false in result ≡ DWARF_OK
-        → (t : Table) × Answer s offset (Ok t) × (measure.new ≡ measure_of t) }
+        → (t : Table) × Answer s offset (Ok t) × Measures measure.new s offset t }
     ensures rejected { let s = section_of section.now false in result ≢ DWARF_OK
         → Rejects (λ e. Answers (Err e) s offset) result fault.new }
     ensures no_measure { result ≢ DWARF_OK → measure.new ≡ measure.old }
     ensures no_fault { result ≡ DWARF_OK → fault.new ≡ fault.old }
 {
     match table_at(mem, section, offset) {
-        Ok(table) => {
-            *measure = measure_of(&table);
+        Ok((table, end)) => {
+            *measure = measure_of(&table, end);
             DWARF_OK
         }
         Err(error) => reject(error, fault),
@@ -117,11 +119,11 @@ pub extern "C" fn dwarf_table_read(
     fault: &mut DwarfFault,
 ) -> u32
     ensures read { let s = section_of section.now false in result ≡ DWARF_OK
-        → (t : Table) × Answer s offset (Ok t) × (measure.new ≡ measure_of t)
+        → (t : Table) × Answer s offset (Ok t) × Measures measure.new s offset t
         × Fills (abbreviations_of t) abbreviations.old abbreviations.new
         × Fills (attributes_of t) attributes.old attributes.new }
     ensures full { let s = section_of section.now false in result ≡ DWARF_NO_ROOM
-        → (t : Table) × Answer s offset (Ok t) × (measure.new ≡ measure_of t)
+        → (t : Table) × Answer s offset (Ok t) × Measures measure.new s offset t
         × LacksRoom measure.new (length abbreviations.old) (length attributes.old)
         × (fault.new ≡ fault.old) }
     ensures rejected { let s = section_of section.now false in
@@ -131,11 +133,11 @@ pub extern "C" fn dwarf_table_read(
         → (abbreviations.new ≡ abbreviations.old) × (attributes.new ≡ attributes.old) }
     ensures no_fault { result ≡ DWARF_OK → fault.new ≡ fault.old }
 {
-    let table = match table_at(mem, section, offset) {
-        Ok(table) => table,
+    let (table, end) = match table_at(mem, section, offset) {
+        Ok(found) => found,
         Err(error) => return reject(error, fault),
     };
-    *measure = measure_of(&table);
+    *measure = measure_of(&table, end);
     if abbreviations.len() < measure.abbreviations || attributes.len() < measure.attributes {
         return DWARF_NO_ROOM;
     }
@@ -144,18 +146,22 @@ pub extern "C" fn dwarf_table_read(
     DWARF_OK
 }
 
-// Returns the table at an offset. Its attributes can be counted in a `usize`.
-fn table_at(mem: Global, section: &[u8], offset: usize) -> Result<Abbreviations, Error>
-    ensures answer { Answers result (section_of section.now false) offset }
-    ensures counted { IfOk result (λ t. attribute_count t.by_code < 2 ^ 64) }
+// Returns the table at an offset, and where it ends. Its attributes can be counted in a `usize`.
+fn table_at(mem: Global, section: &[u8], offset: usize) -> Result<(Abbreviations, usize), Error>
+    ensures answer { let s = section_of section.now false in
+        IfOk result (λ r. Answer s offset (Ok r.0) × EndsAt s offset r.0 r.1) }
+    ensures err { IfErr result (λ e. Answers (Err e) (section_of section.now false) offset) }
+    ensures counted { IfOk result (λ r. attribute_count r.0.by_code < 2 ^ 64) }
 {
-    DebugAbbrev::new(section, LittleEndian).abbreviations(mem, DebugAbbrevOffset(offset))
+    let section = DebugAbbrev::new(section, LittleEndian);
+    let (table, end) = section.abbreviations_and_end(mem, DebugAbbrevOffset(offset))?;
+    Ok((table, end.0))
 }
 
-// Returns how large the table is.
-fn measure_of(table: &Abbreviations) -> DwarfMeasure
+// Returns how large the table is, and that it ends there.
+fn measure_of(table: &Abbreviations, end: usize) -> DwarfMeasure
     requires { attribute_count table.now.by_code < 2 ^ 64 }
-    ensures { result ≡ measure_of table.now }
+    ensures { result ≡ measure_of table.now end }
 {
     let mut attributes = 0;
     for abbreviation in table.iter() {
@@ -164,6 +170,7 @@ fn measure_of(table: &Abbreviations) -> DwarfMeasure
     DwarfMeasure {
         abbreviations: table.len(),
         attributes,
+        end,
         closed_by_null: u8::from(table.closed_by_null()),
     }
 }

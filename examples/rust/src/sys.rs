@@ -35,6 +35,7 @@ pub struct Set {
 pub struct Measure {
     pub abbreviations: usize,
     pub attributes: usize,
+    pub end: usize,
     pub closed_by_null: u8,
 }
 

@@ -30,6 +30,7 @@ pub struct Table {
     rows: Vec<sys::Abbreviation>,
     // The attributes of all abbreviations, in the same order.
     attributes: Vec<Attribute>,
+    end: usize,
     is_closed_by_null: bool,
 }
 
@@ -67,7 +68,8 @@ impl Table {
                 fault,
             )
         })?;
-        Ok(Table { rows, attributes, is_closed_by_null: measure.closed_by_null == 1 })
+        let is_closed_by_null = measure.closed_by_null == 1;
+        Ok(Table { rows, attributes, end: measure.end, is_closed_by_null })
     }
 
     /// Returns the abbreviation with a code.
@@ -94,6 +96,12 @@ impl Table {
     /// Returns whether the table has no abbreviations.
     pub fn is_empty(&self) -> bool {
         self.rows.is_empty()
+    }
+
+    /// Returns the offset in the section behind the code of value 0 that closes the table, or the
+    /// section's length. Another table may begin there.
+    pub fn end(&self) -> usize {
+        self.end
     }
 
     /// Returns whether a code of value 0 closes the table, and not the section's end.

@@ -14,6 +14,7 @@ const TABLE: &[u8] = b"\x02\x2e\x00\x03\x21\x56\x00\x00\x01\x11\x01\x03\x08\x13\
 const NOTHING: DwarfMeasure = DwarfMeasure {
     abbreviations: 7,
     attributes: 7,
+    end: 7,
     closed_by_null: 7,
 };
 
@@ -32,18 +33,19 @@ const NO_ATTRIBUTE: DwarfAttribute = DwarfAttribute {
 };
 
 // A status, the fields of a measure, and an error.
-type Outcome = (u32, (usize, usize, u8), Fault);
+type Outcome = (u32, (usize, usize, usize, u8), Fault);
 
 // Offsets, and what measuring the table there returns and writes.
 static MEASURES: &[(usize, Outcome)] = &[
-    (0, (0, (2, 3, 1), (7, 7))),
-    (18, (0, (0, 0, 0), (7, 7))),
-    (19, (1, (7, 7, 7), (1, 0))),
-    (3, (5, (7, 7, 7), (5, 0x56))),
+    (0, (0, (2, 3, 18, 1), (7, 7))),
+    (17, (0, (0, 0, 18, 1), (7, 7))),
+    (18, (0, (0, 0, 18, 0), (7, 7))),
+    (19, (1, (7, 7, 7, 7), (1, 0))),
+    (3, (5, (7, 7, 7, 7), (5, 0x56))),
 ];
 
 fn outcome(status: u32, m: &DwarfMeasure, fault: &DwarfFault) -> Outcome {
-    let measure = (m.abbreviations, m.attributes, m.closed_by_null);
+    let measure = (m.abbreviations, m.attributes, m.end, m.closed_by_null);
     (status, measure, pair(fault))
 }
 
@@ -78,12 +80,12 @@ fn tables_are_read(rt: HostRuntime) {
     let (mut m, mut fault) = (NOTHING, SEVEN);
     let (places, few) = (&mut ours, &mut its[..2]);
     let status = dwarf_table_read(mem, TABLE, 0, places, few, &mut m, &mut fault);
-    let wanted = (DWARF_NO_ROOM, (2, 3, 1), (7, 7));
+    let wanted = (DWARF_NO_ROOM, (2, 3, 18, 1), (7, 7));
     same(&rt, outcome(status, &m, &fault), wanted, "few places");
     check_abbreviation(&rt, &ours[0], (7, 7, 7, (7, 7)));
     check_attribute(&rt, &its[0], (7, 7, 7));
     let status = dwarf_table_read(mem, TABLE, 0, &mut ours, &mut its, &mut m, &mut fault);
-    let wanted = (0, (2, 3, 1), (7, 7));
+    let wanted = (0, (2, 3, 18, 1), (7, 7));
     same(&rt, outcome(status, &m, &fault), wanted, "places");
     let [first, second, third] = &ours;
     check_abbreviation(&rt, first, (1, 0x11, 1, (0, 2)));

@@ -88,14 +88,14 @@ fn loaded() -> std::result::Result<&'static [u8], SectionId> {
 }
 
 // What is returned in place of the addresses.
-fn refused() -> Option<SectionId> {
+fn unloaded() -> Option<SectionId> {
     DebugAddr::load(load).err()
 }
 
 #[test]
 fn sections_are_loaded(rt: HostRuntime) {
     same(&rt, loaded(), Ok(b"abc\0".as_slice()), "strings");
-    same(&rt, refused(), Some(SectionId::DebugAddr), "addresses");
+    same(&rt, unloaded(), Some(SectionId::DebugAddr), "addresses");
 }
 
 fn borrowed<'a>(bytes: &'a [u8; 4]) -> Slice<'a> {

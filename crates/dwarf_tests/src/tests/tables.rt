@@ -197,29 +197,30 @@ fn default_sections_have_no_bytes(rt: HostRuntime) {
     check_read(&rt, table, Ok(NO_TABLE), b"");
 }
 
-// Bytes, and the lengths of their beginnings that are whole tables, each with its number of declarations, and whether a
-// code of value 0 closes it.
+// Bytes, and the lengths of their beginnings that are whole tables, each with its number of declarations, whether a
+// code of value 0 closes it, and where it ends.
 #[rattlefmt::skip]
-static CUTS: &[(&[u8], &[(usize, usize, bool)])] = &[
-    (UNIT, &[(0, 0, false), (7, 1, false), (8, 1, true), (9, 1, true)]),
-    (IMPLICIT, &[(0, 0, false), (8, 1, false), (9, 1, true)]),
-    (THREE, &[(0, 0, false), (5, 1, false), (10, 2, false), (15, 3, false), (16, 3, true)]),
+static CUTS: &[(&[u8], &[(usize, (usize, bool, usize))])] = &[
+    (UNIT, &[(0, (0, false, 0)), (7, (1, false, 7)), (8, (1, true, 8)), (9, (1, true, 8))]),
+    (IMPLICIT, &[(0, (0, false, 0)), (8, (1, false, 8)), (9, (1, true, 9))]),
+    (THREE, &[(0, (0, false, 0)), (5, (1, false, 5)), (10, (2, false, 10)), (15, (3, false, 15)), (16, (3, true, 16))]),
 ];
 
-// How many declarations a table has, and whether a code of value 0 closes it.
-fn length_at(mem: Global, bytes: &[u8]) -> Result<(usize, bool)> {
-    let table = table_at(mem, 0, bytes, 0)?;
-    Ok((table.len(), table.closed_by_null()))
+// How many declarations a table has, whether a code of value 0 closes it, and where it ends.
+fn length_at(mem: Global, bytes: &[u8]) -> Result<(usize, bool, usize)> {
+    let section = DebugAbbrev::from(reader_at(bytes, LittleEndian, 100));
+    let (table, end) = section.abbreviations_and_end(mem, DebugAbbrevOffset(0))?;
+    Ok((table.len(), table.closed_by_null(), end.0))
 }
 
 #[test]
 fn cut_tables_end_early(rt: HostRuntime) {
     for (bytes, whole) in CUTS {
         for len in 0..bytes.len() + 1 {
-            let mut wanted = Err(eof(len as u64));
-            for (whole_len, count, is_closed) in *whole {
+            let mut wanted = Err(eof(100 + len as u64));
+            for (whole_len, table) in *whole {
                 if *whole_len == len {
-                    wanted = Ok((*count, *is_closed));
+                    wanted = Ok(*table);
                 }
             }
             let bytes = &bytes[..len];

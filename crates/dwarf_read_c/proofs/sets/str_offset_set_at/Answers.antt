@@ -1,5 +1,5 @@
 use Rattle.dwarf_read_c.proofs.Common.{string_offsets_header, string_offsets_header-size, string_offsets_of, arith, err_from_is_err_and, refl, section_of}
-use Rattle.dwarf_read_c.proofs.SetLemmas.{FoundSet, set_ended, set_found, set_lacked, set_reported}
+use Rattle.dwarf_read_c.proofs.SetLemmas.{FoundSet, set_after_the_last, set_found, set_lacked, set_reported}
 use Rattle.dwarf_read_c.proofs.sets.str_offset_set_at.Goals as goal
 
 pub returns-in_err-header-clause-err : goal.returns-in_err-header-clause-err
@@ -25,5 +25,5 @@ returns-in-Some-clause-found c =
 
 pub returns-in-None-clause-end : goal.returns-in-None-clause-end
 returns-in-None-clause-end c =
-    set_ended string_offsets_header c.args.section.now c.args.is_big (grind arith) (grind arith)
+    set_after_the_last string_offsets_header c.args.section.now c.args.is_big (grind arith) (grind arith)
     (rw c.in-None.is at c.in_ok-header.ensures.first).0
