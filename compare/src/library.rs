@@ -14,6 +14,7 @@ pub struct Fault {
 pub struct Measure {
     pub abbreviations: usize,
     pub attributes: usize,
+    pub end: usize,
     pub closed_by_null: u8,
 }
 

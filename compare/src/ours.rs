@@ -107,7 +107,7 @@ impl Ours {
             attributes: self.attributes[it.first..][..it.count].iter().map(|it| (it.name, it.form, it.value)).collect(),
         };
         let declarations = self.abbreviations[..measure.abbreviations].iter().map(shown).collect();
-        Answer::Table { declarations, closed_by_null: Some(measure.closed_by_null != 0) }
+        Answer::Table { declarations, close: Some((measure.closed_by_null != 0, measure.end)) }
     }
 }
 

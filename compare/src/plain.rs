@@ -149,11 +149,11 @@ fn found(question: &Question, bytes: &[u8]) -> Result<Answer, Fault> {
         What::WrittenUnsigned => written(more as i128, false),
         What::WrittenSigned => written((more as i64).into(), true),
         What::Table => {
-            let (by_code, is_null) = table(bytes, at)?;
-            Answer::Table { declarations: by_code.into_values().collect(), closed_by_null: Some(is_null) }
+            let (by_code, close) = table(bytes, at)?;
+            Answer::Table { declarations: by_code.into_values().collect(), close: Some(close) }
         }
         What::Strict => match table(bytes, at)? {
-            (by_code, is_null) if is_null || has(Plant::Missing) => Answer::value(by_code.len() as u64),
+            (by_code, (is_null, _)) if is_null || has(Plant::Missing) => Answer::value(by_code.len() as u64),
             _ => return Err(("UnterminatedAbbreviations", bytes.len() as u64)),
         },
         // A section that grew is read as if it had always been so.
@@ -203,12 +203,14 @@ fn written(value: i128, is_signed: bool) -> Answer {
     Answer::Written((0..count).map(digit).collect())
 }
 
-/// The declarations of the table at an offset, and whether a code of value 0 closes it.
-fn table(bytes: &[u8], offset: usize) -> Result<(BTreeMap<u64, Declaration>, bool), Fault> {
+/// The declarations of the table at an offset, whether a code of value 0 closes it, and where it ends.
+fn table(bytes: &[u8], offset: usize) -> Result<(BTreeMap<u64, Declaration>, (bool, usize)), Fault> {
     if offset > bytes.len() {
         return Err(eof(0));
     }
-    next_table(&mut Input { bytes, at: offset })
+    let mut input = Input { bytes, at: offset };
+    let (by_code, is_null) = next_table(&mut input)?;
+    Ok((by_code, (is_null, input.at)))
 }
 
 /// Where the tables of a section begin that follow each other up to the first that isn't closed, and their codes.

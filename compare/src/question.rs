@@ -133,7 +133,8 @@ pub enum Answer {
     Written(Vec<u8>),
     Table {
         declarations: Vec<Declaration>,
-        closed_by_null: Option<bool>,
+        /// Whether a code of value 0 closes it, and where it ends.
+        close: Option<(bool, usize)>,
     },
     Tags(Vec<u16>),
     Set(Set),
@@ -164,10 +165,9 @@ impl Answer {
                 Answer::Fault { kind, value, rest },
                 Answer::Fault { kind: other_kind, value: other_value, rest: other_rest },
             ) => kind == other_kind && same_if_known(value, other_value) && same_if_known(rest, other_rest),
-            (
-                Answer::Table { declarations, closed_by_null },
-                Answer::Table { declarations: others, closed_by_null: other },
-            ) => declarations == others && same_if_known(closed_by_null, other),
+            (Answer::Table { declarations, close }, Answer::Table { declarations: others, close: other }) => {
+                declarations == others && same_if_known(close, other)
+            }
             _ => self == other,
         }
     }
@@ -176,9 +176,9 @@ impl Answer {
     pub fn in_parts(&self) -> Answer {
         Answer::Parts(match self {
             Answer::Value { value, rest } => [*value as u64, 0, 0, rest.unwrap_or(0) as u64],
-            Answer::Table { declarations, closed_by_null } => {
+            Answer::Table { declarations, close } => {
                 let sum = declarations.iter().map(Declaration::sum).fold(0, u64::wrapping_add);
-                [sum, declarations.len() as u64, u64::from(*closed_by_null == Some(true)), 0]
+                [sum, declarations.len() as u64, u64::from(matches!(close, Some((true, _)))), 0]
             }
             Answer::Set(set) => [set.unit_length as u64, set.entry_size.into(), set.word_size.into(), 0],
             Answer::End => [0, 0, 0, 1],
@@ -195,7 +195,7 @@ impl Answer {
             Answer::Value { value, .. } if *value < 128 => "a number below 128",
             Answer::Value { .. } => "a number from 128",
             Answer::Written(_) => "bytes of a number",
-            Answer::Table { closed_by_null: Some(false), .. } => "a table closed by the end",
+            Answer::Table { close: Some((false, _)), .. } => "a table closed by the end",
             Answer::Table { declarations, .. } if declarations.is_empty() => "a table without declarations",
             Answer::Table { .. } => "a table closed by a null code",
             Answer::Tags(tags) if tags.iter().all(|it| *it == 0) => "only codes that no declaration has",

@@ -40,7 +40,7 @@ impl Theirs {
     /// closes is an error in a version that wants the null code.
     pub fn wanted(&self, question: &Question, bytes: &[u8], ours: Answer) -> Answer {
         let is_unclosed = match (question.what, &ours) {
-            (What::Table, Answer::Table { closed_by_null, .. }) => *closed_by_null == Some(false),
+            (What::Table, Answer::Table { close, .. }) => matches!(close, Some((false, _))),
             // The library's strict reading says whether the table of these codes is closed.
             (What::Found, Answer::Tags(_)) => {
                 let strict = crate::ours::strict(bytes, question.at);
@@ -120,7 +120,7 @@ fn shown(table: &gimli::Abbreviations, plain: &Answer) -> Answer {
             .collect(),
     };
     let declarations = codes.iter().filter_map(|it| table.get(it.code)).map(shown).collect();
-    Answer::Table { declarations, closed_by_null: None }
+    Answer::Table { declarations, close: None }
 }
 
 /// Whether this gimli reads sets of addresses.
