@@ -23,8 +23,6 @@ PARTS = ("src", "specs", "proofs")
 KITS = ("rattle-kit-13b logic dac8208d650f15bf", "rattle-kit-13f logic dac8208d650f15bf")
 # The commands that run, and whether no more may begin.
 RUNNING, IS_STOPPED = set(), threading.Event()
-# Where the gate's proofs keep what they have checked of each crate, if the gate runs.
-KEPT = os.environ.get("GATE_KEPT")
 TEST = re.compile(r"^ *#\[test\]", re.M)
 FN = re.compile(r"^ *(?:pub(?:\([^)]*\))? )?(?:const )?(?:unsafe )?(?:extern \"C\" )?fn (\w+)", re.M)
 
@@ -119,10 +117,9 @@ def unproved():
     return [sys.executable, f"{ROOT}/tools/unproved.py"] if is_known() else ["rt", "try"]
 
 
-# The lines of crates.txt: a crate, lowest first, whether it is a static library, and the libraries that it names.
-ROWS = re.findall(r"^(\w+)( staticlib)?:(.*?)(?:#.*)?$", text_of(f"{ROOT}/crates.txt"), re.M)
-CRATES = {name: libraries.split() for name, _, libraries in ROWS}
-STATIC = [name for name, is_static, _ in ROWS if is_static]
+# The lines of crates.txt: a crate, lowest first, and the libraries that it names.
+ROWS = re.findall(r"^(\w+)(?: staticlib)?:(.*?)(?:#.*)?$", text_of(f"{ROOT}/crates.txt"), re.M)
+CRATES = {name: libraries.split() for name, libraries in ROWS}
 
 
 def below(crate):
@@ -172,30 +169,12 @@ def wrong_bodies_of_the_gate():
     return {name: path for first, name, path in sorted(found) if first.startswith("# refused in the gate by ")}
 
 
-def is_taken_over(crate):
-    """Whether something takes over what the proof of a crate has checked: its tests, a wrong body, or its build."""
-    has_tests = tests_in(crate) and os.path.isdir(f"{ROOT}/crates/{crate}/proofs")
-    return bool(has_tests or crate in STATIC or any(it.startswith(f"{crate}/") for it in wrong_bodies_of_the_gate()))
-
-
-def kept(crate):
-    """The folder of what the gate's proof of a crate has checked, or None."""
-    return f"{KEPT}/{crate}" if KEPT and os.path.isdir(f"{KEPT}/{crate}") else None
-
-
 def lanes(memory, others=0):
     """How many commands that take so much memory the machine has processors and room for, at least one. The second
     number is what all of them take together beside that."""
     processors = len(os.sched_getaffinity(0))
     free = int(re.search(r"MemAvailable:\s+(\d+) kB", text_of("/proc/meminfo"))[1]) * 1024
     return max(1, min(processors, (free - others) // memory))
-
-
-def measured(step=""):
-    """The words to put before a command, so that it adds a line to the file $GATE_STEPS with the processor seconds
-    that it took. Without a name the step is that of the crate which the command checks. No words without that file."""
-    file = os.environ.get("GATE_STEPS")
-    return [sys.executable, "-IS", f"{ROOT}/tools/measured.py", file, step] if file else []
 
 
 def build_unproved(crate):
