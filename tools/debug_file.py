@@ -4,7 +4,7 @@ pyelftools reads the headers of the file. What can't be read is told by the func
 and the rest is read too. An exception `Unlisted` is raised for a file or a section of which nothing can be read,
 and for bytes with a relocation that isn't known.
 
-The bytes of a section are read when they are asked for. They are inflated if they are compressed, which takes
+The bytes of a section are read when they are requested. They are inflated if they are compressed, which takes
 memory: a section may inflate to 256 MiB, or to 64 times its compressed size if that is more.
 """
 import array
@@ -174,7 +174,7 @@ class Package:
 
 
 class Body:
-    """The bytes of a section, with its relocations, of which the parts that are asked for are read from a file."""
+    """The bytes of a section, with its relocations, of which the parts that are requested are read from a file."""
 
     def __init__(self, file, start, size, tables=tuple):
         self.file, self.start, self.size, self.tables = file, start, size, tables
@@ -322,7 +322,7 @@ class DebugFile:
         return min(wanted, there)
 
     def add(self, number):
-        """Takes a section, if it is one of debug information or has relocations."""
+        """Keeps a section that has debug information, or that is a table of relocations."""
         try:
             found = ask(f"section {number}", self.elf.get_section, number)
         except Unlisted as error:

@@ -40,8 +40,8 @@ def put(path, content):
 
 
 def run(words, each=None, **how):
-    """Runs a command without input, in a session of its own. Returns it as it has ended, with what it wrote to both
-    outputs, of which a function may have each line at once. It ends with this run."""
+    """Runs a command without input, in a session of its own, and returns the finished process with what it wrote to both
+    outputs. `each` is called with each line as it is read. If this run ends early, so does the command."""
     how = {"stdin": subprocess.DEVNULL, "stdout": subprocess.PIPE, "stderr": subprocess.STDOUT, **how}
     if IS_STOPPED.is_set():
         raise InterruptedError

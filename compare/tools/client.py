@@ -53,7 +53,6 @@ BUILD = """fn main() {
 }
 """
 MODULE = "#[allow(missing_docs, missing_debug_implementations, dead_code)]\npub mod {};\n"
-# In which file, behind which words, the body behind which words gets which body.
 TABLE = """
         let (declarations, attributes) = crate::calls::table(&self.debug_abbrev_section, debug_abbrev_offset.0)?;
         let mut table = Abbreviations::empty();
@@ -68,6 +67,7 @@ TABLE = """
             let _ = table.insert(Abbreviation::new(it.code, tag, children, list));
         }
         Ok(table)"""
+# The bodies that are replaced: the file, a text before the function, the function's head, and the new body.
 BODIES = [
     ("leb128.rs", "pub mod read", "fn skip<", "crate::calls::skip(r)"),
     ("leb128.rs", "pub mod read", "fn unsigned<", "crate::calls::unsigned(r)"),
