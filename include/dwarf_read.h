@@ -11,9 +11,10 @@
  *
  * WHAT A CALL DOES. A call returns DWARF_OK and has written its outputs, or it returns another status.
  * A status from 1 to 19 is the number of an error. The call has then written that number to `fault`,
- * with the position or value that the error carries, and has written nothing else. A status from 100 on
- * is described at the calls that return it. All offsets and positions are in bytes from the first byte
- * that is passed.
+ * with the position or value that the error carries, and has written nothing else. The one exception is
+ * dwarf_fault_text, whose `fault` is an input: with DWARF_OUT_OF_MEMORY it has written nothing. A status
+ * from 100 on is described at the calls that return it. All offsets and positions are in bytes from the
+ * first byte that is passed.
  *
  * No call keeps a pointer or has a state, so any number of threads may make calls at once.
  *
@@ -77,7 +78,7 @@ enum {
     DWARF_UNTERMINATED_ABBREVIATIONS = 19, /* the value is the position */
 
     DWARF_NO_ROOM = 100, /* fewer places than items */
-    DWARF_NO_NAME = 101, /* no constant has the value, or no error the number */
+    DWARF_NO_NAME = 101, /* no constant has the value, or no error the number and the value */
     DWARF_END = 102      /* there is nothing to read at the section's end */
 };
 
@@ -92,7 +93,11 @@ struct dwarf_fault {
  */
 
 /* Reads the number of at most 64 bits, in at most ten bytes, at the front of the bytes. More bytes may
-   follow it. `number_len` is how many bytes the number has. */
+   follow it. `number_len` is how many bytes the number has.
+
+   Errors: DWARF_UNEXPECTED_EOF at `len` if the bytes end before the number does, and before a tenth byte;
+   DWARF_BAD_UNSIGNED_LEB128 or DWARF_BAD_SIGNED_LEB128 if the number has more than ten bytes or doesn't
+   fit 64 bits. */
 uint32_t dwarf_uleb128(const uint8_t *bytes, size_t len, uint64_t *value, size_t *number_len,
                        struct dwarf_fault *fault);
 uint32_t dwarf_sleb128(const uint8_t *bytes, size_t len, int64_t *value, size_t *number_len,
@@ -108,17 +113,23 @@ uint32_t dwarf_sleb128_write(int64_t value, uint8_t *bytes, size_t room, size_t 
  */
 
 /* Finds the string at an offset of .debug_str or .debug_line_str: `string_len` bytes from the offset
-   on, followed by a zero byte. */
+   on, followed by a zero byte. The error is DWARF_UNEXPECTED_EOF, at 0 if the offset is past the end, and
+   at the offset if no zero byte follows. */
 uint32_t dwarf_string(const uint8_t *section, size_t len, size_t offset, size_t *string_len,
                       struct dwarf_fault *fault);
 
 /* Reads the string offset at an index, counted from 0, of those that follow each other from `base` on in
-   .debug_str_offsets. Each has eight bytes if `is_64` is set, and four otherwise. */
+   .debug_str_offsets. Each has eight bytes if `is_64` is set, and four otherwise.
+
+   The first of these errors: DWARF_UNEXPECTED_EOF at 0 if `base` is past the end; DWARF_UNSUPPORTED_OFFSET
+   if the index times the size of an entry is 2^64 or more; DWARF_UNEXPECTED_EOF at `base` if the entry
+   begins past the end, and at the entry if it ends past the end. */
 uint32_t dwarf_str_offset(const uint8_t *section, size_t len, bool is_big, bool is_64, size_t base,
                           size_t index, size_t *offset, struct dwarf_fault *fault);
 
 /* Reads the address at an index, counted from 0, of those that follow each other from `base` on in
-   .debug_addr. Each has `size` bytes: 1, 2, 4 or 8. */
+   .debug_addr. Each has `size` bytes: 1, 2, 4 or 8. The errors are those of dwarf_str_offset, and before
+   the last of them DWARF_UNSUPPORTED_ADDRESS_SIZE for any other size. */
 uint32_t dwarf_address(const uint8_t *section, size_t len, bool is_big, uint8_t size, size_t base,
                        size_t index, uint64_t *address, struct dwarf_fault *fault);
 
@@ -152,7 +163,19 @@ struct dwarf_set {
    To read an address of the set, call dwarf_address with `entry_size` as its size and `first_entry` as
    its base, and pass `next` as the length of the section. Then nothing behind the set is read. The call
    returns DWARF_OK for each index below `entry_count`, and DWARF_UNEXPECTED_EOF for an address that the
-   set's end cuts. */
+   set's end cuts.
+
+   The first of these errors:
+    - DWARF_UNEXPECTED_EOF at 0 if the offset is past the end, and at the offset if fewer than four bytes
+      follow it;
+    - DWARF_UNKNOWN_RESERVED_LENGTH if those four are 0xfffffff0 to 0xfffffffe;
+    - DWARF_UNEXPECTED_EOF behind the four bytes if they are 0xffffffff and fewer than eight follow;
+    - DWARF_UNEXPECTED_EOF behind the length if fewer bytes follow, or if the set has fewer than two bytes;
+    - DWARF_UNKNOWN_VERSION if the version isn't 5;
+    - DWARF_UNEXPECTED_EOF at the address size if the set ends before it;
+    - DWARF_UNSUPPORTED_ADDRESS_SIZE if the address size isn't 1, 2, 4 or 8;
+    - DWARF_UNEXPECTED_EOF at the segment size if the set ends before it;
+    - DWARF_UNSUPPORTED_SEGMENT_SIZE if the segment size isn't 0. */
 uint32_t dwarf_address_set(const uint8_t *section, size_t len, bool is_big, size_t offset,
                            struct dwarf_set *set, struct dwarf_fault *fault);
 
@@ -162,7 +185,10 @@ uint32_t dwarf_address_set(const uint8_t *section, size_t len, bool is_big, size
    To read a string offset of the set, call dwarf_str_offset with `first_entry` as its base, and with
    `is_64` set if `word_size` is 8. Pass `next` as the length of the section. Then nothing behind the set
    is read. The call returns DWARF_OK for each index below `entry_count`, and DWARF_UNEXPECTED_EOF for a
-   string offset that the set's end cuts. */
+   string offset that the set's end cuts.
+
+   The errors are those of dwarf_address_set up to the version, and DWARF_UNEXPECTED_EOF behind the version
+   if fewer than two bytes of padding follow in the set. */
 uint32_t dwarf_str_offset_set(const uint8_t *section, size_t len, bool is_big, size_t offset,
                               struct dwarf_set *set, struct dwarf_fault *fault);
 
@@ -197,7 +223,13 @@ struct dwarf_attribute {
     int64_t implicit_const; /* the value in the table for DW_FORM_implicit_const, otherwise 0 */
 };
 
-/* Measures the table at an offset of .debug_abbrev. */
+/* Measures the table at an offset of .debug_abbrev. If the bytes there don't begin with a table, the error
+   is the first of them:
+    - DWARF_UNEXPECTED_EOF at 0 if the offset is past the end, and at `len` if an abbreviation is cut short;
+    - DWARF_BAD_UNSIGNED_LEB128 or DWARF_BAD_SIGNED_LEB128 for a number that is too long, or out of range;
+    - DWARF_ABBREVIATION_TAG_ZERO, DWARF_INVALID_ABBREVIATION_CHILDREN, DWARF_ATTRIBUTE_NAME_ZERO or
+      DWARF_ATTRIBUTE_FORM_ZERO for a field with a value that no abbreviation has;
+    - DWARF_DUPLICATE_ABBREVIATION_CODE for a whole abbreviation with the code of an earlier one. */
 uint32_t dwarf_table_measure(const uint8_t *section, size_t len, size_t offset,
                              struct dwarf_measure *measure, struct dwarf_fault *fault);
 

@@ -37,7 +37,7 @@ static void check_no_bytes(void) {
     check(status == DWARF_UNEXPECTED_EOF && is_fault(fault, 1, 0), "no address");
     status = dwarf_str_offset(NULL, 0, true, false, 0, 0, &len, &fault);
     check(status == DWARF_UNEXPECTED_EOF && is_fault(fault, 1, 0), "no offset");
-    check(value == 7 && signed_value == 7 && len == 7, "outputs of refused calls");
+    check(value == 7 && signed_value == 7 && len == 7, "outputs of calls that failed");
 }
 
 typedef uint32_t set_call(const uint8_t *section, size_t len, bool is_big, size_t offset,
@@ -61,7 +61,7 @@ static void check_sets(set_call *call) {
     check(status == DWARF_UNEXPECTED_EOF && is_fault(fault, 1, 12), "a huge set");
     check(set.next == 7 && set.unit_length == 7 && set.first_entry == 7 && set.entry_count == 7 &&
               set.word_size == 7 && set.entry_size == 7,
-          "outputs of refused sets");
+          "outputs of sets that failed");
 }
 
 static void check_no_room(void) {
@@ -129,7 +129,7 @@ static void check_offsets(void) {
     check(status == DWARF_UNSUPPORTED_ADDRESS_SIZE && is_fault(fault, 12, 3), "a size of 3");
     status = dwarf_address(section, sizeof section, false, 8, 8, 7, &address, &fault);
     check(status == DWARF_UNEXPECTED_EOF && is_fault(fault, 1, 64), "an address past the end");
-    check(offset == 7 && address == 7, "outputs of refused lookups");
+    check(offset == 7 && address == 7, "outputs of lookups that failed");
 }
 
 int main(void) {

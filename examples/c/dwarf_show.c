@@ -1,5 +1,6 @@
 /*
- * Reads a section from standard input and writes a part of it, as the program dwarf_list does.
+ * Reads a section from standard input and writes a part of it, as the program dwarf_list does. The
+ * arguments aren't checked, and a read error counts as the end of the input.
  *
  *     dwarf_show abbrev OFFSET       the abbreviation table at an offset of .debug_abbrev
  *     dwarf_show str OFFSET          the string at an offset of .debug_str

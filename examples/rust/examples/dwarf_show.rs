@@ -1,4 +1,5 @@
-//! Reads a section from standard input and writes a part of it, as the program `dwarf_list` does.
+//! Reads a section from standard input and writes a part of it, as the program `dwarf_list` does. A
+//! byte order other than `be` is little, and each error has status 1.
 //!
 //! ```text
 //! dwarf_show abbrev OFFSET       the abbreviation table at an offset of .debug_abbrev
@@ -51,14 +52,16 @@ fn write_sets(out: &mut impl Write, sets: Sets, are_addresses: bool) -> Result<(
         let (offset, length, bits) =
             (set.offset(), set.unit_length(), if set.is_64() { 64 } else { 32 });
         write!(out, "set {offset}: length {length}, {bits}-bit")?;
-        match are_addresses {
-            true => writeln!(out, ", address size {}", set.entry_size())?,
-            false => writeln!(out)?,
+        if are_addresses {
+            writeln!(out, ", address size {}", set.entry_size())?;
+        } else {
+            writeln!(out)?;
         }
         for entry in set.entries() {
-            match are_addresses {
-                true => writeln!(out, "  {:#x}", entry?)?,
-                false => writeln!(out, "  {}", entry?)?,
+            if are_addresses {
+                writeln!(out, "  {:#x}", entry?)?;
+            } else {
+                writeln!(out, "  {}", entry?)?;
             }
         }
     }

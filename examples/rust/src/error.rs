@@ -9,26 +9,44 @@ pub type Result<T> = std::result::Result<T, Error>;
 /// What is wrong with the bytes, or with what was to be read of them.
 #[derive(Debug, Clone, Copy, PartialEq, Eq, Hash)]
 #[non_exhaustive]
-#[allow(missing_docs)]
 pub enum ErrorKind {
+    /// Bytes are missing. The value is the position.
     UnexpectedEof,
+    /// An unsigned LEB128 number is too long or too large.
     BadUnsignedLeb128,
+    /// A signed LEB128 number is too long or out of range.
     BadSignedLeb128,
+    /// The tag of an abbreviation is 0.
     AbbreviationTagZero,
+    /// The byte that says whether there are children is neither 0 nor 1. The value is the byte.
     InvalidAbbreviationChildren,
+    /// The name of an attribute is 0, and its form isn't.
     AttributeNameZero,
+    /// The form of an attribute is 0, and its name isn't.
     AttributeFormZero,
+    /// An abbreviation has the code of an earlier one. The value is the code.
     DuplicateAbbreviationCode,
+    /// The length of a set is a reserved value, which is the value here.
     UnknownReservedLength,
+    /// A number doesn't fit an offset.
     UnsupportedOffset,
+    /// The version of a set isn't 5. The value is the version.
     UnknownVersion,
+    /// Addresses don't have this size, which is the value.
     UnsupportedAddressSize,
+    /// The segment size of a set isn't 0. The value is the size.
     UnsupportedSegmentSize,
+    /// Offsets don't have this size, which is the value. No call here returns this.
     UnsupportedOffsetSize,
+    /// A string isn't UTF-8. No call here returns this.
     BadUtf8,
+    /// The sum of an address and a length is no address. No call here returns this.
     AddressOverflow,
+    /// The number of a register doesn't fit 16 bits. No call here returns this.
     UnsupportedRegister,
+    /// Memory ran out.
     OutOfMemory,
+    /// Only the section's end closes a table. No call here returns this.
     UnterminatedAbbreviations,
 }
 
@@ -76,9 +94,9 @@ impl Error {
         KINDS[self.0.kind as usize - 1]
     }
 
-    /// The value of the error. This is a position in bytes from the section's start for the end of
-    /// the input and an unterminated table, and otherwise the code, length, version, size or
-    /// register that is wrong. It is 0 for an error without a value.
+    /// The value of the error. For `UnexpectedEof` and `UnterminatedAbbreviations` it is a position,
+    /// in bytes from the first byte that was passed. Otherwise it is the byte for children, the code,
+    /// length, version, size or register that is wrong, or 0 for an error without a value.
     pub fn value(&self) -> u64 {
         self.0.value
     }

@@ -24,7 +24,8 @@
 //! # Linking
 //!
 //! `tools/install` of the repository installs the static library. `build.rs` finds it by `pkg-config`, or in the
-//! folder that the environment variable `DWARF_READ_LIB` names. It is for Linux on x86-64. `cargo check` and `cargo doc`
+//! folder that the environment variable `DWARF_READ_LIB` names. It is for Linux on
+//! processors from x86-64-v2 on. `cargo check` and `cargo doc`
 //! need no library.
 #![warn(missing_docs)]
 
@@ -57,6 +58,11 @@ impl ByteOrder {
 
 /// Returns the unsigned LEB128 number that the bytes begin with, and how many bytes it has.
 ///
+/// # Errors
+///
+/// `UnexpectedEof` at the end if the bytes end before the number does, and `BadUnsignedLeb128` if it has
+/// more than ten bytes or is 2^64 or more.
+///
 /// ```
 /// assert_eq!(dwarf_read::uleb128(&[0xb9, 0x64, 7]), Ok((12857, 2)));
 /// ```
@@ -70,6 +76,11 @@ pub fn uleb128(bytes: &[u8]) -> Result<(u64, usize)> {
 }
 
 /// Returns the signed LEB128 number that the bytes begin with, and how many bytes it has.
+///
+/// # Errors
+///
+/// `UnexpectedEof` at the end if the bytes end before the number does, and `BadSignedLeb128` if it has
+/// more than ten bytes or doesn't fit `i64`.
 ///
 /// ```
 /// assert_eq!(dwarf_read::sleb128(&[0x56]), Ok((-42, 1)));
@@ -86,6 +97,10 @@ pub fn sleb128(bytes: &[u8]) -> Result<(i64, usize)> {
 /// Returns the string at an offset of `.debug_str` or `.debug_line_str`, without the zero byte that
 /// ends it.
 ///
+/// # Errors
+///
+/// `UnexpectedEof`, at 0 if the offset is past the end, and at the offset if no zero byte follows.
+///
 /// ```
 /// assert_eq!(dwarf_read::string(b"one\0two\0", 4), Ok(&b"two"[..]));
 /// ```
@@ -98,8 +113,17 @@ pub fn string(section: &[u8], offset: usize) -> Result<&[u8]> {
     Ok(&section[offset..][..len])
 }
 
-/// Returns the string offset at an index, among those that follow each other from `base` on. Each
-/// has eight bytes if `is_64` is set, and four otherwise.
+/// Returns the string offset at an index, among those that follow each other from `base` on in
+/// `.debug_str_offsets`. Each has eight bytes if `is_64` is set, and four otherwise.
+///
+/// # Errors
+///
+/// The first of these:
+///
+/// - `UnexpectedEof` at 0 if `base` is past the end;
+/// - `UnsupportedOffset` if the index times the size of an entry is 2^64 or more;
+/// - `UnexpectedEof` at `base` if the entry begins past the end, and at the entry if it ends past the
+///   end.
 pub fn str_offset(
     section: &[u8], order: ByteOrder, is_64: bool, base: usize, index: usize,
 ) -> Result<usize> {
@@ -111,8 +135,12 @@ pub fn str_offset(
     Ok(offset)
 }
 
-/// Returns the address at an index, among those that follow each other from `base` on. Each has
-/// `size` bytes: 1, 2, 4 or 8.
+/// Returns the address at an index, among those that follow each other from `base` on in
+/// `.debug_addr`. Each has `size` bytes: 1, 2, 4 or 8.
+///
+/// # Errors
+///
+/// Those of [`str_offset`], and before the last of them `UnsupportedAddressSize` for any other size.
 pub fn address(
     section: &[u8], order: ByteOrder, size: u8, base: usize, index: usize,
 ) -> Result<u64> {

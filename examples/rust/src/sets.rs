@@ -129,8 +129,12 @@ impl<'s> Set<'s> {
         self.header.entry_size
     }
 
-    /// Returns the address or string offset at an index, counted from 0, or an error if the set
-    /// doesn't contain all of its bytes.
+    /// Returns the address or string offset at an index, counted from 0.
+    ///
+    /// # Errors
+    ///
+    /// `UnexpectedEof` if the set doesn't contain all of its bytes, and `UnsupportedOffset` if the index
+    /// times the size of an entry is 2^64 or more.
     pub fn get(&self, index: usize) -> Result<u64> {
         let (base, size) = (self.header.first_entry, self.header.entry_size);
         match self.kind {

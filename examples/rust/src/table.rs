@@ -44,6 +44,19 @@ fn zeros<T: Clone + Default>(count: usize) -> Result<Vec<T>> {
 
 impl Table {
     /// Reads the table at an offset of `.debug_abbrev`.
+    ///
+    /// # Errors
+    ///
+    /// If the bytes there don't begin with a table, the first error of them:
+    ///
+    /// - `UnexpectedEof` at 0 if the offset is past the end, and at the end if an abbreviation is cut
+    ///   short;
+    /// - `BadUnsignedLeb128` or `BadSignedLeb128` for a number that is too long or out of range;
+    /// - `AbbreviationTagZero`, `InvalidAbbreviationChildren`, `AttributeNameZero` or
+    ///   `AttributeFormZero` for a field with a value that no abbreviation has;
+    /// - `DuplicateAbbreviationCode` for a whole abbreviation with the code of an earlier one.
+    ///
+    /// `OutOfMemory` if memory runs out.
     pub fn read(section: &[u8], offset: usize) -> Result<Table> {
         let (bytes, len, mut measure) = (section.as_ptr(), section.len(), sys::Measure::default());
         // SAFETY: see `crate::sys`.
