@@ -84,8 +84,8 @@ pub struct LineEncoding {
     pub line_range: u8,
 }
 
-/// Instructions of 1 byte and one operation, every row a statement, and special opcodes that
-/// advance by -5 to 8 lines.
+/// Instructions of 1 byte and one operation, rows that begin statements unless the program says
+/// otherwise, and special opcodes that advance by -5 to 8 lines.
 impl Default for LineEncoding {
     ghost is_default = { λ encoding. encoding ≡ record {
       minimum_instruction_length = 1;
@@ -158,8 +158,7 @@ pub struct DebugLineOffset<T>(pub T);
 #[derive(Debug, Clone, Copy, PartialEq, Eq)]
 pub struct DebugLineStrOffset<T>(pub T);
 
-/// An offset in bytes from the start of `.debug_loc` or `.debug_loclists`, whichever the unit's
-/// version reads.
+/// An offset in bytes from the start of `.debug_loc`, or of `.debug_loclists` from version 5 on.
 #[derive(Debug, Clone, Copy, PartialEq, Eq, Hash)]
 pub struct LocationListsOffset<T>(pub T);
 
@@ -189,8 +188,7 @@ pub struct DebugNamesOffset<T>(pub T);
 #[derive(Debug, Clone, Copy, PartialEq, Eq, Hash)]
 pub struct RawRangeListsOffset<T>(pub T);
 
-/// An offset in bytes from the start of `.debug_ranges` or `.debug_rnglists`, whichever the unit's
-/// version reads.
+/// An offset in bytes from the start of `.debug_ranges`, or of `.debug_rnglists` from version 5 on.
 #[derive(Debug, Clone, Copy, PartialEq, Eq, Hash)]
 pub struct RangeListsOffset<T>(pub T);
 
@@ -215,8 +213,8 @@ impl<Offset: ReaderOffset> DebugStrOffsetsBase<Offset> {
 
     /// Returns the base of a unit that has no `DW_AT_str_offsets_base`.
     ///
-    /// A split object of version 5 has one set of entries and no such attribute, so the base is
-    /// the length of that set's header (DWARF 5, 7.26): 8 bytes, or 16 in the 64-bit format.
+    /// From version 5 on, a split object has one set of entries and no such attribute, so the base
+    /// is the length of that set's header (DWARF 5, 7.26): 8 bytes, or 16 in the 64-bit format.
     /// Everywhere else it is 0.
     pub fn default_for_encoding_and_file(
         encoding: Encoding,

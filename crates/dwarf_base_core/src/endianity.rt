@@ -188,7 +188,7 @@ pub trait Endianity: Debug + Default + Clone + Copy + PartialEq + Eq {
         }
     }
 
-    // Equal orders are the same order.
+    // Two orders that are equal by `==` have the same end of a number first.
     ghost eq_law: { (x y : Self) → Self.eq x y ≡ true → is_big x ≡ is_big y };
 }
 

@@ -18,9 +18,9 @@ use std::fmt;
 
 /// Why a read failed.
 ///
-/// Each error has one text, which its `Display` writes whatever width, fill and alignment are
-/// requested. A value in an error is the one that was read, except for a [`ReaderOffsetId`], which
-/// is a place.
+/// Each error has one text, which its `Display` writes whatever width, precision, fill and alignment
+/// are requested. A value in an error is what is wrong: what was read, an argument of the call, or
+/// an offset in bytes. A [`ReaderOffsetId`] is a place in the input.
 #[derive(Debug, Clone, Copy, PartialEq, Eq)]
 pub enum Error {
     /// An input couldn't be read. No call here returns this; loaders of sections do.
@@ -77,15 +77,17 @@ pub enum Error {
     OpcodeBaseZero,
     /// A string isn't UTF-8.
     BadUtf8,
-    /// An entry of the frame section that ought to be common information is something else.
+    /// The entry of the frame section at this offset, in bytes, ought to be common information and
+    /// is something else.
     NotCieId(u64),
-    /// An entry of the frame section that ought to describe a function is common information.
+    /// The entry of the frame section at this offset, in bytes, ought to describe a function and is
+    /// common information.
     NotCiePointer(u64),
     /// A branch leads out of its expression.
     BadBranchTarget(u64),
     /// An expression needs the address of an object, but there is none.
     InvalidPushObjectAddress,
-    /// An operation takes more values than the stack of its expression has.
+    /// An operation pops more values than the stack of its expression has.
     NotEnoughStackItems,
     /// An expression took more steps than its caller allows.
     TooManyIterations,
@@ -93,9 +95,9 @@ pub enum Error {
     InvalidExpression(DwOp),
     /// An expression has an operation that can't be evaluated.
     UnsupportedEvaluation,
-    /// A piece of a location is followed by an operation that may not follow it.
+    /// A piece is followed by a location that isn't a piece.
     InvalidPiece,
-    /// Something follows an operation that has to be an expression's last.
+    /// An operation that ends a location is followed by something other than a piece.
     InvalidExpressionTerminator(u64),
     /// An expression divides by 0.
     DivisionByZero,
@@ -107,7 +109,7 @@ pub enum Error {
     UnsupportedTypeOperation,
     /// A value is shifted by a negative number of bits.
     InvalidShiftExpression,
-    /// An operation reads this number of bytes from memory, which no type of the target has.
+    /// An operation reads this number of bytes from memory, which is more than an address has.
     InvalidDerefSize(u8),
     /// A piece of a location has a size that can't be counted.
     InvalidPieceSize(u64),
@@ -137,11 +139,11 @@ pub enum Error {
     UnsupportedPointerEncoding(DwEhPe),
     /// A pointer leads to the address of its value, which can't be followed here.
     UnsupportedIndirectPointer,
-    /// The number of a register is above 16 bits.
+    /// The number of a register doesn't fit 16 bits.
     UnsupportedRegister(u64),
     /// A row has more rules for registers than its storage holds.
     TooManyRegisterRules,
-    /// A state is to be remembered, and the storage for states is full.
+    /// The stack of remembered states, or that of an expression's values, is full.
     StackFull,
     /// A unit's header has an unknown type.
     UnknownUnitType(DwUt),
@@ -157,7 +159,7 @@ pub enum Error {
     MissingFileEntryFormatPath,
     /// An attribute that has to be a string is something else.
     ExpectedStringAttributeValue,
-    /// An entry itself has the form `DW_FORM_implicit_const`, and no value can follow it there.
+    /// An attribute of the form `DW_FORM_indirect` names the form `DW_FORM_implicit_const`.
     InvalidImplicitConst,
     /// The index of a package has more columns than there are kinds of sections.
     UnsupportedIndexSectionCount(u32),
@@ -175,7 +177,7 @@ pub enum Error {
     InvalidMacroType(DwMacro),
     /// A unit of `.debug_macro` describes operands of its own.
     UnsupportedOpcodeOperandsTable,
-    /// An abbreviation of `.debug_names` has an attribute that can't be read.
+    /// An attribute's value in `.debug_names` isn't a valid index.
     InvalidNameAttributeIndex(u64),
     /// Memory ran out.
     OutOfMemory,
@@ -404,8 +406,9 @@ impl Error {
     }
 }
 
-/// Writes the error's text, on one line and without a full stop. A value is written in decimal, or
-/// in hexadecimal after `0x`.
+/// Writes the error's text, on one line and without a full stop. A [`ReaderOffsetId`] isn't written,
+/// nor are the values of `BadBranchTarget` and `InvalidExpressionTerminator`. Any other value is
+/// written in decimal, or in hexadecimal after `0x`.
 impl fmt::Display for Error {
     ghost use Rattle.std.specs.Prelude.{Some};
     ghost use Rattle.dwarf_base_core.specs.ErrorText.{error_text};
@@ -432,7 +435,7 @@ impl From<AllocError> for Error {
 
     ghost from_gives = { λ _ error. error ≡ OutOfMemory };
 
-    fn from(_refused: AllocError) -> Self {
+    fn from(_error: AllocError) -> Self {
         Self::OutOfMemory
     }
 }
@@ -444,7 +447,7 @@ impl<T: Drop> From<AllocFailed<T>> for Error {
 
     ghost from_gives = { λ _ error. error ≡ OutOfMemory };
 
-    fn from(refused: AllocFailed<T>) -> Self {
-        Self::from(AllocError::from(refused))
+    fn from(failed: AllocFailed<T>) -> Self {
+        Self::from(AllocError::from(failed))
     }
 }

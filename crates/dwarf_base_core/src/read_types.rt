@@ -1,6 +1,6 @@
 //! Plain types that readers of units use.
 
-/// An offset from the start of a unit's header.
+/// An offset in bytes from the start of a unit's header.
 #[derive(Debug, Clone, Copy, PartialEq, Eq, PartialOrd, Ord, Hash)]
 pub struct UnitOffset<T>(pub T);
 

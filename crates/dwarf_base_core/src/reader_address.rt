@@ -1,6 +1,6 @@
 //! Addresses of the target, as numbers of 1 to 8 bytes.
 
-ghost use Rattle.std.specs.Prelude.{◌≡◌, ◌≤◌, ◌<◌, ◌+◌, ◌-◌, ◌*◌, ◌^◌, ◌%◌, ℕ};
+ghost use Rattle.std.specs.Prelude.{◌≡◌, ◌≤◌, ◌<◌, ◌+◌, ◌-◌, ◌*◌, ◌%◌, ℕ};
 ghost use Rattle.dwarf_base_core.specs.Address.{address_count};
 ghost use Rattle.dwarf_base_core.specs.Checked.{OkBelow};
 

@@ -14,8 +14,8 @@ use std::ops::{Add, AddAssign, Sub};
 
 /// A place in the input, as errors contain it.
 ///
-/// It is the position of a reader, counted in bytes. Sections whose first positions lie apart
-/// have different identifiers, and then an identifier says which section it belongs to.
+/// It is the position of a reader, counted in bytes. If each section begins above the end of the one
+/// before, an identifier says which section it belongs to.
 #[derive(Debug, Clone, Copy, PartialEq, Eq)]
 pub struct ReaderOffsetId(pub u64);
 
@@ -25,8 +25,8 @@ pub struct ReaderOffsetId(pub u64);
 /// least 2^32 - 1. Equality, order and hash are those of the numbers, and so are `+`, `+=` and
 /// `-`: a sum has to be at most `GREATEST`, and a difference may not be negative.
 ///
-/// A section of more than `GREATEST` bytes has no reader with such offsets, so a smaller type
-/// saves room if sections are known to be small.
+/// A section of more than `GREATEST` bytes has no reader with such offsets. A smaller type saves
+/// room if sections are known to be small.
 ///
 /// ```
 /// // The end of a part, at any type of offsets.

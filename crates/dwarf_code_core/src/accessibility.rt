@@ -12,7 +12,7 @@ use std::fmt;
 /// Who may use a declaration (DWARF 5, section 7.9).
 ///
 /// `Display` writes the name, or `Unknown DwAccess: 99` for a value without one, and honours width,
-/// fill and alignment.
+/// precision, fill and alignment.
 #[derive(Debug, Clone, Copy, PartialEq, Eq, Hash, PartialOrd, Ord)]
 pub struct DwAccess(pub u8);
 

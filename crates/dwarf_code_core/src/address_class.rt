@@ -13,7 +13,7 @@ use std::fmt;
 /// 5, section 7.13).
 ///
 /// `Display` writes the name, or `Unknown DwAddr: 99` for a value without one, and honours width,
-/// fill and alignment.
+/// precision, fill and alignment.
 #[derive(Debug, Clone, Copy, PartialEq, Eq, Hash, PartialOrd, Ord)]
 pub struct DwAddr(pub u64);
 

@@ -12,7 +12,7 @@ use std::fmt;
 /// The order in which an array of several indices lies in memory (DWARF 5, section 7.17).
 ///
 /// `Display` writes the name, or `Unknown DwOrd: 99` for a value without one, and honours width,
-/// fill and alignment.
+/// precision, fill and alignment.
 #[derive(Debug, Clone, Copy, PartialEq, Eq, Hash, PartialOrd, Ord)]
 pub struct DwOrd(pub u8);
 

@@ -12,7 +12,7 @@ use std::fmt;
 /// An instruction that says how a call frame is restored (DWARF 5, section 7.24).
 ///
 /// `Display` writes the name, or `Unknown DwCfa: 99` for a value without one, and honours width,
-/// fill and alignment.
+/// precision, fill and alignment.
 #[derive(Debug, Clone, Copy, PartialEq, Eq, Hash, PartialOrd, Ord)]
 pub struct DwCfa(pub u8);
 

@@ -12,7 +12,7 @@ use std::fmt;
 /// How a subroutine is called, or values of a type are passed (DWARF 5, section 7.15).
 ///
 /// `Display` writes the name, or `Unknown DwCc: 99` for a value without one, and honours width,
-/// fill and alignment.
+/// precision, fill and alignment.
 #[derive(Debug, Clone, Copy, PartialEq, Eq, Hash, PartialOrd, Ord)]
 pub struct DwCc(pub u8);
 

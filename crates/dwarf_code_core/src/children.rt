@@ -12,7 +12,7 @@ use std::fmt;
 /// Whether an entry has children (DWARF 5, section 7.5.3).
 ///
 /// `Display` writes the name, or `Unknown DwChildren: 99` for a value without one, and honours
-/// width, fill and alignment.
+/// width, precision, fill and alignment.
 #[derive(Debug, Clone, Copy, PartialEq, Eq, Hash, PartialOrd, Ord)]
 pub struct DwChildren(pub u8);
 

@@ -12,7 +12,7 @@ use std::fmt;
 /// Where a member function is defaulted, if it is (DWARF 5, section 7.20).
 ///
 /// `Display` writes the name, or `Unknown DwDefaulted: 99` for a value without one, and honours
-/// width, fill and alignment.
+/// width, precision, fill and alignment.
 #[derive(Debug, Clone, Copy, PartialEq, Eq, Hash, PartialOrd, Ord)]
 pub struct DwDefaulted(pub u8);
 

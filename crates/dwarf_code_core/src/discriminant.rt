@@ -12,7 +12,7 @@ use std::fmt;
 /// What comes next in a list of discriminant values (DWARF 5, section 7.18).
 ///
 /// `Display` writes the name, or `Unknown DwDsc: 99` for a value without one, and honours width,
-/// fill and alignment.
+/// precision, fill and alignment.
 #[derive(Debug, Clone, Copy, PartialEq, Eq, Hash, PartialOrd, Ord)]
 pub struct DwDsc(pub u8);
 

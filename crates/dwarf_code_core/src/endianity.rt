@@ -12,7 +12,7 @@ use std::fmt;
 /// The byte order of data (DWARF 5, section 7.8).
 ///
 /// `Display` writes the name, or `Unknown DwEnd: 99` for a value without one, and honours width,
-/// fill and alignment.
+/// precision, fill and alignment.
 #[derive(Debug, Clone, Copy, PartialEq, Eq, Hash, PartialOrd, Ord)]
 pub struct DwEnd(pub u8);
 

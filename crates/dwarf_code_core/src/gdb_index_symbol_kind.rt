@@ -12,7 +12,7 @@ use std::fmt;
 /// What kind of symbol `.gdb_index` names (GDB's manual, "Index Section Format").
 ///
 /// `Display` writes the name, or `Unknown GdbIndexSymbolKind: 99` for a value without one, and
-/// honours width, fill and alignment.
+/// honours width, precision, fill and alignment.
 #[derive(Debug, Clone, Copy, PartialEq, Eq, Hash, PartialOrd, Ord)]
 pub struct GdbIndexSymbolKind(pub u8);
 

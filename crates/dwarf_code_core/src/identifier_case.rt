@@ -12,7 +12,7 @@ use std::fmt;
 /// How a unit treats upper and lower case in names (DWARF 5, section 7.14).
 ///
 /// `Display` writes the name, or `Unknown DwId: 99` for a value without one, and honours width,
-/// fill and alignment.
+/// precision, fill and alignment.
 #[derive(Debug, Clone, Copy, PartialEq, Eq, Hash, PartialOrd, Ord)]
 pub struct DwId(pub u8);
 

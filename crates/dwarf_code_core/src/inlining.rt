@@ -12,7 +12,7 @@ use std::fmt;
 /// Whether a subroutine was declared inline, and whether it was inlined (DWARF 5, section 7.16).
 ///
 /// `Display` writes the name, or `Unknown DwInl: 99` for a value without one, and honours width,
-/// fill and alignment.
+/// precision, fill and alignment.
 #[derive(Debug, Clone, Copy, PartialEq, Eq, Hash, PartialOrd, Ord)]
 pub struct DwInl(pub u8);
 

@@ -12,7 +12,7 @@ use std::fmt;
 /// An extended opcode of a line number program (DWARF 5, section 7.22).
 ///
 /// `Display` writes the name, or `Unknown DwLne: 99` for a value without one, and honours width,
-/// fill and alignment.
+/// precision, fill and alignment.
 #[derive(Debug, Clone, Copy, PartialEq, Eq, Hash, PartialOrd, Ord)]
 pub struct DwLne(pub u8);
 

@@ -12,7 +12,7 @@ use std::fmt;
 /// A standard opcode of a line number program (DWARF 5, section 7.22).
 ///
 /// `Display` writes the name, or `Unknown DwLns: 99` for a value without one, and honours width,
-/// fill and alignment.
+/// precision, fill and alignment.
 #[derive(Debug, Clone, Copy, PartialEq, Eq, Hash, PartialOrd, Ord)]
 pub struct DwLns(pub u8);
 
@@ -30,7 +30,7 @@ pub const DW_LNS_set_column: DwLns = DwLns(0x05);
 pub const DW_LNS_negate_stmt: DwLns = DwLns(0x06);
 /// A basic block begins here.
 pub const DW_LNS_set_basic_block: DwLns = DwLns(0x07);
-/// The address moves on as by the last special opcode.
+/// The address moves on as by the special opcode 255.
 pub const DW_LNS_const_add_pc: DwLns = DwLns(0x08);
 /// The address moves on by a number of two bytes.
 pub const DW_LNS_fixed_advance_pc: DwLns = DwLns(0x09);

@@ -13,7 +13,7 @@ use std::fmt;
 /// `.debug_macro` in its place).
 ///
 /// `Display` writes the name, or `Unknown DwMacinfo: 99` for a value without one, and honours
-/// width, fill and alignment.
+/// width, precision, fill and alignment.
 #[derive(Debug, Clone, Copy, PartialEq, Eq, Hash, PartialOrd, Ord)]
 pub struct DwMacinfo(pub u8);
 

@@ -12,7 +12,7 @@ use std::fmt;
 /// What kind of entry of `.debug_macro` follows (DWARF 5, section 7.23).
 ///
 /// `Display` writes the name, or `Unknown DwMacro: 99` for a value without one, and honours width,
-/// fill and alignment.
+/// precision, fill and alignment.
 #[derive(Debug, Clone, Copy, PartialEq, Eq, Hash, PartialOrd, Ord)]
 pub struct DwMacro(pub u8);
 

@@ -15,7 +15,7 @@ pub mod numbered;
 /// An operation of an expression, which works on a stack (DWARF 5, section 7.7.1).
 ///
 /// `Display` writes the name, or `Unknown DwOp: 236` for a value without one, and honours width,
-/// fill and alignment.
+/// precision, fill and alignment.
 #[derive(Debug, Clone, Copy, PartialEq, Eq, Hash, PartialOrd, Ord)]
 pub struct DwOp(pub u8);
 
@@ -47,7 +47,7 @@ pub const DW_OP_constu: DwOp = DwOp(0x10);
 pub const DW_OP_consts: DwOp = DwOp(0x11);
 /// Pushes the top again.
 pub const DW_OP_dup: DwOp = DwOp(0x12);
-/// Takes the top away.
+/// Removes the top.
 pub const DW_OP_drop: DwOp = DwOp(0x13);
 /// Pushes the second from the top.
 pub const DW_OP_over: DwOp = DwOp(0x14);
@@ -173,7 +173,7 @@ pub const DW_OP_deref_type: DwOp = DwOp(0xa6);
 pub const DW_OP_xderef_type: DwOp = DwOp(0xa7);
 /// Converts the top to a base type.
 pub const DW_OP_convert: DwOp = DwOp(0xa8);
-/// Takes the bits of the top as a base type.
+/// Reinterprets the bits of the top as a base type.
 pub const DW_OP_reinterpret: DwOp = DwOp(0xa9);
 
 // GNU, most of them before DWARF 5 had an operation for it.
@@ -196,7 +196,7 @@ pub const DW_OP_GNU_regval_type: DwOp = DwOp(0xf5);
 pub const DW_OP_GNU_deref_type: DwOp = DwOp(0xf6);
 /// Converts the top to a base type.
 pub const DW_OP_GNU_convert: DwOp = DwOp(0xf7);
-/// Takes the bits of the top as a base type.
+/// Reinterprets the bits of the top as a base type.
 pub const DW_OP_GNU_reinterpret: DwOp = DwOp(0xf9);
 /// Pushes the value of a parameter at the call.
 pub const DW_OP_GNU_parameter_ref: DwOp = DwOp(0xfa);

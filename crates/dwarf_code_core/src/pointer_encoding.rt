@@ -14,7 +14,7 @@ use std::{fmt, ops};
 /// Base Core 5.0, section 10.5.1).
 ///
 /// `Display` writes the name, or `Unknown DwEhPe: 99` for a value without one, and honours width,
-/// fill and alignment.
+/// precision, fill and alignment.
 #[derive(Debug, Clone, Copy, PartialEq, Eq, Hash, PartialOrd, Ord)]
 pub struct DwEhPe(pub u8);
 
@@ -118,14 +118,15 @@ impl ops::BitOr for DwEhPe {
 }
 
 impl DwEhPe {
-    /// Returns the format of the number alone: the low four bits, as `DW_EH_PE_uleb128` of 0x11.
+    /// Returns the format of the number alone: the low four bits, such as `DW_EH_PE_uleb128` for 0x11.
     pub fn format(self) -> DwEhPe
         ensures { result.0 ≡ self.0 % 16 }
     {
         DwEhPe(self.0 & DW_EH_PE_FORMAT_MASK)
     }
 
-    /// Returns what the number is relative to: bits 4 to 6 in their place, as `DW_EH_PE_pcrel` of 0x11.
+    /// Returns what the number is relative to: bits 4 to 6 in their place, such as `DW_EH_PE_pcrel`
+    /// for 0x11.
     pub fn application(self) -> DwEhPe
         ensures { result.0 ≡ bit_and self.0 0x70 }
     {

@@ -12,7 +12,7 @@ use std::fmt;
 /// What kind of entry of a range list follows (DWARF 5, section 7.25).
 ///
 /// `Display` writes the name, or `Unknown DwRle: 99` for a value without one, and honours width,
-/// fill and alignment.
+/// precision, fill and alignment.
 #[derive(Debug, Clone, Copy, PartialEq, Eq, Hash, PartialOrd, Ord)]
 pub struct DwRle(pub u8);
 

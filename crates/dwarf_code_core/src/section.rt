@@ -12,7 +12,7 @@ use std::fmt;
 /// A section of a package file, in its index (DWARF 5, section 7.3.5.3).
 ///
 /// `Display` writes the name, or `Unknown DwSect: 99` for a value without one, and honours width,
-/// fill and alignment.
+/// precision, fill and alignment.
 #[derive(Debug, Clone, Copy, PartialEq, Eq, Hash, PartialOrd, Ord)]
 pub struct DwSect(pub u32);
 

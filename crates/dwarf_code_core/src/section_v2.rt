@@ -13,7 +13,7 @@ use std::fmt;
 /// of GCC's proposal "DWARF Package File Format").
 ///
 /// `Display` writes the name, or `Unknown DwSectV2: 99` for a value without one, and honours width,
-/// fill and alignment.
+/// precision, fill and alignment.
 #[derive(Debug, Clone, Copy, PartialEq, Eq, Hash, PartialOrd, Ord)]
 pub struct DwSectV2(pub u32);
 

@@ -12,7 +12,7 @@ use std::fmt;
 /// What kind of unit a header begins (DWARF 5, section 7.5.1).
 ///
 /// `Display` writes the name, or `Unknown DwUt: 99` for a value without one, and honours width,
-/// fill and alignment.
+/// precision, fill and alignment.
 #[derive(Debug, Clone, Copy, PartialEq, Eq, Hash, PartialOrd, Ord)]
 pub struct DwUt(pub u8);
 
@@ -22,7 +22,7 @@ pub const DW_UT_compile: DwUt = DwUt(0x01);
 pub const DW_UT_type: DwUt = DwUt(0x02);
 /// A part of a unit that other units import.
 pub const DW_UT_partial: DwUt = DwUt(0x03);
-/// What is left of a compilation unit whose details are in a split file.
+/// What remains in the program of a compilation unit whose details are in a split file.
 pub const DW_UT_skeleton: DwUt = DwUt(0x04);
 /// A compilation unit in a split file.
 pub const DW_UT_split_compile: DwUt = DwUt(0x05);

@@ -12,7 +12,7 @@ use std::fmt;
 /// Whether a function or a base class is virtual (DWARF 5, section 7.11).
 ///
 /// `Display` writes the name, or `Unknown DwVirtuality: 99` for a value without one, and honours
-/// width, fill and alignment.
+/// width, precision, fill and alignment.
 #[derive(Debug, Clone, Copy, PartialEq, Eq, Hash, PartialOrd, Ord)]
 pub struct DwVirtuality(pub u8);
 

@@ -12,7 +12,7 @@ use std::fmt;
 /// Who sees a declaration (DWARF 5, section 7.10).
 ///
 /// `Display` writes the name, or `Unknown DwVis: 99` for a value without one, and honours width,
-/// fill and alignment.
+/// precision, fill and alignment.
 #[derive(Debug, Clone, Copy, PartialEq, Eq, Hash, PartialOrd, Ord)]
 pub struct DwVis(pub u8);
 

@@ -1,10 +1,11 @@
 //! The library's calls, for programs that compare them with another library or measure them beside
 //! it.
 //!
-//! `tools/compare` calls these functions from Rust, as `compare/src/ours.rs` declares them. Some read
-//! one thing and return it with each error. The others are whole loops over many items, so that the
-//! cost of a call doesn't show in what is measured. No program but that one is meant to link this
-//! library: `dwarf_read_c` has the calls for C.
+//! `tools/compare` calls these functions from Rust: `ours.rs`, `measure.rs` and `library.rs` of
+//! `compare/src` declare them. Some read one thing and return it with each error. The others are
+//! whole loops over many items, so that the cost of a call doesn't show in what is measured. Only
+//! the program that compares and the copy of gimli of `tools/compare client` link this library:
+//! `dwarf_read_c` has the calls for C.
 
 #![tactic(auto)]
 

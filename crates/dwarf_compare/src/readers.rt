@@ -10,7 +10,7 @@ use dwarf_read_core::{
 use dwarf_uses::{OwnedReader, SharedReader};
 use std::alloc::Global;
 
-/// What is asked. `reader` is 0 for a slice whose byte order is its type's, 1 for a slice that has
+/// The request of a call. `reader` is 0 for a slice whose byte order is its type's, 1 for a slice that has
 /// it at run time, 2 for [`OwnedReader`], and otherwise [`SharedReader`].
 #[repr(C)]
 #[derive(Clone, Copy)]
@@ -23,8 +23,8 @@ pub struct Asked {
     pub index: u64,
 }
 
-/// What is found. `rest` is how many bytes a number leaves, also by an error, and of a set whether
-/// there is none.
+/// What a reader returns. `rest` is how many bytes remain after a number or its error; for a set it
+/// is 1 if there is none.
 #[repr(C)]
 #[derive(Clone, Copy)]
 pub struct Found {
@@ -34,8 +34,9 @@ pub struct Found {
     pub rest: u64,
 }
 
-/// Answers a question by a reader. Returns how many bytes the text of the error has, which is
-/// written to `text` as far as there is room, or 0 if there is no error.
+/// Does what is requested, by one of the readers. Returns 0 if there is no error, and otherwise how
+/// many bytes the error's text has, of which `text` gets as many as fit, or `usize::MAX` if memory
+/// for the text runs out.
 #[unsafe(no_mangle)]
 pub extern "C" fn compare_readers(
     mem: Global,

@@ -31,9 +31,11 @@ pub extern "C" fn compare_short(
     fault: &mut Fault,
 ) -> u32
     ensures read { result ≡ 0 → (left : Input)
-        × ReadsNumber unsigned16 (section_of bytes.now) value.new left × (rest.new ≡ length left.bytes) }
+        × ReadsNumber unsigned16 (section_of bytes.now) value.new left
+        × (rest.new ≡ length left.bytes) }
     ensures rejected { result ≢ 0 → Rejects (λ e. (left : Input)
-        × RejectsNumber unsigned16 (section_of bytes.now) e left × (rest.new ≡ length left.bytes))
+        × RejectsNumber unsigned16 (section_of bytes.now) e left
+        × (rest.new ≡ length left.bytes))
         result fault.new }
 {
     let mut input = EndianSlice::new(bytes, LittleEndian);

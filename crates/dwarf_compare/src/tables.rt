@@ -3,8 +3,7 @@
 use crate::single::{table_at, tag_of};
 use dwarf_read_core::{
     Abbreviation, Abbreviations, AbbreviationsCache, AbbreviationsCacheStrategy,
-    AttributeSpecification, DebugAbbrev, DebugAbbrevOffset, EndianSlice, Error, LittleEndian,
-    Result,
+    AttributeSpecification, DebugAbbrev, DebugAbbrevOffset, Error, LittleEndian, Result,
 };
 use std::alloc::Global;
 
@@ -37,7 +36,7 @@ fn get_all(table: &Abbreviations, codes: u64) -> u64 {
 // The same, so many times.
 fn get_rounds(table: &Abbreviations, codes: u64, rounds: u64) -> u64 {
     let mut sum: u64 = 0;
-    for round in 0..rounds {
+    for _ in 0..rounds {
         sum = sum.wrapping_add(get_all(table, codes));
     }
     sum

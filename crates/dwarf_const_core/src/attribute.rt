@@ -18,7 +18,7 @@ pub mod vendor;
 /// What a value of an entry is about (DWARF 5, section 7.5.4).
 ///
 /// `Display` writes the name, or `Unknown DwAt: 4660` for a value without one, and honours width,
-/// fill and alignment.
+/// precision, fill and alignment.
 #[derive(Debug, Clone, Copy, PartialEq, Eq, Hash, PartialOrd, Ord)]
 pub struct DwAt(pub u16);
 

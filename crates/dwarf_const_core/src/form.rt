@@ -11,7 +11,7 @@ use std::fmt;
 /// How the value of an attribute is encoded (DWARF 5, sections 7.5.5 and 7.5.6).
 ///
 /// `Display` writes the name, or `Unknown DwForm: 4660` for a value without one, and honours width,
-/// fill and alignment.
+/// precision, fill and alignment.
 #[derive(Debug, Clone, Copy, PartialEq, Eq, Hash, PartialOrd, Ord)]
 pub struct DwForm(pub u16);
 

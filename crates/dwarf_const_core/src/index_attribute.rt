@@ -11,7 +11,7 @@ use std::fmt;
 /// What a value of an entry in `.debug_names` is about (DWARF 5, section 7.19).
 ///
 /// `Display` writes the name, or `Unknown DwIdx: 4660` for a value without one, and honours width,
-/// fill and alignment.
+/// precision, fill and alignment.
 #[derive(Debug, Clone, Copy, PartialEq, Eq, Hash, PartialOrd, Ord)]
 pub struct DwIdx(pub u16);
 

@@ -11,7 +11,7 @@ use std::fmt;
 /// A source language (DWARF 5, section 7.12).
 ///
 /// `Display` writes the name, or `Unknown DwLang: 4660` for a value without one, and honours width,
-/// fill and alignment.
+/// precision, fill and alignment.
 #[derive(Debug, Clone, Copy, PartialEq, Eq, Hash, PartialOrd, Ord)]
 pub struct DwLang(pub u16);
 
@@ -101,7 +101,7 @@ pub const DW_LANG_RenderScript: DwLang = DwLang(0x0024);
 /// BLISS.
 pub const DW_LANG_BLISS: DwLang = DwLang(0x0025);
 
-// Given out by the DWARF committee after DWARF 5 was published.
+// Assigned by the DWARF committee after DWARF 5 was published.
 
 /// Kotlin.
 pub const DW_LANG_Kotlin: DwLang = DwLang(0x0026);

@@ -11,7 +11,7 @@ use std::fmt;
 /// What a line number program keeps of a file or a directory (DWARF 5, section 7.22).
 ///
 /// `Display` writes the name, or `Unknown DwLnct: 4660` for a value without one, and honours width,
-/// fill and alignment.
+/// precision, fill and alignment.
 #[derive(Debug, Clone, Copy, PartialEq, Eq, Hash, PartialOrd, Ord)]
 pub struct DwLnct(pub u16);
 

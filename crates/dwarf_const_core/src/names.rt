@@ -39,12 +39,13 @@ impl Names {
     }
 }
 
-/// Writes `name`, or `Unknown TYPE: VALUE` in decimal if there is none, with the width, fill and
-/// alignment of `f`. It doesn't allocate.
+/// Writes `name`, or `Unknown TYPE: VALUE` in decimal if there is none, with the width, precision,
+/// fill and alignment of `f`. It doesn't allocate.
 ///
 /// # Errors
 ///
-/// An error of `f` itself. Without a name also `fmt::Error` if `type_name` has more than 34 bytes.
+/// An error of `f` itself. Without a name also `fmt::Error` if that text has more than 64 bytes,
+/// which needs a `type_name` of more than 34.
 pub fn pad_name<W: fmt::Write>(
     f: &mut fmt::Formatter<W>,
     name: Option<&'static str>,

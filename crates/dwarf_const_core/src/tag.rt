@@ -14,11 +14,11 @@ pub mod vendor;
 /// What kind of thing an entry describes (DWARF 5, section 7.5.3).
 ///
 /// `Display` writes the name, or `Unknown DwTag: 4660` for a value without one, and honours width,
-/// fill and alignment.
+/// precision, fill and alignment.
 #[derive(Debug, Clone, Copy, PartialEq, Eq, Hash, PartialOrd, Ord)]
 pub struct DwTag(pub u16);
 
-// No tag: the abbreviation that closes a list of children.
+// No tag: the entry that closes a list of children has none.
 
 /// The tag of an entry that has none.
 pub const DW_TAG_null: DwTag = DwTag(0x00);

@@ -1,5 +1,5 @@
 -- Arguments of the command line that name no command.
-use Rattle.dwarf_listing_core.proofs.Common.{arith, length-map, ◌≡◌, ◌≢◌, ℕ, List, [], ◌∷◌, length, None, refl, command_of}
+use Rattle.dwarf_listing_core.proofs.Common.{arith, length-map, ◌≡◌, ◌≢◌, ℕ, List, length, None, command_of}
 
 -- arguments other than two name no command
 pub command_of-other : (words : List (List ℕ)) → length words ≢ 2 → None ≡ command_of words

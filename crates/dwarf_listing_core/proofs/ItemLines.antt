@@ -32,12 +32,12 @@ pub record AreListed {I : Type 0} (Lists : I → Result (List ℕ) Error → Typ
 
 -- ---- what the iterator stands for
 
-module _ {I X A : Type 0} (StandsFor : I → List (Result A Error) → Type 0) (view : X → A)
+module _ {I X A : Type 0} (Represents : I → List (Result A Error) → Type 0) (view : X → A)
     (Lists : A → Result (List ℕ) Error → Type 0) where
   -- what an iterator yields is listed as the items that it stands for, unless memory ran out
   pub items_of_run : {is_free : Bool} {now : I} {listed : Result (List ℕ) Error}
-      → ListsRun (GivesFirst StandsFor view is_free) (λ x. Lists (view x)) now listed → listed ≢ Err OutOfMemory
-      → ListsItemsOf StandsFor Lists now listed
+      → ListsRun (GivesFirst Represents view is_free) (λ x. Lists (view x)) now listed → listed ≢ Err OutOfMemory
+      → ListsItemsOf Represents Lists now listed
   items_of_run (nothing now next none) memory = ([], none.0, refl)
   items_of_run (bad_item now next e (inl first)) memory = (Err e ∷ first.0.0, first.1 first.0.0 first.0.1, refl)
   items_of_run (bad_item now next e (inr want)) memory = absurd (memory (λ i. Err (want.0.fault i)))

@@ -1,5 +1,5 @@
 -- What is written one after the other.
-use Rattle.dwarf_listing_core.proofs.Common.{◌≡◌, ℕ, Bool, Option, List, [], ◌∷◌, ◌++◌, take, drop, flat_map, sym, take-append-drop, common_steps, Appends, ListsAll}
+use Rattle.dwarf_listing_core.proofs.Common.{ℕ, Bool, Option, List, [], ◌∷◌, ◌++◌, take, drop, flat_map, sym, take-append-drop, common_steps, Appends, ListsAll}
 use Rattle.std.proofs.Common.{subst}
 use Rattle.std.proofs.KnownBytes.{Appends-trans}
 use Rattle.std.proofs.lemmas.List.{flat_map_more}

@@ -21,11 +21,11 @@ ListsItems Lists (Err e ∷ items) listed = listed ≡ Err e
 ListsItems Lists (Ok x ∷ items) listed =
     (own : Result (List ℕ) Error) × Lists x own × Joins own (ListsItems Lists items) listed
 
--- the texts of the items that a source stands for, or the first error
+-- the texts of the items that a source represents, or the first error
 abbrev pub ListsItemsOf : {I A : Type 0} → (I → List (Result A Error) → Type 0)
     → (A → Result (List ℕ) Error → Type 0) → I → Result (List ℕ) Error → Type 0
-ListsItemsOf {A = A} StandsFor Lists source listed =
-    (items : List (Result A Error)) × StandsFor source items × ListsItems Lists items listed
+ListsItemsOf {A = A} Represents Lists source listed =
+    (items : List (Result A Error)) × Represents source items × ListsItems Lists items listed
 
 -- the texts of what an iterator yields, or the first error
 pub data ListsRun {I X : Type 0} (gives : I → Option (Result X Error) → I → Type 0)

@@ -25,7 +25,7 @@ abbrev pub ListsOne : Kind → List ℕ → ℕ → Result (List ℕ) Error → 
 ListsOne Tables = ListsTable
 ListsOne Strings = ListsString
 
--- the text of an offset: its lines below their title, or the line of its error if the run goes on
+-- the text of an offset: its title and its lines, or the line of its error if the run goes on
 abbrev pub ListsAt : OnError → Kind → List ℕ → ℕ → List ℕ → Bool → Type 0
 ListsAt _ kind section offset text false =
     (lines : List ℕ) × ListsOne kind section offset (Ok lines) × (text ≡ title kind offset ++ lines)

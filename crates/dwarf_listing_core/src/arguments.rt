@@ -1,4 +1,4 @@
-//! The arguments, which name a section and say where its offsets are.
+//! The arguments of `dwarf_list_many`, which name a section and say where its offsets are.
 
 ghost use Rattle.std.specs.Prelude.{◌≡◌, Some, None, MatchOption, map, string_bytes};
 ghost use Rattle.dwarf_listing_core.specs.Arguments.{arguments_of, inputs_of, kind_of, named_inputs};

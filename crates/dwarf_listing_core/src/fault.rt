@@ -12,9 +12,9 @@ use std::process::ExitCode;
 /// Why a run failed.
 #[derive(Clone, Copy, Debug, PartialEq, Eq)]
 pub enum Fault {
-    /// The section is malformed, or memory ran out.
+    /// The error of what the command lists, or `OutOfMemory`.
     Section(Error),
-    /// The arguments name no command.
+    /// The arguments name no command, or one isn't UTF-8.
     Usage,
     /// The input could not be read.
     Read,
@@ -93,7 +93,7 @@ impl From<AllocError> for Fault {
 
     ghost from_gives = { λ _ fault. fault ≡ Section OutOfMemory };
 
-    fn from(_refused: AllocError) -> Fault {
+    fn from(_error: AllocError) -> Fault {
         Fault::out_of_memory()
     }
 }

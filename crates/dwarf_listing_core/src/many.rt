@@ -1,6 +1,6 @@
-//! A run over many offsets of one section: the lines at each offset, below their title.
+//! A run over many offsets of one section: what is listed at each offset, behind its title.
 
-ghost use Rattle.std.specs.Prelude.{◌≡◌, ◌≢◌, ◌⊎◌, ◌++◌, ℕ, true, List, Ok, Err, IfErr, IfOk, IfSome, OnOk};
+ghost use Rattle.std.specs.Prelude.{◌≡◌, ◌≢◌, ◌⊎◌, ℕ, true, List, Ok, Err, IfErr, IfOk, IfSome, OnOk};
 ghost use Rattle.std.specs.Io.KnownBytes.{Appends, IsAtEnd};
 ghost use Rattle.dwarf_listing_core.specs.Fault.{IsMemoryFault};
 ghost use Rattle.dwarf_listing_core.specs.Many.{EndsAt, EndsManyAt, IfKnown, IsManyText, ListsAll, ListsAt, ListsFirst, ListsManyFirst, ListsOne, error_line, title};
@@ -26,7 +26,7 @@ pub mod fault;
 #[cfg(test)]
 mod tests;
 
-/// Writes what is listed at each offset of a section, below its title.
+/// Writes what is listed at each offset of a section, behind its title.
 ///
 /// Both inputs are read to their ends, and all offsets are parsed: decimal numbers, one a line.
 /// Then what each offset names is read whole, and its lines are written through a buffer. The output
@@ -89,7 +89,7 @@ pub fn run_many<S: Read, I: Read, O: Write>(
     write_all_at(mem, on_error, kind, &section, &offsets, output)
 }
 
-/// Writes what is listed at these offsets of a section, each below its title, through a buffer, and
+/// Writes what is listed at these offsets of a section, each behind its title, through a buffer, and
 /// flushes the output. With `GoOn` an error at an offset is a line of the output. Returns whether there
 /// is such a line.
 ///

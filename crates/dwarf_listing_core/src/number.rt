@@ -1,4 +1,5 @@
-//! Numbers of the command line: ASCII digits, and before a signed one an optional minus.
+//! Numbers of the command line and of lists of offsets: ASCII digits, and before a signed one an
+//! optional minus.
 
 ghost use Rattle.std.specs.Prelude.{◌≡◌};
 ghost use Rattle.dwarf_listing_core.specs.Number.{is_all_digits, signed_of, unsigned_of, without_minus};

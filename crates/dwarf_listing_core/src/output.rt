@@ -1,7 +1,7 @@
 //! The buffer in front of an output.
 //!
-//! It stands for the `BufWriter` of `std`, whose clauses don't say that it keeps the reference which
-//! it was given, nor that it writes nothing if its memory is refused.
+//! It takes the place of the `BufWriter` of `std`. The clauses of that type don't say that it keeps
+//! the reference it was given, nor that it writes nothing if an allocation fails.
 
 ghost use Rattle.std.specs.Prelude.{◌≡◌, ◌+◌, ◌-◌, ◌≤◌, [], ◌++◌, OnOk, drop, length, take, vec_capacity, vec_len};
 ghost use Rattle.std.specs.Io.KnownBytes.{Appends, Keeps};
@@ -10,10 +10,11 @@ ghost use Rattle.dwarf_listing_core.specs.Output.{buffered_contents};
 use std::io;
 use std::io::{ErrorKind, Write};
 
-/// How many bytes are written at once.
+/// The capacity of a buffer, in bytes. A longer write goes to the output directly.
 pub(crate) const BUFFER_SIZE: usize = 65536;
 
-/// A buffer in front of an output. Only a flush writes out what is left in it: a drop doesn't.
+/// A buffer in front of an output. What remains in it is written before a write that doesn't fit,
+/// and by a flush, but not by a drop.
 #[derive(Drop)]
 pub(crate) struct Buffered<'a, O> {
     output: &'a mut O,
@@ -38,7 +39,7 @@ impl<'a, O: Write> Buffered<'a, O> {
         self.output
     }
 
-    // Writes what is in the buffer. What a failure leaves unwritten stays there.
+    // Writes what is in the buffer. If that fails, the bytes that weren't written stay in it.
     fn write_buffer(&mut self) -> io::Result<()>
         ensures same_reference { self.new.output.ghost_name ≡ self.old.output.ghost_name }
         ensures bytes { Keeps (buffered_contents O.contents self.old)
@@ -50,7 +51,7 @@ impl<'a, O: Write> Buffered<'a, O> {
         result
     }
 
-    // This stands apart, so that the test for room is inlined.
+    // This is out of line, so that only the test for room is inlined.
     #[cold]
     #[inline(never)]
     fn write_all_cold(&mut self, bytes: &[u8]) -> io::Result<()>

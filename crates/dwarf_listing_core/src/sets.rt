@@ -15,8 +15,9 @@ use dwarf_read_core::{
 use std::alloc::{AllocError, Global};
 use std::io::Write;
 
-/// Returns the sets of addresses of a whole `.debug_addr`: a line for each header, and below it a
-/// line for each address.
+/// Returns the sets of addresses of a whole `.debug_addr`: a line for each header, such as
+/// `set 0: length 12, 32-bit, address size 4`, and below it a line for each address, such as
+/// `  0x12345678`.
 ///
 /// # Errors
 ///
@@ -29,8 +30,8 @@ pub fn addresses(mem: Global, section: &[u8], endian: RunTimeEndian) -> Result<V
     text_of(mem, debug_addr.headers()?)
 }
 
-/// Returns the sets of string offsets of a whole `.debug_str_offsets`: a line for each header, and
-/// below it a line for each offset.
+/// Returns the sets of string offsets of a whole `.debug_str_offsets`: a line for each header, such
+/// as `set 0: length 8, 32-bit`, and below it a line for each offset, such as `  42`.
 ///
 /// # Errors
 ///

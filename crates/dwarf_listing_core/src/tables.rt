@@ -19,8 +19,9 @@ use std::io;
 use std::io::Write;
 
 /// Returns the declarations of the table at an offset of `.debug_abbrev`, in the order of their
-/// codes: a line with the code, the tag and whether there are children, and a line for each
-/// attribute.
+/// codes: a line with the code, the tag and whether there are children, such as
+/// `1 DW_TAG_compile_unit yes`, and a line for each attribute, such as
+/// `  DW_AT_name DW_FORM_string`, with its value if the table has it.
 ///
 /// # Errors
 ///

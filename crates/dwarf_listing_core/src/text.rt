@@ -9,7 +9,7 @@ use dwarf_read_core::Abbreviations;
 use std::io;
 use std::io::Write;
 
-/// The text of a listing. The section has been read, and has no error.
+/// The text of a listing. What it lists has been read, and has no error.
 #[derive(Debug, Drop)]
 pub enum Text {
     /// The lines of a table, which are made as they are written.

@@ -3,7 +3,7 @@ use Rattle.std.specs.Prelude.{◌≡◌, ℕ, ◌+◌, ◌<◌, ◌⊎◌, List,
 use Rattle.std.specs.FinMap.{len, values}
 use Rattle.std.specs.List.{flat_map}
 use Rattle.dwarf_read_core.specs.Input.{Input}
-use Rattle.dwarf_read_core.specs.Answer.{EndsAt}
+use Rattle.dwarf_read_core.specs.Answer.{TableEndsAt}
 use Rattle.dwarf_read_core.specs.Grammar.{Declaration, Specification, Table, attribute_count, is_by_null}
 use Rattle.dwarf_read_c.specs.declared.tables.DwarfAbbreviation.{DwarfAbbreviation}
 use Rattle.dwarf_read_c.specs.declared.tables.DwarfAttribute.{DwarfAttribute}
@@ -25,7 +25,7 @@ measure_of t end = record {
 
 -- the measure of the table at an offset of a section
 abbrev pub Measures : DwarfMeasure → Input → ℕ → Table → Type 0
-Measures m section offset t = (end : ℕ) × EndsAt section offset t end × (m ≡ measure_of t end)
+Measures m section offset t = (end : ℕ) × TableEndsAt section offset t end × (m ≡ measure_of t end)
 
 -- a specification; one without a value has the value 0
 abbrev pub attribute_of : Specification → DwarfAttribute

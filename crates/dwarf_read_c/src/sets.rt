@@ -51,10 +51,11 @@ pub struct DwarfSet {
 /// - 1 at `offset` if fewer than four bytes follow;
 /// - 9 (`UnknownReservedLength`) if those four are reserved;
 /// - 1 behind them if they announce a length of eight bytes, and fewer follow;
-/// - 1 behind the length if fewer bytes follow, or if the set ends before the version;
+/// - 1 behind the length if fewer bytes follow, or if the set has fewer than two bytes;
 /// - 11 (`UnknownVersion`) if the version isn't 5;
-/// - 1 at the address size or the segment size if the set ends before it;
+/// - 1 at the address size if the set ends before it;
 /// - 12 (`UnsupportedAddressSize`) if the address size isn't 1, 2, 4 or 8;
+/// - 1 at the segment size if the set ends before it;
 /// - 13 (`UnsupportedSegmentSize`) if the segment size isn't 0.
 #[unsafe(no_mangle)]
 #[tactic(auto, using(crate::proofs::KnownErrors::known_address_set))]
@@ -98,9 +99,9 @@ pub extern "C" fn dwarf_address_set(
 /// - 1 at `offset` if fewer than four bytes follow;
 /// - 9 (`UnknownReservedLength`) if those four are reserved;
 /// - 1 behind them if they announce a length of eight bytes, and fewer follow;
-/// - 1 behind the length if fewer bytes follow, or if the set ends before the version;
+/// - 1 behind the length if fewer bytes follow, or if the set has fewer than two bytes;
 /// - 11 (`UnknownVersion`) if the version isn't 5;
-/// - 1 behind the version if the set ends before the two bytes of padding.
+/// - 1 behind the version if fewer than two bytes of padding follow in the set.
 #[unsafe(no_mangle)]
 #[tactic(auto, using(crate::proofs::KnownErrors::known_str_offset_set))]
 pub extern "C" fn dwarf_str_offset_set(

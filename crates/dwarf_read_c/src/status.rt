@@ -6,8 +6,8 @@ pub const DWARF_OK: u32 = 0;
 /// Memory ran out. This is also the number of an error.
 pub const DWARF_OUT_OF_MEMORY: u32 = 18;
 
-/// There are more items than the caller has places for. The call wrote their count, and nothing
-/// else.
+/// There are more items than the caller has places for. The call wrote their count, or the measure
+/// of the table, and nothing else.
 pub const DWARF_NO_ROOM: u32 = 100;
 
 /// No constant has this value, or no error has this number and value. Nothing was written.

@@ -2,7 +2,7 @@
 
 ghost use Rattle.std.specs.Prelude.{◌≡◌, ◌≢◌, ◌≤◌, ◌<◌, ◌^◌, false, Ok, Err, length, map, IfOk, IfErr};
 ghost use Rattle.std.specs.FinMap as finite;
-ghost use Rattle.dwarf_read_core.specs.Answer.{Answer, Answers, EndsAt};
+ghost use Rattle.dwarf_read_core.specs.Answer.{Answer, Answers, TableEndsAt};
 ghost use Rattle.dwarf_read_core.specs.Grammar.{Table, attribute_count};
 ghost use Rattle.dwarf_read_c.specs.Fault.{Rejects};
 ghost use Rattle.dwarf_read_c.specs.Room.{Fills};
@@ -66,7 +66,7 @@ pub struct DwarfAttribute {
 ///
 /// - 1 (`UnexpectedEof`) at 0 if `offset` is past the end, and at the section's end if a declaration
 ///   is cut short;
-/// - 2 or 3 (`BadUnsignedLeb128`, `BadSignedLeb128`) for a number that is too long or too large;
+/// - 2 or 3 (`BadUnsignedLeb128`, `BadSignedLeb128`) for a number that is too long or out of range;
 /// - 4 to 7 for a field that no declaration has: a tag of 0, a byte for children other than 0 and 1,
 ///   a name of 0 with a form other than 0, or a form of 0 with another name;
 /// - 8 (`DuplicateAbbreviationCode`) for a whole declaration with the code of an earlier one.
@@ -98,8 +98,8 @@ pub extern "C" fn dwarf_table_measure(
 }
 
 /// Reads the table at `offset` of `.debug_abbrev`: its abbreviations in the order of their codes,
-/// and the attributes of all of them in the same order. `measure` is how many of each there are.
-/// The call doesn't change the places behind them.
+/// and the attributes of all of them in the same order. `measure` is what [`dwarf_table_measure`]
+/// writes. The call doesn't change the places behind them.
 ///
 /// If there are fewer places than abbreviations or attributes, only `measure` is written, and the call
 /// returns `DWARF_NO_ROOM`.
@@ -149,7 +149,7 @@ pub extern "C" fn dwarf_table_read(
 // Returns the table at an offset, and where it ends. Its attributes can be counted in a `usize`.
 fn table_at(mem: Global, section: &[u8], offset: usize) -> Result<(Abbreviations, usize), Error>
     ensures answer { let s = section_of section.now false in
-        IfOk result (λ r. Answer s offset (Ok r.0) × EndsAt s offset r.0 r.1) }
+        IfOk result (λ r. Answer s offset (Ok r.0) × TableEndsAt s offset r.0 r.1) }
     ensures err { IfErr result (λ e. Answers (Err e) (section_of section.now false) offset) }
     ensures counted { IfOk result (λ r. attribute_count r.0.by_code < 2 ^ 64) }
 {

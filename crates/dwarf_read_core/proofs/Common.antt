@@ -82,4 +82,4 @@ pub use Rattle.dwarf_read_core.specs.Sections.{debug_abbrev_reader}
 pub use Rattle.dwarf_read_core.specs.Sets.{HasSize, Headers, Set, RepresentsSets, followed_headers}
 unfoldable pub use Rattle.dwarf_read_core.specs.Sets.{address_header, string_offsets_header}
 pub use Rattle.dwarf_read_core.proofs.ResultLemmas.{HasOutcome, returned, failed, outcome-bind, outcome-map}
-pub use Rattle.dwarf_read_core.proofs.ResultLemmas.{gives_err, ok_is_no_error, outcome-cond, outcome-ok}
+pub use Rattle.dwarf_read_core.proofs.ResultLemmas.{gives_err, outcome-cond, outcome-ok}

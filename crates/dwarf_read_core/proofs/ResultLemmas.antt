@@ -1,5 +1,5 @@
 -- What follows from the result of steps that may fail.
-use Rattle.std.proofs.Common.{arith, Bool, true, false, cond, refl, ◌≡◌, ◌≢◌, Result, Ok, Err, IsErrAnd, IsOk, IsErrOf}
+use Rattle.std.proofs.Common.{arith, Bool, true, false, cond, refl, ◌≡◌, ◌≢◌, Result, Ok, Err, IsErrAnd}
 use Rattle.dwarf_base_core.specs.declared.error.Error.TheVariants.{OutOfMemory}
 use Rattle.dwarf_base_core.specs.declared.error.Error.{Error}
 use Rattle.dwarf_read_core.specs.Lookups.{AnswersBy}
@@ -43,7 +43,3 @@ gives_err view result h step = grind arith
 pub result-propagated : {X A : Type 0} (Is : Result A Error → Type 0) (view : X → A) (clone_is_free : Bool) {e : Error}
     (r : Result X Error) → IsErrAnd r (λ x. x ≡ e) → Is (Err e) → AnswersBy Is view clone_is_free r
 result-propagated Is view clone_is_free r h is = grind arith
-
--- a result isn't both a value and an error
-pub ok_is_no_error : {A : Type 0} (r : Result A Error) (e : Error) → IsOk r → IsErrOf r e → ⊥
-ok_is_no_error r e ok err = grind arith

@@ -54,9 +54,10 @@ pub data Answer (section : Input) (offset : ℕ) : Result Table Error → Type 0
       → IsFirstError (end_of section) (drop offset section.bytes) e
       → Answer section offset (Err e)
 
--- the table at an offset ends at this one: behind the code of value 0 that closes it, or at the section's end
-abbrev pub EndsAt : Input → ℕ → Table → ℕ → Type 0
-EndsAt section offset t end =
+-- where the table at the first offset ends: the second offset is behind the code of value 0 that closes the table, or
+-- at the section's end
+abbrev pub TableEndsAt : Input → ℕ → Table → ℕ → Type 0
+TableEndsAt section offset t end =
     (rest : List ℕ) × IsTableBefore (drop offset section.bytes) t rest × (end + length rest ≡ length section.bytes)
 
 -- what a call returned is the section's result at the offset, unless memory ran out

@@ -4,8 +4,8 @@ use Rattle.std.specs.Map.{lookup}
 use Rattle.dwarf_base_core.specs.Format.{word_size}
 use Rattle.dwarf_base_core.specs.declared.common.Encoding.{Encoding}
 
--- so many bytes, the address size, a word of the format, or the size of `DW_FORM_ref_addr`: in version 2 the address
--- size, and later a word
+-- a fixed number of bytes, the address size, a word of the format, or the size of `DW_FORM_ref_addr`: in version 2 the
+-- address size, and later a word
 pub data Size : Type 0 where
   Bytes : ℕ → Size
   Address : Size

@@ -14,7 +14,7 @@ use Rattle.dwarf_read_core.specs.Sets.{Set}
 use Rattle.dwarf_read_core.specs.Words.{Holds, Slot, place, slot}
 
 -- the bytes of a set are those of its initial length, its header and its entries, joined, and the rest remains. The
--- header has so many bytes, and says what is read of them
+-- header has `size` bytes, and says what is read of them
 pub record IsJoined {H : Type 0} (size : ℕ) (header : Layout H) (old : Input) (s : Set H) (new : Input) : Type 0 where
   pub initial : List ℕ
   pub head : List ℕ

@@ -44,7 +44,7 @@ fields_again a h =
     ap (λ (v : ℤ). record { name = a.name; form = a.form; implicit_const_value = v })
     (value_again a.form.0 a.implicit_const_value h)
 
--- the attributes that are collected: those of the second list, or the first ones of the first list if it is empty
+-- the attributes that are collected: those of the second list, or if that is empty, the first n of the first list
 abbrev pub collected : ℕ → List Specification → List Specification → List Specification
 collected n scratch [] = take n scratch
 collected n scratch (s ∷ overflow) = s ∷ overflow

@@ -100,8 +100,9 @@ pub fn appended_bytes_change_no_string()
 
 /// The string offset at a slot is the number that its bytes encode, and so is the address at a
 /// slot. These are as many bytes as the width of the slot, from `base + index * width` on. Without
-/// such a number, the error is that of the first thing that is missing or too great, with its
-/// position.
+/// such a number, the error is that of the first thing that is wrong: bytes are missing, with their
+/// position; the distance from the base, or a string offset, doesn't fit the offset type; the width
+/// isn't a size of addresses.
 #[tactic(auto, using(crate::proofs::lookups::SlotOutcomes::word_held, crate::proofs::lookups::SlotOutcomes::address_held, crate::proofs::lookups::SlotOutcomes::word_none, crate::proofs::lookups::SlotOutcomes::address_none))]
 pub fn slots_hold_numbers()
     ensures word { (greatest : ℕ) (section : Input) (s : Slot) (x : ℕ)
@@ -132,8 +133,8 @@ pub fn appended_bytes_change_no_address()
         → AddressAt greatest (followed_by section more) s answer }
 {}
 
-/// The part at an offset is so many bytes from there on, at its own position. Without such a part,
-/// the section ends before the offset, or before the part's end.
+/// The part at an offset is the given number of bytes from there on, at its own position. Without
+/// such a part, the section ends before the offset, or before the part's end.
 #[tactic(auto, using(crate::proofs::lookups::Ranges::range_held, crate::proofs::lookups::Ranges::range_none))]
 pub fn ranges_are_parts()
     ensures range { (section : Input) (offset size : ℕ) (part : Input)

@@ -47,9 +47,9 @@ pub record IsUnsupportedAddressSize (old : Input) (e : Error) (new : Input) : Ty
   pub fault : e ≡ UnsupportedAddressSize size
 
 -- the size is none of those that numbers have, and nothing is consumed
-pub record IsUnsupportedSize (refusal : ℕ → Error) (size : ℕ) (old : Input) (e : Error) (new : Input) : Type 0 where
+pub record IsUnsupportedSize (error : ℕ → Error) (size : ℕ) (old : Input) (e : Error) (new : Input) : Type 0 where
   pub none : is_number_size size ≡ false
-  pub fault : e ≡ refusal size
+  pub fault : e ≡ error size
   pub left : new ≡ old
 
 -- no address of this size is read: addresses don't have this size, or bytes are missing

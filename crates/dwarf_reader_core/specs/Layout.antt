@@ -60,7 +60,8 @@ abbrev pub or_unread : {A : Type 0} → Result (A × Input) Error → Input → 
 or_unread (Ok x) old = x.1
 or_unread (Err e) old = old
 
--- what remains of an input: the bytes behind the last field, or those from the first field on that fails
+-- what remains of an input: the bytes behind the last field, those from a missing field on, or those behind a field
+-- whose value is rejected
 unfoldable pub remains : {A : Type 0} → Layout A → Input → Input
 remains (part n) old = or_unread (read (part n) old) old
 remains (until end) old = or_unread (read (until end) old) old

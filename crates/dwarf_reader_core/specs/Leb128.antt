@@ -65,7 +65,7 @@ overflow_error unsigned64 = BadUnsignedLeb128
 overflow_error unsigned16 = BadUnsignedLeb128
 overflow_error signed64 = BadSignedLeb128
 
--- the bytes encode this number of the kind, within its limit
+-- the bytes encode this number of the kind, within its limit and its range
 pub record IsNumber (k : Kind) (bytes : List ℕ) (number : Number k) : Type 0 where
   pub encoding : IsEncoding bytes
   pub within : length bytes ≤ limit k

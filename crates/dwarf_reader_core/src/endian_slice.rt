@@ -27,8 +27,8 @@ use std::ops::{Range, RangeFrom, RangeTo};
 
 /// A [`Reader`] of borrowed bytes.
 ///
-/// It copies no bytes, and cloning or splitting it allocates no memory. Two are equal if their
-/// bytes and byte orders are, whatever their positions.
+/// Cloning or splitting it copies no bytes and allocates no memory. Two are equal if their bytes
+/// and byte orders are, whatever their positions.
 #[derive(Debug)]
 pub struct EndianSlice<'input, Endian: Endianity> {
     slice: &'input [u8],
@@ -84,6 +84,7 @@ impl<'input, Endian: Endianity + Hash> Hash for EndianSlice<'input, Endian> {
     }
 }
 
+/// No bytes, at position 0, in the default byte order.
 impl<'input, Endian: Endianity> Default for EndianSlice<'input, Endian> {
     ghost is_default = { λ s. (s.slice.now ≡ []) × (s.end ≡ 0) × Endian.is_default s.endian };
 
@@ -113,8 +114,8 @@ impl<'input, Endian: Endianity> EndianSlice<'input, Endian> {
         }
     }
 
-    /// Returns a reader of these bytes, at the position `first`, so that sections read side by side
-    /// have identifiers of their own.
+    /// Returns a reader of these bytes, at the position `first`. Sections read side by side have
+    /// identifiers of their own if each begins above the end of the one before.
     ///
     /// The caller has to make sure that the position after the last byte is below 2^64.
     #[inline]
@@ -175,7 +176,7 @@ impl<'input, Endian: Endianity> EndianSlice<'input, Endian> {
         find_byte(self.slice, byte)
     }
 
-    /// Returns how many bytes the position is behind that of `base`.
+    /// Returns the distance, in bytes, from the position of `base` to that of this reader.
     ///
     /// The caller has to make sure that the bytes that remain here are a part of those that remain
     /// in `base`.
@@ -328,8 +329,7 @@ impl<'input, Endian: Endianity> Reader for EndianSlice<'input, Endian> {
 
     #[inline]
     fn truncate(&mut self, len: usize) -> Result<()> {
-        let front = self.split(len)?;
-        *self = front;
+        *self = self.split(len)?;
         Ok(())
     }
 

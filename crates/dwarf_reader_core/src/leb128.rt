@@ -1,7 +1,7 @@
 //! LEB128 numbers (DWARF 5, 7.6): a byte carries seven bits of the number, the lowest first, and
 //! its highest bit says whether another byte follows.
 
-ghost use Rattle.std.specs.Prelude.{◌≡◌, ◌≤◌, ◌<◌, ◌*◌, ◌+◌, ◌%◌, ◌^◌, ◌↔◌, IsTrue, ℕ, pos, ◌-ℤ◌, if◌then◌else◌};
+ghost use Rattle.std.specs.Prelude.{◌≡◌, ◌≤◌, ◌<◌, ◌*◌, ◌+◌, ◌%◌, ◌^◌, ◌↔◌, IsTrue, pos, ◌-ℤ◌, if◌then◌else◌};
 
 pub mod read;
 pub mod write;

@@ -1,12 +1,12 @@
 //! Reading from the bytes of a section.
 
-ghost use Rattle.std.specs.Prelude.{◌≡◌, ◌+◌, ◌^◌, IsSome, IfSome, ◌⊎◌, ◌↔◌, ◌≤◌, ◌<◌, ℕ, Bool, [], length, take, IfOk, IfErr, OnOk, OnErr, IsTrue};
+ghost use Rattle.std.specs.Prelude.{◌≡◌, ◌+◌, ◌^◌, IsSome, IfSome, ◌⊎◌, ◌↔◌, ◌≤◌, ◌<◌, Bool, [], length, take, IfOk, IfErr, OnOk, OnErr, IsTrue};
 ghost use Rattle.std.specs.Cow.{cow_slice_items, cow_str_bytes};
 ghost use Rattle.std.specs.Str.{IsUtf8};
 ghost use Rattle.std.specs.Str.Lossy.{utf8_lossy};
 ghost use Rattle.dwarf_base_core.specs.declared.error.Error.TheVariants.{BadUtf8, OutOfMemory};
 ghost use Rattle.dwarf_base_core.specs.Format.{word_size};
-ghost use Rattle.dwarf_reader_core.specs.Input.{Input, after, first, IsPartOf, IsBounded, IsFirst, Covers, Takes, TakesByte, TakesNumber, TakesSigned, TakesString};
+ghost use Rattle.dwarf_reader_core.specs.Input.{Input, first, IsPartOf, IsBounded, IsFirst, Covers, Takes, TakesByte, TakesNumber, TakesSigned, TakesString};
 ghost use Rattle.dwarf_reader_core.specs.Faults.{IsTooShort, IsUnsupportedAddressSize, HasNoByte, RejectsAddress, RejectsOffset, RejectsWord, CloneRanOutOfMemory, is_number_size};
 ghost use Rattle.dwarf_reader_core.specs.Leb128.{unsigned64, unsigned16, signed64, IsOver, LacksEncoding, ReadsNumber, RejectsNumber, TakesEncoding};
 ghost use Rattle.dwarf_reader_core.specs.InitialLength.{initial_length};
@@ -103,7 +103,7 @@ pub trait Reader: Debug + Drop + Sized {
             (λ e. IsTooShort (Self.Offset.value len) (view self.old) e (view self.new)) }
         ensures order { order self.new ≡ order self.old };
 
-    /// Returns how many bytes the position is behind that of `base`.
+    /// Returns the distance, in bytes, from the position of `base` to that of this reader.
     ///
     /// The caller has to make sure that the bytes that remain here are a part of those that remain
     /// in `base`.
@@ -220,8 +220,8 @@ pub trait Reader: Debug + Drop + Sized {
     ///
     /// # Errors
     ///
-    /// [`Error::UnexpectedEof`] if no byte remains. This and the other reads of a number of a fixed
-    /// width consume nothing if they fail.
+    /// [`Error::UnexpectedEof`] if no byte remains. The reads from this one to
+    /// [`read_uint`](Reader::read_uint) consume nothing if they fail.
     #[inline]
     fn read_u8(&mut self) -> Result<u8>
         ensures ok { IfOk result (λ byte. TakesByte (view self.old) byte (view self.new)) }
@@ -545,9 +545,8 @@ pub trait Reader: Debug + Drop + Sized {
     ///
     /// # Errors
     ///
-    /// - [`Error::UnexpectedEof`] if the first four bytes are missing, and then none is consumed;
-    ///   or if they are `0xffffffff` and some of the eight behind them are missing, and then four
-    ///   are consumed.
+    /// - [`Error::UnexpectedEof`] if fewer than four bytes remain, and then none is consumed; or if
+    ///   the first four are `0xffffffff` and fewer than eight follow, and then four are consumed.
     /// - [`Error::UnknownReservedLength`] if the first four bytes are reserved. They are consumed.
     /// - [`Error::UnsupportedOffset`] if the length doesn't fit the offset type. All twelve bytes
     ///   are consumed.

@@ -1,10 +1,10 @@
-//! Small callers of the library, to start from. The README and the documentation quote them.
+//! Small callers of the library, to start from. `docs/API.md` and documentation comments quote them.
 
 ghost use Rattle.std.specs.Prelude.{◌≡◌, ◌≢◌, ℕ, Ok, Err, IfOk, IfErr, map, option_map};
 ghost use Rattle.std.specs.FinMap as finite;
 ghost use Rattle.dwarf_read_core.specs.Entries.{RepresentsAddresses};
 ghost use Rattle.dwarf_read_core.specs.Format.{word_size};
-ghost use Rattle.dwarf_read_core.specs.Answer.{Answer};
+ghost use Rattle.dwarf_read_core.specs.Answer.{Answer, TableEndsAt};
 ghost use Rattle.dwarf_read_core.specs.Sections.{debug_abbrev_reader, debug_str_offsets_reader, debug_str_reader};
 ghost use Rattle.dwarf_read_core.specs.Sets.{addresses_of, seen_by};
 ghost use Rattle.dwarf_read_core.specs.Strings.{StringAt};
@@ -47,6 +47,25 @@ pub fn table_text<R: Reader>(
     Ok(text)
 }
 
+/// Returns the table at `offset` and the one behind it.
+///
+/// # Errors
+///
+/// Those of [`DebugAbbrev::abbreviations`].
+pub fn two_tables<R: Reader>(
+    mem: Global,
+    section: &DebugAbbrev<R>,
+    offset: DebugAbbrevOffset<R::Offset>,
+) -> Result<(Abbreviations, Abbreviations)>
+    ensures { let bytes = R.view (debug_abbrev_reader section.now) in
+        IfOk result (λ tables. (end : ℕ) × Answer bytes end (Ok tables.1)
+        × TableEndsAt bytes (R.Offset.value offset.0) tables.0 end) }
+{
+    let (first, end) = section.abbreviations_and_end(mem, offset)?;
+    let second = section.abbreviations(mem, end)?;
+    Ok((first, second))
+}
+
 // Appends the line of a declaration, and those of its attributes.
 fn append(abbreviation: &Abbreviation, text: &mut String) -> std::result::Result<(), AllocError> {
     let (code, tag) = (abbreviation.code(), abbreviation.tag());
@@ -66,7 +85,7 @@ fn append(abbreviation: &Abbreviation, text: &mut String) -> std::result::Result
 ///
 /// # Errors
 ///
-/// The first unit's error.
+/// The error of the first unit at whose offset there is no table.
 pub fn table_lengths<R: Reader>(
     mem: Global,
     section: &DebugAbbrev<R>,

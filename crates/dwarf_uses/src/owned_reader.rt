@@ -2,14 +2,16 @@
 //!
 //! An implementation of [`Reader`] consists of
 //!
-//! - the calls that have no body in the trait, each under the trait's contract;
+//! - the two types, the constant and the calls that have no body in the trait, each call under the
+//!   trait's contract;
 //! - `view`, which says what contracts see of a reader: the bytes that remain, the position of the
 //!   first of them, and whether the highest byte of a number comes first;
 //! - `order`, which is the byte order itself;
+//! - `clone_is_free`, which says whether a clone can't fail; here it can, so it is `false`;
 //! - ghost fields for what holds of every reader of the type, and `within`, which shows from them
 //!   that positions stay below 2^64 and lengths are offsets;
-//! - a lemma where a contract doesn't follow by itself. Here `truncate` needs one: bytes that were
-//!   cut behind and then in front are those that were cut in front and then behind.
+//! - a lemma if a contract doesn't follow by itself. Here `truncate` needs one: dropping m bytes of
+//!   the first m + n leaves the first n of what remains after m bytes are dropped.
 
 ghost use Rattle.std.specs.Prelude.{◌≡◌, ◌+◌, ◌-◌, ◌≤◌, ◌<◌, ◌^◌, length, take, drop, All, false, IfOk, IfErr};
 ghost use Rattle.std.proofs.Common.{arith, length-drop};

@@ -1,4 +1,4 @@
-//! Tags that vendors added, most of them among the values that the standard leaves to them.
+//! Tags that vendors added, among the values that the standard leaves to them.
 
 use super::DwTag;
 

@@ -124,7 +124,7 @@ impl From<AllocError> for ManyFault {
 
     ghost from_gives = { λ _ fault. fault ≡ Other (Section OutOfMemory) };
 
-    fn from(_refused: AllocError) -> ManyFault {
+    fn from(_error: AllocError) -> ManyFault {
         ManyFault::Other(Fault::out_of_memory())
     }
 }

@@ -78,7 +78,8 @@ answer_more {section} {offset} more (table t le is) final =
     (rw (drop-append-le offset section.bytes more le) (table_more more is final))
 answer_more {section} {offset} more (first_error e le is) final =
     first_error e (omega (arith, length-append section.bytes more, le))
-    (rw (drop-append-le offset section.bytes more le) (first_error_more (end_of (followed_by section more)) more is final))
+    (rw (drop-append-le offset section.bytes more le)
+    (first_error_more (end_of (followed_by section more)) more is final))
 answer_more more (outside lt) final = grind arith
 
 -- a final result that a call returned is still the section's result when bytes are appended

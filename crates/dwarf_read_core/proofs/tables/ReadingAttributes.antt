@@ -3,7 +3,7 @@ use Rattle.dwarf_read_core.proofs.Common.{◌≡◌, ℕ, zero, suc, ◌+◌, �
 use Rattle.std.specs.Prelude.{slice_set}
 use Rattle.std.proofs.lemmas.List.{take_more_set}
 use Rattle.dwarf_read_core.specs.Views.{collected}
-use Rattle.dwarf_read_core.proofs.tables.ReadingSpecifications.{SpecificationFound, SomeFound, specification_behind, specification_again, null_again, found_shorter, specification_shorter}
+use Rattle.dwarf_read_core.proofs.tables.ReadingSpecifications.{SomeFound, specification_behind, specification_again, null_again, found_shorter, specification_shorter}
 
 -- the bytes of items, with those of one more behind them, are the bytes of all of them
 pub Sequence-push : {A : Type 0} (Is : List ℕ → A → Type 0) (bytes : List ℕ) (xs : List A) (last : List ℕ) (x : A)

@@ -57,7 +57,8 @@ begins_and_ends b (at_zero bytes rest z) =
 
 -- fewer or as many bytes are behind a table as there are in all
 pub table_before_fits : {bytes rest : List ℕ} {t : Table} → IsTableBefore bytes t rest → length rest ≤ length bytes
-table_before_fits (closed_by_null bytes zero_code rest ds are is) = omega (arith, length-append (bytes ++ zero_code) rest)
+table_before_fits (closed_by_null bytes zero_code rest ds are is) =
+    omega (arith, length-append (bytes ++ zero_code) rest)
 table_before_fits (closed_by_end bytes ds are) = omega arith
 
 -- a declaration with a new code that is read behind some declarations is one more of them

@@ -11,7 +11,7 @@ ghost use Rattle.dwarf_base_core.specs.declared.common.SectionId.TheVariants.{De
 ghost use Rattle.dwarf_reader_core.specs.Appended.{followed_by};
 ghost use Rattle.dwarf_reader_core.specs.Input.{end_of};
 ghost use Rattle.dwarf_reader_core.specs.Slice.{input_of};
-ghost use Rattle.dwarf_read_core.specs.Answer.{Answer, Answers, AnswersStrictly, EndsAt, IsFinal, IsStrictlyFinal, TakesNoMemory};
+ghost use Rattle.dwarf_read_core.specs.Answer.{Answer, Answers, AnswersStrictly, IsFinal, IsStrictlyFinal, TableEndsAt, TakesNoMemory};
 ghost use Rattle.dwarf_read_core.specs.Grammar.{attribute_count};
 
 use super::section::Section;
@@ -80,7 +80,9 @@ impl<R: Reader> DebugAbbrev<R> {
     ///
     /// - `UnexpectedEof`, at the section's start if `offset` is past its end, and at the
     ///   section's end if a declaration is cut short;
-    /// - `BadUnsignedLeb128` or `BadSignedLeb128` for a number that is too long or too large;
+    /// - `BadUnsignedLeb128` for a code with more than ten bytes or a value of 2^64 or more, or for a
+    ///   tag, name or form with more than three bytes or a value of 2^16 or more;
+    /// - `BadSignedLeb128` for a value with more than ten bytes, or one that doesn't fit `i64`;
     /// - `AbbreviationTagZero`, `InvalidAbbreviationChildren`, `AttributeNameZero` or
     ///   `AttributeFormZero` for a field with a value that no declaration has;
     /// - `DuplicateAbbreviationCode` for a whole declaration with the code of an earlier one.
@@ -99,7 +101,7 @@ impl<R: Reader> DebugAbbrev<R> {
             IfOk result (λ table. 5 * finite.len table.by_code + 2 * attribute_count table.by_code
             + R.Offset.value offset.0 ≤ length section.bytes) }
 
-        // Only a declaration needs memory, or a clone that allocates.
+        // If clones don't allocate, a table without declarations needs no memory.
         ensures memory { let section = R.view (debug_abbrev_reader self.now) in
             R.clone_is_free ≡ true → TakesNoMemory section (R.Offset.value offset.0)
             → IsErrOf result Error.OutOfMemory → ⊥ }
@@ -117,7 +119,12 @@ impl<R: Reader> DebugAbbrev<R> {
     /// section's start.
     ///
     /// A table ends behind the code of value 0 that closes it, or at the section's end. A section is
-    /// walked table by table if each is read at the end of the one before it.
+    /// walked table by table if each is read at the end of the one before it:
+    ///
+    /// ```
+    /// let (first, end) = section.abbreviations_and_end(mem, offset)?;
+    /// let second = section.abbreviations(mem, end)?;
+    /// ```
     ///
     /// # Errors
     ///
@@ -131,7 +138,7 @@ impl<R: Reader> DebugAbbrev<R> {
         ensures answer { let section = R.view (debug_abbrev_reader self.now) in
             IfOk result (λ r. Answer section (R.Offset.value offset.0) (Ok r.0)) }
         ensures end { let section = R.view (debug_abbrev_reader self.now) in
-            IfOk result (λ r. EndsAt section (R.Offset.value offset.0) r.0 (R.Offset.value r.1.0)) }
+            IfOk result (λ r. TableEndsAt section (R.Offset.value offset.0) r.0 (R.Offset.value r.1.0)) }
         ensures err { let section = R.view (debug_abbrev_reader self.now) in
             IfErr result (λ e. Answers (Err e) section (R.Offset.value offset.0)) }
 
@@ -140,7 +147,7 @@ impl<R: Reader> DebugAbbrev<R> {
             IfOk result (λ r. 5 * finite.len r.0.by_code + 2 * attribute_count r.0.by_code
             + R.Offset.value offset.0 ≤ length section.bytes) }
 
-        // Only a declaration needs memory, or a clone that allocates.
+        // If clones don't allocate, a table without declarations needs no memory.
         ensures memory { let section = R.view (debug_abbrev_reader self.now) in
             R.clone_is_free ≡ true → TakesNoMemory section (R.Offset.value offset.0)
             → IsErrOf result Error.OutOfMemory → ⊥ }
@@ -178,7 +185,7 @@ impl<R: Reader> DebugAbbrev<R> {
             IfOk result (λ table. 5 * finite.len table.by_code + 2 * attribute_count table.by_code
             + R.Offset.value offset.0 ≤ length section.bytes) }
 
-        // Only a declaration needs memory, or a clone that allocates.
+        // If clones don't allocate, a table without declarations needs no memory.
         ensures memory { let section = R.view (debug_abbrev_reader self.now) in
             R.clone_is_free ≡ true → TakesNoMemory section (R.Offset.value offset.0)
             → IsErrOf result Error.OutOfMemory → ⊥ }

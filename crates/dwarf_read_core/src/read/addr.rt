@@ -32,9 +32,10 @@ impl<R: Reader> DebugAddr<R> {
 
     /// Returns the address with this `index` among those that begin at `base`. Indices begin at 0.
     ///
-    /// `base` is the offset of the first address of a set, which `DW_AT_addr_base` gives, and
-    /// `index` comes from `DW_FORM_addrx`. Addresses have `address_size` bytes, as the unit's
-    /// header says. The header of the set isn't read, because older sections have none.
+    /// `base` is the offset of the first address of a set, in bytes from the section's start: the
+    /// value of `DW_AT_addr_base`. `index` is the value of an attribute of the form `DW_FORM_addrx`,
+    /// or `DW_FORM_addrx1` to `DW_FORM_addrx4`. Addresses have `address_size` bytes, as the unit's
+    /// header says. The header of the set isn't read, because GNU's split DWARF 4 has none.
     ///
     /// # Errors
     ///
@@ -58,7 +59,7 @@ impl<R: Reader> DebugAddr<R> {
             AnswersBy (AddressAt R.Offset.GREATEST section s)
             (λ address. address) R.clone_is_free result }
 
-        // Appended bytes don't change the result, unless it is an `UnexpectedEof`.
+        // Appended bytes don't change the result, unless it is an `UnexpectedEof` or memory ran out.
         ensures stable { let section = R.view (debug_addr_reader self.now) in
             let s = slot (R.Offset.value base.0) (R.Offset.value index.0) address_size in
             StaysBy (λ input. AddressAt R.Offset.GREATEST input s)
@@ -70,6 +71,9 @@ impl<R: Reader> DebugAddr<R> {
     }
 
     /// Returns the sets of addresses, one after the other from the section's start.
+    ///
+    /// GNU's split DWARF 4 has addresses without headers. Only [`get_address`](Self::get_address)
+    /// reads them, and this call would take entries for a header.
     ///
     /// # Errors
     ///
@@ -147,8 +151,8 @@ pub type AddrHeaderIter<R> = SetHeaderIter<R, AddressSize>;
 /// The header of a set of addresses, and the addresses that follow it.
 pub type AddrHeader<R> = SetHeader<R, AddressSize>;
 
-/// The size of the addresses of a set: 1, 2, 4 or 8 bytes. The header says nothing else behind its
-/// version.
+/// The size of the addresses of a set: 1, 2, 4 or 8 bytes. The header also has a segment size, which
+/// has to be 0 and isn't kept.
 #[derive(Clone, Copy, Debug, PartialEq, Eq)]
 pub struct AddressSize {
     size: u8,
@@ -318,12 +322,9 @@ impl<R: Reader + Clone> Clone for AddrEntryIter<R> {
     ghost is_infallible = { λ _. R.clone_is_free ≡ true };
 
     fn clone(&self) -> std::result::Result<Self, AllocError> {
-        match self.input.try_clone() {
-            Ok(input) => Ok(AddrEntryIter {
-                input,
-                size: self.size,
-            }),
-            Err(_) => Err(AllocError),
-        }
+        Ok(AddrEntryIter {
+            input: self.input.try_clone().map_err(|_| AllocError)?,
+            size: self.size,
+        })
     }
 }

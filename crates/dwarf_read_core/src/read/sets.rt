@@ -8,7 +8,7 @@ ghost use Rattle.dwarf_read_core.specs.Equality.{same_set, same_set_per, same_se
 ghost use Rattle.dwarf_read_core.specs.Items.{GivesFirst, StaysFirst};
 ghost use Rattle.dwarf_read_core.specs.Sets.{HasSize, RepresentsSets, RepresentsSetsBy, followed_headers, remaining_by, seen_by, set};
 
-use dwarf_base_core::{Error, Format, Result};
+use dwarf_base_core::{Format, Result};
 use dwarf_reader_core::Reader;
 use std::alloc::AllocError;
 use std::fmt;
@@ -90,27 +90,26 @@ impl<R: Reader, H: HeaderFields> SetHeaderIter<R, H> {
 
     /// Returns the header of the next set, or `None` if no bytes remain.
     ///
-    /// A set has at least the four bytes of its length, and those of the other fields: eight for
-    /// addresses and for string offsets.
+    /// A set of addresses or of string offsets has at least eight bytes: four of its length, and
+    /// four of the header's other fields.
     ///
     /// # Errors
     ///
-    /// If the bytes that remain don't begin with a set, the first of these. Positions are those of
-    /// the section.
+    /// If the bytes that remain don't begin with a set, the first of these:
     ///
-    /// - `UnexpectedEof` at the set if fewer than four bytes remain;
-    /// - `UnknownReservedLength` if the first four bytes are a reserved value;
-    /// - `UnexpectedEof` after the first four bytes if they announce a length of eight bytes, and
-    ///   fewer remain;
+    /// - `UnexpectedEof` at the set's first byte if fewer than four bytes remain;
+    /// - `UnknownReservedLength` if the first four bytes are 0xfffffff0 to 0xfffffffe;
+    /// - `UnexpectedEof` after the first four bytes if they are 0xffffffff and fewer than eight
+    ///   bytes follow;
     /// - `UnsupportedOffset` if the length doesn't fit the offset type;
-    /// - `UnexpectedEof` after the length if fewer bytes remain, or if the set ends before the
-    ///   version;
+    /// - `UnexpectedEof` after the length if fewer bytes follow than it says, or if it is less than
+    ///   the two bytes of the version;
     /// - `UnknownVersion` if the version isn't 5;
-    /// - for addresses, `UnexpectedEof` if the set ends before the address size or the segment size,
-    ///   `UnsupportedAddressSize` if the address size isn't 1, 2, 4 or 8, and
-    ///   `UnsupportedSegmentSize` if the segment size isn't 0;
-    /// - for string offsets, `UnexpectedEof` after the version if the set ends before the two bytes
-    ///   of padding, which may have any value.
+    /// - for addresses, in this order: `UnexpectedEof` after the version if the set ends there;
+    ///   `UnsupportedAddressSize` if the address size isn't 1, 2, 4 or 8; `UnexpectedEof` after the
+    ///   address size if the set ends there; `UnsupportedSegmentSize` if the segment size isn't 0;
+    /// - for string offsets, `UnexpectedEof` after the version if fewer than two bytes of the set
+    ///   remain for the padding, which may have any value.
     ///
     /// `OutOfMemory` if memory for a reader of the set runs out. After any error the iterator is
     /// exhausted: `next` returns `Ok(None)`.
@@ -127,7 +126,8 @@ impl<R: Reader, H: HeaderFields> SetHeaderIter<R, H> {
             IfOk result (λ item. IfSome item (λ header. R.order header.entries ≡ order)) }
         ensures order { R.order self.new.rest ≡ R.order self.old.rest }
 
-        // Appended bytes change neither a set nor an error, unless it is an `UnexpectedEof`.
+        // Appended bytes change neither a set nor an error, unless that is an `UnexpectedEof` or
+        // memory ran out.
         ensures stable { let old = remaining_by R.view self.old in
             StaysFirst (RepresentsSets H.layout R.Offset.GREATEST)
             (seen_by R.view) R.clone_is_free followed_headers old
@@ -172,21 +172,18 @@ impl<R: Reader + Clone, H: HeaderFields> Clone for SetHeaderIter<R, H> {
     ghost is_infallible = { λ _. R.clone_is_free ≡ true };
 
     fn clone(&self) -> std::result::Result<Self, AllocError> {
-        match self.input.try_clone() {
-            Ok(input) => Ok(SetHeaderIter {
-                input,
-                end: self.end,
-                fields: PhantomData,
-            }),
-            Err(_) => Err(AllocError),
-        }
+        Ok(SetHeaderIter {
+            input: self.input.try_clone().map_err(|_| AllocError)?,
+            end: self.end,
+            fields: PhantomData,
+        })
     }
 }
 
 /// The header of a set, and the entries that follow it.
 ///
 /// [`AddrHeader`](super::AddrHeader) and [`StrOffsetsHeader`](super::StrOffsetsHeader) are this
-/// header. What they say of their own kind stands there.
+/// header, and have further calls of their own.
 #[derive(Drop)]
 pub struct SetHeader<R: Reader, H: HeaderFields> {
     pub(super) offset: R::Offset,
@@ -241,17 +238,14 @@ impl<R: Reader + Clone, H: HeaderFields> Clone for SetHeader<R, H> {
     ghost is_infallible = { λ _. R.clone_is_free ≡ true };
 
     fn clone(&self) -> std::result::Result<Self, AllocError> {
-        match self.entries.try_clone() {
-            Ok(entries) => Ok(SetHeader {
-                offset: self.offset,
-                length: self.length,
-                fields: self.fields,
-                format: self.format,
-                version: self.version,
-                entries,
-            }),
-            Err(_) => Err(AllocError),
-        }
+        Ok(SetHeader {
+            offset: self.offset,
+            length: self.length,
+            fields: self.fields,
+            format: self.format,
+            version: self.version,
+            entries: self.entries.try_clone().map_err(|_| AllocError)?,
+        })
     }
 }
 

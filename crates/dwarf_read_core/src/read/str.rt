@@ -1,4 +1,5 @@
-//! Strings: the sections `.debug_str`, `.debug_str_offsets` and `.debug_line_str` (DWARF 5, 7.26).
+//! Strings: the sections `.debug_str`, `.debug_str_offsets` and `.debug_line_str` (DWARF 5, 7.5.5
+//! and 7.26).
 
 ghost use Rattle.std.specs.Prelude.{◌≡◌, Ok, IfOk, IfErr};
 ghost use Rattle.std.specs.Fn.{CalledAt, TakesAt};
@@ -17,7 +18,7 @@ use super::indexed::skip_to_word;
 use super::section::Section;
 use dwarf_base_core::{
     DebugLineStrOffset, DebugStrOffset, DebugStrOffsetsBase, DebugStrOffsetsIndex, Endianity,
-    Format, ReaderOffset, Result, SectionId,
+    Format, Result, SectionId,
 };
 use dwarf_reader_core::{EndianSlice, Reader};
 pub use offsets::{StrOffsetsEntryIter, StrOffsetsHeader, StrOffsetsHeaderIter};
@@ -61,7 +62,7 @@ impl<R: Reader> DebugStr<R> {
         ensures order { let order = R.order (debug_str_reader self.now) in
             IfOk result (λ string. R.order string ≡ order) }
 
-        // Appended bytes don't change the result, unless it is an `UnexpectedEof`.
+        // Appended bytes don't change the result, unless it is an `UnexpectedEof` or memory ran out.
         ensures stable { let section = R.view (debug_str_reader self.now) in
             StaysBy (λ input. StringAt input (R.Offset.value offset.0))
             R.view R.clone_is_free section result }
@@ -128,9 +129,16 @@ impl<R: Reader> DebugStrOffsets<R> {
     /// Returns the string offset with this `index` among those that begin at `base`. It says where
     /// a string begins in `.debug_str`. Indices begin at 0.
     ///
-    /// `base` is the offset of a set's first entry, which `DW_AT_str_offsets_base` gives, and
-    /// `index` comes from `DW_FORM_strx`. Entries are words of the unit's `format`. The header of
-    /// the set isn't read, because older sections have none.
+    /// `base` is the offset of a set's first entry, in bytes from the section's start: the value of
+    /// `DW_AT_str_offsets_base`, or [`DebugStrOffsetsBase::default_for_encoding_and_file`] if the
+    /// unit has none. `index` is the value of an attribute of the form `DW_FORM_strx`, or
+    /// `DW_FORM_strx1` to `DW_FORM_strx4`. Entries are words of the unit's `format`. The header of
+    /// the set isn't read, because GNU's split DWARF 4 has none.
+    ///
+    /// ```
+    /// let offset = offsets.get_str_offset(format, base, index)?;
+    /// strings.get_str(offset)
+    /// ```
     ///
     /// # Errors
     ///
@@ -155,7 +163,7 @@ impl<R: Reader> DebugStrOffsets<R> {
             AnswersBy (WordAt R.Offset.GREATEST section s)
             (λ offset. R.Offset.value offset.0) R.clone_is_free result }
 
-        // Appended bytes don't change the result, unless it is an `UnexpectedEof`.
+        // Appended bytes don't change the result, unless it is an `UnexpectedEof` or memory ran out.
         ensures stable { let section = R.view (debug_str_offsets_reader self.now) in
             let s = slot (R.Offset.value base.0) (R.Offset.value index.0) (word_size format) in
             StaysBy (λ input. WordAt R.Offset.GREATEST input s)
@@ -168,8 +176,9 @@ impl<R: Reader> DebugStrOffsets<R> {
 
     /// Returns the sets of string offsets, one after the other from the section's start.
     ///
-    /// A section of an older standard has no sets. Its offsets follow each other without a header,
-    /// and only [`get_str_offset`](DebugStrOffsets::get_str_offset) reads them.
+    /// GNU's split DWARF 4 has string offsets without headers. Only
+    /// [`get_str_offset`](DebugStrOffsets::get_str_offset) reads them, and this call would take
+    /// entries for a header.
     ///
     /// # Errors
     ///
@@ -273,7 +282,7 @@ impl<R: Reader> DebugLineStr<R> {
         ensures order { let order = R.order (debug_line_str_reader self.now) in
             IfOk result (λ string. R.order string ≡ order) }
 
-        // Appended bytes don't change the result, unless it is an `UnexpectedEof`.
+        // Appended bytes don't change the result, unless it is an `UnexpectedEof` or memory ran out.
         ensures stable { let section = R.view (debug_line_str_reader self.now) in
             StaysBy (λ input. StringAt input (R.Offset.value offset.0))
             R.view R.clone_is_free section result }

@@ -1,6 +1,6 @@
 //! Abbreviations, and how a declaration of one is read.
 
-ghost use Rattle.std.specs.Prelude.{◌≡◌, ◌==◌, ◌≤◌, ◌<◌, ℕ, List, length, All, IsOk, IfOk, IfErr, IfSome, OnOk, OnErr, Ok, None};
+ghost use Rattle.std.specs.Prelude.{◌≡◌, ◌==◌, ◌≤◌, ◌<◌, ℕ, List, length, All, IsOk, IfOk, IfErr, IfSome, OnOk, Ok, None};
 ghost use Rattle.std.specs.Cmp.{partial_equiv_from_equiv};
 ghost use Rattle.dwarf_reader_core.specs.Input.{end_of};
 ghost use Rattle.dwarf_read_core.specs.Equality.{HasValueByForm, same_declaration, same_declaration_equiv};
@@ -132,8 +132,9 @@ impl Abbreviation {
         self.has_children == DW_CHILDREN_yes
     }
 
-    /// Returns the attributes of the entries, in the order of their values. Exactly those of the form
-    /// `DW_FORM_implicit_const` have a value.
+    /// Returns the attributes of the entries, in the order in which an entry has their values.
+    /// Exactly those of the form `DW_FORM_implicit_const` have an
+    /// [`implicit_const_value`](AttributeSpecification::implicit_const_value).
     pub fn attributes(&self) -> &[AttributeSpecification]
         ensures is { result.now ≡ self.now.attributes }
         ensures valued { All HasValueByForm result.now }

@@ -63,8 +63,9 @@ impl MadeWith<Global> for AttributeSpecification {
 }
 
 impl AttributeSpecification {
-    /// Returns the attribute with this name and form. It has the value exactly if the form is
-    /// `DW_FORM_implicit_const`.
+    /// Returns the attribute with this name and form.
+    ///
+    /// The caller has to pass a value if the form is `DW_FORM_implicit_const`, and `None` otherwise.
     pub fn new(
         name: DwAt,
         form: DwForm,

@@ -43,7 +43,8 @@ impl AbbreviationsCacheStrategy {
 /// once.
 ///
 /// A cache keeps what it was populated with from one section: tables, and the errors in place of
-/// tables. A table at another offset is read each time, and isn't kept.
+/// tables. [`set`](Self::set) adds a table by hand. A table at another offset is read by each
+/// [`get`](Self::get), and isn't kept.
 ///
 /// ```
 /// let mut cache = AbbreviationsCache::new(mem);
@@ -132,7 +133,9 @@ impl AbbreviationsCache {
         Ok(())
     }
 
-    /// Keeps this table at an offset, in place of what was kept there.
+    /// Keeps this table at `offset`, in bytes from the section's start, in place of what was kept
+    /// there. The table isn't compared with a section. `R` has to be written, as in
+    /// `cache.set::<R>(offset, table)`.
     ///
     /// # Errors
     ///
@@ -182,8 +185,11 @@ impl AbbreviationsCache {
         self.abbreviations.retain(|_, answer| is_final(answer));
     }
 
-    /// Returns the table that is kept at an offset, or one that is read from `debug_abbrev` if
-    /// nothing is kept there. The cache doesn't change.
+    /// Returns the table that is kept at `offset`, in bytes from the section's start, or one that is
+    /// read from `debug_abbrev` if nothing is kept there. The cache doesn't change.
+    ///
+    /// What is kept is returned whatever `debug_abbrev` is, so pass the section that the cache was
+    /// populated from.
     ///
     /// # Errors
     ///

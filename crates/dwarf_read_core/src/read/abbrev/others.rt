@@ -9,7 +9,6 @@ ghost use Rattle.dwarf_read_core.specs.Others.{Adds, ArePlaces, at_code, with_pl
 
 use super::super::key::Key;
 use super::abbreviation::Abbreviation;
-use super::table::trim;
 use dwarf_base_core::{Error, Result};
 use std::alloc::{AllocError, Global};
 use std::collections::BTreeMap;
@@ -89,13 +88,6 @@ impl Others {
         }
     }
 
-    // Frees the room that no abbreviation needs, if there may be much of it.
-    pub(super) fn trim(&mut self)
-        ensures { self.new ≡ self.old }
-    {
-        trim(&mut self.items);
-    }
-
     // Adds an abbreviation, or returns `DuplicateAbbreviationCode` if its code is there.
     pub(super) fn insert(&mut self, abbreviation: Abbreviation) -> Result<()>
         ensures ok { OnOk result (Adds abbreviation self.old self.new) }
@@ -147,7 +139,7 @@ fn insert_by_place(
     Ok(())
 }
 
-// The abbreviations at places that are left.
+// The abbreviations at the places that remain.
 #[derive(Debug, Drop)]
 pub(super) struct OthersIter<'table> {
     items: &'table [Abbreviation],

@@ -40,7 +40,7 @@ impl Model for Abbreviations {
 }
 
 impl Abbreviations {
-    /// Returns the table with no abbreviations. It allocates only when one is added.
+    /// Returns the table with no abbreviations. It doesn't allocate.
     pub fn empty(mem: Global) -> Abbreviations
         ensures none { result.by_code ≡ finite.empty }
         ensures close { result.close ≡ by_end }
@@ -97,7 +97,7 @@ impl Abbreviations {
             return Err(Error::DuplicateAbbreviationCode(code));
         }
         if index == len {
-            // If the code is already among the others, it stays there.
+            // The vector's next code may have come earlier, and is then among the others.
             if !self.others.is_empty() && self.others.contains(code) {
                 return Err(Error::DuplicateAbbreviationCode(code));
             }
@@ -157,12 +157,14 @@ impl Abbreviations {
         }
     }
 
-    // Frees the room that no abbreviation needs, if there may be much of it.
+    // Frees what a vector with room for a usual table doesn't need. A longer one has at most twice
+    // the room that it needs.
     fn trim(&mut self)
         ensures { self.new ≡ self.old }
     {
-        trim(&mut self.vec);
-        self.others.trim();
+        if self.vec.capacity() == SECOND_CAPACITY {
+            self.vec.shrink_to_fit();
+        }
     }
 
     // Reads the table where the reader is, and returns how many bytes remain behind it. The reader is
@@ -237,16 +239,6 @@ fn push(
     }
     items.push_reserved(abbreviation);
     Ok(())
-}
-
-// Frees what a vector with room for a usual table doesn't need. A longer one has at most twice
-// the room that it needs.
-pub(super) fn trim(items: &mut Vec<Abbreviation>)
-    ensures { items.new.items ≡ items.old.items }
-{
-    if items.capacity() == SECOND_CAPACITY {
-        items.shrink_to_fit();
-    }
 }
 
 /// The abbreviations of a table, in the order of their codes.

@@ -68,7 +68,7 @@ static ORDERS: &[(&[u64], usize)] = &[
 ];
 
 #[test]
-fn codes_from_one_on_stand_in_the_vector(rt: HostRuntime) -> std::result::Result<(), Fail> {
+fn codes_from_one_on_are_in_the_vector(rt: HostRuntime) -> std::result::Result<(), Fail> {
     for (codes, in_vec) in ORDERS {
         let table = table_of(rt.alloc(), codes)?;
         let lengths = (table.vec.len(), table.vec.len() + table.others.len());
@@ -86,7 +86,7 @@ fn codes_from_one_on_stand_in_the_vector(rt: HostRuntime) -> std::result::Result
 }
 
 #[test]
-fn repeats_are_refused(rt: HostRuntime) {
+fn repeated_codes_are_rejected(rt: HostRuntime) {
     let rows: [(&[u64], u64); 8] = [
         (&[1, 2, 1], 1),
         (&[1, 2, 2], 2),

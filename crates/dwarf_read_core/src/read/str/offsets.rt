@@ -154,12 +154,9 @@ impl<R: Reader + Clone> Clone for StrOffsetsEntryIter<R> {
     ghost is_infallible = { λ _. R.clone_is_free ≡ true };
 
     fn clone(&self) -> std::result::Result<Self, AllocError> {
-        match self.input.try_clone() {
-            Ok(input) => Ok(StrOffsetsEntryIter {
-                input,
-                format: self.format,
-            }),
-            Err(_) => Err(AllocError),
-        }
+        Ok(StrOffsetsEntryIter {
+            input: self.input.try_clone().map_err(|_| AllocError)?,
+            format: self.format,
+        })
     }
 }

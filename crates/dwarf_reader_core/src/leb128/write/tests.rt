@@ -5,8 +5,8 @@ use crate::leb128::low_bits_of_byte;
 
 // Bits above the seven lowest change nothing.
 #[test]
-fn seven_bits_are_taken(rt: HostRuntime) {
-    for digit in 0..127u8 {
+fn seven_bits_are_kept(rt: HostRuntime) {
+    for digit in 0..128u8 {
         let number = u64::from(digit);
         let found = [
             low_bits_of_byte(digit),
