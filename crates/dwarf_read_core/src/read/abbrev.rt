@@ -138,7 +138,8 @@ impl<R: Reader> DebugAbbrev<R> {
         ensures answer { let section = R.view (debug_abbrev_reader self.now) in
             IfOk result (λ r. Answer section (R.Offset.value offset.0) (Ok r.0)) }
         ensures end { let section = R.view (debug_abbrev_reader self.now) in
-            IfOk result (λ r. TableEndsAt section (R.Offset.value offset.0) r.0 (R.Offset.value r.1.0)) }
+            IfOk result (λ r. TableEndsAt section (R.Offset.value offset.0)
+            r.0 (R.Offset.value r.1.0)) }
         ensures err { let section = R.view (debug_abbrev_reader self.now) in
             IfErr result (λ e. Answers (Err e) section (R.Offset.value offset.0)) }
 
