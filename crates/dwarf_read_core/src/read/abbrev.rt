@@ -156,8 +156,11 @@ impl<R: Reader> DebugAbbrev<R> {
         let mut input = self.debug_abbrev_section.try_clone()?;
         let len = input.len();
         input.skip(offset.0)?;
-        let (abbreviations, remaining) = Abbreviations::parse_from(mem, input)?;
-        Ok((abbreviations, DebugAbbrevOffset(len - remaining)))
+        // Only the parser refers to this one, so that the compiler keeps it in registers.
+        let mut input = input;
+        let mut abbreviations = Abbreviations::parse(mem, &mut input)?;
+        abbreviations.trim();
+        Ok((abbreviations, DebugAbbrevOffset(len - input.len())))
     }
 
     /// Returns the table of abbreviations at `offset`, which a code of value 0 has to close.

@@ -159,32 +159,12 @@ impl Abbreviations {
 
     // Frees what a vector with room for a usual table doesn't need. A longer one has at most twice
     // the room that it needs.
-    fn trim(&mut self)
+    pub(super) fn trim(&mut self)
         ensures { self.new ≡ self.old }
     {
         if self.vec.capacity() == SECOND_CAPACITY {
             self.vec.shrink_to_fit();
         }
-    }
-
-    // Reads the table where the reader is, and returns how many bytes remain behind it. The reader is
-    // moved into a call out of line, since the compiler then keeps it in registers.
-    #[inline(never)]
-    pub(super) fn parse_from<R: Reader>(
-        mem: Global,
-        mut input: R,
-    ) -> Result<(Abbreviations, R::Offset)>
-        ensures ends { (rest : List ℕ)
-            → declaration_at (end_of (R.view input)) (R.view input).bytes ≡ Ok (None, rest)
-            → IsOk result }
-        ensures read { ReturnsUnlessOutOfMemory (λ r. r.0) result
-            (table_in (end_of (R.view input)) finite.empty (R.view input).bytes) }
-        ensures behind { IfOk result (λ r. (rest : List ℕ)
-            × IsTableBefore (R.view input).bytes r.0 rest × (R.Offset.value r.1 ≡ length rest)) }
-    {
-        let mut abbreviations = Abbreviations::parse(mem, &mut input)?;
-        abbreviations.trim();
-        Ok((abbreviations, input.len()))
     }
 
     // Reads a table, and the code of value 0 that closes it, if there is one.

@@ -4,10 +4,11 @@
 ghost use Rattle.std.specs.Prelude.{◌≡◌, All, IfOk};
 ghost use Rattle.dwarf_read_core.specs.Equality.{HasValueByForm};
 
+use super::DebugAbbrev;
 use super::abbreviation::Abbreviation;
 use super::attribute::{AttributeSpecification, Attributes, Collector};
 use super::table::Abbreviations;
-use dwarf_base_core::{Error, LittleEndian, Result};
+use dwarf_base_core::{DebugAbbrevOffset, Error, LittleEndian, Result};
 use dwarf_code_core::children::{DW_CHILDREN_no, DW_CHILDREN_yes, DwChildren};
 use dwarf_const_core::attribute::DW_AT_name;
 use dwarf_const_core::form::{DW_FORM_implicit_const, DW_FORM_string};
@@ -229,7 +230,8 @@ static ROOMS: &[(u64, usize)] = &[(0, 0), (1, 32), (32, 32), (33, 33), (256, 256
 fn room_for_a_usual_table_is_given_back(rt: HostRuntime) -> std::result::Result<(), Fail> {
     for (count, room) in ROOMS {
         let section = section_up_to(rt.alloc(), *count)?;
-        let (table, _) = Abbreviations::parse_from(rt.alloc(), slice(&section))?;
+        let section = DebugAbbrev::new(&section, LittleEndian);
+        let table = section.abbreviations(rt.alloc(), DebugAbbrevOffset(0))?;
         let found = (table.len() as u64, table.vec.capacity());
         assert_eq!(rt; found, (*count, *room));
     }

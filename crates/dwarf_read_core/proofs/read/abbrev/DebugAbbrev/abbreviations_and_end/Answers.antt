@@ -32,12 +32,13 @@ sub-requires g c =
     let whole = ap (λ (i : Input). length i.bytes) c.in_ok-input.ensures.ok in
     let behind = c.in_ok-abbreviations.ensures.behind in
     g.met.R.Offset.ReaderOffset.can_sub_law _ _
-    (omega (arith, behind.2, table_before_fits behind.1, bytes, whole, c.len-len.ensures, length-drop {A = ℕ}))
+    (omega (arith, c.len.ensures, table_before_fits behind, bytes, whole, c.len-len.ensures, length-drop {A = ℕ}))
 
 pub returns-clause-answer : goal.returns-clause-answer
 returns-clause-answer g c =
-    answer_read (Ok c.in_ok-abbreviations.abbreviations) _ _ _ (rw c.in_ok-input.ensures.ok at c.in_ok-skip.ensures.ok)
-    c.in_ok-abbreviations.ensures.read
+    rw c.trim.ensures
+    (answer_read (Ok c.in_ok-abbreviations.abbreviations) _ _ _ (rw c.in_ok-input.ensures.ok at c.in_ok-skip.ensures.ok)
+    c.in_ok-abbreviations.ensures.read)
 
 pub returns-clause-end : goal.returns-clause-end
 returns-clause-end g c =
@@ -47,10 +48,11 @@ returns-clause-end g c =
     let whole = ap (λ (i : Input). length i.bytes) c.in_ok-input.ensures.ok in
     let behind = c.in_ok-abbreviations.ensures.behind in
     let less = g.met.R.Offset.ReaderOffset.sub_law _ _ _ c.sub.ensures in (
-      behind.0,
-      subst (λ (b : List ℕ). IsTableBefore b c.in_ok-abbreviations.abbreviations behind.0)
-          (ap (λ (i : Input). i.bytes) takes.left) behind.1,
-      omega (arith, less, behind.2, table_before_fits behind.1, bytes, whole, c.len-len.ensures, length-drop {A = ℕ}),
+      (view c.parse.new.input).bytes,
+      rw c.trim.ensures
+          (subst (λ (b : List ℕ). IsTableBefore b c.in_ok-abbreviations.abbreviations (view c.parse.new.input).bytes)
+          (ap (λ (i : Input). i.bytes) takes.left) behind),
+      omega (arith, less, c.len.ensures, table_before_fits behind, bytes, whole, c.len-len.ensures, length-drop {A = ℕ}),
     )
 
 pub returns-clause-bound : goal.returns-clause-bound
