@@ -1,6 +1,6 @@
 //! Tables of abbreviations: how they are read, and how an abbreviation is found by its code.
 
-ghost use Rattle.std.specs.Prelude.{◌≡◌, ◌≢◌, ◌↔◌, ◌<◌, ◌∷◌, ◌++◌, [], ℕ, List, length, true, false, IsTrue, IsOk, IfOk, IfErr, IfSome, OnOk, OnErr, Ok, None, option_copied, ⊤};
+ghost use Rattle.std.specs.Prelude.{◌≡◌, ◌≢◌, ◌↔◌, ◌<◌, ◌∷◌, ◌++◌, [], ℕ, List, true, false, IsTrue, IsOk, IfOk, IfErr, IfSome, OnOk, OnErr, Ok, None, option_copied, ⊤};
 ghost use Rattle.std.specs.FinMap as finite;
 ghost use Rattle.std.specs.Iterator.{YieldsFirstRef, item_count};
 ghost use Rattle.dwarf_reader_core.specs.Input.{end_of};
