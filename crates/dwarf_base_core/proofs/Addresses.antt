@@ -16,7 +16,7 @@ last_block : (a c d : ℕ) → 0 < a → d ≤ c → a * c - d ≡ (a - 1) * c +
 last_block zero c d low small = absurd (omega arith)
 last_block (suc a) c d low small = let e : suc a - 1 ≡ a = omega arith in rw e (omega arith)
 
--- 64 ones, shifted right until the bits of a size are left, are the last address of the size
+-- 64 ones, shifted right until the bits of a size remain, are the last address of the size
 pub all_ones : (size : ℕ) → size ≤ 8 → 18446744073709551615 / 2 ^ (64 - size * 8) ≡ address_count size - 1
 all_ones size high =
     let whole : address_count size * 2 ^ (64 - size * 8) ≡ 2 ^ 64 = omega (arith, blocks size high) in

@@ -17,7 +17,7 @@ use Rattle.dwarf_read_core.specs.Sets.{Headers, HeadersOf, remaining_by, seen_by
 
 -- ---- the loop over an iterator
 
--- a text in front of another one's, or both in front
+-- a text in front of one that is in front of a listing is both texts, joined, in front of it
 pub in_front-append : (a b : List ℕ) (listed : Result (List ℕ) Error)
     → in_front a (in_front b listed) ≡ in_front (a ++ b) listed
 in_front-append a b (Ok text) = grind (arith, append_assoc)
@@ -30,11 +30,11 @@ pub record AreListed {I : Type 0} (Lists : I → Result (List ℕ) Error → Typ
   pub appended : text ≡ old ++ added
   pub completes : (rest : Result (List ℕ) Error) → Lists now rest → Lists start (in_front added rest)
 
--- ---- what the iterator stands for
+-- ---- what the iterator represents
 
 module _ {I X A : Type 0} (Represents : I → List (Result A Error) → Type 0) (view : X → A)
     (Lists : A → Result (List ℕ) Error → Type 0) where
-  -- what an iterator yields is listed as the items that it stands for, unless memory ran out
+  -- what an iterator yields is listed as the items that it represents, unless memory ran out
   pub items_of_run : {is_free : Bool} {now : I} {listed : Result (List ℕ) Error}
       → ListsRun (GivesFirst Represents view is_free) (λ x. Lists (view x)) now listed → listed ≢ Err OutOfMemory
       → ListsItemsOf Represents Lists now listed

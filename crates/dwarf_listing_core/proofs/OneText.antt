@@ -17,7 +17,7 @@ one_behind has behind =
     let one = behind has.0 has.1 in
     (one.0, (has.0, has.1, one.1), λ other h. one.2 other (rw (has.2 h.0 h.1) at h.2))
 
--- a text has exactly one continuation if what is behind it is listed in exactly one way; an error has none
+-- a text or an error is joined in exactly one way if what is behind it is listed in exactly one way
 pub one_joined : {Lists : Result (List ℕ) Error → Type 0} (own : Result (List ℕ) Error) → HasOne Lists
     → HasOne (Joins own Lists)
 one_joined (Ok text) has = one_image (in_front text) has (λ rest is. (rest, is, refl)) (λ listed h. h)

@@ -19,7 +19,7 @@ one_of_items Lists law (first_error {e = e} some h) = (Err e, refl, λ other h. 
 one_of_items Lists {offset = offset} {old = old} law (more {new = new} {x = x} some h rest) =
     one_behind (law offset old new x h) (λ own is. one_joined own (one_of_items Lists law rest))
 
--- a section of sets has exactly one text or error if each set that is read has exactly one list of entries
+-- a section has exactly one text or error if it has exactly one list of sets, and each set one list of entries
 pub one_section : {H : Type 0} (listing : SetListing H) (headers : Headers)
     → ((offset : ℕ) (old new : Input) (s : Set H) → read (set listing.header (2 ^ 64 - 1) offset) old ≡ Ok (s, new)
     → HasOne (RepresentsEntries listing.entry (listing.entries s)))
@@ -38,12 +38,12 @@ one_section {H} listing headers entries sets =
 positive : (width : ℕ) → IsTrue (is_number_size width) → 0 < width
 positive width sized = grind arith
 
--- the header of a set of addresses has a size above 0
+-- the address size in a header of a set of addresses is above 0
 header_size : (unit : Input) {size : ℕ} {rest : Input} → read address_header unit ≡ Ok (size, rest) → 0 < size
 unfolding address_header
 header_size unit h = grind (arith, then_read, pure_read, positive, check_read)
 
--- a set of addresses has a size above 0 in its header
+-- the address size of a set of addresses that is read is above 0
 pub address_size : (greatest offset : ℕ) (old new : Input) (s : Set ℕ)
     → read (set address_header greatest offset) old ≡ Ok (s, new) → 0 < s.header
 unfolding set

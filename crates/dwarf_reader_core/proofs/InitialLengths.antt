@@ -29,7 +29,7 @@ module _ (greatest : ℕ) {old : Input} (bytes : All (λ b. b < 256) old.bytes) 
         let same : first ≡ 0xffff_ffff = omega (arith, high, number-bounded bytes takes) in
         subst (λ n. TakesNumber 4 old n mid) same takes
 
-    -- a length of eight bytes is one behind them
+    -- a length of eight bytes that is read behind them is the initial length
     long_held : {new : Input} {format : Format} {n : ℕ} → read (long_length greatest) mid ≡ Ok ((format, n), new)
         → HasLength greatest old format n new
     unfolding long_length
@@ -44,7 +44,7 @@ module _ (greatest : ℕ) {old : Input} (bytes : All (λ b. b < 256) old.bytes) 
         subst (λ (x : Format × ℕ). HasLength greatest old x.0 x.1 new) (sym last.0)
         (subst (λ i. HasLength greatest old Dwarf64 long.0 i) (sym (last.1 ∙ tested.1)) held)
 
-    -- without a length of eight bytes behind them, there is none
+    -- if no length of eight bytes is read behind them, there is no initial length
     long_none : {new : Input} {e : Error} → FailsAt (long_length greatest) mid e new → HasNoLength greatest old e new
     unfolding long_length
     long_none {new} {e} fails =
@@ -61,7 +61,7 @@ module _ (greatest : ℕ) {old : Input} (bytes : All (λ b. b < 256) old.bytes) 
         ]
 
   module _ {mid : Input} {first : ℕ} (takes : TakesNumber 4 old first mid) where
-    -- the first four bytes are a length, unless they are reserved or announce one
+    -- a length that is read by the value of the first four bytes is the initial length
     short_held : {new : Input} {format : Format} {n : ℕ} (b c : Bool) → ltb first 0xffff_fff0 ≡ b
         → ltb first 0xffff_ffff ≡ c
         → read (when b then pure (Dwarf32, first) else when c then fail (UnknownReservedLength first) else
@@ -75,7 +75,7 @@ module _ (greatest : ℕ) {old : Input} (bytes : All (λ b. b < 256) old.bytes) 
     short_held false true low q is = absurd cc
     short_held false false low q is = long_held takes (ltb-false first 0xffff_ffff q) is
 
-    -- without a length in the first four bytes or behind them, they are reserved, or there is none behind them
+    -- if no length is read by the value of the first four bytes, there is no initial length
     short_none : {new : Input} {e : Error} (b c : Bool) → ltb first 0xffff_fff0 ≡ b → ltb first 0xffff_ffff ≡ c
         → FailsAt (when b then pure (Dwarf32, first) else when c then fail (UnknownReservedLength first) else
         long_length greatest) mid e new → HasNoLength greatest old e new

@@ -1,4 +1,4 @@
--- Every error of a layout has a property if the errors that the layout contains have it.
+-- Every error of a layout has a property if each `UnexpectedEof` has it, and each error that the layout contains.
 use Rattle.dwarf_reader_core.proofs.Common.{arith, ℕ, Bool, true, false, Result, Ok, Err, ◌≡◌, subst, ⊤, IfErr, Error, eof, Input, Layout, part, until, pure, fail, inside, ◌>>=◌, when◌then◌else◌, ReadsAs}
 use Rattle.dwarf_reader_core.specs.Layout.{read, fixed, byte, check}
 use Rattle.dwarf_reader_core.proofs.Layouts.{Outcome}
@@ -18,7 +18,7 @@ IfFails P (Ok x) = ⊤
 IfFails P (Err e) = P e
 
 module _ (P : Error → Type 0) (ends : (position : ℕ) → P (eof position)) where
-  -- every error that a layout returns has the property if the errors that it contains have it
+  -- an error that a layout returns has the property if each `UnexpectedEof` and each error that it contains has it
   pub errors : {A : Type 0} (f : Layout A) → Names P f → (old : Input) → IfFails P (read f old)
   unfolding read
   errors (part n) h old = grind (arith, ends)
@@ -28,11 +28,11 @@ module _ (P : Error → Type 0) (ends : (position : ℕ) → P (eof position)) w
   errors (inside unit f) h old = grind (arith, (errors f h unit))
   errors (p >>= f) h old = grind (arith, (errors p h.0 old), (λ (x : _ × Input). errors (f x.0) (h.1 x.0) x.1))
 
-  -- an error that was read with a layout has the property
+  -- an error that was read has the property if each `UnexpectedEof` and each error in the layout has it
   pub error_has : {A : Type 0} (f : Layout A) → Names P f → (old : Input) {e : Error} → read f old ≡ Err e → P e
   error_has f h old is = subst (IfFails P) is (errors f h old)
 
-  -- the error at the front of a section has the property
+  -- an error at the front of a section has the property if each `UnexpectedEof` and each error in the layout has it
   pub At_error_has : {A : Type 0} (f : Layout A) → Names P f → (section : Input) {answer : Result A Error}
       → ReadsAs f section answer → IfErr answer P
   At_error_has {A} f h section {answer} is = grind (arith, errors)

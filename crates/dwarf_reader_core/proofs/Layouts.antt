@@ -335,7 +335,7 @@ ReadsAs_more {A} f section answer more is settled =
 pub rest-length : (n : ℕ) (old new : Input) → Takes n old new → length new.bytes ≡ length old.bytes - n
 rest-length n old new takes = ap (λ (i : Input). length i.bytes) takes.left ∙ length-drop n old.bytes
 
--- taking no bytes leaves the input as it is
+-- consuming no bytes leaves the input as it is
 takes-nothing : (old : Input) → Takes 0 old old
 takes-nothing old = grind arith
 

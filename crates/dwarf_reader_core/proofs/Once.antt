@@ -3,7 +3,7 @@ use Rattle.dwarf_reader_core.proofs.Common.{◌≡◌, ◌≢◌, ℕ, zero, suc
 use Rattle.dwarf_reader_core.specs.Layout.{FailsAt, read}
 use Rattle.dwarf_reader_core.proofs.Layouts.{string_reads, string_fails}
 
--- the bytes before the first zero byte are one string
+-- two strings that are consumed from the same bytes are equal, and the same bytes remain
 pub one_string : (old s t x y : Input) → TakesString old s x → TakesString old t y → (s ≡ t) × (x ≡ y)
 one_string old s t x y a b =
     let both = sym (string_reads a) ∙ string_reads b in

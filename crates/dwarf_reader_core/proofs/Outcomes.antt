@@ -82,5 +82,6 @@ module _ (k : Kind) (bytes : List ℕ) where
         | inr (inr long) ↦ (Bad, grind (arith, past_none, length-take-le))
       ]
 
+  -- bytes have exactly one outcome
   pub exactly_one_outcome_of : HasOne (HasOutcome k bytes)
   exactly_one_outcome_of = (some.0, some.1, λ p h. unique p some.0 h some.1)

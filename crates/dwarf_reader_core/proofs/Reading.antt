@@ -55,7 +55,7 @@ begun_cut {old} {k = k} b ends =
       all,
     )
 
--- a number that bytes are missing for, within the limit of its kind, is refused
+-- a number that bytes are missing for, within the limit of its kind, is rejected
 pub cut_rejects : {old mid new : Input} {k value : ℕ} {e : Error} (kind : Kind) → Begun old k mid value
     → k < limit kind → IsTooShort 1 mid e new → RejectsNumber kind old e new
 cut_rejects kind b within ends =
@@ -89,7 +89,7 @@ module _ {old mid new : Input} {k value byte : ℕ} (b : Begun old k mid value) 
   next_ends : byte < 128 → IsEncoding (take (k + 1) old.bytes)
   next_ends last = rw (next.1) (IsEncoding-push (take k old.bytes) byte b.none last)
 
-  -- an encoding of any length ends with a byte without a continuation bit
+  -- a byte without a continuation bit ends an encoding of any length
   pub next_encoding : byte < 128 → TakesEncoding old new
   next_encoding last = record { len = k + 1; enough = omega (arith, next.0); is = next_ends last; left = next.2 }
 
@@ -122,7 +122,7 @@ module _ {old mid new : Input} {k value byte : ℕ} (b : Begun old k mid value) 
       let turn : bits ≡ 7 * (k + 1) = omega arith in
       rw (signs, length-take-le (k + 1) old.bytes (omega (arith, next.0)), next_worth, is, turn, pow_digits (k + 1))
 
-  -- an unsigned number ends with a byte without a continuation bit
+  -- a byte without a continuation bit ends an unsigned number, within ten bytes and 64 bits
   pub reads_unsigned : (worth : ℕ) → byte < 128 → k < 10 → worth ≡ value + byte % 128 * 2 ^ (7 * k) → worth < 2 ^ 64
       → ReadsNumber unsigned64 old worth new
   reads_unsigned worth last short is fits =
@@ -144,7 +144,7 @@ module _ {old mid new : Input} {k value byte : ℕ} (b : Begun old k mid value) 
       let worth = rw nine at next_worth in
       next_rejects unsigned64 (omega arith) (λ last has. omega (arith, worth, ltb-true _ _ (rw nine at has)))
 
-  -- a short unsigned number ends with a byte without a continuation bit
+  -- a byte without a continuation bit ends a short unsigned number, within three bytes and 16 bits
   pub reads_short : (worth : ℕ) → byte < 128 → k < 3 → worth ≡ value + byte % 128 * 2 ^ (7 * k) → worth < 2 ^ 16
       → ReadsNumber unsigned16 old worth new
   reads_short worth last short is fits = next_reads unsigned16 worth last short (next_worth ∙ sym is) (lt-ltb _ _ fits)
@@ -155,7 +155,7 @@ module _ {old mid new : Input} {k value byte : ℕ} (b : Begun old k mid value) 
       let worth = rw two at next_worth in
       next_rejects unsigned16 (omega arith) (λ last has. omega (arith, worth, ltb-true _ _ (rw two at has)))
 
-  -- a signed number ends with a byte without a continuation bit
+  -- a byte without a continuation bit ends a signed number, within ten bytes and 64 bits
   pub reads_signed : (v : ℤ) (worth bits : ℕ) (sign : Bool) → byte < 128 → k < 10
       → worth ≡ value + byte % 128 * 2 ^ (7 * k) → bits ≡ 7 * k + 7 → (IsTrue sign ↔ (64 ≤ byte % 128))
       → v ≡ pos worth -ℤ pos (if sign then 2 ^ bits else 0) → FitsSigned w64 v

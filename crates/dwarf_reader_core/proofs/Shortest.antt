@@ -93,7 +93,7 @@ module _ (k : Kind) (number above : Number k) (digit : ℕ) (tail : List ℕ) (s
         shorter = more-shorter;
       }
 
--- what encodes a number is read as the number, whatever follows
+-- bytes within the limit of a kind that encode a number in its range are read as that number, whatever follows
 pub HasNumber_append : (k : Kind) (number : Number k) (bytes rest : List ℕ) → Encodes k bytes number
     → length bytes ≤ limit k → IsTrue (is_in_range k number) → HasNumber k (bytes ++ rest) number (length bytes)
 HasNumber_append k number bytes rest encodes within in_range = grind (arith, take-append-le, take_all, length-append)

@@ -38,7 +38,7 @@ module _ {k : Kind} {number rest : Number k} {bytes : List ℕ} {len : ℕ} (beg
   pub begun-ends : value k (digit ∷ []) ≡ rest → IsShortest k number (take (len + 1) (set bytes len digit))
   begun-ends is = rw (placed digit) (begun.completes (digit ∷ []) (IsShortest-one k rest digit small is))
 
-  -- the encoding is padded then
+  -- with the byte of a rest of one byte, the buffer has an encoding and zeros behind it
   pub begun-padded : value k (digit ∷ []) ≡ rest → IsPadded record { bytes = set bytes len digit; len = len + 1 }
   begun-padded is = record {
     places = length-set bytes len digit ∙ begun.places;
@@ -61,7 +61,7 @@ pub room_left : (left next : ℕ) (v above : ℤ) (digit : ℕ) → next ≡ lef
 room_left zero next v above digit same small wide v_is fits = grind arith
 room_left (suc left) next v above digit same small wide v_is fits = grind arith
 
--- a number that fits a byte is spelled by the byte of its lowest digit
+-- a number that fits a byte is encoded by the byte of its lowest digit
 pub signed_value-only : (v above : ℤ) (digit : ℕ) → digit < 128 → FitsByte v → v ≡ pos digit +ℤ (pos 128 *ℤ above)
     → signed_value (digit ∷ []) ≡ v
 signed_value-only v above digit small fits v_is = grind arith

@@ -1,3 +1,5 @@
+//! The arguments of a system, and memory that runs out.
+
 use super::command_line;
 use crate::fault::Fault;
 use std::alloc::Global;

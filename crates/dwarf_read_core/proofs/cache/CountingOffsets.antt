@@ -23,7 +23,7 @@ pub seen_more : {O : Type 0} (number : O → ℕ) (offsets : List O) (i : ℕ) (
     → map number (take (i + 1) offsets) ≡ map number (take i offsets) ++ key ∷ []
 seen_more number offsets i offset key within is named = grind (arith, common_steps, take_more, map_push, get_or)
 
--- the empty cache keeps what no offsets ask for
+-- the empty cache keeps what is to be kept of no offsets
 pub kept_nothing : (strategy : AbbreviationsCacheStrategy) (section : Input) (cache : Cache) → cache ≡ empty
     → KeepsAnswers (least_count strategy) section [] (get cache)
 kept_nothing strategy section cache none key = grind (arith, get-empty {X = Result Table Error} nat_cmp key)

@@ -33,11 +33,11 @@ module _ {Z : Type 0} where
       → lookup (is_at (nat_cmp q)) fs ≡ cond (is_at (nat_cmp key) q) (Some v) (lookup (is_at (nat_cmp q)) es)
 
   module _ (es fs : SharedEntries Z) (key : ℕ) (v : Result (Rc Table Z) Error) (updates : Updates es fs key v) where
-    -- entries that differ at one key have the same results at all others
+    -- entries that are updated at a key keep the new result there, and elsewhere what was kept before
     kept_at-update : (q : ℕ) → kept_at fs q ≡ cond (is_at (nat_cmp key) q) (Some (answer_of v)) (kept_at es q)
     kept_at-update q = ap (option_map answer_of) (updates q) ∙ sym (mapped_choice answer_of (is_at (nat_cmp key) q) v _)
 
-    -- entries that differ at one key show maps that differ there
+    -- entries that are updated at a key show the map with the new result inserted there
     pub shown-insert : shown fs ≡ insert (shown es) key (answer_of v)
     shown-insert = inserted (shown_entries es) (shown_entries fs) key (answer_of v) (λ q.
         lookup-map_values answer_of (is_at (nat_cmp q)) fs ∙ kept_at-update q

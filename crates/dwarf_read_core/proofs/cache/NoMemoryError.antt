@@ -1,5 +1,5 @@
 -- A cache keeps no `OutOfMemory`.
-use Rattle.dwarf_read_core.proofs.Common.{arith, ◌≡◌, ◌≢◌, ℕ, Err, Result, List, nat_cmp, nat_cmp_total, Error, OutOfMemory, Table, Answer, IsFirstError, Cache, KeepsAnswers, KeepsNoOutOfMemory, still_kept, Input}
+use Rattle.dwarf_read_core.proofs.Common.{arith, ◌≡◌, ◌≢◌, ℕ, Err, Result, List, nat_cmp, nat_cmp_total, Error, OutOfMemory, Table, Answer, IsFirstError, Cache, KeepsNoOutOfMemory, still_kept, Input}
 use Rattle.std.specs.FinMap as finite
 
 -- the empty cache keeps no `OutOfMemory`
@@ -20,11 +20,6 @@ first_error_not_memory h is = grind arith
 pub answer_not_memory : {section : Input} {key : ℕ} {answer : Result Table Error} → Answer section key answer
     → answer ≢ Err OutOfMemory
 answer_not_memory h is = grind (arith, first_error_not_memory)
-
--- a cache that keeps the results of a section keeps no `OutOfMemory`
-pub no_memory_error_answers : (least : ℕ) (input : Input) (offsets : List ℕ) (cache : Cache)
-    → KeepsAnswers least input offsets (finite.get cache) → KeepsNoOutOfMemory cache
-no_memory_error_answers least input offsets cache h key is = grind (arith, answer_not_memory, h key)
 
 -- a cache that keeps no `OutOfMemory` keeps none after it has dropped entries
 pub no_memory_error_final : (old new : Cache) → ((key : ℕ) → finite.get new key ≡ still_kept (finite.get old key))

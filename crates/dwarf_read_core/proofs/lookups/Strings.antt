@@ -31,7 +31,7 @@ pub string_more : (section : Input) (offset : ℕ) (found : Input) (more : List 
 unfolding StringAt
 string_more section offset found more is = ReadsAs_more (string_at offset) section (Ok found) more is tt
 
--- the string that a lookup returned stays when bytes are appended
+-- what a lookup of a string returned, except `UnexpectedEof` and `OutOfMemory`, stays when bytes are appended
 pub string-stays : {X : Type 0} (section : Input) (offset : ℕ) (view : X → Input) (clone_is_free : Bool)
     (r : Result X Error) → AnswersBy (StringAt section offset) view clone_is_free r
     → StaysBy (λ input. StringAt input offset) view clone_is_free section r

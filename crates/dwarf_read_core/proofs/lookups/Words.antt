@@ -11,7 +11,7 @@ pub skipped : (section : Input) (s : Slot) (rest new : Input) → Takes s.base s
     → Takes (distance s) rest new → Takes (place s) section new
 skipped section s rest new takes further = takes-both takes further
 
--- so they are if the code computed the distance
+-- the bytes before the base and a distance that the code computed are the bytes before the slot's place
 pub skipped_found : {A : Type 0} (section : Input) (s : Slot) (rest new : Input) (far : ℕ) (r : Result A Error)
     → Takes s.base section rest → far ≡ distance s → OnOk r (Takes far rest new) → OnOk r (Takes (place s) section new)
 skipped_found section s rest new far (Ok x) takes is further = skipped section s rest new takes (rw is at further)
@@ -120,13 +120,13 @@ module _ (greatest : ℕ) (section : Input) (s : Slot) where
       → IfErr answer IsNotEof → AddressAt greatest (followed_by section more) s answer
   address_more = ReadsAs_more (address greatest s) section
 
-  -- the word that a lookup returned stays when bytes are appended
+  -- what a lookup of a word returned, except `UnexpectedEof` and `OutOfMemory`, stays when bytes are appended
   pub word-stays : {X : Type 0} (view : X → ℕ) (clone_is_free : Bool) (r : Result X Error)
       → AnswersBy (WordAt greatest section s) view clone_is_free r
       → StaysBy (λ input. WordAt greatest input s) view clone_is_free section r
   word-stays view clone_is_free r = grind (arith, word_more)
 
-  -- the address that a lookup returned stays when bytes are appended
+  -- what a lookup of an address returned, except `UnexpectedEof` and `OutOfMemory`, stays when bytes are appended
   pub address-stays : (clone_is_free : Bool) (r : Result ℕ Error)
       → AnswersBy (AddressAt greatest section s) (λ x. x) clone_is_free r
       → StaysBy (λ input. AddressAt greatest input s) (λ x. x) clone_is_free section r

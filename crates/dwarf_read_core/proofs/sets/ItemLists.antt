@@ -102,7 +102,7 @@ module _ {A : Type 0} {item : ℕ → Layout A} where
 
   -- ---- appended bytes
 
-  -- the first item stays the first when bytes are appended
+  -- a value that is the first item stays the first when bytes are appended
   pub item-stays : {offset : ℕ} {old : Input} {x : A} {items : List (Result A Error)}
       → AreItems item offset old (Ok x ∷ items) → (behind : List ℕ) (others : List (Result A Error))
       → AreItems item offset (followed_by old behind) others → (rest : List (Result A Error)) × (others ≡ Ok x ∷ rest)

@@ -20,7 +20,7 @@ initial_length-spans greatest =
 taken_front : {n : ℕ} {old new : Input} → Takes n old new → old.bytes ≡ take n old.bytes ++ new.bytes
 taken_front {n} {old} takes = grind (arith, common_steps, take-append-drop)
 
--- four lists that are joined from the right are the same as joined from the left
+-- a list in front of three joined ones is the same as all four joined from the left
 joined_left : (a b c d : List ℕ) → a ++ (b ++ c ++ d) ≡ a ++ b ++ c ++ d
 joined_left a b c d = grind (arith, common_steps, append_assoc)
 

@@ -87,7 +87,7 @@ module _ {H : Type 0} {header : Layout H} {size : ℕ} (has_size : HasSize size 
   module _ (offset place : ℕ) (rest left : Input) {at : ℕ} {s : Set H} (some : rest.bytes ≢ [])
       (is_read_at : read (set header greatest at) rest ≡ Ok (s, left)) (same : at ≡ offset)
       (behind : place ≡ offset + (length rest.bytes - length left.bytes)) where
-    -- `at` is the offset as the code computes it
+    -- a set that is read at `at`, the offset as the code computes it, is read at the offset
     is_read : read (set header greatest offset) rest ≡ Ok (s, left)
     is_read = subst (λ n. read (set header greatest n) rest ≡ Ok (s, left)) same is_read_at
 

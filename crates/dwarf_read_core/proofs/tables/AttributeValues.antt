@@ -9,7 +9,7 @@ valued_one : (end : ℕ) (bytes : List ℕ) (s : Specification) (rest : List ℕ
 unfolding specification_at value_at
 valued_one end bytes s rest is = grind arith
 
--- so has each of those that are read under a bound
+-- each specification that is read under a bound has a value exactly if its form has one
 valued_by : (n end : ℕ) (bytes : List ℕ) (ss : List Specification) (rest : List ℕ)
     → attributes_at n end bytes ≡ Ok (ss, rest) → All HasValueByForm ss
 unfolding attributes_at

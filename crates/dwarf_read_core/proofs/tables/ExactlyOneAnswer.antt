@@ -62,13 +62,13 @@ error_read r e section offset rest is takes read =
 pub answer_exactly_one : (section : Input) (offset : ℕ) → HasOne (Answer section offset)
 answer_exactly_one section offset = (answer_at section offset, is_answer section offset, λ s a. sym (only_answer a))
 
--- if a read ends before an offset past the section's end, its error is the section's result there
+-- the error of skipping to an offset past the section's end is the section's result there
 pub outside_of : (section : Input) (offset : ℕ) (e : Error) (new : Input) → IsTooShort offset section e new
     → Answer section offset (Err e)
 outside_of section offset e new short =
     subst (λ (x : Error). Answer section offset (Err x)) (sym short.fault) (outside short.short)
 
--- no declaration is read at an offset that needs no memory: at the end, or at a code of value 0
+-- no declaration is read at an offset that needs no memory: at the end, past it, or at a code of value 0
 pub nothing_declared : (end : ℕ) (section : Input) (offset : ℕ) (rest : List ℕ) → TakesNoMemory section offset
     → rest ≡ drop offset section.bytes → (behind : List ℕ) × (declaration_at end rest ≡ Ok (None, behind))
 nothing_declared end section offset rest (inl past) is =

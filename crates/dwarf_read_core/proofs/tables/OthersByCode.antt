@@ -14,7 +14,7 @@ pub entries_sorted : (ds : List Declaration) (ps : List (ℕ × ℕ)) → ArePla
     → IsStrictlySortedBy nat_cmp (keys_of (with_places ds ps))
 entries_sorted ds ps h = rw (keys_of-map_values (at_place ds) ps) h.ordered
 
--- there are as many as there are places
+-- there are as many entries as places
 pub entries_counted : (ds : List Declaration) (ps : List (ℕ × ℕ)) → length (with_places ds ps) ≡ length ps
 entries_counted ds ps = length-map ps (λ (p : ℕ × ℕ). (p.0, at_place ds p.1))
 
@@ -23,7 +23,7 @@ pub copied_at : (r : Option (Bor Declaration)) (ds : List Declaration) (i : ℕ)
     → IfSome r (λ x. x.now ≡ get_or ds i x.now) → i < length ds → option_copied r ≡ Some (at_place ds i)
 copied_at r ds i some same lt = grind (arith, get_or_default)
 
--- a place that is found is one of those that all places are
+-- a place that is found is below each bound that all places are below
 pub place_within : (test : ℕ → Bool) (n place : ℕ) (ps : List (ℕ × ℕ)) → All (λ p. p < n) (values_of ps)
     → lookup test ps ≡ Some place → place < n
 place_within test n place ps within found = rw found at (IfSome-lookup_from_All (λ p. p < n) test ps within)

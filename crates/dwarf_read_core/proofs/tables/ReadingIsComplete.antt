@@ -89,7 +89,7 @@ front_fails : (end : ℕ) (front bytes : List ℕ) (d : Declaration) (e : Error)
     → specification_at end bytes ≡ Err e → declaration_at end (front ++ bytes) ≡ Err e
 front_fails end front bytes d e is q = front_again end front bytes d is ∙ rw (attributes_fail end bytes e q) refl
 
--- a declaration fails with the error of a number behind its beginning
+-- a declaration fails with the error of a number behind its beginning, unless there are no bytes
 stops : {k : Kind} {front : List ℕ} (end : ℕ) (bytes : List ℕ) (e : Error) → IsBeginning front k
     → front ++ bytes ≢ [] → number_at k end bytes ≡ Err e → declaration_at end (front ++ bytes) ≡ Err e
 unfolding declaration_at declared_at tag_at specification_at value_at

@@ -103,7 +103,7 @@ declaration_outcome end bytes =
     (λ z. outcome-bind _ (declared_behind end code.0 f.front code.1 bytes f.parts
     (record { is_code = f.string; nonzero = number-positive code.0 z })) (λ d h. returned (Some d.0, d.1) h)))))
 
--- ---- a declaration has at least five bytes
+-- ---- fewer bytes remain behind a declaration
 
 -- fewer bytes remain behind a declaration that is found
 pub declaration_found_shorter : (bytes : List ℕ) (d : Declaration) (rest : List ℕ) → DeclarationFound bytes d rest

@@ -34,7 +34,7 @@ pub table_fails : (end : ℕ) (t : ByCode) (bytes : List ℕ) (e : Error) → de
 unfolding table_in table_at
 table_fails end t bytes e q = grind arith
 
--- reading a table ends if no declaration is next: the end closes it if no bytes are left, or else a null code
+-- reading a table ends if no declaration is next: the end closes it if no bytes remain, or else a code of value 0
 pub table_ends : (end : ℕ) (t : ByCode) (bytes rest : List ℕ) → declaration_at end bytes ≡ Ok (None, rest)
     → table_in end t bytes ≡ Ok (closed t (close_of bytes))
 unfolding table_in table_at
@@ -46,7 +46,7 @@ pub close_by_test : (bytes : List ℕ) (is_end : Bool) → (IsTrue is_end ↔ (b
 close_by_test bytes true test = grind (arith, common_steps)
 close_by_test bytes false test = grind (arith, common_steps, ne_eqb, nil_from_length)
 
--- the same, by a test for the end of the bytes
+-- reading a table ends if no declaration is next, closed as a test for the end of the bytes says
 pub table_ends_by : (end : ℕ) (t : ByCode) (bytes rest : List ℕ) (is_end : Bool)
     → declaration_at end bytes ≡ Ok (None, rest) → (IsTrue is_end ↔ (bytes ≡ []))
     → table_in end t bytes ≡ Ok (closed t (close_from (not is_end)))

@@ -203,7 +203,7 @@ keyed_put ds es fs code d lt h same kept = record {
       (λ q. at_insert 1 q code ds d es fs (omega arith) (h q)) same (omega arith) kept.keyed;
 }
 
--- so does one that succeeds or changes nothing
+-- all stay at their codes if a declaration above the vector's codes is added to the others, or nothing changes
 pub keyed_inserted : {A E : Type 0} (r : Result A E) (ds : List Declaration) (es fs : Entries) (d : Declaration)
     → length ds < d.code → OnOk r (Adds d es fs) → OnErr r (fs ≡ es) → AreKeyed ds es → AreKeyed ds fs
 keyed_inserted (Ok a) ds es fs d lt added same kept = keyed_put ds es fs d.code d lt added.added refl kept

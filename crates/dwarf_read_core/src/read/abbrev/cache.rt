@@ -134,8 +134,7 @@ impl AbbreviationsCache {
     }
 
     /// Keeps this table at `offset`, in bytes from the section's start, in place of what was kept
-    /// there. The table isn't compared with a section. `R` has to be written, as in
-    /// `cache.set::<R>(offset, table)`.
+    /// there. It isn't compared with a section. `R` is written: `cache.set::<R>(offset, table)`.
     ///
     /// # Errors
     ///
