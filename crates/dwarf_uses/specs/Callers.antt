@@ -1,10 +1,19 @@
 -- What the small callers return.
-use Rattle.std.specs.Prelude.{◌≡◌, ℕ, List, [], ◌∷◌, ◌++◌, Ok, Err, ⊤}
+use Rattle.std.specs.Prelude.{◌≡◌, ℕ, ◌⊎◌, List, [], ◌∷◌, ◌++◌, Result, Ok, Err, ⊤}
 use Rattle.std.specs.FinMap.{len}
 use Rattle.dwarf_read_core.specs.declared.Error.{Error}
-use Rattle.dwarf_read_core.specs.Answer.{Answer}
+use Rattle.dwarf_read_core.specs.Answer.{Answer, TableEndsAt}
 use Rattle.dwarf_read_core.specs.Grammar.{Table}
 use Rattle.dwarf_read_core.specs.Input.{Input}
+
+-- the result behind the table at an offset
+abbrev pub IsBehind : Input → ℕ → Table → Result Table Error → Type 0
+IsBehind section offset table behind = (end : ℕ) × TableEndsAt section offset table end × Answer section end behind
+
+-- the error at an offset, or else the one behind the table there
+abbrev pub IsErrorOfTwo : Input → ℕ → Error → Type 0
+IsErrorOfTwo section offset e = Answer section offset (Err e)
+    ⊎ ((t : Table) × Answer section offset (Ok t) × IsBehind section offset t (Err e))
 
 -- how many declarations the table at an offset has
 abbrev pub HasLength : Input → ℕ → ℕ → Type 0

@@ -1,15 +1,15 @@
-//! Small callers of the library, to start from. `docs/API.md` and documentation comments quote them.
+//! Small callers of the library, to start from. `docs/API.md` and doc comments quote them.
 
 ghost use Rattle.std.specs.Prelude.{◌≡◌, ◌≢◌, ℕ, Ok, Err, IfOk, IfErr, map, option_map};
 ghost use Rattle.std.specs.FinMap as finite;
 ghost use Rattle.dwarf_read_core.specs.Entries.{RepresentsAddresses};
 ghost use Rattle.dwarf_read_core.specs.Format.{word_size};
-ghost use Rattle.dwarf_read_core.specs.Answer.{Answer, TableEndsAt};
+ghost use Rattle.dwarf_read_core.specs.Answer.{Answer};
 ghost use Rattle.dwarf_read_core.specs.Sections.{debug_abbrev_reader, debug_str_offsets_reader, debug_str_reader};
 ghost use Rattle.dwarf_read_core.specs.Sets.{addresses_of, seen_by};
 ghost use Rattle.dwarf_read_core.specs.Strings.{StringAt};
 ghost use Rattle.dwarf_read_core.specs.Words.{WordAt, slot};
-ghost use Rattle.dwarf_uses.specs.Callers.{HaveLengths, IsFirstError};
+ghost use Rattle.dwarf_uses.specs.Callers.{HaveLengths, IsBehind, IsErrorOfTwo, IsFirstError};
 
 use dwarf_read_core::{
     Abbreviation, Abbreviations, AbbreviationsCache, AbbreviationsCacheStrategy, AddrHeader,
@@ -51,15 +51,19 @@ pub fn table_text<R: Reader>(
 ///
 /// # Errors
 ///
-/// Those of [`DebugAbbrev::abbreviations`].
+/// The first error of the two tables, which is one of [`DebugAbbrev::abbreviations`].
 pub fn two_tables<R: Reader>(
     mem: Global,
     section: &DebugAbbrev<R>,
     offset: DebugAbbrevOffset<R::Offset>,
 ) -> Result<(Abbreviations, Abbreviations)>
-    ensures { let bytes = R.view (debug_abbrev_reader section.now) in
-        IfOk result (λ tables. (end : ℕ) × Answer bytes end (Ok tables.1)
-        × TableEndsAt bytes (R.Offset.value offset.0) tables.0 end) }
+    ensures ok { let bytes = R.view (debug_abbrev_reader section.now) in
+        let at = R.Offset.value offset.0 in
+        IfOk result (λ tables. Answer bytes at (Ok tables.0)
+        × IsBehind bytes at tables.0 (Ok tables.1)) }
+    ensures err { let bytes = R.view (debug_abbrev_reader section.now) in
+        let at = R.Offset.value offset.0 in
+        IfErr result (λ e. e ≢ Error.OutOfMemory → IsErrorOfTwo bytes at e) }
 {
     let (first, end) = section.abbreviations_and_end(mem, offset)?;
     let second = section.abbreviations(mem, end)?;

@@ -1,14 +1,16 @@
 //! The small callers, on worked sections.
 
 use super::worked::{FOUR_ADDRESSES, STRINGS, THREE, TWO_SETS, UNIT};
-use super::{check_bytes, little, same};
+use super::{check_bytes, eof, little, same};
 use dwarf_read_core::constants::{DW_TAG_compile_unit, DwTag};
 use dwarf_read_core::{
     Abbreviations, AddrHeader, DebugAbbrev, DebugAbbrevOffset, DebugAddr, DebugStr,
     DebugStrOffsets, DebugStrOffsetsBase, DebugStrOffsetsIndex, Format, Reader, ReaderOffset,
     Result,
 };
-use dwarf_uses::callers::{addresses_in, string_by_index, table_lengths, table_text, tag_of};
+use dwarf_uses::callers::{
+    addresses_in, string_by_index, table_lengths, table_text, tag_of, two_tables,
+};
 use dwarf_uses::parts::{clone_is_equal, split_ten};
 use std::alloc::Global;
 use std::process::Abort;
@@ -49,12 +51,24 @@ fn check_lengths<R: Reader<Offset = usize>>(
     Ok(())
 }
 
+// Ends the test if the table at 0 hasn't three declarations, and the one behind it none.
+fn check_two<R: Reader>(rt: &impl Abort, mem: Global, section: &DebugAbbrev<R>) -> Result<()> {
+    let offset = DebugAbbrevOffset(R::Offset::from_u8(0));
+    let (first, second) = two_tables(mem, section, offset)?;
+    same(rt, (first.len(), second.len()), (3, 0), "two tables");
+    Ok(())
+}
+
 #[test]
 fn tables_are_walked(rt: HostRuntime) {
     let unit = check_unit(&rt, rt.alloc(), &little(UNIT).into());
     same(&rt, unit, Ok(()), "a unit");
     let lengths = check_lengths(&rt, rt.alloc(), &little(THREE).into());
     same(&rt, lengths, Ok(()), "lengths");
+    let two = check_two(&rt, rt.alloc(), &little(THREE).into());
+    same(&rt, two, Ok(()), "two tables");
+    let behind = check_two(&rt, rt.alloc(), &little(UNIT).into());
+    same(&rt, behind, Err(eof(9)), "a number is cut behind a table");
 }
 
 const OFFSETS: &[u8] = b"\x0c\0\0\0\x05\0\0\0\0\0\0\0\x04\0\0\0";
