@@ -1,11 +1,8 @@
 -- Sets have exactly one text or error.
-use Rattle.dwarf_listing_core.proofs.Common.{◌≡◌, ◌-◌, ◌^◌, ◌<◌, ℕ, List, [], Result, Ok, Err, refl, arith, IsTrue, Error, RepresentsEntries, Input, HasOne, Headers, Set, ListsItems, SetListing, HasSets, ListsLine, ListsSection, ListsSet}
-use Rattle.dwarf_read_core.specs.declared.Format.{Format}
-use Rattle.dwarf_read_core.specs.declared.Format.TheVariants.{Dwarf32, Dwarf64}
-use Rattle.dwarf_read_core.specs.Faults.{is_number_size}
-use Rattle.dwarf_read_core.specs.Format.{word_size}
+use Rattle.dwarf_listing_core.proofs.Common.{◌≡◌, ◌-◌, ◌^◌, ◌<◌, ℕ, List, [], Result, Ok, Err, refl, arith, Error, RepresentsEntries, Input, HasOne, Headers, Set, ListsItems, SetListing, HasSets, ListsLine, ListsSection, ListsSet}
 use Rattle.dwarf_read_core.specs.Layout.{Layout, AreItems, none, more, first_error, read}
 use Rattle.dwarf_read_core.proofs.Layouts.{then_read, check_read, inside_read, pure_read}
+use Rattle.dwarf_read_core.proofs.sets.Entries.{size-positive}
 use Rattle.dwarf_read_core.specs.Sets.{set, address_header}
 use Rattle.dwarf_listing_core.proofs.OneText.{one_behind, one_joined}
 
@@ -34,14 +31,10 @@ one_section {H} listing headers entries sets =
         one_of_items (ListsLine listing.entry_line)
         (λ offset old new n h. (Ok (listing.entry_line n), refl, λ other is. is)) are))
 
--- a size of addresses is above 0
-positive : (width : ℕ) → IsTrue (is_number_size width) → 0 < width
-positive width sized = grind arith
-
 -- the address size in a header of a set of addresses is above 0
 header_size : (unit : Input) {size : ℕ} {rest : Input} → read address_header unit ≡ Ok (size, rest) → 0 < size
 unfolding address_header
-header_size unit h = grind (arith, then_read, pure_read, positive, check_read)
+header_size unit h = grind (arith, then_read, pure_read, size-positive, check_read)
 
 -- the address size of a set of addresses that is read is above 0
 pub address_size : (greatest offset : ℕ) (old new : Input) (s : Set ℕ)
@@ -52,8 +45,3 @@ address_size greatest offset old new s h =
     let unit = then_read _ _ _ initial.3 in
     let said = then_read _ _ _ unit.3 in
     rw (pure_read _ _ said.3).0 (header_size unit.0 (inside_read _ _ _ said.2).0)
-
--- a word has at least one byte
-pub word_positive : (format : Format) → 0 < word_size format
-word_positive Dwarf32 = omega arith
-word_positive Dwarf64 = omega arith

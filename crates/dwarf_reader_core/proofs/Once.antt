@@ -11,8 +11,8 @@ one_string old s t x y a b =
     (λ i. (same i).0, λ i. (same i).1)
 
 -- bytes that begin with a string have a zero byte
-pub string_or_none : (old s x : Input) (e : Error) → TakesString old s x → HasNoByte 0 old e → ⊥
-string_or_none old s x e a b = let both = sym (string_reads a) ∙ string_fails b in cc
+pub string_not_none : (old s x : Input) (e : Error) → TakesString old s x → HasNoByte 0 old e → ⊥
+string_not_none old s x e a b = let both = sym (string_reads a) ∙ string_fails b in cc
 
 -- bytes have no zero byte, or a first zero byte at some index
 zero_or_none : (bytes : List ℕ) → All (λ b. b ≢ 0) bytes ⊎ ((index : ℕ) × IsFirst 0 bytes index)

@@ -34,7 +34,7 @@ pub addresses_bounded : (entries : Entries) (items : List (Result ℕ Error)) �
 addresses_bounded entries items are_items = items-bounded (λ _. number_least entries.width) are_items
 
 -- a size of addresses is above 0
-size-positive : (width : ℕ) → IsTrue (is_number_size width) → 0 < width
+pub size-positive : (width : ℕ) → IsTrue (is_number_size width) → 0 < width
 size-positive width sized = grind arith
 
 module _ (width : ℕ) (old new : Input) (sized : IsTrue (is_number_size width)) (some : old.bytes ≢ []) where
@@ -50,6 +50,11 @@ module _ (width : ℕ) (old new : Input) (sized : IsTrue (is_number_size width))
   address_error_first {e} {left} (inr (_, short)) empty = error-first 0 0 old left e some (number_fails short) empty
 
 -- ---- offsets of strings
+
+-- a word has at least one byte
+pub word_size-positive : (format : Format) → 0 < word_size format
+word_size-positive Dwarf32 = omega arith
+word_size-positive Dwarf64 = omega arith
 
 module _ (greatest : ℕ) where
   -- a string offset consumes as many bytes as its width
@@ -86,11 +91,6 @@ module _ (greatest : ℕ) where
       → RepresentsStringOffsets greatest entries items
       → sum_by (least_taken entries.width) items ≤ length entries.rest.bytes
   string_offsets_bounded entries items are_items = items-bounded (λ _. string_offset-least entries.width) are_items
-
-  -- a word has at least one byte
-  word_size-positive : (format : Format) → 1 ≤ word_size format
-  word_size-positive Dwarf32 = omega arith
-  word_size-positive Dwarf64 = omega arith
 
   module _ (format : Format) (old new : Input) (some : old.bytes ≢ []) where
     -- a string offset that is read is the first item

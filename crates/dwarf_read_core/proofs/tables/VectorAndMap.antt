@@ -1,6 +1,6 @@
 -- A vector of the first abbreviations, and the others, are one finite map.
-use Rattle.dwarf_read_core.proofs.Common.{common_steps, ◌≡◌, ℕ, zero, suc, ◌+◌, ◌<◌, ◌≤◌, get_or, ◌++◌, arith, true, false, cond, List, [], ◌∷◌, length, Option, Some, None, Result, Ok, Err, OnOk, OnErr, refl, sym, ap, ◌∙◌, ◌⊎◌, length-append, is_some, nat_cmp, Less, nat_cmp_total, eq_by_cmp_equiv, lookup, keys_of, values_of, is_at, find, get, insert, contains_key, values, from_entries, get-from_entries, get-insert, same_map, nat_cmp-IsAntisymmetric, len, len-empty, len-entries, entries, entries-insert, AllByRecursion, IsStrictlySortedBy, cases_lt, nil_from_length, Declaration, ByCode}
-use Rattle.dwarf_read_core.specs.Others.{Adds, at_place}
+use Rattle.dwarf_read_core.proofs.Common.{common_steps, ◌≡◌, ℕ, zero, suc, ◌+◌, ◌<◌, ◌≤◌, get_or, ◌++◌, arith, true, false, cond, List, [], ◌∷◌, length, Some, None, Result, Ok, Err, OnOk, OnErr, refl, sym, ap, ◌∙◌, ◌⊎◌, length-append, is_some, nat_cmp, Less, nat_cmp_total, eq_by_cmp_equiv, lookup, keys_of, values_of, is_at, find, get, insert, contains_key, values, from_entries, get-from_entries, get-insert, same_map, nat_cmp-IsAntisymmetric, len, len-empty, len-entries, entries, entries-insert, AllByRecursion, IsStrictlySortedBy, cases_lt, nil_from_length, Declaration, ByCode}
+use Rattle.dwarf_read_core.specs.Others.{Adds, at_code, at_place}
 use Rattle.std.specs.FinMap.Entries.{put, by_order}
 use Rattle.dwarf_read_core.specs.Views.{numbered, entries_of, AreKeyed}
 
@@ -29,13 +29,9 @@ module _ {X : Type 0} where
 abbrev Entries : Type 0
 Entries = List (ℕ × Declaration)
 
--- the declaration that entries have at a code
-abbrev at : ℕ → Entries → Option Declaration
-at q es = lookup (is_at (nat_cmp q)) es
-
 -- entries are changed at one code, by a declaration
 abbrev Updates : Entries → Entries → ℕ → Declaration → Type 0
-Updates es fs code d = (q : ℕ) → at q fs ≡ cond (is_at (nat_cmp code) q) (Some d) (at q es)
+Updates es fs code d = (q : ℕ) → at_code q fs ≡ cond (is_at (nat_cmp code) q) (Some d) (at_code q es)
 
 -- the map that vector and others make
 abbrev map_of : List Declaration → Entries → ByCode
@@ -64,32 +60,34 @@ entries_kept (e ∷ es) h =
 -- ---- a vector of the first codes, and the others
 
 -- a code above those of the vector is looked up among the others
-at_above : (k q : ℕ) (ds : List Declaration) (es : Entries) → k + length ds ≤ q → at q (numbered k ds ++ es) ≡ at q es
+at_above : (k q : ℕ) (ds : List Declaration) (es : Entries) → k + length ds ≤ q
+    → at_code q (numbered k ds ++ es) ≡ at_code q es
 at_above k q [] es le = refl
 at_above k q (d ∷ ds) es le = grind (arith, (at_above (suc k) q ds es (omega arith)))
 
 -- a code of the vector is looked up as the declaration at its index
 at_within : (k i : ℕ) (ds : List Declaration) (es : Entries) (d : Declaration) → i < length ds
-    → at (k + i) (numbered k ds ++ es) ≡ Some (get_or ds i d)
+    → at_code (k + i) (numbered k ds ++ es) ≡ Some (get_or ds i d)
 at_within k i [] es d lt = absurd (omega arith)
 at_within k zero (x ∷ ds) es d lt = grind arith
 at_within k (suc i) (x ∷ ds) es d lt = grind (arith, (at_within (suc k) i ds es d (omega arith)))
 
 -- one more declaration in the vector changes the lookup of the next code alone
-at_push : (k q : ℕ) (ds : List Declaration) (d : Declaration) (es : Entries) → at q (numbered k (ds ++ d ∷ []) ++ es)
-    ≡ cond (is_at (nat_cmp (k + length ds)) q) (Some d) (at q (numbered k ds ++ es))
+at_push : (k q : ℕ) (ds : List Declaration) (d : Declaration) (es : Entries)
+    → at_code q (numbered k (ds ++ d ∷ []) ++ es)
+    ≡ cond (is_at (nat_cmp (k + length ds)) q) (Some d) (at_code q (numbered k ds ++ es))
 at_push k q [] d es = grind arith
 at_push k q (x ∷ ds) d es = grind (arith, (at_push (suc k) q ds d es))
 
 -- one more declaration among the others changes the lookup of its code alone
 at_insert : (k q c : ℕ) (ds : List Declaration) (d : Declaration) (es fs : Entries)
-    → k + length ds ≤ c → at q fs ≡ cond (is_at (nat_cmp c) q) (Some d) (at q es)
-    → at q (numbered k ds ++ fs) ≡ cond (is_at (nat_cmp c) q) (Some d) (at q (numbered k ds ++ es))
+    → k + length ds ≤ c → at_code q fs ≡ cond (is_at (nat_cmp c) q) (Some d) (at_code q es)
+    → at_code q (numbered k ds ++ fs) ≡ cond (is_at (nat_cmp c) q) (Some d) (at_code q (numbered k ds ++ es))
 at_insert k q c [] d es fs le h = h
 at_insert k q c (x ∷ ds) d es fs le h = grind (arith, (at_insert (suc k) q c ds d es fs (omega arith) h))
 
 -- a list of entries that is empty, or that doesn't have a code, has no declaration at that code
-pub none_at : (code : ℕ) (es : Entries) → (length es ≡ 0) ⊎ (is_some (at code es) ≡ false) → at code es ≡ None
+pub none_at : (code : ℕ) (es : Entries) → (length es ≡ 0) ⊎ (is_some (at_code code es) ≡ false) → at_code code es ≡ None
 none_at code es h = grind (arith, nil_from_length)
 
 -- an insertion among the others above the vector's codes is an insertion into the map that vector and others make
@@ -103,7 +101,7 @@ module _ (ds : List Declaration) (es : Entries) (code : ℕ) where
   table_pushed d e = grind (arith, inserted, at_push)
 
   -- the map lacks the vector's next code if the others do
-  pub lacks_next : code ≡ 1 + length ds → at code es ≡ None → contains_key (map_of ds es) code ≡ false
+  pub lacks_next : code ≡ 1 + length ds → at_code code es ≡ None → contains_key (map_of ds es) code ≡ false
   lacks_next e none = grind (arith, get_is_lookup, at_above)
 
   -- the map has at a code of the vector the declaration at that index
@@ -116,7 +114,7 @@ module _ (ds : List Declaration) (es : Entries) (code : ℕ) where
   has_in_vec index e lt = ap is_some (found_in_vec index (at_place ds 0) e lt)
 
   -- the map has at a code above the vector's what the others have
-  pub found_in_map : length ds < code → get (map_of ds es) code ≡ at code es
+  pub found_in_map : length ds < code → get (map_of ds es) code ≡ at_code code es
   found_in_map lt = get_is_lookup (entries_of ds es) code ∙ at_above 1 code ds es (omega arith)
 
   -- the map lacks code 0
@@ -126,7 +124,7 @@ module _ (ds : List Declaration) (es : Entries) (code : ℕ) where
 -- ---- the length of a table
 
 -- if the others lack each code up to n, all their keys are above n
-keys_above : (n k : ℕ) (es : Entries) → ((q : ℕ) → q ≤ n → at q es ≡ None) → k ≤ n → IsBelow k es
+keys_above : (n k : ℕ) (es : Entries) → ((q : ℕ) → q ≤ n → at_code q es ≡ None) → k ≤ n → IsBelow k es
 keys_above n k [] h le = tt
 keys_above n k (e ∷ es) h le = (grind (arith, h e.0), keys_above n k es (λ q le. grind (arith, h q, h e.0)) le)
 
@@ -138,7 +136,7 @@ numbered_above k j (d ∷ ds) es lt h = (grind arith, numbered_above k (suc j) d
 
 -- the entries of the vector and then of the others are sorted, if the keys of the others are sorted and above
 numbered_sorted : (k n : ℕ) (ds : List Declaration) (es : Entries) → k + length ds ≤ n + 1
-    → ((q : ℕ) → q ≤ n → at q es ≡ None) → IsStrictlySortedBy nat_cmp (keys_of es)
+    → ((q : ℕ) → q ≤ n → at_code q es ≡ None) → IsStrictlySortedBy nat_cmp (keys_of es)
     → IsStrictlySortedBy nat_cmp (keys_of (numbered k ds ++ es))
 unfolding IsStrictlySortedBy
 numbered_sorted k n [] es le apart h = h
@@ -175,13 +173,13 @@ module _ (ds : List Declaration) (es : Entries) (kept : AreKeyed ds es)
 
 -- if entries are changed at one code, by a declaration with that code, all declarations still have their codes
 keyed_by_update : (es fs : Entries) (code : ℕ) (d : Declaration) → Updates es fs code d → d.code ≡ code → 0 < code
-    → ((q : ℕ) (x : Declaration) → at q es ≡ Some x → (x.code ≡ q) × (0 < q)) → (q : ℕ) (x : Declaration)
-    → at q fs ≡ Some x → (x.code ≡ q) × (0 < q)
+    → ((q : ℕ) (x : Declaration) → at_code q es ≡ Some x → (x.code ≡ q) × (0 < q)) → (q : ℕ) (x : Declaration)
+    → at_code q fs ≡ Some x → (x.code ≡ q) × (0 < q)
 keyed_by_update es fs code d h same above keyed q x found = grind arith
 
 module _ (ds : List Declaration) (es : Entries) (code : ℕ) where
   -- a declaration that is found among the others has the code by which it is found
-  pub keyed_in_map : (d : Declaration) → AreKeyed ds es → at code es ≡ Some d → (d.code ≡ code) × (0 < code)
+  pub keyed_in_map : (d : Declaration) → AreKeyed ds es → at_code code es ≡ Some d → (d.code ≡ code) × (0 < code)
   keyed_in_map d kept h = grind (arith, at_above 1 code ds es, kept.apart code, kept.keyed code d)
 
   -- a declaration in the vector has the code that is one above its index
@@ -190,7 +188,7 @@ module _ (ds : List Declaration) (es : Entries) (code : ℕ) where
   keyed_in_vec index d kept e lt = grind (arith, common_steps, at_within 1 index ds es d lt, kept.keyed code)
 
   -- a push of a declaration with the vector's next code, which the others lack, leaves all at their codes
-  pub keyed_pushed : (d : Declaration) → code ≡ 1 + length ds → d.code ≡ code → at code es ≡ None → AreKeyed ds es
+  pub keyed_pushed : (d : Declaration) → code ≡ 1 + length ds → d.code ≡ code → at_code code es ≡ None → AreKeyed ds es
       → AreKeyed (ds ++ d ∷ []) es
   keyed_pushed d e same none kept = grind (arith, common_steps, keyed_by_update, at_push, cases_lt, length-append)
 

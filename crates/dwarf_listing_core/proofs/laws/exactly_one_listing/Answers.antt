@@ -1,10 +1,11 @@
 use Rattle.dwarf_listing_core.proofs.Common.{ℕ, ◌-◌, ◌^◌, string_line, section_of, address_listing, offset_listing, sets_section, table_text, addresses_of, string_offsets_of}
 use Rattle.dwarf_listing_core.proofs.OneText.{one_text_by}
-use Rattle.dwarf_listing_core.proofs.SetTexts.{address_size, one_section, word_positive}
+use Rattle.dwarf_listing_core.proofs.SetTexts.{address_size, one_section}
 use Rattle.dwarf_read_core.specs.Input.{Input}
 use Rattle.dwarf_read_core.specs.Once.{HasOne}
 use Rattle.dwarf_read_core.specs.Strings.{StringAt, string_at}
 use Rattle.dwarf_read_core.proofs.Layouts.{ReadsAs_one}
+use Rattle.dwarf_read_core.proofs.sets.Entries.{word_size-positive}
 use Rattle.dwarf_listing_core.proofs.laws.exactly_one_listing.Goals as goal
 
 -- a section has one string or error at an offset
@@ -24,6 +25,6 @@ returns c = record {
       (c.exactly_one_list_of_sets.ensures.one (2 ^ 64 - 1) (sets_section endian section));
   string_offsets = λ endian section. one_section (offset_listing (2 ^ 64 - 1)) (sets_section endian section)
       (λ offset old new s h. c.exactly_one_list_of_string_offsets.ensures.one (2 ^ 64 - 1) (string_offsets_of s)
-      (word_positive s.format))
+      (word_size-positive s.format))
       (c.exactly_one_list_of_sets-2.ensures.one (2 ^ 64 - 1) (sets_section endian section));
 }
