@@ -95,9 +95,9 @@ struct dwarf_fault {
 /* Reads the number of at most 64 bits, in at most ten bytes, at the front of the bytes. More bytes may
    follow it. `number_len` is how many bytes the number has.
 
-   Errors: DWARF_UNEXPECTED_EOF at `len` if the bytes end before the number does, and before a tenth byte;
-   DWARF_BAD_UNSIGNED_LEB128 or DWARF_BAD_SIGNED_LEB128 if the number has more than ten bytes or doesn't
-   fit 64 bits. */
+   Errors: DWARF_UNEXPECTED_EOF at `len` if the number doesn't end in the bytes, and there are fewer than
+   ten; DWARF_BAD_UNSIGNED_LEB128 or DWARF_BAD_SIGNED_LEB128 if the number has more than ten bytes or
+   doesn't fit 64 bits. */
 uint32_t dwarf_uleb128(const uint8_t *bytes, size_t len, uint64_t *value, size_t *number_len,
                        struct dwarf_fault *fault);
 uint32_t dwarf_sleb128(const uint8_t *bytes, size_t len, int64_t *value, size_t *number_len,
@@ -235,7 +235,8 @@ uint32_t dwarf_table_measure(const uint8_t *section, size_t len, size_t offset,
 
 /* Reads the table at an offset of .debug_abbrev: its abbreviations in the order of their codes, and the
    attributes of all of them in the same order. The places behind them are not changed. Returns
-   DWARF_NO_ROOM if there are fewer places for either; then only `measure` is written. */
+   DWARF_NO_ROOM if there are fewer places for either; then only `measure` is written. The errors are those
+   of dwarf_table_measure. */
 uint32_t dwarf_table_read(const uint8_t *section, size_t len, size_t offset,
                           struct dwarf_abbreviation *abbreviations, size_t abbreviation_room,
                           struct dwarf_attribute *attributes, size_t attribute_room,

@@ -2,10 +2,12 @@
 //!
 //! - in the folder that `DWARF_READ_LIB` names;
 //! - where `pkg-config` says that `tools/install` has put it;
-//! - where `rt lib` and `tools/static-library` put it in the repository, if this crate is in a clone of it.
+//! - where `rt lib` and `tools/static-library` put it in the repository, if this crate is in a
+//!   clone of it.
 //!
 //! An installed library contains its allocation functions. The other one doesn't, and then this
-//! crate has them. If there is none, `cargo check`, `clippy` and `doc` warn of it, and `cargo build` fails.
+//! crate has them. If there is none, `cargo check`, `clippy` and `doc` warn of it, and
+//! `cargo build` fails.
 
 use std::env;
 use std::path::{Path, PathBuf};
@@ -15,7 +17,8 @@ fn is_there(folder: &Path, library: &str) -> bool {
     folder.join(format!("lib{library}.a")).is_file()
 }
 
-/// The folder of the installed library, if `pkg-config` knows of one that is no older than this crate.
+/// The folder of the installed library, if `pkg-config` knows of one that is no older than this
+/// crate.
 fn installed() -> Option<PathBuf> {
     let command = env::var("PKG_CONFIG").unwrap_or("pkg-config".into());
     let version = format!("--atleast-version={}", env!("CARGO_PKG_VERSION"));
@@ -32,7 +35,8 @@ fn find() -> PathBuf {
     env::var_os("DWARF_READ_LIB").map(PathBuf::from).or_else(installed).unwrap_or_else(built)
 }
 
-/// Prints for cargo how to link. Nothing is linked by `cargo check` and `cargo doc`, so they need no library.
+/// Prints for cargo how to link. Nothing is linked by `cargo check` and `cargo doc`, so they need
+/// no library.
 fn link() {
     let folder = find();
     let is_whole = is_there(&folder, "dwarf_read") || !is_there(&folder, "dwarf_read_c");

@@ -162,7 +162,7 @@ pub struct DebugLineStrOffset<T>(pub T);
 #[derive(Debug, Clone, Copy, PartialEq, Eq, Hash)]
 pub struct LocationListsOffset<T>(pub T);
 
-/// An offset in bytes from the start of `.debug_loclists`, where the table of offsets of a set begins.
+/// An offset in bytes from the start of `.debug_loclists`, where the offsets of a set begin.
 #[derive(Debug, Clone, Copy, PartialEq, Eq)]
 pub struct DebugLocListsBase<T>(pub T);
 
@@ -192,7 +192,7 @@ pub struct RawRangeListsOffset<T>(pub T);
 #[derive(Debug, Clone, Copy, PartialEq, Eq, Hash)]
 pub struct RangeListsOffset<T>(pub T);
 
-/// An offset in bytes from the start of `.debug_rnglists`, where the table of offsets of a set begins.
+/// An offset in bytes from the start of `.debug_rnglists`, where the offsets of a set begin.
 #[derive(Debug, Clone, Copy, PartialEq, Eq)]
 pub struct DebugRngListsBase<T>(pub T);
 

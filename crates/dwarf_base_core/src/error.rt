@@ -18,14 +18,15 @@ use std::fmt;
 
 /// Why a read failed.
 ///
-/// Each error has one text, which its `Display` writes whatever width, precision, fill and alignment
-/// are requested. A value in an error is what is wrong: what was read, an argument of the call, or
-/// an offset in bytes. A [`ReaderOffsetId`] is a place in the input.
+/// Each error has one text, which its `Display` writes whatever width, precision, fill and
+/// alignment are requested. A value in an error is what is wrong: what was read, an argument of the
+/// call, or an offset in bytes. A [`ReaderOffsetId`] is a place in the input.
 #[derive(Debug, Clone, Copy, PartialEq, Eq)]
 pub enum Error {
     /// An input couldn't be read. No call here returns this; loaders of sections do.
     Io,
-    /// A pointer counts from its own place (`DW_EH_PE_pcrel`), and the section's address isn't known.
+    /// A pointer counts from its own place (`DW_EH_PE_pcrel`), and the section's address isn't
+    /// known.
     PcRelativePointerButSectionBaseIsUndefined,
     /// A pointer counts from the text (`DW_EH_PE_textrel`), whose address isn't known.
     TextRelativePointerButTextBaseIsUndefined,
@@ -406,9 +407,9 @@ impl Error {
     }
 }
 
-/// Writes the error's text, on one line and without a full stop. A [`ReaderOffsetId`] isn't written,
-/// nor are the values of `BadBranchTarget` and `InvalidExpressionTerminator`. Any other value is
-/// written in decimal, or in hexadecimal after `0x`.
+/// Writes the error's text, on one line and without a full stop. A [`ReaderOffsetId`] isn't
+/// written, nor are the values of `BadBranchTarget` and `InvalidExpressionTerminator`. Any other
+/// value is written in decimal, or in hexadecimal after `0x`.
 impl fmt::Display for Error {
     ghost use Rattle.std.specs.Prelude.{Some};
     ghost use Rattle.dwarf_base_core.specs.ErrorText.{error_text};

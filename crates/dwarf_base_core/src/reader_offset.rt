@@ -14,8 +14,8 @@ use std::ops::{Add, AddAssign, Sub};
 
 /// A place in the input, as errors contain it.
 ///
-/// It is the position of a reader, counted in bytes. If each section begins above the end of the one
-/// before, an identifier says which section it belongs to.
+/// It is the position of a reader, counted in bytes. If each section begins above the end of the
+/// one before, an identifier says which section it belongs to.
 #[derive(Debug, Clone, Copy, PartialEq, Eq)]
 pub struct ReaderOffsetId(pub u64);
 

@@ -46,7 +46,8 @@ const NAMES: Names = names![
 ];
 
 impl GdbIndexSymbolKind {
-    /// Returns the name of this value, such as `GDB_INDEX_SYMBOL_KIND_NONE`, or `None` if it has none.
+    /// Returns the name of this value, such as `GDB_INDEX_SYMBOL_KIND_NONE`, or `None` if it has
+    /// none.
     #[tactic(auto, unfolding(crate::specs::GdbIndexSymbolKind::gdb_index_symbol_kind_names))]
     pub fn static_string(&self) -> Option<&'static str>
         ensures { option_map (λ s. s.now) result ≡ name_of gdb_index_symbol_kind_names self.now.0 }

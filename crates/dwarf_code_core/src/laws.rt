@@ -63,8 +63,8 @@ pub fn names_are_distinct()
     ensures visibility { HasDistinctValues visibility_names }
 {}
 
-/// Two constants share a value, which is one instruction on SPARC and another on AArch64. The name of
-/// the value is that of `DW_CFA_GNU_window_save`.
+/// Two constants share a value, which is one instruction on SPARC and another on AArch64. The name
+/// of the value is that of `DW_CFA_GNU_window_save`.
 pub fn negate_ra_state_is_window_save()
     ensures { DW_CFA_AARCH64_negate_ra_state ≡ DW_CFA_GNU_window_save }
 {}

@@ -118,7 +118,8 @@ impl ops::BitOr for DwEhPe {
 }
 
 impl DwEhPe {
-    /// Returns the format of the number alone: the low four bits, such as `DW_EH_PE_uleb128` for 0x11.
+    /// Returns the format of the number alone: the low four bits, such as `DW_EH_PE_uleb128` for
+    /// 0x11.
     pub fn format(self) -> DwEhPe
         ensures { result.0 ≡ self.0 % 16 }
     {
@@ -148,8 +149,8 @@ impl DwEhPe {
         self.0 & DW_EH_PE_indirect.0 != 0
     }
 
-    /// Returns whether the value is an encoding: `DW_EH_PE_omit`, or else a format and an application
-    /// that are among the constants above, with or without `DW_EH_PE_indirect`.
+    /// Returns whether the value is an encoding: `DW_EH_PE_omit`, or else a format and an
+    /// application that are among the constants above, with or without `DW_EH_PE_indirect`.
     pub fn is_valid_encoding(self) -> bool
         ensures { IsTrue result ↔ IsValidEncoding self.0 }
     {

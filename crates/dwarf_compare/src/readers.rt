@@ -10,8 +10,8 @@ use dwarf_read_core::{
 use dwarf_uses::{OwnedReader, SharedReader};
 use std::alloc::Global;
 
-/// The request of a call. `reader` is 0 for a slice whose byte order is its type's, 1 for a slice that has
-/// it at run time, 2 for [`OwnedReader`], and otherwise [`SharedReader`].
+/// The request of a call. `reader` is 0 for a slice whose byte order is its type's, 1 for a slice
+/// that has it at run time, 2 for [`OwnedReader`], and otherwise [`SharedReader`].
 #[repr(C)]
 #[derive(Clone, Copy)]
 pub struct Asked {

@@ -1,4 +1,5 @@
-//! Loops over abbreviation tables (DWARF 5, 7.5.3), to be measured, and over their cache, to be compared.
+//! Loops over abbreviation tables (DWARF 5, 7.5.3), to be measured, and over their cache, to be
+//! compared.
 
 use crate::single::{table_at, tag_of};
 use dwarf_read_core::{

@@ -12,8 +12,8 @@
 //! name.
 //!
 //! With `--keep-going` in front of the arguments an error at an offset is a line of the output,
-//! `error at 0xOFFSET, status 1: TEXT`, where the lines of that offset would be, and the run goes on.
-//! The exit status is 1 if there is such a line.
+//! `error at 0xOFFSET, status 1: TEXT`, where the lines of that offset would be, and the run goes
+//! on. The exit status is 1 if there is such a line.
 
 #![tactic(auto)]
 

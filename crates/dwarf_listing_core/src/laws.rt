@@ -10,8 +10,8 @@ ghost use Rattle.dwarf_listing_core.specs.Text.{IsText, Lists};
 
 use dwarf_read_core::{AddressSize, laws};
 
-/// Every section has exactly one listing of each kind, at each offset or in each byte order: a text,
-/// or its first error.
+/// Every section has exactly one listing of each kind, at each offset or in each byte order: a
+/// text, or its first error.
 pub fn exactly_one_listing()
     ensures table { (section : List ℕ) (offset : ℕ) → HasOne (ListsTable section offset) }
     ensures strict { (section : List ℕ) (offset : ℕ) → HasOne (ListsStrictTable section offset) }

@@ -2,9 +2,9 @@
 //! `main`.
 //!
 //! The functions at the root, except for `hex_line`, take the bytes of a whole section of
-//! abbreviation tables, strings, addresses or string offsets. They return the text, or the section's
-//! first error. The lines of a table are made as they are written; any other text is built before it
-//! is returned.
+//! abbreviation tables, strings, addresses or string offsets. They return the text, or the
+//! section's first error. The lines of a table are made as they are written; any other text is
+//! built before it is returned.
 //!
 //! [`run::run`] is a whole run of `dwarf_list`, and [`many::run_many`] one of `dwarf_list_many`.
 //! Both take the arguments that [`words::command_line`] returns.

@@ -34,8 +34,8 @@ pub fn exactly_one_shortest()
     ensures { (k : Kind) (number : Number k) → HasOne (IsShortest k number) }
 {}
 
-/// Bytes that encode a number are read as that number, whatever follows, if they are within the limit
-/// of its kind, and the number is in its range.
+/// Bytes that encode a number are read as that number, whatever follows, if they are within the
+/// limit of its kind, and the number is in its range.
 #[tactic(auto, using(crate::proofs::Shortest::HasNumber_append))]
 pub fn written_is_read()
     ensures { (k : Kind) (number : Number k) (bytes rest : List ℕ) → Encodes k bytes number

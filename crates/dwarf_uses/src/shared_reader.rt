@@ -4,8 +4,8 @@
 //! dropped with the last of these readers, wherever that is. What an implementation of [`Reader`]
 //! owes the checker is four ghost members:
 //!
-//! - `view` says which bytes remain, at which position. Here these are the bytes between the bounds,
-//!   and the position is the lower bound.
+//! - `view` says which bytes remain, at which position. Here these are the bytes between the
+//!   bounds, and the position is the lower bound.
 //! - `order` is the byte order itself.
 //! - `clone_is_free` says whether a clone can't fail. A counted reference fails if the count is at
 //!   its greatest, so it is `false`, though no memory is requested.

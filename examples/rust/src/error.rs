@@ -26,7 +26,7 @@ pub enum ErrorKind {
     AttributeFormZero,
     /// An abbreviation has the code of an earlier one. The value is the code.
     DuplicateAbbreviationCode,
-    /// The length of a set is a reserved value, which is the value here.
+    /// The length of a set is reserved. The value is that length.
     UnknownReservedLength,
     /// A number doesn't fit an offset.
     UnsupportedOffset,
@@ -94,9 +94,10 @@ impl Error {
         KINDS[self.0.kind as usize - 1]
     }
 
-    /// The value of the error. For `UnexpectedEof` and `UnterminatedAbbreviations` it is a position,
-    /// in bytes from the first byte that was passed. Otherwise it is the byte for children, the code,
-    /// length, version, size or register that is wrong, or 0 for an error without a value.
+    /// The value of the error. For `UnexpectedEof` and `UnterminatedAbbreviations` it is a
+    /// position, in bytes from the first byte that was passed. Otherwise it is the byte for
+    /// children, the code, length, version, size or register that is wrong, or 0 for an error
+    /// without a value.
     pub fn value(&self) -> u64 {
         self.0.value
     }

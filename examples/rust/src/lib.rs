@@ -1,9 +1,9 @@
-//! The lowest layer of DWARF reading, proved: abbreviation tables, strings, string offsets, addresses and
-//! LEB128 numbers, the names of tags, attributes and forms, and the texts of errors.
+//! The lowest layer of DWARF reading, proved: abbreviation tables, strings, string offsets,
+//! addresses and LEB128 numbers, the names of tags, attributes and forms, and the texts of errors.
 //!
-//! The library below is a port of that layer of gimli to Rattle, which is Rust with contracts: each of its
-//! functions is proved against its contract, on every input. This crate passes slices and returns `Result`.
-//! It has no state, and each call may be made from any number of threads.
+//! The library below is a port of that layer of gimli to Rattle, which is Rust with contracts: each
+//! of its functions is proved against its contract, on every input. This crate passes slices and
+//! returns `Result`. It has no state, and each call may be made from any number of threads.
 //!
 //! ```
 //! use dwarf_read::{Table, attribute_name, form_name, tag_name};
@@ -23,10 +23,9 @@
 //!
 //! # Linking
 //!
-//! `tools/install` of the repository installs the static library. `build.rs` finds it by `pkg-config`, or in the
-//! folder that the environment variable `DWARF_READ_LIB` names. It is for Linux on
-//! processors from x86-64-v2 on. `cargo check` and `cargo doc`
-//! need no library.
+//! `tools/install` of the repository installs the static library. `build.rs` finds it by
+//! `pkg-config`, or in the folder that the environment variable `DWARF_READ_LIB` names. It is for
+//! Linux on processors from x86-64-v2 on. `cargo check` and `cargo doc` need no library.
 #![warn(missing_docs)]
 
 mod error;
@@ -60,8 +59,8 @@ impl ByteOrder {
 ///
 /// # Errors
 ///
-/// `UnexpectedEof` at the end if the bytes end before the number does, and `BadUnsignedLeb128` if it has
-/// more than ten bytes or is 2^64 or more.
+/// `UnexpectedEof` at the end if the bytes end before the number does, and `BadUnsignedLeb128` if
+/// it has more than ten bytes or is 2^64 or more.
 ///
 /// ```
 /// assert_eq!(dwarf_read::uleb128(&[0xb9, 0x64, 7]), Ok((12857, 2)));
@@ -79,8 +78,8 @@ pub fn uleb128(bytes: &[u8]) -> Result<(u64, usize)> {
 ///
 /// # Errors
 ///
-/// `UnexpectedEof` at the end if the bytes end before the number does, and `BadSignedLeb128` if it has
-/// more than ten bytes or doesn't fit `i64`.
+/// `UnexpectedEof` at the end if the bytes end before the number does, and `BadSignedLeb128` if it
+/// has more than ten bytes or doesn't fit `i64`.
 ///
 /// ```
 /// assert_eq!(dwarf_read::sleb128(&[0x56]), Ok((-42, 1)));
@@ -122,8 +121,8 @@ pub fn string(section: &[u8], offset: usize) -> Result<&[u8]> {
 ///
 /// - `UnexpectedEof` at 0 if `base` is past the end;
 /// - `UnsupportedOffset` if the index times the size of an entry is 2^64 or more;
-/// - `UnexpectedEof` at `base` if the entry begins past the end, and at the entry if it ends past the
-///   end.
+/// - `UnexpectedEof` at `base` if the entry begins past the end, and at the entry if it ends past
+///   the end.
 pub fn str_offset(
     section: &[u8], order: ByteOrder, is_64: bool, base: usize, index: usize,
 ) -> Result<usize> {
@@ -140,7 +139,8 @@ pub fn str_offset(
 ///
 /// # Errors
 ///
-/// Those of [`str_offset`], and before the last of them `UnsupportedAddressSize` for any other size.
+/// Those of [`str_offset`], and before the last of them `UnsupportedAddressSize` for any other
+/// size.
 pub fn address(
     section: &[u8], order: ByteOrder, size: u8, base: usize, index: usize,
 ) -> Result<u64> {

@@ -133,8 +133,8 @@ impl<'s> Set<'s> {
     ///
     /// # Errors
     ///
-    /// `UnexpectedEof` if the set doesn't contain all of its bytes, and `UnsupportedOffset` if the index
-    /// times the size of an entry is 2^64 or more.
+    /// `UnexpectedEof` if the set doesn't contain all of its bytes, and `UnsupportedOffset` if the
+    /// index times the size of an entry is 2^64 or more.
     pub fn get(&self, index: usize) -> Result<u64> {
         let (base, size) = (self.header.first_entry, self.header.entry_size);
         match self.kind {

@@ -49,8 +49,8 @@ impl Table {
     ///
     /// If the bytes there don't begin with a table, the first error of them:
     ///
-    /// - `UnexpectedEof` at 0 if the offset is past the end, and at the end if an abbreviation is cut
-    ///   short;
+    /// - `UnexpectedEof` at 0 if the offset is past the end, and at the end if an abbreviation is
+    ///   cut short;
     /// - `BadUnsignedLeb128` or `BadSignedLeb128` for a number that is too long or out of range;
     /// - `AbbreviationTagZero`, `InvalidAbbreviationChildren`, `AttributeNameZero` or
     ///   `AttributeFormZero` for a field with a value that no abbreviation has;

@@ -80,8 +80,8 @@ impl<R: Reader> DebugAbbrev<R> {
     ///
     /// - `UnexpectedEof`, at the section's start if `offset` is past its end, and at the
     ///   section's end if a declaration is cut short;
-    /// - `BadUnsignedLeb128` for a code with more than ten bytes or a value of 2^64 or more, or for a
-    ///   tag, name or form with more than three bytes or a value of 2^16 or more;
+    /// - `BadUnsignedLeb128` for a code with more than ten bytes or a value of 2^64 or more, or for
+    ///   a tag, name or form with more than three bytes or a value of 2^16 or more;
     /// - `BadSignedLeb128` for a value with more than ten bytes, or one that doesn't fit `i64`;
     /// - `AbbreviationTagZero`, `InvalidAbbreviationChildren`, `AttributeNameZero` or
     ///   `AttributeFormZero` for a field with a value that no declaration has;
@@ -118,8 +118,8 @@ impl<R: Reader> DebugAbbrev<R> {
     /// Returns the table of abbreviations at `offset`, and the offset of its end, in bytes from the
     /// section's start.
     ///
-    /// A table ends behind the code of value 0 that closes it, or at the section's end. A section is
-    /// walked table by table if each is read at the end of the one before it:
+    /// A table ends behind the code of value 0 that closes it, or at the section's end. A section
+    /// is walked table by table if each is read at the end of the one before it:
     ///
     /// ```
     /// let (first, end) = section.abbreviations_and_end(mem, offset)?;
@@ -223,7 +223,7 @@ impl<T> DebugAbbrev<T> {
     /// Returns the section over the reader that `borrow` makes of a reference to the data of this
     /// one.
     ///
-    /// `borrow` is called once. The caller has to make sure that it may be called with that reference.
+    /// `borrow` is called once. The caller makes sure that it may be called with that reference.
     pub fn borrow<'a, F, R>(&'a self, mut borrow: F) -> DebugAbbrev<R>
     where
         F: FnMut(&'a T) -> R + Drop,

@@ -33,9 +33,10 @@ impl<R: Reader> DebugAddr<R> {
     /// Returns the address with this `index` among those that begin at `base`. Indices begin at 0.
     ///
     /// `base` is the offset of the first address of a set, in bytes from the section's start: the
-    /// value of `DW_AT_addr_base`. `index` is the value of an attribute of the form `DW_FORM_addrx`,
-    /// or `DW_FORM_addrx1` to `DW_FORM_addrx4`. Addresses have `address_size` bytes, as the unit's
-    /// header says. The header of the set isn't read, because GNU's split DWARF 4 has none.
+    /// value of `DW_AT_addr_base`. `index` is the value of an attribute of the form
+    /// `DW_FORM_addrx`, or `DW_FORM_addrx1` to `DW_FORM_addrx4`. Addresses have `address_size`
+    /// bytes, as the unit's header says. The header of the set isn't read, because GNU's split
+    /// DWARF 4 has none.
     ///
     /// # Errors
     ///
@@ -59,7 +60,7 @@ impl<R: Reader> DebugAddr<R> {
             AnswersBy (AddressAt R.Offset.GREATEST section s)
             (λ address. address) R.clone_is_free result }
 
-        // Appended bytes don't change the result, unless it is an `UnexpectedEof` or memory ran out.
+        // Appended bytes don't change the result, unless it is `UnexpectedEof` or memory ran out.
         ensures stable { let section = R.view (debug_addr_reader self.now) in
             let s = slot (R.Offset.value base.0) (R.Offset.value index.0) address_size in
             StaysBy (λ input. AddressAt R.Offset.GREATEST input s)
@@ -96,7 +97,7 @@ impl<T> DebugAddr<T> {
     /// Returns the section over the reader that `borrow` makes of a reference to the data of this
     /// one.
     ///
-    /// `borrow` is called once. The caller has to make sure that it may be called with that reference.
+    /// `borrow` is called once. The caller makes sure that it may be called with that reference.
     pub fn borrow<'a, F, R>(&'a self, mut borrow: F) -> DebugAddr<R>
     where
         F: FnMut(&'a T) -> R + Drop,
@@ -151,8 +152,8 @@ pub type AddrHeaderIter<R> = SetHeaderIter<R, AddressSize>;
 /// The header of a set of addresses, and the addresses that follow it.
 pub type AddrHeader<R> = SetHeader<R, AddressSize>;
 
-/// The size of the addresses of a set: 1, 2, 4 or 8 bytes. The header also has a segment size, which
-/// has to be 0 and isn't kept.
+/// The size of the addresses of a set: 1, 2, 4 or 8 bytes. The header also has a segment size,
+/// which has to be 0 and isn't kept.
 #[derive(Clone, Copy, Debug, PartialEq, Eq)]
 pub struct AddressSize {
     size: u8,

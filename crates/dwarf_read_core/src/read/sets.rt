@@ -51,8 +51,8 @@ pub trait HeaderFields: fmt::Debug + Copy + Drop {
 
 /// The sets that remain of a section, each by its header.
 ///
-/// [`AddrHeaderIter`](super::AddrHeaderIter) and [`StrOffsetsHeaderIter`](super::StrOffsetsHeaderIter)
-/// are this iterator.
+/// [`AddrHeaderIter`](super::AddrHeaderIter) and
+/// [`StrOffsetsHeaderIter`](super::StrOffsetsHeaderIter) are this iterator.
 #[derive(Debug, Drop)]
 pub struct SetHeaderIter<R: Reader, H: HeaderFields> {
     input: R,

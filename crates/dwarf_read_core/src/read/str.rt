@@ -54,15 +54,15 @@ impl<R: Reader> DebugStr<R> {
     ///
     /// # Errors
     ///
-    /// `UnexpectedEof` at the section's start if `offset` is past its end, and at the string's start
-    /// if no zero byte ends it. `OutOfMemory` if a clone of the reader runs out of memory.
+    /// `UnexpectedEof` at the section's start if `offset` is past its end, and at the string's
+    /// start if no zero byte ends it. `OutOfMemory` if a clone of the reader runs out of memory.
     pub fn get_str(&self, offset: DebugStrOffset<R::Offset>) -> Result<R>
         ensures answer { let section = R.view (debug_str_reader self.now) in
             AnswersBy (StringAt section (R.Offset.value offset.0)) R.view R.clone_is_free result }
         ensures order { let order = R.order (debug_str_reader self.now) in
             IfOk result (λ string. R.order string ≡ order) }
 
-        // Appended bytes don't change the result, unless it is an `UnexpectedEof` or memory ran out.
+        // Appended bytes don't change the result, unless it is `UnexpectedEof` or memory ran out.
         ensures stable { let section = R.view (debug_str_reader self.now) in
             StaysBy (λ input. StringAt input (R.Offset.value offset.0))
             R.view R.clone_is_free section result }
@@ -77,7 +77,7 @@ impl<T> DebugStr<T> {
     /// Returns the section over the reader that `borrow` makes of a reference to the data of this
     /// one.
     ///
-    /// `borrow` is called once. The caller has to make sure that it may be called with that reference.
+    /// `borrow` is called once. The caller makes sure that it may be called with that reference.
     pub fn borrow<'a, F, R>(&'a self, mut borrow: F) -> DebugStr<R>
     where
         F: FnMut(&'a T) -> R + Drop,
@@ -117,7 +117,7 @@ impl<R> From<R> for DebugStr<R> {
     }
 }
 
-/// The `.debug_str_offsets` section (DWARF 5, 7.26): sets of offsets of strings, each with a header.
+/// The `.debug_str_offsets` section (DWARF 5, 7.26): sets of string offsets, each with a header.
 #[derive(Debug, Default, Clone, Copy, Drop)]
 pub struct DebugStrOffsets<R> {
     section: R,
@@ -163,7 +163,7 @@ impl<R: Reader> DebugStrOffsets<R> {
             AnswersBy (WordAt R.Offset.GREATEST section s)
             (λ offset. R.Offset.value offset.0) R.clone_is_free result }
 
-        // Appended bytes don't change the result, unless it is an `UnexpectedEof` or memory ran out.
+        // Appended bytes don't change the result, unless it is `UnexpectedEof` or memory ran out.
         ensures stable { let section = R.view (debug_str_offsets_reader self.now) in
             let s = slot (R.Offset.value base.0) (R.Offset.value index.0) (word_size format) in
             StaysBy (λ input. WordAt R.Offset.GREATEST input s)
@@ -201,7 +201,7 @@ impl<T> DebugStrOffsets<T> {
     /// Returns the section over the reader that `borrow` makes of a reference to the data of this
     /// one.
     ///
-    /// `borrow` is called once. The caller has to make sure that it may be called with that reference.
+    /// `borrow` is called once. The caller makes sure that it may be called with that reference.
     pub fn borrow<'a, F, R>(&'a self, mut borrow: F) -> DebugStrOffsets<R>
     where
         F: FnMut(&'a T) -> R + Drop,
@@ -274,15 +274,15 @@ impl<R: Reader> DebugLineStr<R> {
     ///
     /// # Errors
     ///
-    /// `UnexpectedEof` at the section's start if `offset` is past its end, and at the string's start
-    /// if no zero byte ends it. `OutOfMemory` if a clone of the reader runs out of memory.
+    /// `UnexpectedEof` at the section's start if `offset` is past its end, and at the string's
+    /// start if no zero byte ends it. `OutOfMemory` if a clone of the reader runs out of memory.
     pub fn get_str(&self, offset: DebugLineStrOffset<R::Offset>) -> Result<R>
         ensures answer { let section = R.view (debug_line_str_reader self.now) in
             AnswersBy (StringAt section (R.Offset.value offset.0)) R.view R.clone_is_free result }
         ensures order { let order = R.order (debug_line_str_reader self.now) in
             IfOk result (λ string. R.order string ≡ order) }
 
-        // Appended bytes don't change the result, unless it is an `UnexpectedEof` or memory ran out.
+        // Appended bytes don't change the result, unless it is `UnexpectedEof` or memory ran out.
         ensures stable { let section = R.view (debug_line_str_reader self.now) in
             StaysBy (λ input. StringAt input (R.Offset.value offset.0))
             R.view R.clone_is_free section result }
@@ -297,7 +297,7 @@ impl<T> DebugLineStr<T> {
     /// Returns the section over the reader that `borrow` makes of a reference to the data of this
     /// one.
     ///
-    /// `borrow` is called once. The caller has to make sure that it may be called with that reference.
+    /// `borrow` is called once. The caller makes sure that it may be called with that reference.
     pub fn borrow<'a, F, R>(&'a self, mut borrow: F) -> DebugLineStr<R>
     where
         F: FnMut(&'a T) -> R + Drop,

@@ -225,7 +225,8 @@ impl Abbreviation {
         Ok(Abbreviation::new(code, tag, has_children, attributes))
     }
 
-    // Reads a declaration. If a code of value 0 is in its place, or no bytes remain, the table ends.
+    // Reads a declaration. If a code of value 0 is in its place, or no bytes remain, the table
+    // ends.
     #[tactic(auto, unfolding(crate::specs::Reading::declaration_at))]
     pub(super) fn parse<R: Reader>(
         mem: Global,

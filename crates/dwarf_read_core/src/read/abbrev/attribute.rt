@@ -65,7 +65,8 @@ impl MadeWith<Global> for AttributeSpecification {
 impl AttributeSpecification {
     /// Returns the attribute with this name and form.
     ///
-    /// The caller has to pass a value if the form is `DW_FORM_implicit_const`, and `None` otherwise.
+    /// The caller has to pass a value if the form is `DW_FORM_implicit_const`, and `None`
+    /// otherwise.
     pub fn new(
         name: DwAt,
         form: DwForm,
@@ -178,8 +179,8 @@ pub(super) const SCRATCH_LEN: usize = 16;
 // The attributes of a declaration while it is read.
 #[derive(Drop)]
 pub(super) struct Collector {
-    // They are the first `len` of `scratch`, unless there are too many: then `overflow` isn't empty and has
-    // all of them. So a table without a longer list allocates nothing for this.
+    // They are the first `len` of `scratch`, unless there are too many: then `overflow` isn't empty
+    // and has all of them. So a table without a longer list allocates nothing for this.
     pub(super) len: usize,
     pub(super) scratch: [AttributeSpecification; SCRATCH_LEN],
     pub(super) overflow: Vec<AttributeSpecification>,
@@ -219,8 +220,8 @@ impl Collector {
     }
 }
 
-// Copies attributes behind those in `overflow`. It is a call out of line, since few declarations have so
-// many attributes that one is made.
+// Copies attributes behind those in `overflow`. It is a call out of line, since few declarations
+// have so many attributes that one is made.
 #[inline(never)]
 pub(super) fn spill(
     overflow: &mut Vec<AttributeSpecification>,

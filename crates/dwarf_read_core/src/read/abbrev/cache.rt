@@ -90,9 +90,9 @@ impl AbbreviationsCache {
         }
     }
 
-    /// Reads the tables at the offsets that `strategy` selects from `units`, and keeps them in place
-    /// of all that was kept before. It selects the offsets that occur at least twice, or all of
-    /// them.
+    /// Reads the tables at the offsets that `strategy` selects from `units`, and keeps them in
+    /// place of all that was kept before. It selects the offsets that occur at least twice, or all
+    /// of them.
     ///
     /// The call stops at the first error from `units`, and returns it only if it is `OutOfMemory`.
     /// If there is an error in place of a table, the error is kept. The caller has to make sure
@@ -138,8 +138,8 @@ impl AbbreviationsCache {
     ///
     /// # Errors
     ///
-    /// `OutOfMemory` if memory runs out. The cache is then unchanged. An offset at which something is
-    /// kept needs no memory.
+    /// `OutOfMemory` if memory runs out. The cache is then unchanged. An offset at which something
+    /// is kept needs no memory.
     pub fn set<R: Reader>(
         &mut self,
         offset: DebugAbbrevOffset<R::Offset>,
@@ -184,8 +184,8 @@ impl AbbreviationsCache {
         self.abbreviations.retain(|_, answer| is_final(answer));
     }
 
-    /// Returns the table that is kept at `offset`, in bytes from the section's start, or one that is
-    /// read from `debug_abbrev` if nothing is kept there. The cache doesn't change.
+    /// Returns the table that is kept at `offset`, in bytes from the section's start, or one that
+    /// is read from `debug_abbrev` if nothing is kept there. The cache doesn't change.
     ///
     /// What is kept is returned whatever `debug_abbrev` is, so pass the section that the cache was
     /// populated from.

@@ -111,8 +111,8 @@ impl Clone for Others {
     }
 }
 
-// Adds an abbreviation at the back, and its place by its code. It is a call out of line, since usual
-// tables have no such code, and are read faster without it.
+// Adds an abbreviation at the back, and its place by its code. It is a call out of line, since
+// usual tables have no such code, and are read faster without it.
 #[inline(never)]
 fn insert_by_place(
     items: &mut Vec<Abbreviation>,

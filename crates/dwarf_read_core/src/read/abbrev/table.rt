@@ -76,8 +76,8 @@ impl Abbreviations {
         })
     }
 
-    // Adds an abbreviation, or returns `DuplicateAbbreviationCode` if its code is in the table. It is
-    // inlined also where several readers read tables, since a call copies the abbreviation.
+    // Adds an abbreviation, or returns `DuplicateAbbreviationCode` if its code is in the table. It
+    // is inlined also where several readers read tables, since a call copies the abbreviation.
     #[inline(always)]
     #[tactic(auto, using(crate::proofs::tables::VectorAndMap::insertion))]
     pub(super) fn insert(&mut self, abbreviation: Abbreviation) -> Result<()>
@@ -197,8 +197,8 @@ impl Abbreviations {
 // How many abbreviations a vector first has room for.
 const FIRST_CAPACITY: usize = 32;
 
-// How many it has room for once it has grown. It doubles from then on, so the table of a usual unit is
-// copied at most once.
+// How many it has room for once it has grown. It doubles from then on, so the table of a usual unit
+// is copied at most once.
 const SECOND_CAPACITY: usize = 256;
 
 // Adds an abbreviation at the back.

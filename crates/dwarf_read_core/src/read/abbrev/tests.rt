@@ -150,8 +150,12 @@ fn fields_are_parsed(rt: HostRuntime) {
     }
 }
 
-// The bytes behind each entry.
+// The bytes behind each entry, and one with a name, and one whose attribute has a value, before these.
 const BEHIND: &[u8] = b"\x01\x02\x03\x04";
+
+const NAMED: &[u8] = b"\x01\x2e\0\x03\x08\0\0\x01\x02\x03\x04";
+
+const VALUED: &[u8] = b"\x01\x2e\0\x03\x21\x56\0\0\x01\x02\x03\x04";
 
 #[test]
 fn entries_of_a_table_are_parsed(rt: HostRuntime) -> std::result::Result<(), Fail> {
@@ -159,16 +163,8 @@ fn entries_of_a_table_are_parsed(rt: HostRuntime) -> std::result::Result<(), Fai
     let name = AttributeSpecification::new(DW_AT_name, DW_FORM_string, None);
     let value = AttributeSpecification::new(DW_AT_name, DW_FORM_implicit_const, Some(-42));
     let rows: [(&[u8], Option<AttributeSpecification>, &[u8]); 4] = [
-        (
-            b"\x01\x2e\0\x03\x08\0\0\x01\x02\x03\x04",
-            Some(name),
-            BEHIND,
-        ),
-        (
-            b"\x01\x2e\0\x03\x21\x56\0\0\x01\x02\x03\x04",
-            Some(value),
-            BEHIND,
-        ),
+        (NAMED, Some(name), BEHIND),
+        (VALUED, Some(value), BEHIND),
         (b"\0\x01\x02\x03\x04", None, BEHIND),
         (b"", None, b""),
     ];
@@ -195,20 +191,20 @@ fn entries_of_a_table_are_parsed(rt: HostRuntime) -> std::result::Result<(), Fai
     Ok(())
 }
 
+// Declarations, and how many attributes each has.
+#[rattlefmt::skip]
+static PLACES: &[(&[u8], usize)] = &[
+    (b"\x01\x11\0\x03\x08\x03\x08\x03\x08\x03\x08\x03\x08\0\0", 5),
+    (b"\x01\x11\0\x03\x08\x03\x08\x03\x08\x03\x08\x03\x08\x03\x08\0\0", 6),
+];
+
 #[test]
 fn five_attributes_stay_in_place(rt: HostRuntime) -> std::result::Result<(), Fail> {
-    let rows: [(&[u8], usize); 2] = [
-        (b"\x01\x11\0\x03\x08\x03\x08\x03\x08\x03\x08\x03\x08\0\0", 5),
-        (
-            b"\x01\x11\0\x03\x08\x03\x08\x03\x08\x03\x08\x03\x08\x03\x08\0\0",
-            6,
-        ),
-    ];
-    for (bytes, count) in rows {
+    for (bytes, count) in PLACES {
         let table = Abbreviations::parse(rt.alloc(), &mut slice(bytes))?;
         let found = table.get(1).ok_or("no declaration")?;
         let place = (found.attributes.len(), found.attributes.spilled());
-        assert_eq!(rt; place, (count, count > 5));
+        assert_eq!(rt; place, (*count, *count > 5));
     }
     Ok(())
 }

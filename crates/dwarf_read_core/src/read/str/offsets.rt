@@ -105,8 +105,8 @@ impl<R: Reader> StrOffsetsEntryIter<R> {
     /// # Errors
     ///
     /// `UnexpectedEof` at the bytes that remain if they are fewer than a word has, and
-    /// `UnsupportedOffset` if the next word doesn't fit the offset type. After either `next` returns
-    /// `Ok(None)`.
+    /// `UnsupportedOffset` if the next word doesn't fit the offset type. After either `next`
+    /// returns `Ok(None)`.
     pub fn next(&mut self) -> Result<Option<DebugStrOffset<R::Offset>>>
         ensures first { GivesFirst (RepresentsStringOffsets R.Offset.GREATEST)
             (λ offset. R.Offset.value offset.0) true self.old (result_transpose result) self.new }
