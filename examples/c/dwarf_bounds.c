@@ -1,6 +1,6 @@
 /*
- * Calls with bad input: null with a length of 0, no room, offsets past the end, and huge counts. Each
- * has to return the right error, and to leave its outputs unchanged.
+ * Calls on worked bytes and with bad input: null with a length of 0, no room, offsets past the end, and
+ * huge counts. Each has to return the right result or error, and to leave all else unchanged.
  *
  * The program compiles as C and as C++, prints a line for each check that fails, and returns how many do.
  */
@@ -20,6 +20,66 @@ static void check(bool holds, const char *what) {
 
 static bool is_fault(struct dwarf_fault fault, uint32_t kind, uint64_t value) {
     return fault.kind == kind && fault.value == value;
+}
+
+/* The fault behind a call: with this status and value, or unchanged if there was no error. */
+static bool is_left(struct dwarf_fault fault, uint32_t status, uint64_t value) {
+    bool is_error = status != DWARF_OK && status < DWARF_NO_ROOM;
+    return is_error ? is_fault(fault, status, value) : is_fault(fault, 7, 7);
+}
+
+/* Bytes; what reading the number returns and writes, and the value of the error. */
+static const struct {
+    const char *bytes;
+    size_t len;
+    uint32_t status;
+    int64_t value;
+    size_t number_len;
+    uint64_t error;
+} numbers[] = {
+    {"\xb9\x64\x01", 3, DWARF_OK, 12857, 2, 0},
+    {"\x80\x80\x80\x80\x80\x80\x80\x80\x80\x02", 10, DWARF_BAD_UNSIGNED_LEB128, 7, 7, 0},
+    {"\x80\x80", 2, DWARF_UNEXPECTED_EOF, 7, 7, 2},
+    {"\xff\x7e", 2, DWARF_OK, -129, 2, 0},
+    {"\x80\x80\x80\x80\x80\x80\x80\x80\x80\x01", 10, DWARF_BAD_SIGNED_LEB128, 7, 7, 0},
+};
+
+static void check_numbers(void) {
+    for (size_t i = 0; i < sizeof numbers / sizeof *numbers; i++) {
+        const uint8_t *bytes = (const uint8_t *)numbers[i].bytes;
+        struct dwarf_fault fault = {7, 7};
+        uint64_t value = 7;
+        int64_t signed_value = 7;
+        size_t len = 7;
+        uint32_t status = i < 3 ? dwarf_uleb128(bytes, numbers[i].len, &value, &len, &fault)
+                                : dwarf_sleb128(bytes, numbers[i].len, &signed_value, &len, &fault);
+        check(status == numbers[i].status && len == numbers[i].number_len, "a number");
+        check((i < 3 ? (int64_t)value : signed_value) == numbers[i].value, "its value");
+        check(is_left(fault, status, numbers[i].error), "its error");
+    }
+    uint8_t bytes[4] = {7, 7, 7, 7};
+    size_t len = 7;
+    uint32_t status = dwarf_uleb128_write(128, bytes, sizeof bytes, &len);
+    check(status == DWARF_OK && len == 2 && memcmp(bytes, "\x80\x01\x07\x07", 4) == 0, "128");
+    status = dwarf_sleb128_write(-1, bytes, sizeof bytes, &len);
+    check(status == DWARF_OK && len == 1 && memcmp(bytes, "\x7f\x01\x07\x07", 4) == 0, "-1");
+    status = dwarf_uleb128_write(UINT64_MAX, bytes, sizeof bytes, &len);
+    check(status == DWARF_NO_ROOM && len == 10 && bytes[0] == 0x7f, "ten bytes in four");
+}
+
+static void check_names(void) {
+    char name[] = "..............";
+    size_t len = 7, room = sizeof name - 1;
+    uint32_t status = dwarf_tag_name(0x0a, name, room, &len);
+    check(status == DWARF_OK && len == 12 && strcmp(name, "DW_TAG_label..") == 0, "a tag");
+    status = dwarf_attribute_name(3, name, room, &len);
+    check(status == DWARF_OK && len == 10 && strcmp(name, "DW_AT_nameel..") == 0, "an attribute");
+    status = dwarf_form_name(8, name, room, &len);
+    check(status == DWARF_OK && len == 14 && strcmp(name, "DW_FORM_string") == 0, "a form");
+    status = dwarf_tag_name(4660, name, room, &len);
+    check(status == DWARF_NO_NAME && len == 14, "a tag without a name");
+    status = dwarf_tag_name(0x11, name, room, &len);
+    check(status == DWARF_NO_ROOM && len == 19 && strcmp(name, "DW_FORM_string") == 0, "a long name");
 }
 
 static void check_no_bytes(void) {
@@ -64,6 +124,47 @@ static void check_sets(set_call *call) {
           "outputs of sets that failed");
 }
 
+/* Three sets of either kind, the third with two bytes of a fourth entry, and one of string offsets alone. */
+static const char sets[] =
+    "\x0c\x00\x00\x00\x05\x00\x04\x00\x78\x56\x34\x12\xef\xbe\xad\xde"
+    "\xff\xff\xff\xff\x14\x00\x00\x00\x00\x00\x00\x00\x05\x00\x02\x00"
+    "\xf0\xde\xbc\x9a\x78\x56\x34\x12\xef\xbe\xad\xde\xef\xbe\xad\xde"
+    "\x12\x00\x00\x00\x05\x00\x04\x00\x01\x00\x00\x00\x02\x00\x00\x00\x03\x00\x00\x00\x04\x00"
+    "\x04\x00\x00\x00\x05\x00\x03\x00";
+
+/* The offset of a set; what the call returns and writes, and the value of the error. */
+static const struct set_row {
+    size_t offset;
+    uint32_t status;
+    struct dwarf_set set;
+    uint64_t error;
+} address_sets[] = {
+    {0, DWARF_OK, {16, 12, 8, 2, 4, 4}, 0},
+    {16, DWARF_OK, {48, 20, 32, 8, 8, 2}, 0},
+    {48, DWARF_OK, {70, 18, 56, 3, 4, 4}, 0},
+    {70, DWARF_UNSUPPORTED_ADDRESS_SIZE, {7, 7, 7, 7, 7, 7}, 3},
+    {78, DWARF_END, {7, 7, 7, 7, 7, 7}, 0},
+}, offset_sets[] = {
+    {16, DWARF_OK, {48, 20, 32, 2, 8, 8}, 0},
+    {48, DWARF_OK, {70, 18, 56, 3, 4, 4}, 0},
+    {70, DWARF_OK, {78, 4, 78, 0, 4, 4}, 0},
+    {78, DWARF_END, {7, 7, 7, 7, 7, 7}, 0},
+    {1, DWARF_UNEXPECTED_EOF, {7, 7, 7, 7, 7, 7}, 5},
+};
+
+static void check_worked_sets(set_call *call, const struct set_row *rows, size_t count) {
+    for (size_t i = 0; i < count; i++) {
+        const struct dwarf_set *wanted = &rows[i].set;
+        struct dwarf_set set = {7, 7, 7, 7, 7, 7};
+        struct dwarf_fault fault = {7, 7};
+        uint32_t status = call((const uint8_t *)sets, sizeof sets - 1, false, rows[i].offset, &set, &fault);
+        check(status == rows[i].status && is_left(fault, status, rows[i].error), "a worked set");
+        check(set.next == wanted->next && set.unit_length == wanted->unit_length, "its length");
+        check(set.first_entry == wanted->first_entry && set.entry_count == wanted->entry_count, "its entries");
+        check(set.word_size == wanted->word_size && set.entry_size == wanted->entry_size, "its sizes");
+    }
+}
+
 static void check_no_room(void) {
     size_t len = 7;
     check(dwarf_uleb128_write(UINT64_MAX, NULL, 0, &len) == DWARF_NO_ROOM && len == 10, "unsigned");
@@ -73,47 +174,111 @@ static void check_no_room(void) {
     check(dwarf_form_name(0xffff, NULL, 0, &len) == DWARF_NO_NAME && len == 7, "form without name");
 }
 
+/* An error and a room for its text; what the call returns, the length and the text. */
+static const struct {
+    struct dwarf_fault fault;
+    size_t room;
+    uint32_t status;
+    size_t len;
+    const char *text;
+} texts[] = {
+    {{DWARF_UNKNOWN_VERSION, UINT64_MAX}, 63, DWARF_OK, 43, "unknown DWARF version: 18446744073709551615"},
+    {{DWARF_UNKNOWN_VERSION, UINT64_MAX}, 0, DWARF_NO_ROOM, 43, ""},
+    {{DWARF_UNSUPPORTED_OFFSET_SIZE, 3}, 63, DWARF_OK, 26, "unsupported offset size: 3"},
+    {{DWARF_UNSUPPORTED_OFFSET_SIZE, 256}, 63, DWARF_NO_NAME, 7, ""},
+    {{DWARF_UNKNOWN_RESERVED_LENGTH, 0xfffffff0}, 32, DWARF_NO_ROOM, 35, ""},
+    {{20, 0}, 63, DWARF_NO_NAME, 7, ""},
+    {{UINT32_MAX, 0}, 63, DWARF_NO_NAME, 7, ""},
+};
+
 static void check_texts(void) {
-    struct dwarf_fault fault = {DWARF_UNKNOWN_VERSION, UINT64_MAX};
-    char text[64];
-    size_t len = 7;
-    check(dwarf_fault_text(&fault, text, sizeof text, &len) == DWARF_OK, "a text");
-    check(len == 43 && memcmp(text, "unknown DWARF version: 18446744073709551615", len) == 0,
-        "its bytes");
-    check(dwarf_fault_text(&fault, NULL, 0, &len) == DWARF_NO_ROOM && len == 43,
-        "text without room");
-    fault.kind = UINT32_MAX;
-    check(dwarf_fault_text(&fault, text, sizeof text, &len) == DWARF_NO_NAME && len == 43,
-        "no error");
+    for (size_t i = 0; i < sizeof texts / sizeof *texts; i++) {
+        char text[64] = "";
+        size_t len = 7;
+        uint32_t status = dwarf_fault_text(&texts[i].fault, text, texts[i].room, &len);
+        check(status == texts[i].status && len == texts[i].len, "a text");
+        check(strcmp(text, texts[i].text) == 0, "its bytes");
+    }
 }
 
+/* A subprogram with a constant name, and then a unit with a string and a language. */
+static const uint8_t table[] = {2, 0x2e, 0, 3, 0x21, 0x56, 0, 0, 1, 0x11, 1, 3, 8, 0x13, 5, 0, 0, 0};
+
+/* Offsets, what measuring the table there returns and writes, and the value of the error. */
+static const struct {
+    size_t offset;
+    uint32_t status;
+    struct dwarf_measure measure;
+    uint64_t error;
+} measures[] = {
+    {0, DWARF_OK, {2, 3, 18, 1}, 0},
+    {17, DWARF_OK, {0, 0, 18, 1}, 0},
+    {18, DWARF_OK, {0, 0, 18, 0}, 0},
+    {19, DWARF_UNEXPECTED_EOF, {7, 7, 7, 7}, 0},
+    {SIZE_MAX, DWARF_UNEXPECTED_EOF, {7, 7, 7, 7}, 0},
+    {3, DWARF_INVALID_ABBREVIATION_CHILDREN, {7, 7, 7, 7}, 0x56},
+};
+
+static bool is_measure(struct dwarf_measure it, struct dwarf_measure wanted) {
+    return it.abbreviations == wanted.abbreviations && it.attributes == wanted.attributes &&
+           it.end == wanted.end && it.closed_by_null == wanted.closed_by_null;
+}
+
+static bool is_abbreviation(struct dwarf_abbreviation it, struct dwarf_abbreviation wanted) {
+    return it.code == wanted.code && it.tag == wanted.tag && it.has_children == wanted.has_children &&
+           it.first_attribute == wanted.first_attribute && it.attribute_count == wanted.attribute_count;
+}
+
+static bool is_attribute(struct dwarf_attribute it, struct dwarf_attribute wanted) {
+    return it.name == wanted.name && it.form == wanted.form && it.implicit_const == wanted.implicit_const;
+}
+
+static void check_measures(void) {
+    for (size_t i = 0; i < sizeof measures / sizeof *measures; i++) {
+        struct dwarf_measure measure = {7, 7, 7, 7};
+        struct dwarf_fault fault = {7, 7};
+        uint32_t status = dwarf_table_measure(table, sizeof table, measures[i].offset, &measure, &fault);
+        check(status == measures[i].status && is_left(fault, status, measures[i].error), "a measure");
+        check(is_measure(measure, measures[i].measure), "its numbers");
+    }
+}
+
+/* There are too few places for attributes at first, and then more than are needed. */
 static void check_tables(void) {
-    static const uint8_t section[] = {1, 0x11, 1, 3, 8, 0, 0, 0};
+    static const struct dwarf_abbreviation wanted[] = {{1, 0x11, 1, 0, 2}, {2, 0x2e, 0, 2, 1}, {7, 7, 7, 7, 7}};
+    static const struct dwarf_attribute its_wanted[] = {{3, 8, 0}, {0x13, 5, 0}, {3, 0x21, -42}, {7, 7, 7}};
+    static const struct dwarf_measure whole = {2, 3, 18, 1};
+    struct dwarf_abbreviation ours[] = {{7, 7, 7, 7, 7}, {7, 7, 7, 7, 7}, {7, 7, 7, 7, 7}};
+    struct dwarf_attribute its[] = {{7, 7, 7}, {7, 7, 7}, {7, 7, 7}, {7, 7, 7}};
     struct dwarf_measure measure = {7, 7, 7, 7};
     struct dwarf_fault fault = {7, 7};
-    struct dwarf_abbreviation abbreviation;
-    struct dwarf_attribute attribute;
-    memset(&abbreviation, 7, sizeof abbreviation);
-    memset(&attribute, 7, sizeof attribute);
-    uint32_t status = dwarf_table_read(section, sizeof section, 0, &abbreviation, 1, NULL, 0,
-        &measure, &fault);
-    check(status == DWARF_NO_ROOM && measure.abbreviations == 1 && measure.attributes == 1,
-        "no room");
-    check(abbreviation.tag == 0x0707 && attribute.name == 0x0707, "places without room");
-    status = dwarf_table_read(section, sizeof section, 0, &abbreviation, 1, &attribute, 1,
-        &measure, &fault);
-    check(status == DWARF_OK && measure.closed_by_null == 1 && fault.kind == 7, "a table");
-    check(measure.end == sizeof section, "its end");
-    check(abbreviation.code == 1 && abbreviation.tag == 0x11 && abbreviation.has_children == 1,
-        "its tag");
-    check(abbreviation.first_attribute == 0 && abbreviation.attribute_count == 1, "its attributes");
-    check(attribute.name == 3 && attribute.form == 8 && attribute.implicit_const == 0,
-        "an attribute");
-    status = dwarf_table_measure(section, sizeof section, SIZE_MAX, &measure, &fault);
-    check(status == DWARF_UNEXPECTED_EOF && is_fault(fault, 1, 0), "a table past the end");
+    uint32_t status = dwarf_table_read(table, sizeof table, 0, ours, 3, its, 2, &measure, &fault);
+    check(status == DWARF_NO_ROOM && is_measure(measure, whole) && is_fault(fault, 7, 7), "few places");
+    check(is_abbreviation(ours[0], wanted[2]) && is_attribute(its[0], its_wanted[3]), "places without room");
+    status = dwarf_table_read(table, sizeof table, 0, ours, 3, its, 4, &measure, &fault);
+    check(status == DWARF_OK && is_measure(measure, whole) && is_fault(fault, 7, 7), "a table");
+    for (size_t i = 0; i < 3; i++) {
+        check(is_abbreviation(ours[i], wanted[i]), "an abbreviation");
+    }
+    for (size_t i = 0; i < 4; i++) {
+        check(is_attribute(its[i], its_wanted[i]), "an attribute");
+    }
     status = dwarf_table_read(NULL, 0, 0, NULL, 0, NULL, 0, &measure, &fault);
-    check(status == DWARF_OK && measure.abbreviations == 0 && measure.closed_by_null == 0,
-        "an empty table");
+    check(status == DWARF_OK && measure.abbreviations == 0 && measure.closed_by_null == 0, "an empty table");
+}
+
+/* Strings, string offsets and addresses. */
+static void check_lookups(void) {
+    static const uint8_t strings[] = {'o', 'n', 'e', 0, 't', 'w', 'o', 0, 0}, words[] = {0x78, 0x56, 0x34, 0x12};
+    struct dwarf_fault fault = {7, 7};
+    size_t found = 7;
+    uint64_t address = 7;
+    check(dwarf_string(strings, sizeof strings, 4, &found, &fault) == DWARF_OK && found == 3, "two");
+    check(dwarf_string(strings, sizeof strings, 8, &found, &fault) == DWARF_OK && found == 0, "an empty string");
+    check(dwarf_address(words, 4, false, 4, 0, 0, &address, &fault) == DWARF_OK && address == 0x12345678, "little");
+    check(dwarf_address(words, 4, true, 4, 0, 0, &address, &fault) == DWARF_OK && address == 0x78563412, "big");
+    check(dwarf_str_offset(words, 4, false, false, 0, 0, &found, &fault) == DWARF_OK && found == 0x12345678, "offset");
+    check(is_fault(fault, 7, 7), "no error of a lookup");
 }
 
 static void check_offsets(void) {
@@ -123,6 +288,8 @@ static void check_offsets(void) {
     uint64_t address = 7;
     uint32_t status = dwarf_string(section, sizeof section, SIZE_MAX, &offset, &fault);
     check(status == DWARF_UNEXPECTED_EOF && is_fault(fault, 1, 0), "a string past the end");
+    status = dwarf_str_offset(section, sizeof section, false, false, 8, 14, &offset, &fault);
+    check(status == DWARF_UNEXPECTED_EOF && is_fault(fault, 1, 64), "an offset past the end");
     status = dwarf_str_offset(section, sizeof section, false, true, 8, SIZE_MAX, &offset, &fault);
     check(status == DWARF_UNSUPPORTED_OFFSET && is_fault(fault, 10, 0), "a huge index");
     status = dwarf_address(section, sizeof section, false, 3, 0, 0, &address, &fault);
@@ -133,12 +300,18 @@ static void check_offsets(void) {
 }
 
 int main(void) {
+    check_numbers();
+    check_names();
     check_no_bytes();
     check_sets(dwarf_address_set);
     check_sets(dwarf_str_offset_set);
+    check_worked_sets(dwarf_address_set, address_sets, sizeof address_sets / sizeof *address_sets);
+    check_worked_sets(dwarf_str_offset_set, offset_sets, sizeof offset_sets / sizeof *offset_sets);
     check_no_room();
     check_texts();
+    check_measures();
     check_tables();
+    check_lookups();
     check_offsets();
     return failures;
 }

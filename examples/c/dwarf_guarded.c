@@ -10,7 +10,8 @@
  * if no byte outside was touched.
  *
  * The program defines the three functions that the library allocates memory with, so it is an example of that,
- * too. It compiles as C and as C++.
+ * too. Each allocation of the calls that make some fails once, and then the call has to say so. The program
+ * compiles as C and as C++.
  */
 #define _DEFAULT_SOURCE
 #include "dwarf_read.h"
@@ -37,6 +38,8 @@ static bool is_at_end;
 static const char *call = "no call";
 static unsigned long calls;
 static size_t used;
+/* Which of the next allocations fails, or 0 if none does. */
+static size_t refused;
 
 static void die(const char *what) {
     printf("failed: %s: %s\n", call, what);
@@ -89,6 +92,10 @@ void rattle_dealloc(void *block);
 
 struct tried rattle_alloc(size_t size, size_t align) {
     size_t at = 0;
+    if (refused != 0 && --refused == 0) {
+        struct tried none = {false, NULL};
+        return none;
+    }
     while (at < BLOCKS && blocks[at].pages != NULL) {
         at++;
     }
@@ -114,8 +121,10 @@ void rattle_dealloc(void *block) {
 
 struct tried rattle_realloc(void *block, size_t kept, size_t size, size_t align) {
     struct tried found = rattle_alloc(size, align);
-    memcpy(found.block, block, kept < size ? kept : size);
-    rattle_dealloc(block);
+    if (found.is_block) {
+        memcpy(found.block, block, kept < size ? kept : size);
+        rattle_dealloc(block);
+    }
     return found;
 }
 
@@ -263,6 +272,51 @@ static void call_tables(const uint8_t *bytes, size_t len, size_t offset) {
     call_table_read(bytes, len, offset, count, attributes - (attributes != 0));
 }
 
+/*
+ * The calls that allocate memory.
+ */
+
+typedef uint32_t allocating_call(const uint8_t *bytes, size_t len);
+
+static uint32_t measure_table(const uint8_t *bytes, size_t len) {
+    struct dwarf_measure *measure = (struct dwarf_measure *)output(sizeof *measure);
+    return dwarf_table_measure(bytes, len, 0, measure, fault());
+}
+
+static uint32_t read_table(const uint8_t *bytes, size_t len) {
+    struct dwarf_measure *measure = (struct dwarf_measure *)output(sizeof *measure);
+    /* An abbreviation has at least five bytes, and an attribute two. */
+    size_t room = len / 5, more = len / 2;
+    struct dwarf_abbreviation *abbreviations = (struct dwarf_abbreviation *)output(room * sizeof *abbreviations);
+    struct dwarf_attribute *attributes = (struct dwarf_attribute *)output(more * sizeof *attributes);
+    return dwarf_table_read(bytes, len, 0, abbreviations, room, attributes, more, measure, fault());
+}
+
+static uint32_t write_text(const uint8_t *bytes, size_t len) {
+    struct dwarf_fault *it = fault();
+    it->kind = DWARF_UNKNOWN_VERSION;
+    it->value = len == 0 ? 0 : bytes[0];
+    return dwarf_fault_text(it, (char *)output(DWARF_TEXT_ROOM), DWARF_TEXT_ROOM, (size_t *)output(sizeof(size_t)));
+}
+
+/* Makes a call, and makes it again with its first allocation failing, then its second, and so on. */
+static void call_refused(allocating_call *allocating, const char *name, const uint8_t *bytes, size_t len) {
+    begin(name);
+    uint32_t whole = allocating(bytes, len), status;
+    end();
+    size_t number = 0;
+    do {
+        refused = ++number;
+        begin(name);
+        status = allocating(bytes, len);
+        end();
+        if (status != whole && (refused != 0 || status != DWARF_OUT_OF_MEMORY)) {
+            die("it has another status if an allocation fails");
+        }
+    } while (refused == 0);
+    refused = 0;
+}
+
 /* Makes all calls on a section, and on each beginning of it. */
 static void call_on_cuts(const uint8_t *bytes, size_t len) {
     for (size_t cut = 0; cut <= len; cut++) {
@@ -282,6 +336,9 @@ static void call_on_cuts(const uint8_t *bytes, size_t len) {
             call_tables(given, cut, offset);
         }
     }
+    call_refused(measure_table, "dwarf_table_measure without memory", section.given, len);
+    call_refused(read_table, "dwarf_table_read without memory", section.given, len);
+    call_refused(write_text, "dwarf_fault_text without memory", section.given, len);
 }
 
 /*

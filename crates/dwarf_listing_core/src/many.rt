@@ -23,16 +23,14 @@ use std::io;
 use std::io::{Read, Write};
 
 pub mod fault;
-#[cfg(test)]
-mod tests;
 
 /// Writes what is listed at each offset of a section, behind its title.
 ///
 /// Both inputs are read to their ends, and all offsets are parsed: decimal numbers, one a line.
-/// Then what each offset names is read whole, and its lines are written through a buffer. The output
-/// is flushed at the end, and before an error at an offset is returned, also if memory ran out there.
-/// With `GoOn` an error at an offset is a line of the output, and the run goes on. What is returned is
-/// whether there is such a line.
+/// Then what each offset names is read whole, and its lines are written through a buffer. The
+/// output is flushed at the end, and before an error at an offset is returned, also if memory ran
+/// out there. With `GoOn` an error at an offset is a line of the output, and the run goes on. What
+/// is returned is whether there is such a line.
 ///
 /// # Errors
 ///
@@ -89,9 +87,9 @@ pub fn run_many<S: Read, I: Read, O: Write>(
     write_all_at(mem, on_error, kind, &section, &offsets, output)
 }
 
-/// Writes what is listed at these offsets of a section, each behind its title, through a buffer, and
-/// flushes the output. With `GoOn` an error at an offset is a line of the output. Returns whether there
-/// is such a line.
+/// Writes what is listed at these offsets of a section, each behind its title, through a buffer,
+/// and flushes the output. With `GoOn` an error at an offset is a line of the output. Returns
+/// whether there is such a line.
 ///
 /// # Errors
 ///

@@ -7,9 +7,6 @@ ghost use Rattle.dwarf_listing_core.specs.Command.{IsUsage, ReadsInput};
 ghost use Rattle.dwarf_listing_core.specs.Fault.{IsMemoryFault};
 ghost use Rattle.dwarf_listing_core.specs.Text.{IsText, text_bytes};
 
-#[cfg(test)]
-pub(crate) mod tests;
-
 use crate::command::{parse_command, reads_input};
 use crate::fault::Fault;
 use crate::input::read_input;
@@ -21,9 +18,9 @@ use std::io::{Read, Write};
 
 /// Does what the arguments request.
 ///
-/// The arguments are parsed first. Then the input is read to its end, if the command lists a part of
-/// it. Once it is known that there is a text, this is written through a buffer, and the output is
-/// flushed.
+/// The arguments are parsed first. Then the input is read to its end, if the command lists a part
+/// of it. Once it is known that there is a text, this is written through a buffer, and the output
+/// is flushed.
 ///
 /// # Errors
 ///

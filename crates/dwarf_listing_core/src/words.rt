@@ -10,9 +10,6 @@ use std::env::{Env, FillError};
 use std::io::ErrorKind;
 use std::{env, io};
 
-#[cfg(test)]
-pub(crate) mod tests;
-
 // The arguments behind the program's own name, which may not be UTF-8.
 #[derive(Drop)]
 struct BehindName<'env, E: Env>(&'env E);

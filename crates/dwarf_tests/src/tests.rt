@@ -1,4 +1,4 @@
-//! The public calls of dwarf_read_core and dwarf_uses, each by worked results.
+//! The public calls of dwarf_read_core, dwarf_listing_core and dwarf_uses, each by worked results.
 
 use dwarf_read_core::{
     EndianSlice, Endianity, Error, HeaderFields, LittleEndian, Reader, ReaderOffsetId, Result,
@@ -20,6 +20,7 @@ mod cache;
 mod callers;
 mod copies;
 mod examples;
+mod listing;
 mod names;
 mod owned;
 mod sections;

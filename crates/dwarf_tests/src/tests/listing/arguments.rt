@@ -1,7 +1,8 @@
 //! The arguments of a system, and memory that runs out.
 
-use super::command_line;
-use crate::fault::Fault;
+use super::end_requests;
+use dwarf_listing_core::fault::Fault;
+use dwarf_listing_core::words::command_line;
 use std::alloc::Global;
 use std::env::{Env, FillError};
 use std::process::Abort;
@@ -9,7 +10,7 @@ use std::test::Fail;
 
 // A system with these arguments, the program's name first.
 #[derive(Drop)]
-pub(crate) struct Given<'list, 'word>(pub(crate) &'list [&'word [u8]]);
+pub(super) struct Given<'list, 'word>(pub(super) &'list [&'word [u8]]);
 
 impl Env for Given<'_, '_> {
     fn arg(&self, i: usize, buf: &mut [u8]) -> Result<usize, FillError> {
@@ -65,13 +66,6 @@ fn refused_memory_for_words(rt: HostRuntime) -> Result<(), Fail> {
         Ok(text) => assert_eq!(rt; text.as_str(), "abbrev;0;"),
         Err(fault) => assert_eq!(rt; fault, Fault::out_of_memory()),
     }
-    check_last(&rt, mem)
-}
-
-// The last allocation. If it fails, each one before it failed in an earlier run.
-pub(crate) fn check_last(rt: &impl Print, mem: Global) -> Result<(), Fail> {
-    if Vec::from_slice(mem, &[0u8]).is_err() {
-        println!(rt; "every request was refused")?;
-    }
+    end_requests(&rt, mem);
     Ok(())
 }

@@ -1,7 +1,7 @@
 //! Inputs and outputs of one byte a call, which are interrupted and fail.
 
 use super::{Row, TEXTS, check, check_outcome, words};
-use crate::run::run;
+use dwarf_listing_core::run::run;
 use std::alloc::Global;
 use std::io;
 use std::io::{ErrorKind, Read, Write};
@@ -17,11 +17,10 @@ static KINDS: &[ErrorKind] = &[
     ErrorKind::WouldBlock,
 ];
 
-// A reader or writer of one byte a call, which fails after so many calls. Each of these is
-// interrupted before.
+// A reader or writer of one byte a call, which fails after so many calls. Each of these is interrupted before.
 #[derive(Drop)]
-pub(crate) struct Failing<T> {
-    pub(crate) inner: T,
+pub(super) struct Failing<T> {
+    pub(super) inner: T,
     calls: usize,
     good_calls: usize,
     kind: ErrorKind,
@@ -29,7 +28,7 @@ pub(crate) struct Failing<T> {
 }
 
 impl<T> Failing<T> {
-    pub(crate) fn new(inner: T, good_calls: usize, kind: ErrorKind) -> Failing<T> {
+    pub(super) fn new(inner: T, good_calls: usize, kind: ErrorKind) -> Failing<T> {
         Failing {
             inner,
             calls: 0,
@@ -74,8 +73,7 @@ impl Write for Failing<Vec<u8>> {
     }
 }
 
-// The call behind the last byte, which finds the end, is one of those that fail. A number is listed
-// without a call.
+// The call behind the last byte, which finds the end, is one of those that fail. A number is listed without a call.
 #[test]
 fn inputs_fail_at_each_call(rt: HostRuntime) -> Result<(), Fail> {
     for (texts, bytes, text) in TEXTS {
@@ -94,8 +92,8 @@ fn inputs_fail_at_each_call(rt: HostRuntime) -> Result<(), Fail> {
     Ok(())
 }
 
-// Each byte of the text is written by a call of its own, and then the output is flushed. Behind the
-// call that fails there is none.
+// Each byte of the text is written by a call of its own, and then the output is flushed. Behind the call that fails
+// there is none.
 fn check_failing(
     rt: &impl Abort,
     mem: Global,

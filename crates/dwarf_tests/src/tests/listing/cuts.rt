@@ -1,54 +1,31 @@
 //! Sections that are cut at each byte, and a long one.
 
-use super::{CUT, UNIT, UNIT_TEXT, check};
+use super::super::worked::{IMPLICIT, THREE, TWO_SETS, UNIT};
+use super::{CUT, UNIT_TEXT, check};
 use std::test::Fail;
 
 const CONSTANT: &[u8] = b"1 DW_TAG_subprogram no\n  DW_AT_name DW_FORM_implicit_const -42\n";
 
+const ONE_UNIT: &[u8] = b"1 DW_TAG_compile_unit no\n";
+
+const TWO_UNITS: &[u8] = b"1 DW_TAG_compile_unit no\n3 DW_TAG_compile_unit no\n";
+
 const THREE_UNITS: &[u8] =
     b"1 DW_TAG_compile_unit no\n2 DW_TAG_compile_unit no\n3 DW_TAG_compile_unit no\n";
 
+const FIRST_SET: &[u8] = b"set 0: length 12, 32-bit, address size 4\n  0x12345678\n  0xdeadbeef\n";
+
+const BOTH_SETS: &[u8] = b"\
+    set 0: length 12, 32-bit, address size 4\n  0x12345678\n  0xdeadbeef\n\
+    set 16: length 20, 64-bit, address size 8\n  0x123456789abcdef0\n  0xdeadbeefdeadbeef\n";
+
 // Arguments, an input, and the lengths of its beginnings that have a text, each with its text.
+#[rattlefmt::skip]
 static CUTS: &[(&[&str], &[u8], &[(usize, &[u8])])] = &[
-    (
-        &["abbrev", "0"],
-        UNIT,
-        &[(0, b""), (7, UNIT_TEXT), (8, UNIT_TEXT), (9, UNIT_TEXT)],
-    ),
-    (
-        &["abbrev", "0"],
-        b"\x01\x2e\0\x03\x21\x56\0\0\0",
-        &[(0, b""), (8, CONSTANT), (9, CONSTANT)],
-    ),
-    (
-        &["abbrev", "0"],
-        b"\x01\x11\0\0\0\x03\x11\0\0\0\x02\x11\0\0\0\0",
-        &[
-            (0, b""),
-            (5, b"1 DW_TAG_compile_unit no\n"),
-            (10, b"1 DW_TAG_compile_unit no\n3 DW_TAG_compile_unit no\n"),
-            (15, THREE_UNITS),
-            (16, THREE_UNITS),
-        ],
-    ),
-    (
-        &["addr", "le"],
-        b"\x0c\0\0\0\x05\0\x04\0\x78\x56\x34\x12\xef\xbe\xad\xde\
-          \xff\xff\xff\xff\x14\0\0\0\0\0\0\0\x05\0\x08\0\
-          \xf0\xde\xbc\x9a\x78\x56\x34\x12\xef\xbe\xad\xde\xef\xbe\xad\xde",
-        &[
-            (0, b""),
-            (
-                16,
-                b"set 0: length 12, 32-bit, address size 4\n  0x12345678\n  0xdeadbeef\n",
-            ),
-            (
-                48,
-                b"set 0: length 12, 32-bit, address size 4\n  0x12345678\n  0xdeadbeef\n\
-                  set 16: length 20, 64-bit, address size 8\n  0x123456789abcdef0\n  0xdeadbeefdeadbeef\n",
-            ),
-        ],
-    ),
+    (&["abbrev", "0"], UNIT, &[(0, b""), (7, UNIT_TEXT), (8, UNIT_TEXT), (9, UNIT_TEXT)]),
+    (&["abbrev", "0"], IMPLICIT, &[(0, b""), (8, CONSTANT), (9, CONSTANT)]),
+    (&["abbrev", "0"], THREE, &[(0, b""), (5, ONE_UNIT), (10, TWO_UNITS), (15, THREE_UNITS), (16, THREE_UNITS)]),
+    (&["addr", "le"], TWO_SETS, &[(0, b""), (16, FIRST_SET), (48, BOTH_SETS)]),
 ];
 
 #[test]

@@ -1,22 +1,24 @@
 //! Whole runs: what is written for arguments and an input, and how an error is reported.
 
-use super::run;
-use crate::fault::Fault;
-use crate::words::tests::check_last;
+use super::end_requests;
+use super::worked::{STRINGS, UNIT};
+use dwarf_listing_core::fault::Fault;
+use dwarf_listing_core::run::run;
 use std::alloc::{AllocError, Global};
 use std::io::Read;
 use std::process::Abort;
 use std::test::Fail;
 
+mod arguments;
 mod cuts;
-pub(crate) mod ends;
+mod ends;
+mod many;
 
 const CUT: &str = "error: unexpected end of input";
 
-// A declaration with one attribute, a code of value 0, and a byte behind it.
-const UNIT: &[u8] = b"\x01\x11\x01\x03\x08\0\0\0\xff";
-
 const UNIT_TEXT: &[u8] = b"1 DW_TAG_compile_unit yes\n  DW_AT_name DW_FORM_string\n";
+
+const SET: &[u8] = b"set 0: length 8, 32-bit, address size 4\n  0x12345678\n";
 
 // The text that a run writes, or the line and the status of its error.
 type Outcome<'a> = Result<&'a [u8], (&'a str, u8)>;
@@ -61,36 +63,21 @@ fn check_outcome(
     Ok(())
 }
 
-// A row for each command, and for both byte orders: arguments, an input, and the text. A command
-// that takes a number doesn't read the input, which is empty here. What the program prints of other
-// inputs is in the worked cases of `dwarf_list`, which are data.
+// A row for each command, and for both byte orders: arguments, an input, and the text. A command that takes a number
+// doesn't read the input, which is empty here. What the program prints of other inputs is in the worked cases of
+// `dwarf_list`, which are data.
 type Row = (&'static [&'static str], &'static [u8], &'static [u8]);
 
+#[rattlefmt::skip]
 static TEXTS: &[Row] = &[
     (&["abbrev", "0"], UNIT, UNIT_TEXT),
     (&["abbrev-strict", "0"], UNIT, UNIT_TEXT),
-    (&["str", "4"], b"one\0two\0\0", b"two\n"),
-    (&["str", "8"], b"one\0two\0\0", b"\n"),
-    (
-        &["addr", "le"],
-        b"\x08\0\0\0\x05\0\x04\0\x78\x56\x34\x12",
-        b"set 0: length 8, 32-bit, address size 4\n  0x12345678\n",
-    ),
-    (
-        &["addr", "be"],
-        b"\0\0\0\x08\0\x05\x04\0\x12\x34\x56\x78",
-        b"set 0: length 8, 32-bit, address size 4\n  0x12345678\n",
-    ),
-    (
-        &["str-offsets", "le"],
-        b"\x08\0\0\0\x05\0\0\0\xe8\x03\0\0",
-        b"set 0: length 8, 32-bit\n  1000\n",
-    ),
-    (
-        &["str-offsets", "be"],
-        b"\0\0\0\x08\0\x05\0\0\xff\xff\xff\xff",
-        b"set 0: length 8, 32-bit\n  4294967295\n",
-    ),
+    (&["str", "4"], STRINGS, b"two\n"),
+    (&["str", "8"], STRINGS, b"\n"),
+    (&["addr", "le"], b"\x08\0\0\0\x05\0\x04\0\x78\x56\x34\x12", SET),
+    (&["addr", "be"], b"\0\0\0\x08\0\x05\x04\0\x12\x34\x56\x78", SET),
+    (&["str-offsets", "le"], b"\x08\0\0\0\x05\0\0\0\xe8\x03\0\0", b"set 0: length 8, 32-bit\n  1000\n"),
+    (&["str-offsets", "be"], b"\0\0\0\x08\0\x05\0\0\xff\xff\xff\xff", b"set 0: length 8, 32-bit\n  4294967295\n"),
     (&["uleb", "12857"], b"", b"b9 64\n"),
     (&["sleb", "-65"], b"", b"bf 7f\n"),
 ];
@@ -117,5 +104,6 @@ fn refused_memory_for_each_command(rt: HostRuntime) -> Result<(), Fail> {
     for row in TEXTS {
         check_refused(&rt, rt.alloc(), *row)?;
     }
-    check_last(&rt, rt.alloc())
+    end_requests(&rt, rt.alloc());
+    Ok(())
 }

@@ -1,15 +1,17 @@
-//! Whole runs over tables and strings, with enough memory and with failed allocations, and inputs
-//! and outputs that fail.
+//! Whole runs over tables and strings, with enough memory and with failed allocations, and inputs and outputs that
+//! fail.
 
-use super::fault::ManyFault;
-use super::run_many;
-use crate::arguments::Kind::{Strings, Tables};
-use crate::arguments::OnError::{GoOn, Stop};
-use crate::arguments::{Kind, OnError, parse_arguments};
-use crate::fault::Fault;
-use crate::run::tests::ends::Failing;
-use crate::words::command_line;
-use crate::words::tests::{Given, check_last};
+use super::super::worked::{ENDED, STRINGS};
+use super::arguments::Given;
+use super::end_requests;
+use super::ends::Failing;
+use dwarf_listing_core::arguments::Kind::{Strings, Tables};
+use dwarf_listing_core::arguments::OnError::{GoOn, Stop};
+use dwarf_listing_core::arguments::{Kind, OnError, parse_arguments};
+use dwarf_listing_core::fault::Fault;
+use dwarf_listing_core::many::fault::ManyFault;
+use dwarf_listing_core::many::run_many;
+use dwarf_listing_core::words::command_line;
 use dwarf_read_core::{Error, ReaderOffsetId};
 use std::alloc::Global;
 use std::io::{ErrorKind, Write};
@@ -26,36 +28,25 @@ type Run = (
     Result<bool, ManyFault>,
 );
 
-const STRINGS: Run = (
-    Stop,
-    Strings,
-    b"one\0two\0\0",
-    b"4\n0\n0008",
-    b"0x4: two\n0x0: one\n0x8: \n",
-    Ok(false),
-);
+#[rattlefmt::skip]
+const THREE_STRINGS: Run = (Stop, Strings, STRINGS, b"4\n0\n0008", b"0x4: two\n0x0: one\n0x8: \n", Ok(false));
 
+#[rattlefmt::skip]
 const TABLES: Run = (
-    Stop,
-    Tables,
-    b"\x01\x11\0\0\0",
-    b"0\n5\n6\n",
-    b"table 0x0:\n1 DW_TAG_compile_unit no\ntable 0x5:\n",
+    Stop, Tables, ENDED, b"0\n5\n6\n", b"table 0x0:\n1 DW_TAG_compile_unit no\ntable 0x5:\n",
     Err(ManyFault::At(6, Error::UnexpectedEof(ReaderOffsetId(0)))),
 );
 
 // The table in the middle is malformed.
+#[rattlefmt::skip]
 const GOES_ON: Run = (
-    GoOn,
-    Tables,
-    b"\x01\x11\0\0\0\0\x01\0",
-    b"0\n6\n5\n",
+    GoOn, Tables, b"\x01\x11\0\0\0\0\x01\0", b"0\n6\n5\n",
     b"table 0x0:\n1 DW_TAG_compile_unit no\n\
         error at 0x6, status 1: invalid abbreviation tag: zero\ntable 0x5:\n",
     Ok(true),
 );
 
-const RUNS: [Run; 3] = [STRINGS, TABLES, GOES_ON];
+const RUNS: [Run; 3] = [THREE_STRINGS, TABLES, GOES_ON];
 
 // Offsets, and the number of the first line that isn't one.
 static BAD_LINES: &[(&[u8], u64)] = &[
@@ -94,13 +85,11 @@ type Named = (
     Option<(OnError, Kind, &'static str, &'static str)>,
 );
 
+#[rattlefmt::skip]
 static NAMED: &[Named] = &[
     (&[b"abbrev", b"x"], Some((Stop, Tables, "x", "-"))),
     (&[b"str", b"-", b"x"], Some((Stop, Strings, "-", "x"))),
-    (
-        &[b"--keep-going", b"str", b"x"],
-        Some((GoOn, Strings, "x", "-")),
-    ),
+    (&[b"--keep-going", b"str", b"x"], Some((GoOn, Strings, "x", "-"))),
     (&[b"abbrev", b"-"], None),
 ];
 
@@ -156,8 +145,7 @@ fn inputs_fail_at_each_call(rt: HostRuntime) -> Result<(), Fail> {
     Ok(())
 }
 
-// Each byte of the text is written by a call of its own, also before an error at an offset. Then the
-// output is flushed.
+// Each byte of the text is written by a call of its own, also before an error at an offset. Then the output is flushed.
 #[test]
 fn outputs_fail_at_each_call(rt: HostRuntime) -> Result<(), Fail> {
     let mem = rt.alloc();
@@ -179,8 +167,8 @@ fn outputs_fail_at_each_call(rt: HostRuntime) -> Result<(), Fail> {
     Ok(())
 }
 
-// A run writes the whole text, or it returns that memory ran out and has written the text of the
-// offsets before: so many bytes. `tools/fail-alloc` makes each allocation fail.
+// A run writes the whole text, or it returns that memory ran out and has written the text of the offsets before: so
+// many bytes. `tools/fail-alloc` makes each allocation fail.
 fn check_refused(rt: &impl Abort, mem: Global, run: &Run, stops: &[usize]) -> Result<(), Fail> {
     let Ok(mut output) = Vec::with_capacity(mem, 128) else {
         return Ok(());
@@ -200,8 +188,9 @@ fn check_refused(rt: &impl Abort, mem: Global, run: &Run, stops: &[usize]) -> Re
 #[test]
 fn refused_memory_for_many_offsets(rt: HostRuntime) -> Result<(), Fail> {
     let mem = rt.alloc();
-    check_refused(&rt, mem, &STRINGS, &[0, 9, 18])?;
+    check_refused(&rt, mem, &THREE_STRINGS, &[0, 9, 18])?;
     check_refused(&rt, mem, &TABLES, &[0, 36, 47])?;
     check_refused(&rt, mem, &GOES_ON, &[0, 36, 91])?;
-    check_last(&rt, mem)
+    end_requests(&rt, mem);
+    Ok(())
 }
