@@ -9,7 +9,6 @@
 
 #![tactic(auto)]
 
-pub mod fault;
 pub mod numbers;
 pub mod readers;
 pub mod sections;

@@ -10,7 +10,7 @@ ghost use Rattle.dwarf_read_core.specs.Leb128.{unsigned16, LacksEncoding, ReadsN
 ghost use Rattle.dwarf_compare.specs.Fault.{Rejects};
 ghost use Rattle.dwarf_compare.specs.Sections.{section_of, tag_in};
 
-use crate::fault::{Fault, reject};
+use dwarf_fault::{DwarfFault, reject};
 use dwarf_read_core::{
     Abbreviations, AbbreviationsCache, AbbreviationsCacheStrategy, DebugAbbrev, DebugAbbrevOffset,
     EndianSlice, Error, LittleEndian, Reader, Result,
@@ -28,7 +28,7 @@ pub extern "C" fn compare_short(
     bytes: &[u8],
     value: &mut u16,
     rest: &mut usize,
-    fault: &mut Fault,
+    fault: &mut DwarfFault,
 ) -> u32
     ensures read { result ≡ 0 → (left : Input)
         × ReadsNumber unsigned16 (section_of bytes.now) value.new left
@@ -52,7 +52,7 @@ pub extern "C" fn compare_short(
 
 /// Skips the number of any length that `bytes` begin with, otherwise as [`compare_short`].
 #[unsafe(no_mangle)]
-pub extern "C" fn compare_skipped(bytes: &[u8], rest: &mut usize, fault: &mut Fault) -> u32
+pub extern "C" fn compare_skipped(bytes: &[u8], rest: &mut usize, fault: &mut DwarfFault) -> u32
     ensures read { result ≡ 0 → (left : Input)
         × TakesEncoding (section_of bytes.now) left × (rest.new ≡ length left.bytes) }
     ensures rejected { result ≢ 0 → Rejects (λ e. (left : Input)
@@ -77,7 +77,7 @@ pub extern "C" fn compare_strict(
     section: &[u8],
     offset: usize,
     count: &mut usize,
-    fault: &mut Fault,
+    fault: &mut DwarfFault,
 ) -> u32
     ensures read { let s = section_of section.now in result ≡ 0
         → (t : Table) × StrictAnswer s offset (Ok t) × (count.new ≡ finite.len t.by_code) }
@@ -111,7 +111,7 @@ pub extern "C" fn compare_grown(
     before: usize,
     offset: usize,
     count: &mut usize,
-    fault: &mut Fault,
+    fault: &mut DwarfFault,
 ) -> u32
     ensures read { let s = section_of section.now in result ≡ 0
         → (t : Table) × Answer s offset (Ok t) × (count.new ≡ finite.len t.by_code) }
@@ -171,7 +171,7 @@ pub extern "C" fn compare_found(
     offset: usize,
     codes: &[u64],
     tags: &mut [u16],
-    fault: &mut Fault,
+    fault: &mut DwarfFault,
 ) -> u32
     ensures found { let s = section_of section.now in result ≡ 0
         → (t : Table) × Answer s offset (Ok t) × (tags.new ≡ map (tag_in t) codes.now) }

@@ -16,9 +16,10 @@ pub use Rattle.dwarf_read_core.specs.Sets.{address_header-size, string_offsets_h
 unfoldable pub use Rattle.dwarf_read_core.specs.Sets.{address_header, set, string_offsets_header}
 unfoldable pub use Rattle.dwarf_read_core.specs.Strings.{StringAt, string_at}
 pub use Rattle.dwarf_read_core.specs.declared.Error.{Error}
-pub use Rattle.dwarf_read_c.specs.Fault.{Rejects, fault_of, kind_of, IsKnown}
+pub use Rattle.dwarf_fault.specs.Fault.{fault_of, kind_of}
+pub use Rattle.dwarf_fault.specs.declared.DwarfFault.{DwarfFault}
+pub use Rattle.dwarf_read_c.specs.Fault.{Rejects, IsKnown}
 pub use Rattle.dwarf_read_c.specs.Numbers.{LacksNumber, cut, bad}
 pub use Rattle.dwarf_read_c.specs.Sections.{section_of, part_of}
 pub use Rattle.dwarf_read_c.specs.Sets.{HasSet, LacksSet, TellsSet, set_at, set_from, outside, faulty}
 pub use Rattle.dwarf_read_c.specs.Tables.{abbreviation_of, laid_from, attribute_of, attributes_in}
-pub use Rattle.dwarf_read_c.specs.declared.fault.DwarfFault.{DwarfFault}

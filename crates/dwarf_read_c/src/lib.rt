@@ -8,7 +8,6 @@
 
 #![tactic(auto)]
 
-pub mod fault;
 pub mod names;
 pub mod numbers;
 pub mod room;
@@ -16,6 +15,4 @@ pub mod sections;
 pub mod sets;
 pub mod status;
 pub mod tables;
-#[cfg(test)]
-mod tests;
 pub mod texts;

@@ -5,9 +5,9 @@ ghost use Rattle.dwarf_read_core.specs.Leb128.{unsigned64, signed64, HasNumber};
 ghost use Rattle.dwarf_read_c.specs.Fault.{Rejects};
 ghost use Rattle.dwarf_read_c.specs.Numbers.{LacksNumber, PutsShortest};
 
-use crate::fault::{DwarfFault, reject};
 use crate::room::put;
 use crate::status::DWARF_OK;
+use dwarf_fault::{DwarfFault, reject};
 use dwarf_read_core::leb128::write::Leb128;
 use dwarf_read_core::{EndianSlice, LittleEndian, Reader};
 
@@ -16,7 +16,7 @@ use dwarf_read_core::{EndianSlice, LittleEndian, Reader};
 ///
 /// # Errors
 ///
-/// - 1 (`UnexpectedEof`) at the end of `bytes` if they end before the number and before a tenth byte;
+/// - 1 (`UnexpectedEof`) at the end of `bytes` if they are fewer than ten and don't end the number;
 /// - 2 (`BadUnsignedLeb128`) if ten bytes don't end the number, or if it is 2^64 or more.
 #[unsafe(no_mangle)]
 pub extern "C" fn dwarf_uleb128(
@@ -47,7 +47,7 @@ pub extern "C" fn dwarf_uleb128(
 ///
 /// # Errors
 ///
-/// - 1 (`UnexpectedEof`) at the end of `bytes` if they end before the number and before a tenth byte;
+/// - 1 (`UnexpectedEof`) at the end of `bytes` if they are fewer than ten and don't end the number;
 /// - 3 (`BadSignedLeb128`) if ten bytes don't end the number, or if it is below -2^63 or is 2^63 or
 ///   more.
 #[unsafe(no_mangle)]

@@ -7,8 +7,8 @@ ghost use Rattle.dwarf_read_core.specs.Words.{AddressAt, WordAt, slot};
 ghost use Rattle.dwarf_read_c.specs.Fault.{Rejects};
 ghost use Rattle.dwarf_read_c.specs.Sections.{offset_size, part_of, section_of};
 
-use crate::fault::{DwarfFault, reject};
 use crate::status::DWARF_OK;
+use dwarf_fault::{DwarfFault, reject};
 use dwarf_read_core::{
     DebugAddr, DebugAddrBase, DebugAddrIndex, DebugStr, DebugStrOffset, DebugStrOffsets,
     DebugStrOffsetsBase, DebugStrOffsetsIndex, EndianSlice, Format, LittleEndian, RunTimeEndian,

@@ -10,9 +10,9 @@ ghost use Rattle.dwarf_read_c.specs.Fault.{Rejects};
 ghost use Rattle.dwarf_read_c.specs.Sections.{section_of};
 ghost use Rattle.dwarf_read_c.specs.Sets.{LacksSet, TellsSet, set_from};
 
-use crate::fault::{DwarfFault, reject};
 use crate::sections::order;
 use crate::status::{DWARF_END, DWARF_OK};
+use dwarf_fault::{DwarfFault, reject};
 use dwarf_read_core::{
     DebugAddr, DebugStrOffsets, EndianSlice, Error, Format, Reader, RunTimeEndian,
 };
@@ -49,8 +49,8 @@ pub struct DwarfSet {
 ///
 /// - 1 (`UnexpectedEof`) at 0 if `offset` is past the end;
 /// - 1 at `offset` if fewer than four bytes follow;
-/// - 9 (`UnknownReservedLength`) if those four are reserved;
-/// - 1 behind them if they announce a length of eight bytes, and fewer follow;
+/// - 9 (`UnknownReservedLength`) if those four are 0xfffffff0 to 0xfffffffe;
+/// - 1 behind them if they are 0xffffffff and fewer than eight bytes follow;
 /// - 1 behind the length if fewer bytes follow, or if the set has fewer than two bytes;
 /// - 11 (`UnknownVersion`) if the version isn't 5;
 /// - 1 at the address size if the set ends before it;
@@ -93,15 +93,8 @@ pub extern "C" fn dwarf_address_set(
 ///
 /// # Errors
 ///
-/// The first of these:
-///
-/// - 1 (`UnexpectedEof`) at 0 if `offset` is past the end;
-/// - 1 at `offset` if fewer than four bytes follow;
-/// - 9 (`UnknownReservedLength`) if those four are reserved;
-/// - 1 behind them if they announce a length of eight bytes, and fewer follow;
-/// - 1 behind the length if fewer bytes follow, or if the set has fewer than two bytes;
-/// - 11 (`UnknownVersion`) if the version isn't 5;
-/// - 1 behind the version if fewer than two bytes of padding follow in the set.
+/// Those of [`dwarf_address_set`] up to the version, and 1 (`UnexpectedEof`) behind the version if
+/// fewer than two bytes of padding follow in the set.
 #[unsafe(no_mangle)]
 #[tactic(auto, using(crate::proofs::KnownErrors::known_str_offset_set))]
 pub extern "C" fn dwarf_str_offset_set(

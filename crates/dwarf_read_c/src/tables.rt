@@ -9,8 +9,8 @@ ghost use Rattle.dwarf_read_c.specs.Room.{Fills};
 ghost use Rattle.dwarf_read_c.specs.Sections.{section_of};
 ghost use Rattle.dwarf_read_c.specs.Tables.{LacksRoom, Measures, abbreviations_of, attribute_of, attributes_of, measure_of};
 
-use crate::fault::{DwarfFault, reject};
 use crate::status::{DWARF_NO_ROOM, DWARF_OK};
+use dwarf_fault::{DwarfFault, reject};
 use dwarf_read_core::{
     Abbreviations, AttributeSpecification, DebugAbbrev, DebugAbbrevOffset, Error, LittleEndian,
 };
@@ -64,11 +64,11 @@ pub struct DwarfAttribute {
 ///
 /// If the bytes from `offset` on don't begin with a table, their first error:
 ///
-/// - 1 (`UnexpectedEof`) at 0 if `offset` is past the end, and at the section's end if a declaration
-///   is cut short;
+/// - 1 (`UnexpectedEof`) at 0 if `offset` is past the end, and at the section's end if a
+///   declaration is cut short;
 /// - 2 or 3 (`BadUnsignedLeb128`, `BadSignedLeb128`) for a number that is too long or out of range;
-/// - 4 to 7 for a field that no declaration has: a tag of 0, a byte for children other than 0 and 1,
-///   a name of 0 with a form other than 0, or a form of 0 with another name;
+/// - 4 to 7 for a field that no declaration has: a tag of 0, a byte for children other than 0 and
+///   1, a name of 0 with a form other than 0, or a form of 0 with another name;
 /// - 8 (`DuplicateAbbreviationCode`) for a whole declaration with the code of an earlier one.
 ///
 /// 18 (`OutOfMemory`) if memory for the table runs out.
@@ -101,8 +101,8 @@ pub extern "C" fn dwarf_table_measure(
 /// and the attributes of all of them in the same order. `measure` is what [`dwarf_table_measure`]
 /// writes. The call doesn't change the places behind them.
 ///
-/// If there are fewer places than abbreviations or attributes, only `measure` is written, and the call
-/// returns `DWARF_NO_ROOM`.
+/// If there are fewer places than abbreviations or attributes, only `measure` is written, and the
+/// call returns `DWARF_NO_ROOM`.
 ///
 /// # Errors
 ///

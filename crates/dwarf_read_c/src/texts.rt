@@ -5,9 +5,9 @@ ghost use Rattle.dwarf_read_core.specs.ErrorText.{error_text};
 ghost use Rattle.dwarf_read_c.specs.Fault.{error_from};
 ghost use Rattle.dwarf_read_c.specs.Names.{PutsName};
 
-use crate::fault::DwarfFault;
 use crate::room::put;
 use crate::status::{DWARF_NO_NAME, DWARF_OUT_OF_MEMORY};
+use dwarf_fault::DwarfFault;
 use dwarf_read_core::{DwChildren, Error, ReaderOffsetId};
 use std::alloc::Global;
 

@@ -1,7 +1,10 @@
-//! Errors as numbers.
+//! Errors as numbers, as programs in C see them. The static libraries `dwarf_read_c` and
+//! `dwarf_compare` share this, since no crate can use a static library.
+
+#![tactic(auto)]
 
 ghost use Rattle.std.specs.Prelude.{◌≡◌, ◌<◌};
-ghost use Rattle.dwarf_read_c.specs.Fault.{fault_of, kind_of};
+ghost use Rattle.dwarf_fault.specs.Fault.{fault_of, kind_of};
 
 use dwarf_read_core::{DwChildren, Error, ReaderOffsetId};
 
@@ -16,8 +19,8 @@ pub struct DwarfFault {
     pub value: u64,
 }
 
-// Returns the number and the value of an error. The header has the list of numbers.
-fn fault_of(error: Error) -> DwarfFault
+/// Returns the number and the value of an error. `include/dwarf_read.h` has the list of numbers.
+pub fn fault_of(error: Error) -> DwarfFault
     ensures reported { result ≡ fault_of error }
     ensures nonzero { 0 < result.kind }
 {
@@ -46,8 +49,8 @@ fn fault_of(error: Error) -> DwarfFault
     DwarfFault { kind, value }
 }
 
-// Writes the error of a call, and returns its number.
-pub(crate) fn reject(error: Error, fault: &mut DwarfFault) -> u32
+/// Writes the error of a call, and returns its number.
+pub fn reject(error: Error, fault: &mut DwarfFault) -> u32
     ensures reported { fault.new ≡ fault_of error }
     ensures status { result ≡ kind_of error }
     ensures nonzero { 0 < result }
