@@ -62,11 +62,6 @@ OTHERS = (
     (b"!<arch>\n", "an archive, whose members are to be extracted first"),
     (b"!<thin>\n", "a thin archive, which names the files with its members"),
     (b"MZ", "a PE file"),
-    (b"\xce\xfa\xed\xfe", "a Mach-O file"),
-    (b"\xcf\xfa\xed\xfe", "a Mach-O file"),
-    (b"\xfe\xed\xfa", "a Mach-O file"),
-    (b"\xca\xfe\xba\xbe", "a Mach-O file for several machines, or a Java class"),
-    (b"\0asm", "a WebAssembly file"),
 )
 
 

@@ -40,8 +40,8 @@ def put(path, content):
 
 
 def run(words, each=None, **how):
-    """Runs a command without input, in a session of its own, and returns the finished process with what it wrote to both
-    outputs. `each` is called with each line as it is read. If this run ends early, so does the command."""
+    """Runs a command without input, in a session of its own, and returns the finished process with what it wrote to
+    both outputs. `each` is called with each line as it is read. If this run ends early, so does the command."""
     how = {"stdin": subprocess.DEVNULL, "stdout": subprocess.PIPE, "stderr": subprocess.STDOUT, **how}
     if IS_STOPPED.is_set():
         raise InterruptedError
@@ -139,11 +139,6 @@ def sources(crate, of_tests=None):
             yield name, text_of(path)
 
 
-def functions_in(crate, of_tests):
-    """How many functions the files of a crate have, those of its tests or the others."""
-    return sum(len(FN.findall(text)) for _, text in sources(crate, of_tests))
-
-
 def tests_in(crate):
     """How many tests the sources of a crate have."""
     return sum(len(TEST.findall(text)) for _, text in sources(crate))
@@ -155,32 +150,12 @@ def worked_cases():
     return sum(len(re.findall(r"^\$ dwarf_list\b", it, re.M)) for it in texts)
 
 
-def wrong_bodies():
-    """The files of wrong bodies, each behind its CRATE/NAME.edit: those that `rt ci` tries too, and the others."""
-    for folder in (f"{ROOT}/crates/*/must-fail", f"{ROOT}/wrong-bodies"):
-        for path in sorted(filter(os.path.isfile, glob.glob(f"{folder}/**", recursive=True))):
-            yield re.sub("^(?:crates|wrong-bodies)/|must-fail/", "", os.path.relpath(path, ROOT)), path
-
-
-@functools.cache
-def wrong_bodies_of_the_gate():
-    """Those that say that the gate tries them, by CRATE/NAME. Those of one function are neighbours."""
-    found = [(text_of(path).partition("\n")[0], name.removesuffix(".edit"), path) for name, path in wrong_bodies()]
-    return {name: path for first, name, path in sorted(found) if first.startswith("# refused in the gate by ")}
-
-
 def lanes(memory, others=0):
     """How many commands that take so much memory the machine has processors and room for, at least one. The second
     number is what all of them take together beside that."""
     processors = len(os.sched_getaffinity(0))
     free = int(re.search(r"MemAvailable:\s+(\d+) kB", text_of("/proc/meminfo"))[1]) * 1024
     return max(1, min(processors, (free - others) // memory))
-
-
-def build_unproved(crate):
-    """Builds the program that ./dwarf_list keeps, unless it is current. Returns 0 if it is there."""
-    words = [sys.executable, f"{ROOT}/tools/unproved.py", "--build", crate]
-    return run(words, stdout=subprocess.DEVNULL, stderr=None).returncode
 
 
 def programs(crate):
@@ -214,15 +189,3 @@ def build_libraries(crates):
             if ran.returncode:
                 return f"{it} is not proved:\n{ran.stdout.strip()[-2000:]}"
     return None
-
-
-def root_file(crate):
-    """The path of a crate's root file in its folder."""
-    return next(it for it in ("src/main.rt", "src/lib.rt") if os.path.isfile(f"{ROOT}/crates/{crate}/{it}"))
-
-
-def words(crate, jobs, as_source=False):
-    """The words behind `rattle check` or `rattle build` for a crate, in the folder of its sources. The front end alone
-    reads the sources of the libraries below, built or not."""
-    made = load_rt().rtlib.Crate(f"{ROOT}/crates/{crate}", ROOT, {})
-    return made.words(["--jobs", str(jobs)], as_source=as_source)

@@ -77,7 +77,8 @@ def find(name):
         there = last_built(name) or stop(f"{NO_KIT}, and no program is there")
         say(f"the program is older than the sources, and {NO_KIT}")
         return there
-    status = kit.build_unproved(name)
+    words = [sys.executable, f"{kit.ROOT}/tools/unproved.py", "--build", name]
+    status = kit.run(words, stdout=subprocess.DEVNULL, stderr=None).returncode
     if status not in (0, NOT_HERE):
         sys.exit(FAILED)
     return None if status else kit.programs(name)[1]
