@@ -22,13 +22,13 @@ static bool is_fault(struct dwarf_fault fault, uint32_t kind, uint64_t value) {
     return fault.kind == kind && fault.value == value;
 }
 
-/* The fault behind a call: with this status and value, or unchanged if there was no error. */
-static bool is_left(struct dwarf_fault fault, uint32_t status, uint64_t value) {
+/* Whether a call reported this status and value, or no error and left the fault unchanged. */
+static bool is_reported(struct dwarf_fault fault, uint32_t status, uint64_t value) {
     bool is_error = status != DWARF_OK && status < DWARF_NO_ROOM;
     return is_error ? is_fault(fault, status, value) : is_fault(fault, 7, 7);
 }
 
-/* Bytes; what reading the number returns and writes, and the value of the error. */
+/* Bytes; what reading the number returns and writes, and the value of the error. The first three are unsigned. */
 static const struct {
     const char *bytes;
     size_t len;
@@ -55,7 +55,7 @@ static void check_numbers(void) {
                                 : dwarf_sleb128(bytes, numbers[i].len, &signed_value, &len, &fault);
         check(status == numbers[i].status && len == numbers[i].number_len, "a number");
         check((i < 3 ? (int64_t)value : signed_value) == numbers[i].value, "its value");
-        check(is_left(fault, status, numbers[i].error), "its error");
+        check(is_reported(fault, status, numbers[i].error), "its error");
     }
     uint8_t bytes[4] = {7, 7, 7, 7};
     size_t len = 7;
@@ -158,7 +158,7 @@ static void check_worked_sets(set_call *call, const struct set_row *rows, size_t
         struct dwarf_set set = {7, 7, 7, 7, 7, 7};
         struct dwarf_fault fault = {7, 7};
         uint32_t status = call((const uint8_t *)sets, sizeof sets - 1, false, rows[i].offset, &set, &fault);
-        check(status == rows[i].status && is_left(fault, status, rows[i].error), "a worked set");
+        check(status == rows[i].status && is_reported(fault, status, rows[i].error), "a worked set");
         check(set.next == wanted->next && set.unit_length == wanted->unit_length, "its length");
         check(set.first_entry == wanted->first_entry && set.entry_count == wanted->entry_count, "its entries");
         check(set.word_size == wanted->word_size && set.entry_size == wanted->entry_size, "its sizes");
@@ -238,7 +238,7 @@ static void check_measures(void) {
         struct dwarf_measure measure = {7, 7, 7, 7};
         struct dwarf_fault fault = {7, 7};
         uint32_t status = dwarf_table_measure(table, sizeof table, measures[i].offset, &measure, &fault);
-        check(status == measures[i].status && is_left(fault, status, measures[i].error), "a measure");
+        check(status == measures[i].status && is_reported(fault, status, measures[i].error), "a measure");
         check(is_measure(measure, measures[i].measure), "its numbers");
     }
 }

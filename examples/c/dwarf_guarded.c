@@ -39,7 +39,7 @@ static const char *call = "no call";
 static unsigned long calls;
 static size_t used;
 /* Which of the next allocations fails, or 0 if none does. */
-static size_t refused;
+static size_t failing;
 
 static void die(const char *what) {
     printf("failed: %s: %s\n", call, what);
@@ -92,7 +92,7 @@ void rattle_dealloc(void *block);
 
 struct tried rattle_alloc(size_t size, size_t align) {
     size_t at = 0;
-    if (refused != 0 && --refused == 0) {
+    if (failing != 0 && --failing == 0) {
         struct tried none = {false, NULL};
         return none;
     }
@@ -300,21 +300,21 @@ static uint32_t write_text(const uint8_t *bytes, size_t len) {
 }
 
 /* Makes a call, and makes it again with its first allocation failing, then its second, and so on. */
-static void call_refused(allocating_call *allocating, const char *name, const uint8_t *bytes, size_t len) {
+static void call_failing(allocating_call *allocating, const char *name, const uint8_t *bytes, size_t len) {
     begin(name);
     uint32_t whole = allocating(bytes, len), status;
     end();
     size_t number = 0;
     do {
-        refused = ++number;
+        failing = ++number;
         begin(name);
         status = allocating(bytes, len);
         end();
-        if (status != whole && (refused != 0 || status != DWARF_OUT_OF_MEMORY)) {
+        if (status != whole && (failing != 0 || status != DWARF_OUT_OF_MEMORY)) {
             die("it has another status if an allocation fails");
         }
-    } while (refused == 0);
-    refused = 0;
+    } while (failing == 0);
+    failing = 0;
 }
 
 /* Makes all calls on a section, and on each beginning of it. */
@@ -336,9 +336,9 @@ static void call_on_cuts(const uint8_t *bytes, size_t len) {
             call_tables(given, cut, offset);
         }
     }
-    call_refused(measure_table, "dwarf_table_measure without memory", section.given, len);
-    call_refused(read_table, "dwarf_table_read without memory", section.given, len);
-    call_refused(write_text, "dwarf_fault_text without memory", section.given, len);
+    call_failing(measure_table, "dwarf_table_measure without memory", section.given, len);
+    call_failing(read_table, "dwarf_table_read without memory", section.given, len);
+    call_failing(write_text, "dwarf_fault_text without memory", section.given, len);
 }
 
 /*
