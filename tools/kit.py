@@ -21,6 +21,8 @@ ROOT = os.path.dirname(os.path.dirname(os.path.realpath(__file__)))
 PARTS = ("src", "specs", "proofs")
 # The kits that these scripts were written for. They have one logic, and prove the same.
 KITS = ("rattle-kit-13b logic dac8208d650f15bf", "rattle-kit-13f logic dac8208d650f15bf")
+# Where the gate's proofs keep what they have checked of each crate, if the gate runs.
+KEPT = os.environ.get("GATE_KEPT")
 # The commands that run, and whether no more may begin.
 RUNNING, IS_STOPPED = set(), threading.Event()
 TEST = re.compile(r"^ *#\[test\]", re.M)

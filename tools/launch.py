@@ -6,8 +6,8 @@
     python3 launch.py --version       prints the versions, and whether the programs are proved
 
 The proved program is run if it is current: none of the sources of its crate and of the crates below is newer. Else
-tools/unproved.py builds one, unless that is current. Where none can be kept, the kit compiles the sources for each
-result. Without the kit, a program that is there is run, also if it is older than the sources.
+tools/unproved.py builds one, unless that is current. Without the kit, a program that is there is run, also if it is
+older than the sources.
 """
 import signal
 
@@ -24,7 +24,7 @@ from contextlib import suppress
 sys.dont_write_bytecode = True
 import checks
 import kit
-from unproved import NOT_HERE, say
+from unproved import say
 
 # The programs, and for each the words of a run that prints little.
 PROGRAMS = {"dwarf_list": ["uleb", "0"], "dwarf_list_many": ["str", os.devnull, os.devnull]}
@@ -70,7 +70,7 @@ def last_built(name):
 
 
 def find(name):
-    """The program of a crate that is to be run, built if need be, or None if none can be kept."""
+    """The program of a crate that is to be run, built if need be."""
     if program := current(name):
         return program
     if not shutil.which("rt"):
@@ -78,46 +78,22 @@ def find(name):
         say(f"the program is older than the sources, and {NO_KIT}")
         return there
     words = [sys.executable, f"{kit.ROOT}/tools/unproved.py", "--build", name]
-    status = kit.run(words, stdout=subprocess.DEVNULL, stderr=None).returncode
-    if status not in (0, NOT_HERE):
+    if kit.run(words, stdout=subprocess.DEVNULL, stderr=None).returncode:
         sys.exit(FAILED)
-    return None if status else kit.programs(name)[1]
+    return kit.programs(name)[1]
 
 
 def run(name, words):
     program = find(name)
     if words == ["--path"]:
-        put(program or stop("there is no program for a script to run"))
-    elif program is None:
-        sys.exit(run_sources(name, words))
-    else:
-        if program.endswith(".unproved"):
-            say("this program is unproved; ./dwarf_list --prove builds a proved one")
-        # Python ignores these, and the program would too.
-        for it in (signal.SIGPIPE, signal.SIGXFSZ):
-            signal.signal(it, signal.SIG_DFL)
-        os.execv(program, [program, *words])
-
-
-def run_sources(name, words):
-    """Compiles and runs the sources. Returns the status, and passes on what the program itself prints."""
-    say("this result comes from the unproved sources, which are compiled for each result")
-    if name == "dwarf_list_many":
-        # This run is in the folder of the crate. Files are named behind the kind, and that may be behind an option.
-        first = 2 if words[0].startswith("--") else 1
-        words = words[:first] + [it if it == "-" else os.path.join(os.getcwd(), it) for it in words[first:]]
-    how = {"cwd": f"{kit.ROOT}/crates/{name}", "stdin": None, "stdout": None, "stderr": subprocess.PIPE}
-    tried = kit.run([*kit.unproved(), "--", *words], **how)
-    said = tried.stdout.splitlines()
-    if any(it.startswith("run=ended status=") for it in said):
-        for it in said:
-            if not it.startswith(("run=ended ", "checked: ended ")):
-                os.write(2, f"{it}\n".encode())
-        return tried.returncode
-    if any("the program wrote more than" in it for it in said):
-        stop("such a result has at most 1 MiB, and this one is longer")
-    os.write(2, "\n".join([*said[-20:], ""]).encode())
-    stop("the sources gave no result")
+        put(program)
+        return
+    if program.endswith(".unproved"):
+        say("this program is unproved; ./dwarf_list --prove builds a proved one")
+    # Python ignores these, and the program would too.
+    for it in (signal.SIGPIPE, signal.SIGXFSZ):
+        signal.signal(it, signal.SIG_DFL)
+    os.execv(program, [program, *words])
 
 
 # Proving.

@@ -1,4 +1,4 @@
-//! The examples of the documentation, each as it is there. `tools/doc-examples` compares them.
+//! The examples of the documentation, each as it is there. `tools/api` compares them.
 
 use super::worked::{STRINGS, TWO_SETS, UNIT};
 use super::{little, same};

@@ -1,25 +1,9 @@
-#!/usr/bin/env python3
-"""Compares the named constants with the tables of two producers of DWARF.
-
-    tools/compare-constants
-
-The tables are elfutils' dwarf.h (Debian's package libdw-dev) and LLVM's Dwarf.def (llvm-14-dev). A table that isn't
-installed is skipped, and a line on standard error says how to install it. The constants are those of
-include/dwarf_constants.h, which has what dwarf_const_core and dwarf_code_core declare (`tools/constants`). Those of the
-index of GDB aren't there, and neither table has them.
-
-A line is printed for each name with another value there, and one for each table with the numbers of names that are
-equal, that differ, and that one side alone has, since each list has names of makers that the others leave out. The last
-line says how many constants no table has. The exit status is 0 if no value differs, 1 if one does, and 2 if nothing
-could be compared.
-"""
+"""Compares the named constants with the tables of elfutils and LLVM."""
 import glob
 import re
-import sys
 
-sys.dont_write_bytecode = True
-import checks
 import kit
+from common import say
 
 COMMENT = re.compile(r"/\*.*?\*/|//[^\n]*", re.S)
 # An enumerator, or a macro whose value is a number or another name.
@@ -55,17 +39,14 @@ def values(rows):
     return found
 
 
-def main(words):
-    if words:
-        return checks.usage(__doc__, words)
+def constants(_given):
     header = values(of_enumerators(kit.text_of(f"{kit.ROOT}/include/dwarf_constants.h")))
     unseen, compared, differ = set(header), 0, 0
     for producer, place, package, read in TABLES:
         # The newest, if there are several.
         files = sorted(glob.glob(place), key=lambda it: [int(part) for part in re.findall(r"\d+", it)])
         if not files:
-            hint = f"`apt-get install {package}` installs it on Debian"
-            print(f"{producer}: skipped, since there is no {place}; {hint}", file=sys.stderr)
+            say(f"{producer} is skipped, since there is no {place}: `apt-get install {package}` installs it")
             continue
         there = values(read(kit.text_of(files[-1])))
         both = header.keys() & there.keys()
@@ -78,7 +59,3 @@ def main(words):
     skipped = len(TABLES) - compared
     print(f"{len(header)} constants, {len(unseen)} in no table; {compared} tables compared, {skipped} skipped")
     return 2 if not compared else 1 if differ else 0
-
-
-if __name__ == "__main__":
-    checks.run(main)
