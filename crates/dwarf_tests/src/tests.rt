@@ -1,14 +1,14 @@
-//! The public calls of dwarf_read_core, dwarf_listing_core and dwarf_uses, each by worked results.
+//! The public calls of dwarf_read_core and dwarf_uses, each by worked results.
 
 use dwarf_read_core::{
-    EndianSlice, Endianity, Error, HeaderFields, LittleEndian, Reader, ReaderOffsetId, Result,
+    EndianSlice, Endianity, HeaderFields, LittleEndian, Reader, ReaderOffsetId, Result,
     SetHeaderIter,
 };
 use std::alloc::Global;
 use std::fmt::Debug;
 use std::process::Abort;
 
-// The error that bytes are missing at a position, also in a constant, where no function can be called.
+// The error that bytes are missing at a position, also in a constant.
 macro_rules! eof {
     ($position:expr) => {
         dwarf_read_core::Error::UnexpectedEof(dwarf_read_core::ReaderOffsetId($position))
@@ -20,7 +20,6 @@ mod cache;
 mod callers;
 mod copies;
 mod examples;
-mod listing;
 mod names;
 mod owned;
 mod sections;
@@ -71,11 +70,6 @@ fn check_end<R: Reader, H: HeaderFields, W: Debug + Copy>(
 fn reader_at<E: Endianity>(bytes: &[u8], order: E, first: u8) -> EndianSlice<'_, E> {
     let bytes = &bytes[..bytes.len().min(1000)];
     EndianSlice::with_first_id(bytes, order, ReaderOffsetId(u64::from(first)))
-}
-
-// The error that bytes are missing at a position.
-fn eof(position: u64) -> Error {
-    eof!(position)
 }
 
 // A reader of these bytes, at position 0.

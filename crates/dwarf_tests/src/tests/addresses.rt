@@ -1,7 +1,7 @@
 //! Addresses by their index, and the sets of addresses.
 
 use super::worked::{CUT_SET, FOUR_ADDRESSES, TWO_SETS, twenty_words};
-use super::{check_end, eof, reader_at, same};
+use super::{check_end, reader_at, same};
 use dwarf_read_core::Error::{
     UnknownReservedLength, UnknownVersion, UnsupportedAddressSize, UnsupportedOffset,
     UnsupportedSegmentSize,
@@ -236,12 +236,12 @@ fn check_walk(rt: &impl Abort, mem: Global, bytes: &[u8], count: usize, end: Res
 fn cut(len: usize) -> (usize, Result<()>) {
     match len {
         0 => (0, Ok(())),
-        1..=3 => (0, Err(eof(0))),
-        4..=15 => (0, Err(eof(4))),
+        1..=3 => (0, Err(eof!(0))),
+        4..=15 => (0, Err(eof!(4))),
         16 => (2, Ok(())),
-        17..=19 => (2, Err(eof(16))),
-        20..=27 => (2, Err(eof(20))),
-        28..=47 => (2, Err(eof(28))),
+        17..=19 => (2, Err(eof!(16))),
+        20..=27 => (2, Err(eof!(20))),
+        28..=47 => (2, Err(eof!(28))),
         _ => (4, Ok(())),
     }
 }

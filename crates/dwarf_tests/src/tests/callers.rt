@@ -1,7 +1,7 @@
 //! The small callers, on worked sections.
 
 use super::worked::{FOUR_ADDRESSES, STRINGS, THREE, TWO_SETS, UNIT};
-use super::{check_bytes, eof, little, same};
+use super::{check_bytes, little, same};
 use dwarf_read_core::constants::{DW_TAG_compile_unit, DwTag};
 use dwarf_read_core::{
     Abbreviations, AddrHeader, DebugAbbrev, DebugAbbrevOffset, DebugAddr, DebugStr,
@@ -68,7 +68,7 @@ fn tables_are_walked(rt: HostRuntime) {
     let two = check_two(&rt, rt.alloc(), &little(THREE).into());
     same(&rt, two, Ok(()), "two tables");
     let behind = check_two(&rt, rt.alloc(), &little(UNIT).into());
-    same(&rt, behind, Err(eof(9)), "a number is cut behind a table");
+    same(&rt, behind, Err(eof!(9)), "a number is cut behind a table");
 }
 
 const OFFSETS: &[u8] = b"\x0c\0\0\0\x05\0\0\0\0\0\0\0\x04\0\0\0";

@@ -126,16 +126,9 @@ where
     Ok(())
 }
 
-fn print_sets<R: Reader>(rt: &impl Print, addresses: R, offsets: R) -> std::result::Result<(), Fail>
-where
-    R::Offset: Display,
-{
-    print_addresses(rt, &addresses.into())?;
-    print_offsets(rt, &offsets.into())
-}
-
 #[test]
 fn examples_of_sets(rt: HostRuntime) -> std::result::Result<(), Fail> {
     let offsets = b"\x08\0\0\0\x05\0\0\0\x04\0\0\0";
-    print_sets(&rt, little(TWO_SETS), little(offsets))
+    print_addresses(&rt, &little(TWO_SETS).into())?;
+    print_offsets(&rt, &little(offsets).into())
 }

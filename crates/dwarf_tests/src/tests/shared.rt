@@ -1,6 +1,6 @@
 //! The shared reader: a clone goes on over the bytes when the reader itself is dropped.
 
-use super::{eof, same};
+use super::same;
 use dwarf_read_core::{Reader, ReaderOffset, Result, RunTimeEndian, read_u8_array};
 use dwarf_uses::SharedReader;
 use std::process::Abort;
@@ -15,7 +15,7 @@ fn clone_of<R: Reader>(reader: R) -> Result<R> {
 fn check_second<R: Reader>(rt: &impl Abort, reader: &mut R) -> Result<()> {
     reader.skip(R::Offset::from_u8(4))?;
     check_two(rt, &mut reader.read_null_terminated_slice()?)?;
-    same(rt, reader.read_u8().err(), Some(eof(8)), "behind two");
+    same(rt, reader.read_u8().err(), Some(eof!(8)), "behind two");
     Ok(())
 }
 

@@ -4,7 +4,7 @@ use super::worked::{
     Attribute, BARE, CLOSED_TABLE, Declaration, ENDED, ENDED_TABLE, FIVE, IMPLICIT, LONG, MANY,
     MANY_TABLE, NAME, NO_TABLE, SIX, THREE, Table, UNIT, UNIT_TABLE,
 };
-use super::{end_requests, eof, reader_at, same};
+use super::{end_requests, reader_at, same};
 use dwarf_read_core::Error::{
     self, AbbreviationTagZero, AttributeFormZero, AttributeNameZero, BadSignedLeb128,
     BadUnsignedLeb128, DuplicateAbbreviationCode, InvalidAbbreviationChildren, OutOfMemory,
@@ -217,7 +217,7 @@ fn length_at(mem: Global, bytes: &[u8]) -> Result<(usize, bool, usize)> {
 fn cut_tables_end_early(rt: HostRuntime) {
     for (bytes, whole) in CUTS {
         for len in 0..bytes.len() + 1 {
-            let mut wanted = Err(eof(100 + len as u64));
+            let mut wanted = Err(eof!(100 + len as u64));
             for (whole_len, table) in *whole {
                 if *whole_len == len {
                     wanted = Ok(*table);

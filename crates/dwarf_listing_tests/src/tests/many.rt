@@ -1,10 +1,9 @@
 //! Whole runs over tables and strings, with enough memory and with failed allocations, and inputs and outputs that
 //! fail.
 
-use super::super::worked::{ENDED, STRINGS};
 use super::arguments::Given;
-use super::end_requests;
 use super::ends::Failing;
+use super::{STRINGS, end_requests};
 use dwarf_listing_core::arguments::Kind::{Strings, Tables};
 use dwarf_listing_core::arguments::OnError::{GoOn, Stop};
 use dwarf_listing_core::arguments::{Kind, OnError, parse_arguments};
@@ -18,22 +17,17 @@ use std::io::{ErrorKind, Write};
 use std::process::Abort;
 use std::test::Fail;
 
+type Bytes = &'static [u8];
+
 // A section, its offsets, what is written, and how the run ends.
-type Run = (
-    OnError,
-    Kind,
-    &'static [u8],
-    &'static [u8],
-    &'static [u8],
-    Result<bool, ManyFault>,
-);
+type Run = (OnError, Kind, Bytes, Bytes, Bytes, Result<bool, ManyFault>);
 
 #[rattlefmt::skip]
 const THREE_STRINGS: Run = (Stop, Strings, STRINGS, b"4\n0\n0008", b"0x4: two\n0x0: one\n0x8: \n", Ok(false));
 
 #[rattlefmt::skip]
 const TABLES: Run = (
-    Stop, Tables, ENDED, b"0\n5\n6\n", b"table 0x0:\n1 DW_TAG_compile_unit no\ntable 0x5:\n",
+    Stop, Tables, b"\x01\x11\0\0\0", b"0\n5\n6\n", b"table 0x0:\n1 DW_TAG_compile_unit no\ntable 0x5:\n",
     Err(ManyFault::At(6, Error::UnexpectedEof(ReaderOffsetId(0)))),
 );
 

@@ -4,18 +4,13 @@ use super::{Row, TEXTS, check, check_outcome, words};
 use dwarf_listing_core::run::run;
 use std::alloc::Global;
 use std::io;
+use std::io::ErrorKind::{Other, OutOfMemory, TimedOut, UnexpectedEof, WouldBlock};
 use std::io::{ErrorKind, Read, Write};
 use std::process::Abort;
 use std::test::Fail;
 
 // A call may fail with any kind of error, also with one for memory.
-static KINDS: &[ErrorKind] = &[
-    ErrorKind::Other,
-    ErrorKind::OutOfMemory,
-    ErrorKind::TimedOut,
-    ErrorKind::UnexpectedEof,
-    ErrorKind::WouldBlock,
-];
+static KINDS: &[ErrorKind] = &[Other, OutOfMemory, TimedOut, UnexpectedEof, WouldBlock];
 
 // A reader or writer of one byte a call, which fails after so many calls. Each of these is interrupted before.
 #[derive(Drop)]

@@ -1,7 +1,5 @@
 //! Whole runs: what is written for arguments and an input, and how an error is reported.
 
-use super::end_requests;
-use super::worked::{STRINGS, UNIT};
 use dwarf_listing_core::fault::Fault;
 use dwarf_listing_core::run::run;
 use std::alloc::{AllocError, Global};
@@ -16,7 +14,13 @@ mod many;
 
 const CUT: &str = "error: unexpected end of input";
 
+// A declaration with one attribute and children, a code of value 0, and a byte behind it.
+const UNIT: &[u8] = b"\x01\x11\x01\x03\x08\0\0\0\xff";
+
 const UNIT_TEXT: &[u8] = b"1 DW_TAG_compile_unit yes\n  DW_AT_name DW_FORM_string\n";
+
+// Three strings, the last of them empty.
+const STRINGS: &[u8] = b"one\0two\0\0";
 
 const SET: &[u8] = b"set 0: length 8, 32-bit, address size 4\n  0x12345678\n";
 
@@ -106,4 +110,12 @@ fn refused_memory_for_each_command(rt: HostRuntime) -> Result<(), Fail> {
     }
     end_requests(&rt, rt.alloc());
     Ok(())
+}
+
+// Makes the last allocation of a test whose allocations `tools/fail-alloc` makes fail in turn. If it fails, each one
+// before it failed in an earlier run of the test.
+fn end_requests(rt: &impl Print, mem: Global) {
+    if Vec::from_slice(mem, &[0u8]).is_err() {
+        let _ = println!(rt; "every request was refused");
+    }
 }

@@ -1,7 +1,6 @@
 //! Sections that are cut at each byte, and a long one.
 
-use super::super::worked::{IMPLICIT, THREE, TWO_SETS, UNIT};
-use super::{CUT, UNIT_TEXT, check};
+use super::{CUT, UNIT, UNIT_TEXT, check};
 use std::test::Fail;
 
 const CONSTANT: &[u8] = b"1 DW_TAG_subprogram no\n  DW_AT_name DW_FORM_implicit_const -42\n";
@@ -13,6 +12,12 @@ const TWO_UNITS: &[u8] = b"1 DW_TAG_compile_unit no\n3 DW_TAG_compile_unit no\n"
 const THREE_UNITS: &[u8] =
     b"1 DW_TAG_compile_unit no\n2 DW_TAG_compile_unit no\n3 DW_TAG_compile_unit no\n";
 
+// Two sets of two addresses each, one in the 32-bit and one in the 64-bit format.
+const TWO_SETS: &[u8] = b"\
+    \x0c\0\0\0\x05\0\x04\0\x78\x56\x34\x12\xef\xbe\xad\xde\
+    \xff\xff\xff\xff\x14\0\0\0\0\0\0\0\x05\0\x08\0\
+    \xf0\xde\xbc\x9a\x78\x56\x34\x12\xef\xbe\xad\xde\xef\xbe\xad\xde";
+
 const FIRST_SET: &[u8] = b"set 0: length 12, 32-bit, address size 4\n  0x12345678\n  0xdeadbeef\n";
 
 const BOTH_SETS: &[u8] = b"\
@@ -23,8 +28,9 @@ const BOTH_SETS: &[u8] = b"\
 #[rattlefmt::skip]
 static CUTS: &[(&[&str], &[u8], &[(usize, &[u8])])] = &[
     (&["abbrev", "0"], UNIT, &[(0, b""), (7, UNIT_TEXT), (8, UNIT_TEXT), (9, UNIT_TEXT)]),
-    (&["abbrev", "0"], IMPLICIT, &[(0, b""), (8, CONSTANT), (9, CONSTANT)]),
-    (&["abbrev", "0"], THREE, &[(0, b""), (5, ONE_UNIT), (10, TWO_UNITS), (15, THREE_UNITS), (16, THREE_UNITS)]),
+    (&["abbrev", "0"], b"\x01\x2e\0\x03\x21\x56\0\0\0", &[(0, b""), (8, CONSTANT), (9, CONSTANT)]),
+    (&["abbrev", "0"], b"\x01\x11\0\0\0\x03\x11\0\0\0\x02\x11\0\0\0\0",
+        &[(0, b""), (5, ONE_UNIT), (10, TWO_UNITS), (15, THREE_UNITS), (16, THREE_UNITS)]),
     (&["addr", "le"], TWO_SETS, &[(0, b""), (16, FIRST_SET), (48, BOTH_SETS)]),
 ];
 
