@@ -75,7 +75,7 @@ fn a_bad_line_ends_the_run(rt: HostRuntime) -> Result<(), Fail> {
 
 // Arguments, and what they name.
 type Named = (
-    &'static [&'static [u8]],
+    &'static [Bytes],
     Option<(OnError, Kind, &'static str, &'static str)>,
 );
 
