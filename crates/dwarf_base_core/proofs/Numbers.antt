@@ -7,7 +7,7 @@ use Rattle.std.proofs.lemmas.List.{append-nil, drop-replicate, drop_all, length-
 use Rattle.std.specs.Int.{byte_at, bytes_high_first, bytes_low_first}
 use Rattle.dwarf_base_core.specs.Number.{big_number, little_number, number_in_base}
 
--- the number of joined digits is that of the first and, behind their places, that of the others
+-- the number of joined digits is that of the first and, after their places, that of the others
 pub number_in_base-append : (base : ℕ) (xs ys : List ℕ)
     → number_in_base base (xs ++ ys) ≡ number_in_base base xs + base ^ length xs * number_in_base base ys
 number_in_base-append base [] ys = rw (pow-zero base) (omega arith)
@@ -92,12 +92,12 @@ little_number-written k n written rest fits is =
     ap little_number (whole ∙ is) ∙ little_number-bytes_low_first 0 k n ∙ ap (λ (m : ℕ). m % 256 ^ k) (div-one n)
     ∙ mod-eq_of_lt fits
 
--- zeros in front of the highest byte don't change the number
+-- zeros before the highest byte don't change the number
 pub big_number-zeros : (n : ℕ) (xs : List ℕ) → big_number (replicate n 0 ++ xs) ≡ big_number xs
 big_number-zeros zero xs = refl
 big_number-zeros (suc n) xs = big_number-cons 0 (replicate n 0 ++ xs) ∙ rw (big_number-zeros n xs) (omega arith)
 
--- zeros behind the highest byte don't change the number
+-- zeros after the highest byte don't change the number
 pub little_number-zeros : (n : ℕ) (xs : List ℕ) → little_number (xs ++ replicate n 0) ≡ little_number xs
 little_number-zeros n xs = number_in_base-append 256 xs (replicate n 0) ∙ rw (number_in_base-zeros 256 n) (omega arith)
 

@@ -19,7 +19,7 @@ initial_length_size Dwarf64 = 12
 abbrev pub str_offsets_header_size : Format → ℕ
 str_offsets_header_size format = initial_length_size format + 2 + 2
 
--- where the string offsets begin if a unit has no base: behind the header in a split object from version 5 on
+-- where the string offsets begin if a unit has no base: after the header in a split object from version 5 on
 abbrev pub default_str_offsets_base : ℕ → Format → DwarfFileType → ℕ
 default_str_offsets_base version format Main = 0
 default_str_offsets_base version format Dwo = if nat_le 5 version then str_offsets_header_size format else 0

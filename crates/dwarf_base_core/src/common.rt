@@ -240,7 +240,7 @@ pub struct DebugStrOffsetsIndex<T>(pub T);
 #[derive(Debug, Clone, Copy, PartialEq, Eq, PartialOrd, Ord, Hash)]
 pub struct DebugTypesOffset<T>(pub T);
 
-/// The signature of 8 bytes that a type unit has, and by which other units refer to its type.
+/// The signature of 8 bytes that a type unit has. Other units refer to its type by it.
 #[derive(Debug, Clone, Copy, PartialEq, Eq, Hash)]
 pub struct DebugTypeSignature(pub u64);
 
@@ -420,7 +420,7 @@ impl SectionId {
     }
 }
 
-/// The identifier of 8 bytes by which a skeleton unit and its split unit find each other.
+/// The identifier of 8 bytes that a skeleton unit and its split unit have in common.
 #[derive(Debug, Clone, Copy, PartialEq, Eq, Hash)]
 pub struct DwoId(pub u64);
 

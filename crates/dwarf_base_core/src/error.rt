@@ -190,7 +190,7 @@ pub enum Error {
 /// The result of a read.
 pub type Result<T> = std::result::Result<T, Error>;
 
-// The text of an error: a number is written behind its first part.
+// The text of an error: a number is written after its first part.
 enum Text {
     Plain(&'static str),
     Decimal(&'static str, u64),

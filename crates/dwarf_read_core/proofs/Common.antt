@@ -40,32 +40,20 @@ pub use Rattle.dwarf_reader_core.specs.Appended.{followed_by, IsNotEof}
 pub use Rattle.dwarf_reader_core.specs.Faults.{IsTooShort, end_fault, is_number_size, HasNoByte, RejectsWord, CloneRanOutOfMemory}
 pub use Rattle.dwarf_reader_core.specs.Faults.{RejectsAddress, eof}
 pub use Rattle.dwarf_reader_core.specs.Input.{Input, first, Takes, after, TakesNumber, TakesString, end_of}
-pub use Rattle.dwarf_reader_core.specs.Layout.{Layout, part, fixed, pure, AreItems, none, more}
-unfoldable pub use Rattle.dwarf_reader_core.specs.Layout.{read, check}
 pub use Rattle.dwarf_reader_core.specs.Leb128.{Kind, Number, IsEncoding, NoneIsLast, IsNumber, IsMalformed, unsigned64}
 pub use Rattle.dwarf_reader_core.specs.Leb128.{unsigned16, signed64, overflow_error, limit, value, is_in_range, HasNumber}
 pub use Rattle.dwarf_reader_core.specs.Leb128.{IsTruncated, ReadsNumber, RejectsNumber}
 pub use Rattle.dwarf_reader_core.specs.Once.{HasOne}
-pub use Rattle.dwarf_reader_core.proofs.Layouts.{At_failed, ReadsAs_value, ReadsAs_error, after_part, no_part, part_reads}
-pub use Rattle.dwarf_reader_core.proofs.Layouts.{part_fails, Outcome, number_reads, number_fails, rest-length}
-pub use Rattle.dwarf_reader_core.proofs.Layouts.{takes-both, ReadsAs_more, At_read, string_reads, string_fails, then_read}
-pub use Rattle.dwarf_reader_core.proofs.Layouts.{part_read, then_reads, then_fails, error_is, after_check, no_check}
-pub use Rattle.dwarf_reader_core.proofs.Layouts.{TakesLeast, spans_least, number_spans, pure_spans, check_spans}
-pub use Rattle.dwarf_reader_core.proofs.Layouts.{then_spans, pure_reads, after_number, no_number, read_more}
-pub use Rattle.dwarf_reader_core.proofs.Layouts.{error_more, after_inside, Spans, spanned, fail_spans}
-pub use Rattle.dwarf_reader_core.proofs.Layouts.{number_read, number_failed, byte_read, byte_failed, check_read}
-pub use Rattle.dwarf_reader_core.proofs.Layouts.{check_failed, pure_failed, part_failed, inside_failed, then_failed}
-pub use Rattle.dwarf_reader_core.proofs.Layouts.{when_spans, part_spans, inside_spans, inside_read, pure_read}
+pub use Rattle.dwarf_reader_core.proofs.Consuming.{rest-length, takes-both}
 pub use Rattle.dwarf_read_core.specs.Answer.{Answer, IsFinal, IsFirstError, HasError, number_cut, number_bad, children_cut}
 pub use Rattle.dwarf_read_core.specs.Answer.{tag_zero, children_bad, name_zero, form_zero, in_declaration, repeated}
 pub use Rattle.dwarf_read_core.specs.Answer.{outside, table, first_error, Answers, TakesNoMemory, IsBeginning, before_code}
 pub use Rattle.dwarf_read_core.specs.Answer.{before_tag, before_name, before_form, before_value, strictly}
 pub use Rattle.dwarf_read_core.specs.Answer.{StrictAnswer, AnswersStrictly, IsStrictlyFinal}
 pub use Rattle.dwarf_read_core.specs.Cache.{KeepsAnswers, occurrences, Cache, answer_of, kept_at}
-pub use Rattle.dwarf_read_core.specs.Cache.{shown_entries, is_final, still_kept, IsFaithful, HasFirstItem, KeepsNoOutOfMemory}
+pub use Rattle.dwarf_read_core.specs.Cache.{shown_entries, is_final, StillKept, IsFaithful, HasFirstItem, KeepsNoOutOfMemory}
 pub use Rattle.dwarf_read_core.specs.Cache.{least_count}
 pub use Rattle.dwarf_read_core.specs.Entries.{Entries, RepresentsAddresses, RepresentsStringOffsets}
-unfoldable pub use Rattle.dwarf_read_core.specs.Entries.{string_offset}
 pub use Rattle.dwarf_read_core.specs.Grammar.{Table, by_null, by_end, Declaration, closed, implicit_const}
 pub use Rattle.dwarf_read_core.specs.Grammar.{IsTable, IsTableBefore, closed_by_null, closed_by_end, Declares, AreDistinct}
 pub use Rattle.dwarf_read_core.specs.Grammar.{by_code_of, Specification, Sequence, IsSpecification, IsNull, IsFront}
@@ -79,7 +67,6 @@ unfoldable pub use Rattle.dwarf_read_core.specs.Reading.{attributes_in, declared
 unfoldable pub use Rattle.dwarf_read_core.specs.Reading.{specification_at, value_at, number_at, attributes_at}
 unfoldable pub use Rattle.dwarf_read_core.specs.Reading.{children_at, encoding_at, table_at}
 pub use Rattle.dwarf_read_core.specs.Sections.{debug_abbrev_reader}
-pub use Rattle.dwarf_read_core.specs.Sets.{HasSize, Headers, Set, RepresentsSets, followed_headers}
-unfoldable pub use Rattle.dwarf_read_core.specs.Sets.{address_header, string_offsets_header}
+pub use Rattle.dwarf_read_core.specs.Sets.{Headers, Set, RepresentsSets, followed_headers}
 pub use Rattle.dwarf_read_core.proofs.ResultLemmas.{HasOutcome, returned, failed, outcome-bind, outcome-map}
 pub use Rattle.dwarf_read_core.proofs.ResultLemmas.{gives_err, outcome-cond, outcome-ok}

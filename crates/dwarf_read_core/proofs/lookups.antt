@@ -2,4 +2,4 @@
 pub mod Strings
 pub mod Ranges
 pub mod Words
-pub mod SlotOutcomes
+pub mod Parts

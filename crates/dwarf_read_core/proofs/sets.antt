@@ -1,8 +1,6 @@
--- Proofs about sets, their entries, and the iterators over them.
+-- Proofs about sets, their headers and entries, and the iterators over them.
 pub mod ItemLists
 pub mod IteratorsEnd
-pub mod SetBytes
-pub mod HeaderBytes
-pub mod EntryBytes
 pub mod Sets
+pub mod Places
 pub mod Entries

@@ -10,8 +10,10 @@ pub mod TablesAreRead
 pub mod ExactlyOneAnswer
 pub mod AppendedBytes
 pub mod StrictAnswers
+pub mod TableEnds
 pub mod TableBounds
 pub mod VectorAndMap
 pub mod OthersByCode
 pub mod EqualDeclarations
 pub mod AttributeValues
+pub mod TableErrors

@@ -54,7 +54,17 @@ pub data Answer (section : Input) (offset : ℕ) : Result Table Error → Type 0
       → IsFirstError (end_of section) (drop offset section.bytes) e
       → Answer section offset (Err e)
 
--- where the table at the first offset ends: the second offset is behind the code of value 0 that closes the table, or
+-- the errors that a section can have in place of a table
+pub data IsTableError : Error → Type 0 where
+  missing_bytes : (position : ℕ) → IsTableError (eof position)
+  bad_number : (k : Kind) → IsTableError (overflow_error k)
+  zero_tag : IsTableError AbbreviationTagZero
+  bad_children : (byte : ℕ) → IsTableError (InvalidAbbreviationChildren (record { 0 = byte }))
+  zero_name : IsTableError AttributeNameZero
+  zero_form : IsTableError AttributeFormZero
+  same_code : (code : ℕ) → IsTableError (DuplicateAbbreviationCode code)
+
+-- where the table at the first offset ends: the second offset is after the code of value 0 that closes the table, or
 -- at the section's end
 abbrev pub TableEndsAt : Input → ℕ → Table → ℕ → Type 0
 TableEndsAt section offset t end =

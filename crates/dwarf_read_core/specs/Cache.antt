@@ -1,5 +1,5 @@
 -- What a cache of abbreviation tables keeps.
-use Rattle.std.specs.Prelude.{◌≡◌, ◌≢◌, ◌==◌, ℕ, ◌<◌, ◌≤◌, Bool, true, false, if◌then◌else◌, List, map, option_map, count_by, Option, Some, None, MatchOption, IfSome, Result, Ok, Err, MatchResult, ⊤}
+use Rattle.std.specs.Prelude.{◌≡◌, ◌≢◌, ◌==◌, ℕ, ◌<◌, ◌≤◌, Bool, true, false, List, map, option_map, count_by, Option, Some, None, MatchOption, IfSome, Result, Ok, Err, MatchResult, ⊤, ◌⊎◌}
 use Rattle.std.specs.BTreeMap.{is_at}
 use Rattle.std.specs.FinMap as finite
 use Rattle.std.specs.Iterator.{YieldsThen}
@@ -9,7 +9,7 @@ use Rattle.std.specs.declared.rc.Rc.{Rc}
 use Rattle.dwarf_base_core.specs.declared.error.Error.{Error}
 use Rattle.dwarf_base_core.specs.declared.error.Error.TheVariants.{OutOfMemory, UnexpectedEof}
 use Rattle.dwarf_reader_core.specs.Input.{Input}
-use Rattle.dwarf_read_core.specs.Answer.{Answer}
+use Rattle.dwarf_read_core.specs.Answer.{Answer, IsFinal}
 use Rattle.dwarf_read_core.specs.Grammar.{Table, is_by_null}
 use Rattle.dwarf_read_core.specs.declared.read.abbrev.cache.AbbreviationsCacheStrategy.{AbbreviationsCacheStrategy}
 use Rattle.dwarf_read_core.specs.declared.read.abbrev.cache.AbbreviationsCacheStrategy.TheVariants.{Duplicates, All}
@@ -55,7 +55,7 @@ abbrev pub IsFaithful : Cache → Input → Type 0
 IsFaithful cache section =
     (is_big : Bool) (key : ℕ) → IfSome (finite.get cache key) (Answer (record section { is_big = is_big }) key)
 
--- what comes behind the items: nothing, or an error that isn't `OutOfMemory`
+-- what comes after the items: nothing, or an error that isn't `OutOfMemory`
 abbrev pub EndsItems : {T : Type 0} → Option (Result T Error) → Type 0
 EndsItems None = ⊤
 EndsItems (Some item) = MatchResult item (λ _. ⊥) (λ e. e ≢ OutOfMemory)
@@ -88,14 +88,14 @@ ReturnsKept kept result =
     MatchResult kept (λ table. MatchResult result (λ shared. shared.value ≡ table) (λ e. e ≡ OutOfMemory))
     (λ e. (result ≡ Err e) × (e ≢ OutOfMemory))
 
--- whether appended bytes leave a result unchanged: a table that a code of value 0 closes, or an error except
--- `UnexpectedEof`
+-- whether a result is final, as a test
 abbrev pub is_final : Result Table Error → Bool
 is_final (Ok t) = is_by_null t.close
 is_final (Err (UnexpectedEof _)) = false
 is_final (Err _) = true
 
--- what a cache keeps of an entry once the section has grown
-abbrev pub still_kept : Option (Result Table Error) → Option (Result Table Error)
-still_kept None = None
-still_kept (Some answer) = if is_final answer then Some answer else None
+-- what a cache keeps of an entry once the section has grown: the entry if appended bytes leave it unchanged, and else
+-- nothing
+abbrev pub StillKept : Option (Result Table Error) → Option (Result Table Error) → Type 0
+StillKept None new = new ≡ None
+StillKept (Some answer) new = (IsFinal answer × (new ≡ Some answer)) ⊎ ((IsFinal answer → ⊥) × (new ≡ None))

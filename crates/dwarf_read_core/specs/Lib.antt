@@ -11,7 +11,6 @@ pub mod Ranges
 pub mod Reading
 pub mod Sections
 pub mod Sets
-pub mod SetBytes
 pub mod Strings
 pub mod Views
 pub mod Words
@@ -23,9 +22,9 @@ pub use Rattle.dwarf_const_core.specs.DwForm
 pub use Rattle.dwarf_const_core.specs.DwTag
 pub use Rattle.dwarf_reader_core.specs.Appended
 pub use Rattle.dwarf_reader_core.specs.Faults
+pub use Rattle.dwarf_reader_core.specs.Headers
 pub use Rattle.dwarf_reader_core.specs.InitialLength
 pub use Rattle.dwarf_reader_core.specs.Input
-pub use Rattle.dwarf_reader_core.specs.Layout
 pub use Rattle.dwarf_reader_core.specs.Leb128
 pub use Rattle.dwarf_reader_core.specs.Once
 pub use Rattle.dwarf_reader_core.specs.Shortest

@@ -1,4 +1,4 @@
--- Functions that read tables from the front of bytes. Each returns what it read and the bytes behind it, or the first
+-- Functions that read tables from the front of bytes. Each returns what it read and the bytes after it, or the first
 -- error.
 use Rattle.std.specs.Prelude.{◌≡◌, ◌≢◌, ℕ, zero, suc, ◌+◌, Bool, true, false, ℤ, List, [], ◌∷◌, length, Option, Some, None, Result, Ok, Err, nat_lt, ◌==◌, if◌then◌else◌}
 use Rattle.std.specs.FinMap.{contains_key, insert}
@@ -6,19 +6,24 @@ use Rattle.dwarf_base_core.specs.declared.error.Error.{Error}
 use Rattle.dwarf_base_core.specs.declared.error.Error.TheVariants.{AbbreviationTagZero, InvalidAbbreviationChildren, AttributeNameZero, AttributeFormZero, DuplicateAbbreviationCode, OutOfMemory}
 use Rattle.dwarf_reader_core.specs.Leb128.{Kind, Number, unsigned64, unsigned16, signed64, limit, value, is_in_range, overflow_error}
 use Rattle.dwarf_reader_core.specs.Faults.{eof}
-use Rattle.dwarf_reader_core.specs.Layout.{and_then, with_byte}
 use Rattle.dwarf_read_core.specs.Grammar.{Specification, Declaration, implicit_const, ByCode, Table, closed, Close, by_null, by_end}
 
 infixl 10 ◌>>=◌
 abbrev pub ◌>>=◌ : {A B : Type 0} → Result A Error → (A → Result B Error) → Result B Error
-r >>= f = and_then r f
+Ok x >>= f = f x
+Err e >>= f = Err e
 
 -- what a call returned, seen by a view, is what the function reads, unless memory ran out
 abbrev pub ReturnsUnlessOutOfMemory : {X Y : Type 0} → (X → Y) → Result X Error → Result Y Error → Type 0
 ReturnsUnlessOutOfMemory view (Ok x) read = read ≡ Ok (view x)
 ReturnsUnlessOutOfMemory view (Err e) read = e ≢ OutOfMemory → read ≡ Err e
 
--- the bytes up to the first one below 128, at most n of them, and the bytes behind
+-- one more byte before the first bytes
+abbrev pub with_byte : ℕ → Option (List ℕ × List ℕ) → Option (List ℕ × List ℕ)
+with_byte b None = None
+with_byte b (Some x) = Some (b ∷ x.0, x.1)
+
+-- the bytes up to the first one below 128, at most n of them, and the bytes after these
 unfoldable pub encoding_at : ℕ → List ℕ → Option (List ℕ × List ℕ)
 encoding_at zero bytes = None
 encoding_at (suc n) [] = None
@@ -43,7 +48,7 @@ children_at end (b ∷ bytes) =
     if b == 0 then Ok (false, bytes) else if b == 1 then Ok (true, bytes) else Err
     (InvalidAbbreviationChildren (record { 0 = b }))
 
--- the value behind a form, if the form has one in the table
+-- the value after a form, if the form has one in the table
 unfoldable pub value_at : ℕ → ℕ → List ℕ → Result (Option ℤ × List ℕ) Error
 value_at end form bytes =
     if form == implicit_const then (number_at signed64 end bytes >>= λ v. Ok (Some v.0, v.1)) else Ok (None, bytes)
@@ -79,7 +84,7 @@ abbrev pub declaration_of : ℕ → ℕ → Bool → List Specification → Decl
 declaration_of code tag children attributes =
     record { code = code; tag = tag; children = children; attributes = attributes }
 
--- the rest of a declaration, behind its code
+-- the rest of a declaration, after its code
 unfoldable pub declared_at : ℕ → ℕ → List ℕ → Result (Declaration × List ℕ) Error
 declared_at end code bytes = do
   tag ← tag_at end bytes

@@ -1,12 +1,10 @@
 -- Numbers that are looked up by an index: offsets of strings (DWARF 5, 7.26) and addresses (7.27).
-use Rattle.std.specs.Prelude.{◌≡◌, ℕ, ◌+◌, ◌*◌, ◌<◌, ◌≤◌, true, false, length, take, drop, nat_le, Result, Err}
+use Rattle.std.specs.Prelude.{◌≡◌, ℕ, ◌+◌, ◌*◌, ◌<◌, ◌≤◌, true, false, length, take, drop, Result, Ok, Err}
 use Rattle.dwarf_base_core.specs.declared.error.Error.{Error}
 use Rattle.dwarf_base_core.specs.declared.error.Error.TheVariants.{UnsupportedOffset, UnsupportedAddressSize}
 use Rattle.dwarf_base_core.specs.Number.{number_of}
 use Rattle.dwarf_reader_core.specs.Faults.{end_fault, is_number_size}
 use Rattle.dwarf_reader_core.specs.Input.{Input, after}
-use Rattle.dwarf_read_core.specs.Entries.{string_offset}
-use Rattle.dwarf_reader_core.specs.Layout.{Layout, read, ReadsAs, fixed, part, check, ◌>>=◌}
 
 -- one of the numbers that follow each other from a base on, each of `width` bytes
 pub record Slot : Type 0 where
@@ -17,7 +15,7 @@ pub record Slot : Type 0 where
 abbrev pub slot : ℕ → ℕ → ℕ → Slot
 slot base index width = record { base = base; index = index; width = width }
 
--- how many bytes behind the base the slot begins
+-- how many bytes after the base the slot begins
 abbrev pub distance : Slot → ℕ
 distance s = s.index * s.width
 
@@ -35,6 +33,18 @@ pub record IsPlaced (greatest : ℕ) (section : Input) (s : Slot) : Type 0 where
 pub record Holds (section : Input) (s : Slot) (x : ℕ) : Type 0 where
   pub within : place s + s.width ≤ length section.bytes
   pub is : x ≡ number_of section.is_big (take s.width (drop (place s) section.bytes))
+
+-- a section has the word x at a slot: the slot has a place, and holds x, which is an offset
+pub record HasWord (greatest : ℕ) (section : Input) (s : Slot) (x : ℕ) : Type 0 where
+  pub placed : IsPlaced greatest section s
+  pub held : Holds section s x
+  pub fits : x ≤ greatest
+
+-- a section has the address x at a slot: the slot has a place, its width is a size of addresses, and it holds x
+pub record HasAddress (greatest : ℕ) (section : Input) (s : Slot) (x : ℕ) : Type 0 where
+  pub placed : IsPlaced greatest section s
+  pub sized : is_number_size s.width ≡ true
+  pub held : Holds section s x
 
 -- a section has no place for a slot: the base is past the end, the distance is too great for an offset, or the place
 -- is past the end
@@ -62,32 +72,12 @@ pub data HasNoAddress (greatest : ℕ) (section : Input) (s : Slot) : Error → 
       → length section.bytes < place s + s.width
       → HasNoAddress greatest section s (end_fault (after (place s) section))
 
--- the bytes in front of the slot: those before the base, and then as many as the distance, which has to be an offset
-unfoldable pub to_slot : ℕ → Slot → Layout Input
-to_slot greatest s = do
-  based ← part s.base
-  counted ← check (nat_le (distance s) greatest) UnsupportedOffset
-  part (distance s)
-
--- the section has no place for the slot, with this first error
-abbrev pub Misplaced : ℕ → Input → Slot → Error → Type 0
-Misplaced greatest section s e = read (to_slot greatest s) section ≡ Err e
-
--- the word of a slot, which has to fit the offset type
-unfoldable pub word : ℕ → Slot → Layout ℕ
-word greatest s = to_slot greatest s >>= λ reached. string_offset greatest s.width
-
--- the address of a slot, whose width has to be a size of addresses
-unfoldable pub address : ℕ → Slot → Layout ℕ
-address greatest s = do
-  reached ← to_slot greatest s
-  sized ← check (is_number_size s.width) (UnsupportedAddressSize s.width)
-  fixed s.width
-
--- the word of a slot of a section, or the first error
+-- the result for a string offset at a slot: the word, or the error that there is none
 abbrev pub WordAt : ℕ → Input → Slot → Result ℕ Error → Type 0
-WordAt greatest section s answer = ReadsAs (word greatest s) section answer
+WordAt greatest section s (Ok x) = HasWord greatest section s x
+WordAt greatest section s (Err e) = HasNoWord greatest section s e
 
--- the address of a slot of a section, or the first error
+-- the result for an address at a slot: the address, or the error that there is none
 abbrev pub AddressAt : ℕ → Input → Slot → Result ℕ Error → Type 0
-AddressAt greatest section s answer = ReadsAs (address greatest s) section answer
+AddressAt greatest section s (Ok x) = HasAddress greatest section s x
+AddressAt greatest section s (Err e) = HasNoAddress greatest section s e

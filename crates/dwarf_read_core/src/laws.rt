@@ -1,33 +1,33 @@
 //! Laws over the definitions: each function has one as its contract, and does nothing.
 
-ghost use Rattle.std.specs.Prelude.{◌≡◌, ◌↔◌, ◌+◌, IsTrue, true, Option, Some, ℕ, ◌<◌, ◌≤◌, nat_le, List, [], ◌∷◌, length, All, IfErr, Ok, Err, Result};
+ghost use Rattle.std.specs.Prelude.{◌≡◌, ◌≢◌, ◌↔◌, ◌+◌, ◌-◌, ◌*◌, ◌/◌, Bool, IsTrue, IsSome, Option, Some, None, ℕ, ◌<◌, ◌≤◌, List, [], ◌∷◌, length, slice_get, slice_index, count_by, All, IfErr, IfSome, Ok, Err, Result, is_ok};
 ghost use Rattle.std.specs.FinMap as finite;
 ghost use Rattle.std.specs.List.{sum_by};
 ghost use Rattle.dwarf_base_core.specs.declared.error.Error.{Error};
+ghost use Rattle.dwarf_reader_core.specs.Input.{Input, after};
 ghost use Rattle.dwarf_base_core.specs.Format.{initial_length_size};
-ghost use Rattle.dwarf_reader_core.specs.Input.{Input, Takes, after};
-ghost use Rattle.dwarf_reader_core.specs.InitialLength.{HasLength};
+ghost use Rattle.dwarf_base_core.specs.Number.{number_of};
 ghost use Rattle.dwarf_reader_core.specs.Once.{HasOne};
 ghost use Rattle.dwarf_reader_core.specs.Appended.{followed_by, IsNotEof};
-ghost use Rattle.dwarf_read_core.specs.Answer.{Answer, IsFinal, IsStrictlyFinal, StrictAnswer};
-ghost use Rattle.dwarf_read_core.specs.Cache.{KeepsAnswers};
+ghost use Rattle.dwarf_read_core.specs.Answer.{Answer, IsFinal, IsStrictlyFinal, IsTableError, StrictAnswer, TableEndsAt};
+ghost use Rattle.dwarf_read_core.specs.Cache.{EndsItems, KeepsAnswers, least_count};
+ghost use Rattle.dwarf_read_core.specs.declared.read.abbrev.cache.AbbreviationsCacheStrategy.TheVariants.{Duplicates, All as AllOffsets};
 ghost use Rattle.dwarf_read_core.specs.Equality.{HasValueByForm, same_declaration};
 ghost use Rattle.dwarf_read_core.specs.Grammar.{Declaration, Table};
-ghost use Rattle.dwarf_read_core.specs.Entries.{Entries, RepresentsAddresses, RepresentsStringOffsets};
+ghost use Rattle.dwarf_read_core.specs.Entries.{AreNumbers, Entries, EntryAt, RepresentsAddresses, RepresentsStringOffsets};
+ghost use Rattle.dwarf_reader_core.specs.Headers.{IsHeader};
 ghost use Rattle.dwarf_read_core.specs.Items.{least_taken};
-ghost use Rattle.dwarf_reader_core.specs.Layout.{read};
-ghost use Rattle.dwarf_read_core.specs.Ranges.{HasNoRange, HoldsRange, RangeAt};
-ghost use Rattle.dwarf_read_core.specs.SetBytes.{AreNumbers, HasAddressHeader, HasNoAddressHeader, HasNoSet, HasNoStringOffsetsHeader, HasStringOffsetsHeader, IsJoined};
-ghost use Rattle.dwarf_read_core.specs.Sets.{Headers, Set, RepresentsSets, address_header, followed_headers, set, string_offsets_header};
-ghost use Rattle.dwarf_read_core.specs.Strings.{HasNoString, HoldsString, StringAt};
-ghost use Rattle.dwarf_read_core.specs.Words.{AddressAt, HasNoAddress, HasNoWord, Holds, Slot, WordAt};
+ghost use Rattle.dwarf_read_core.specs.Ranges.{RangeAt};
+ghost use Rattle.dwarf_read_core.specs.Sets.{Headers, Set, RepresentsSets, followed_headers};
+ghost use Rattle.dwarf_read_core.specs.Strings.{StringAt};
+ghost use Rattle.dwarf_read_core.specs.Words.{AddressAt, Slot, WordAt, place};
 
 use crate::read::HeaderFields;
 pub use dwarf_base_core::laws::{names_of_sections, numbers_of_bytes};
 pub use dwarf_code_core::laws::{names_are_distinct, negate_ra_state_is_window_save};
 pub use dwarf_const_core::laws::names_are_distinct as names_of_two_bytes_are_distinct;
 pub use dwarf_reader_core::laws::{
-    exactly_one_outcome, exactly_one_shortest, initial_lengths_are_numbers,
+    exactly_one_initial_length, exactly_one_outcome, exactly_one_shortest,
     no_encoding_begins_another, one_string, written_is_read,
 };
 
@@ -35,6 +35,14 @@ pub use dwarf_reader_core::laws::{
 #[tactic(auto, using(crate::proofs::tables::ExactlyOneAnswer::answer_exactly_one))]
 pub fn exactly_one_answer()
     ensures { (section : Input) (offset : ℕ) → HasOne (Answer section offset) }
+{}
+
+/// In place of a table a section has one of these errors: bytes are missing, a number is malformed, a
+/// tag, a name or a form is 0, the byte for children is above 1, or a code is repeated.
+#[tactic(auto, using(crate::proofs::tables::TableErrors::table_error))]
+pub fn errors_of_tables()
+    ensures { (section : Input) (offset : ℕ) (e : Error) → Answer section offset (Err e)
+        → IsTableError e }
 {}
 
 /// Every section has exactly one strict result at every offset. Appended bytes don't change it,
@@ -55,6 +63,17 @@ pub fn appended_bytes_change_nothing()
         → Answer (followed_by section more) offset answer }
 {}
 
+/// A table at an offset ends at exactly one offset. Appended bytes don't change where a table ends
+/// that a code of value 0 closes.
+#[tactic(auto, using(crate::proofs::tables::TableEnds::ends))]
+pub fn exactly_one_end()
+    ensures one { (section : Input) (offset : ℕ) (t : Table) → Answer section offset (Ok t)
+        → HasOne (TableEndsAt section offset t) }
+    ensures stable { (section : Input) (more : List ℕ) (offset end : ℕ) (t : Table)
+        → Answer section offset (Ok t) → IsFinal (Ok t) → TableEndsAt section offset t end
+        → TableEndsAt (followed_by section more) offset t end }
+{}
+
 /// A strategy, a section and offsets determine what a cache keeps: at each offset its one result,
 /// or nothing.
 pub fn exactly_one_cache()
@@ -63,6 +82,23 @@ pub fn exactly_one_cache()
     ensures same { (least : ℕ) (section : Input) (offsets : List ℕ)
         (kept others : ℕ → Option (Result Table Error)) → KeepsAnswers least section offsets kept
         → KeepsAnswers least section offsets others → (key : ℕ) → others key ≡ kept key }
+{}
+
+/// Of offsets that occur, `All` keeps each, and `Duplicates` those that occur twice. Neither keeps
+/// one that doesn't occur. Offsets don't end with an `OutOfMemory`.
+#[tactic(auto, using(crate::proofs::cache::CountingOffsets::strategies))]
+pub fn strategies_count_offsets()
+    ensures all { (section : Input) (key : ℕ) (kept : ℕ → Option (Result Table Error))
+        → KeepsAnswers (least_count AllOffsets) section (key ∷ []) kept → IsSome (kept key) }
+    ensures all_none { (section : Input) (key : ℕ) (kept : ℕ → Option (Result Table Error))
+        → KeepsAnswers (least_count AllOffsets) section [] kept → kept key ≡ None }
+    ensures duplicates { (section : Input) (key : ℕ) (kept : ℕ → Option (Result Table Error))
+        → KeepsAnswers (least_count Duplicates) section (key ∷ key ∷ []) kept
+        → IsSome (kept key) }
+    ensures duplicates_none { (section : Input) (key : ℕ) (kept : ℕ → Option (Result Table Error))
+        → KeepsAnswers (least_count Duplicates) section (key ∷ []) kept → kept key ≡ None }
+    ensures ends { (last : Option (Result ℕ Error)) → EndsItems last
+        → last ≢ Some (Err Error.OutOfMemory) }
 {}
 
 /// Two abbreviations are equal exactly if they are the same declaration.
@@ -80,14 +116,38 @@ pub fn codes_are_keys()
         → (d.code ≡ code) × (0 < code) }
 {}
 
-/// The string at an offset is the bytes from there up to the first zero byte, at its own position.
-/// Without such a string, the section ends before the offset, or no zero byte is behind it.
-#[tactic(auto, using(crate::proofs::lookups::Strings::string_held, crate::proofs::lookups::Strings::string_none))]
-pub fn strings_end_at_zero_bytes()
+/// Every section has exactly one result for a string at every offset, for a part at every offset
+/// and of every size, and for a string offset and an address at every slot: a value, or an error.
+pub fn exactly_one_lookup()
+    ensures string { (section : Input) (offset : ℕ) → HasOne (StringAt section offset) }
+    ensures range { (section : Input) (offset size : ℕ) → HasOne (RangeAt section offset size) }
+    ensures word { (greatest : ℕ) (section : Input) (s : Slot)
+        → HasOne (WordAt greatest section s) }
+    ensures address { (greatest : ℕ) (section : Input) (s : Slot)
+        → HasOne (AddressAt greatest section s) }
+{}
+
+/// The part of a section from its start on, of its length, is the section, and a part of a part is a
+/// part, at the sum of their offsets. A string is the part of its length at its offset, and a zero
+/// byte follows it. A string offset and an address are the number of the part at the place of their
+/// slot.
+pub fn lookups_are_parts()
+    ensures whole { (section : Input) → RangeAt section 0 (length section.bytes) (Ok section) }
+    ensures nested { (section part inner : Input) (offset size at n : ℕ)
+        → RangeAt section offset size (Ok part) → RangeAt part at n (Ok inner)
+        → RangeAt section (offset + at) n (Ok inner) }
     ensures string { (section : Input) (offset : ℕ) (string : Input)
-        → StringAt section offset (Ok string) → HoldsString section offset string }
-    ensures none { (section : Input) (offset : ℕ) (e : Error)
-        → StringAt section offset (Err e) → HasNoString section offset e }
+        → StringAt section offset (Ok string)
+        → RangeAt section offset (length string.bytes) (Ok string)
+        × (slice_index section.bytes (offset + length string.bytes) ≡ 0) }
+    ensures word { (greatest : ℕ) (section : Input) (s : Slot) (x : ℕ)
+        → WordAt greatest section s (Ok x)
+        → (part : Input) × RangeAt section (place s) s.width (Ok part)
+        × (x ≡ number_of part.is_big part.bytes) }
+    ensures address { (greatest : ℕ) (section : Input) (s : Slot) (x : ℕ)
+        → AddressAt greatest section s (Ok x)
+        → (part : Input) × RangeAt section (place s) s.width (Ok part)
+        × (x ≡ number_of part.is_big part.bytes) }
 {}
 
 /// Appended bytes don't change the string at an offset.
@@ -96,23 +156,6 @@ pub fn appended_bytes_change_no_string()
     ensures { (section : Input) (offset : ℕ) (found : Input) (more : List ℕ)
         → StringAt section offset (Ok found)
         → StringAt (followed_by section more) offset (Ok found) }
-{}
-
-/// The string offset at a slot is the number that its bytes encode, and so is the address at a
-/// slot. These are as many bytes as the width of the slot, from `base + index * width` on. Without
-/// such a number, the error is that of the first thing that is wrong: bytes are missing, with their
-/// position; the distance from the base, or a string offset, doesn't fit the offset type; the width
-/// isn't a size of addresses.
-#[tactic(auto, using(crate::proofs::lookups::SlotOutcomes::word_held, crate::proofs::lookups::SlotOutcomes::address_held, crate::proofs::lookups::SlotOutcomes::word_none, crate::proofs::lookups::SlotOutcomes::address_none))]
-pub fn slots_hold_numbers()
-    ensures word { (greatest : ℕ) (section : Input) (s : Slot) (x : ℕ)
-        → WordAt greatest section s (Ok x) → Holds section s x }
-    ensures address { (greatest : ℕ) (section : Input) (s : Slot) (x : ℕ)
-        → AddressAt greatest section s (Ok x) → Holds section s x }
-    ensures no_word { (greatest : ℕ) (section : Input) (s : Slot) (e : Error)
-        → WordAt greatest section s (Err e) → HasNoWord greatest section s e }
-    ensures no_address { (greatest : ℕ) (section : Input) (s : Slot) (e : Error)
-        → AddressAt greatest section s (Err e) → HasNoAddress greatest section s e }
 {}
 
 /// Appended bytes change neither the string offset at a slot nor its error, unless that is an
@@ -133,87 +176,47 @@ pub fn appended_bytes_change_no_address()
         → AddressAt greatest (followed_by section more) s answer }
 {}
 
-/// The part at an offset is the given number of bytes from there on, at its own position. Without
-/// such a part, the section ends before the offset, or before the part's end.
-#[tactic(auto, using(crate::proofs::lookups::Ranges::range_held, crate::proofs::lookups::Ranges::range_none))]
-pub fn ranges_are_parts()
-    ensures range { (section : Input) (offset size : ℕ) (part : Input)
-        → RangeAt section offset size (Ok part) → HoldsRange section offset size part }
-    ensures none { (section : Input) (offset size : ℕ) (e : Error)
-        → RangeAt section offset size (Err e) → HasNoRange section offset size e }
-{}
-
 /// The bytes that remain of a section have exactly one list of sets of each kind, and then at most
-/// one error. A set has at least four bytes and those of its header, and an error takes up at least
-/// one byte.
+/// one error. So the list ends: a set has at least four bytes and those of its header, and an error
+/// takes up at least one byte.
 pub fn exactly_one_list_of_sets<H: HeaderFields>()
     ensures one { (greatest : ℕ) (headers : Headers)
-        → HasOne (RepresentsSets H.layout greatest headers) }
+        → HasOne (RepresentsSets H.header greatest headers) }
     ensures bound { (greatest : ℕ) (headers : Headers) (items : List (Result (Set H) Error))
-        → RepresentsSets H.layout greatest headers items
+        → RepresentsSets H.header greatest headers items
         → sum_by (least_taken (4 + H.BYTES)) items ≤ length headers.rest.bytes }
 {}
 
-/// A set that is read is at the front of the bytes, and the rest remains.
-#[tactic(auto, using(dwarf_reader_core::proofs::Layouts::read_front))]
-pub fn sets_are_fronts<H: HeaderFields>()
-    ensures { (greatest offset : ℕ) (old new : Input) (s : Set H)
-        → read (set H.layout greatest offset) old ≡ Ok (s, new)
-        → (count : ℕ) × Takes count old new }
+/// Bytes have exactly one header of each kind, or exactly one error in place of it, and a header has
+/// as many bytes as its kind says.
+pub fn exactly_one_header<H: HeaderFields>()
+    ensures { IsHeader H.BYTES H.header }
 {}
 
-/// The bytes of a set that is read are those of its initial length, its header and its entries,
-/// joined, and the rest remains. The initial length encodes the length of header and entries. Bytes
-/// that don't begin with a set have no initial length, too few bytes behind it, or no header there.
-#[tactic(auto, using(crate::proofs::sets::SetBytes::parts_of_sets))]
-pub fn sets_are_joined<H: HeaderFields>()
-    ensures joined { (greatest offset : ℕ) (old new : Input) (s : Set H)
-        → read (set H.layout greatest offset) old ≡ Ok (s, new)
-        → IsJoined H.BYTES H.layout old s new }
-    ensures measured { (greatest offset : ℕ) (old new : Input) (s : Set H)
-        → All (λ b. b < 256) old.bytes → read (set H.layout greatest offset) old ≡ Ok (s, new)
-        → HasLength greatest old s.format s.unit_length
-        (after (initial_length_size s.format) old) }
-    ensures none { (greatest offset : ℕ) (old : Input) (e : Error) → All (λ b. b < 256) old.bytes
-        → read (set H.layout greatest offset) old ≡ Err e → HasNoSet H.layout greatest old e }
+/// Each set of a list is where its offset says: its entries are the part of the section after its
+/// initial length and its header, up to its end.
+pub fn sets_are_at_their_offsets<H: HeaderFields>()
+    ensures { (greatest : ℕ) (headers : Headers) (items : List (Result (Set H) Error)) (index : ℕ)
+        (s : Set H) → RepresentsSets H.header greatest headers items
+        → slice_get items index ≡ Some (Ok s)
+        → (place : ℕ) × (s.offset ≡ headers.offset + place) × RangeAt headers.rest
+        (place + initial_length_size s.format + H.BYTES) (s.unit_length - H.BYTES)
+        (Ok s.entries) }
 {}
 
-/// The header of a set of addresses is version 5, an address size of 1, 2, 4 or 8, and the segment
-/// size 0. Without such a header, the error is that of the first field that is cut or isn't
-/// supported.
-#[tactic(auto, using(crate::proofs::sets::HeaderBytes::address_fields, crate::proofs::sets::HeaderBytes::no_address_fields))]
-pub fn address_headers_have_fields()
-    ensures header { (unit rest : Input) (size : ℕ)
-        → read address_header unit ≡ Ok (size, rest) → HasAddressHeader unit size rest }
-    ensures none { (unit : Input) (e : Error)
-        → read address_header unit ≡ Err e → HasNoAddressHeader unit e }
-{}
-
-/// The header of a set of string offsets is version 5, and two bytes of any value. Without such a
-/// header, the error is that of the first field that is cut or isn't supported.
-#[tactic(auto, using(crate::proofs::sets::HeaderBytes::offset_fields, crate::proofs::sets::HeaderBytes::no_offset_fields))]
-pub fn string_offsets_headers_have_fields()
-    ensures header { (unit rest : Input)
-        → read string_offsets_header unit ≡ Ok (tt, rest) → HasStringOffsetsHeader unit rest }
-    ensures none { (unit : Input) (e : Error)
-        → read string_offsets_header unit ≡ Err e → HasNoStringOffsetsHeader unit e }
-{}
-
-/// Each entry of a set is the number of its bytes, one behind the other up to the set's end. If the
-/// last bytes are fewer than an entry has, or a string offset is too great for an offset, that is
-/// the last item, as an error.
-#[tactic(auto, using(crate::proofs::sets::EntryBytes::addresses_are_numbers, crate::proofs::sets::EntryBytes::string_offsets_are_numbers))]
+/// The entry of a set with an index is the number of the bytes at its place, or the error there. As
+/// many entries are numbers as fit into the bytes, unless one is too great for an offset.
 pub fn entries_are_numbers()
-    ensures address { (entries : Entries) (items : List (Result ℕ Error))
-        → RepresentsAddresses entries items → AreNumbers (λ x. true) entries 0 items }
-    ensures string_offset { (greatest : ℕ) (entries : Entries) (items : List (Result ℕ Error))
-        → RepresentsStringOffsets greatest entries items
-        → AreNumbers (λ x. nat_le x greatest) entries 0 items }
+    ensures at { (fits : ℕ → Bool) (entries : Entries) (items : List (Result ℕ Error)) (index : ℕ)
+        → AreNumbers fits entries items → IfSome (slice_get items index)
+        (EntryAt fits entries.width (after (index * entries.width) entries.rest)) }
+    ensures counted { (entries : Entries) (items : List (Result ℕ Error)) → 0 < entries.width
+        → RepresentsAddresses entries items
+        → count_by is_ok items ≡ length entries.rest.bytes / entries.width }
 {}
 
-/// The bytes that remain of a set have exactly one list of addresses, and then at most one error.
-/// An address has as many bytes as its size, and an error takes up at least one byte.
-#[tactic(auto, using(crate::proofs::sets::Entries::addresses_exactly_one, crate::proofs::sets::Entries::addresses_bounded))]
+/// The bytes that remain of a set have exactly one list of addresses, and then at most one error. So
+/// the list ends: an address has as many bytes as its size, and an error takes up at least one byte.
 pub fn exactly_one_list_of_addresses()
     ensures one { (entries : Entries) → 0 < entries.width → HasOne (RepresentsAddresses entries) }
     ensures bound { (entries : Entries) (items : List (Result ℕ Error))
@@ -222,8 +225,8 @@ pub fn exactly_one_list_of_addresses()
 {}
 
 /// The bytes that remain of a set have exactly one list of string offsets, and then at most one
-/// error. An offset has as many bytes as a word, and an error takes up at least one byte.
-#[tactic(auto, using(crate::proofs::sets::Entries::string_offsets_exactly_one, crate::proofs::sets::Entries::string_offsets_bounded))]
+/// error. So the list ends: an offset has as many bytes as a word, and an error takes up at least
+/// one byte.
 pub fn exactly_one_list_of_string_offsets()
     ensures one { (greatest : ℕ) (entries : Entries) → 0 < entries.width
         → HasOne (RepresentsStringOffsets greatest entries) }
@@ -234,14 +237,13 @@ pub fn exactly_one_list_of_string_offsets()
 
 /// The first set stays the first when bytes are appended. So does a first error, unless it is an
 /// `UnexpectedEof`.
-#[tactic(auto, using(crate::proofs::sets::Sets::set_more, crate::proofs::sets::Sets::set_error_more))]
 pub fn appended_bytes_change_no_set<H: HeaderFields>()
     ensures set { (greatest : ℕ) (headers : Headers) (s : Set H)
         (items others : List (Result (Set H) Error)) (more : List ℕ)
-        → RepresentsSets H.layout greatest headers (Ok s ∷ items)
-        → RepresentsSets H.layout greatest (followed_headers more headers) others
+        → RepresentsSets H.header greatest headers (Ok s ∷ items)
+        → RepresentsSets H.header greatest (followed_headers more headers) others
         → (rest : List (Result (Set H) Error)) × (others ≡ Ok s ∷ rest) }
     ensures error { (greatest : ℕ) (headers : Headers) (e : Error) (more : List ℕ)
-        → RepresentsSets H.layout greatest headers (Err e ∷ []) → IsNotEof e
-        → RepresentsSets H.layout greatest (followed_headers more headers) (Err e ∷ []) }
+        → RepresentsSets H.header greatest headers (Err e ∷ []) → IsNotEof e
+        → RepresentsSets H.header greatest (followed_headers more headers) (Err e ∷ []) }
 {}

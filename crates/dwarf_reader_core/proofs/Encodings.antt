@@ -7,7 +7,7 @@ pub NoneIsLast-push : (xs : List ℕ) (b : ℕ) → NoneIsLast xs → 128 ≤ b 
 NoneIsLast-push [] b none h = (h, tt)
 NoneIsLast-push (x ∷ xs) b none h = (none.0, NoneIsLast-push xs b none.1 h)
 
--- a byte with a continuation bit and an encoding behind it are an encoding
+-- a byte with a continuation bit and an encoding after it are an encoding
 pub IsEncoding-cons : (b : ℕ) (s : List ℕ) → 128 ≤ b → IsEncoding s → IsEncoding (b ∷ s)
 IsEncoding-cons b s more encoding = grind arith
 
@@ -23,7 +23,7 @@ IsEncoding-last [] b encoding = encoding
 IsEncoding-last (x ∷ []) b encoding = encoding.1
 IsEncoding-last (x ∷ y ∷ xs) b encoding = IsEncoding-last (y ∷ xs) b encoding.1
 
--- one more byte adds its digit to the value of bytes, at the place behind them
+-- one more byte adds its digit to the value of bytes, at the place after them
 pub unsigned_value-push : (xs : List ℕ) (b : ℕ)
     → unsigned_value (xs ++ b ∷ []) ≡ unsigned_value xs + b % 128 * 128 ^ length xs
 unsigned_value-push [] b = omega arith

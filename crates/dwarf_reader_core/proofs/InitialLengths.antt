@@ -1,107 +1,188 @@
--- An initial length is a number of four or eight bytes, and without one bytes are missing, reserved or too great.
-use Rattle.dwarf_reader_core.proofs.Common.{◌≡◌, ◌∙◌, ℕ, ◌<◌, ◌≤◌, length, Bool, true, false, Ok, refl, sym, subst, arith, inl, inr, All, take, length-take-le, Error, Input, TakesNumber, if◌then◌else◌, when◌then◌else◌, pure, fail}
-use Rattle.std.proofs.Common.{ltb, ltb-true, leb-true, leb-false}
-use Rattle.std.proofs.lemmas.Bool.{ltb-false}
-use Rattle.std.proofs.lemmas.List.Elements.{All-take}
+-- Bytes have exactly one initial length, or exactly one error in place of it, and either stays with more bytes appended.
+use Rattle.dwarf_reader_core.proofs.Common.{◌≡◌, ◌≢◌, ◌∙◌, ℕ, ◌+◌, ◌<◌, ◌≤◌, List, length, take, Result, Ok, Err, refl, sym, subst, ap, arith, ◌⊎◌, inl, inr, cases_lt, if◌then◌else◌, Error, end_fault, IsTooShort, Input, after, Takes, TakesNumber, HasOne}
+use Rattle.std.proofs.Common.{nat_lt, nat_le, ◌==◌, lt-ltb, le-ltb, eqb, ne_eqb}
+use Rattle.std.proofs.lemmas.Bool.{cases_eq, le-leb, lt-leb}
 use Rattle.dwarf_base_core.specs.declared.common.Format.{Format}
 use Rattle.dwarf_base_core.specs.declared.common.Format.TheVariants.{Dwarf32, Dwarf64}
-use Rattle.dwarf_base_core.specs.declared.error.Error.TheVariants.{UnknownReservedLength}
+use Rattle.dwarf_base_core.specs.declared.error.Error.TheVariants.{UnknownReservedLength, UnsupportedOffset}
+use Rattle.dwarf_base_core.specs.Format.{initial_length_size}
 use Rattle.dwarf_base_core.specs.Number.{number_of}
-use Rattle.dwarf_base_core.proofs.NumberLaws.{number_is_bounded}
-use Rattle.dwarf_reader_core.specs.InitialLength.{initial_length, long_length, HasLength, in_four_bytes, in_eight_bytes, HasNoLength, four_cut, reserved, eight_cut, too_great}
-use Rattle.dwarf_reader_core.specs.Layout.{FailsAt, read, remains}
-use Rattle.dwarf_reader_core.proofs.Layouts.{then_read, then_failed, number_read, number_failed, check_read, check_failed, pure_read, pure_failed}
+use Rattle.dwarf_reader_core.specs.Appended.{followed_by, IsNotEof}
+use Rattle.dwarf_reader_core.specs.InitialLength.{HasLength, in_four_bytes, in_eight_bytes, HasNoLength, four_cut, reserved, eight_cut, too_great, LengthAt}
+use Rattle.dwarf_reader_core.proofs.Consuming.{number_more, takes-both}
 
--- the number of four bytes is at most 0xffffffff
-number-bounded : {old new : Input} {x : ℕ} → All (λ b. b < 256) old.bytes → TakesNumber 4 old x new
-    → x ≤ 0xffff_ffff
-number-bounded {old} {x = x} bytes takes =
-    let below = number_is_bounded old.is_big (take 4 old.bytes) (All-take (λ b. b < 256) 4 old.bytes bytes) in
-    let four : length (take 4 old.bytes) ≡ 4 = length-take-le 4 old.bytes takes.enough in
-    let small : number_of old.is_big (take 4 old.bytes) < 0x1_0000_0000 = rw four at below in
-    omega (arith, small, takes.is)
+-- the number of the first n bytes
+abbrev front_number : ℕ → Input → ℕ
+front_number n old = number_of old.is_big (take n old.bytes)
 
-module _ (greatest : ℕ) {old : Input} (bytes : All (λ b. b < 256) old.bytes) where
-  module _ {mid : Input} {first : ℕ} (takes : TakesNumber 4 old first mid) (high : 0xffff_ffff ≤ first) where
-    -- the first four bytes announce eight more
-    announced : TakesNumber 4 old 0xffff_ffff mid
-    announced =
-        let same : first ≡ 0xffff_ffff = omega (arith, high, number-bounded bytes takes) in
-        subst (λ n. TakesNumber 4 old n mid) same takes
+-- if there are n bytes, their number is consumed
+front_taken : (n : ℕ) (old : Input) → n ≤ length old.bytes → TakesNumber n old (front_number n old) (after n old)
+front_taken n old enough = record { enough = enough; is = refl; left = refl }
 
-    -- a length of eight bytes that is read behind them is the initial length
-    long_held : {new : Input} {format : Format} {n : ℕ} → read (long_length greatest) mid ≡ Ok ((format, n), new)
-        → HasLength greatest old format n new
-    unfolding long_length
-    long_held {new} {format} {n} is =
-        let long = then_read _ _ _ is in
-        let fits = then_read _ _ _ long.3 in
-        let tested = check_read _ _ _ fits.2 in
-        let last = pure_read _ _ fits.3 in
-        let eight = number_read 8 mid long.2 in
-        let held : HasLength greatest old Dwarf64 long.0 long.1 =
-        in_eight_bytes announced eight (leb-true long.0 greatest tested.0) in
-        subst (λ (x : Format × ℕ). HasLength greatest old x.0 x.1 new) (sym last.0)
-        (subst (λ i. HasLength greatest old Dwarf64 long.0 i) (sym (last.1 ∙ tested.1)) held)
+-- if there are fewer than n bytes, that is an error
+front_cut : (n : ℕ) (old : Input) → length old.bytes < n → IsTooShort n old (end_fault old) old
+front_cut n old short = record { short = short; fault = refl; left = refl }
 
-    -- if no length of eight bytes is read behind them, there is no initial length
-    long_none : {new : Input} {e : Error} → FailsAt (long_length greatest) mid e new → HasNoLength greatest old e new
-    unfolding long_length
-    long_none {new} {e} fails =
-        elim (then_failed _ _ _ fails) [
-          | inl short ↦ eight_cut announced (number_failed 8 mid short)
-          | inr long ↦
-              elim (then_failed _ _ _ long.3) [
-                | inl tested ↦
-                    let unfit = check_failed _ _ _ tested in
-                    let none = too_great announced (number_read 8 mid long.2) (leb-false long.0 greatest unfit.0) in
-                    rw (unfit.1, unfit.2) none
-                | inr fits ↦ absurd (pure_failed _ _ fits.3)
-              ]
-        ]
+-- a result for the initial length, and what remains
+abbrev Outcome : Type 0
+Outcome = Result (Format × ℕ) Error × Input
 
-  module _ {mid : Input} {first : ℕ} (takes : TakesNumber 4 old first mid) where
-    -- a length that is read by the value of the first four bytes is the initial length
-    short_held : {new : Input} {format : Format} {n : ℕ} (b c : Bool) → ltb first 0xffff_fff0 ≡ b
-        → ltb first 0xffff_ffff ≡ c
-        → read (when b then pure (Dwarf32, first) else when c then fail (UnknownReservedLength first) else
-        long_length greatest) mid ≡ Ok ((format, n), new) → HasLength greatest old format n new
-    unfolding read
-    short_held {new} true c low q is =
-        let last = pure_read _ _ is in
-        let held = in_four_bytes takes (ltb-true first 0xffff_fff0 low) in
-        subst (λ (x : Format × ℕ). HasLength greatest old x.0 x.1 new) (sym last.0)
-        (subst (λ i. HasLength greatest old Dwarf32 first i) (sym last.1) held)
-    short_held false true low q is = absurd cc
-    short_held false false low q is = long_held takes (ltb-false first 0xffff_ffff q) is
+-- ---- exactly one result
 
-    -- if no length is read by the value of the first four bytes, there is no initial length
-    short_none : {new : Input} {e : Error} (b c : Bool) → ltb first 0xffff_fff0 ≡ b → ltb first 0xffff_ffff ≡ c
-        → FailsAt (when b then pure (Dwarf32, first) else when c then fail (UnknownReservedLength first) else
-        long_length greatest) mid e new → HasNoLength greatest old e new
-    unfolding read remains
-    short_none true c low q fails = absurd (pure_failed _ _ fails)
-    short_none {e = e} false true low q fails =
-        let is = fails.fault in
-        let same : e ≡ UnknownReservedLength first = cc in
-        let none = reserved takes (ltb-false first 0xffff_fff0 low) (ltb-true first 0xffff_ffff q) in
-        rw (same, fails.left) none
-    short_none false false low q fails = long_none takes (ltb-false first 0xffff_ffff q) fails
+-- the result by how many bytes there are and by the number of the first four: bytes are missing, a length of four bytes,
+-- what follows the four bytes 0xffffffff, or a reserved length
+by_four : ℕ → ℕ → Outcome → Outcome → Outcome → Outcome → Outcome
+by_four len n cut short long other =
+    if nat_lt len 4 then cut else if nat_lt n 0xffff_fff0 then short else if n == 0xffff_ffff then long else other
 
-  -- an initial length that is read is one of four or eight bytes
-  pub length_held : {new : Input} {format : Format} {n : ℕ} → read (initial_length greatest) old ≡ Ok ((format, n), new)
-      → HasLength greatest old format n new
-  unfolding initial_length
-  length_held is =
-      let four = then_read _ _ _ is in
-      short_held (number_read 4 old four.2) _ _ refl refl four.3
+-- the result by how many bytes there are after these, and whether the number of eight is an offset
+by_eight : ℕ → ℕ → ℕ → Outcome → Outcome → Outcome → Outcome
+by_eight greatest len n cut long over =
+    if nat_lt len 8 then cut else if nat_le n greatest then long else over
 
-  -- if no initial length is read, bytes are missing, reserved or too great
-  pub length_none : {new : Input} {e : Error} → FailsAt (initial_length greatest) old e new
-      → HasNoLength greatest old e new
-  unfolding initial_length
-  length_none fails =
-      elim (then_failed _ _ _ fails) [
-        | inl short ↦ four_cut (number_failed 4 old short)
-        | inr four ↦ short_none (number_read 4 old four.2) _ _ refl refl four.3
-      ]
+module _ (len n : ℕ) (cut short long other : Outcome) where
+  -- fewer than four bytes are missing bytes
+  four_cut-is : len < 4 → cut ≡ by_four len n cut short long other
+  unfolding by_four
+  four_cut-is few = grind arith
+
+  -- a number below the reserved ones is the length
+  four_bytes-is : 4 ≤ len → n < 0xffff_fff0 → short ≡ by_four len n cut short long other
+  unfolding by_four
+  four_bytes-is enough low = grind arith
+
+  -- after 0xffffffff are eight bytes
+  announced-is : 4 ≤ len → n ≡ 0xffff_ffff → long ≡ by_four len n cut short long other
+  unfolding by_four
+  announced-is enough same = grind arith
+
+  -- other numbers are reserved
+  reserved-is : 4 ≤ len → 0xffff_fff0 ≤ n → n ≢ 0xffff_ffff → other ≡ by_four len n cut short long other
+  unfolding by_four
+  reserved-is enough high unlike = grind arith
+
+module _ (greatest len n : ℕ) (cut long over : Outcome) where
+  -- fewer than eight bytes are missing bytes
+  eight_cut-is : len < 8 → cut ≡ by_eight greatest len n cut long over
+  unfolding by_eight
+  eight_cut-is few = grind arith
+
+  -- an offset is the length
+  eight_bytes-is : 8 ≤ len → n ≤ greatest → long ≡ by_eight greatest len n cut long over
+  unfolding by_eight
+  eight_bytes-is enough fits = grind arith
+
+  -- a greater number isn't
+  too_great-is : 8 ≤ len → greatest < n → over ≡ by_eight greatest len n cut long over
+  unfolding by_eight
+  too_great-is enough great = grind arith
+
+-- the result for eight bytes after the four that announce them
+abbrev long_at : ℕ → Input → Outcome
+long_at greatest mid =
+    by_eight greatest (length mid.bytes) (front_number 8 mid) (Err (end_fault mid), mid)
+    (Ok (Dwarf64, front_number 8 mid), after 8 mid) (Err UnsupportedOffset, after 8 mid)
+
+-- the one result for an initial length
+abbrev length_at : ℕ → Input → Outcome
+length_at greatest old =
+    by_four (length old.bytes) (front_number 4 old) (Err (end_fault old), old)
+    (Ok (Dwarf32, front_number 4 old), after 4 old) (long_at greatest (after 4 old))
+    (Err (UnknownReservedLength (front_number 4 old)), after 4 old)
+
+-- what is after 0xffffffff is the one result
+long-is : (greatest : ℕ) {old mid : Input} (x : Outcome) → TakesNumber 4 old 0xffff_ffff mid
+    → x ≡ long_at greatest mid → x ≡ length_at greatest old
+long-is greatest x four is =
+    is ∙ ap (long_at greatest) four.left ∙ announced-is _ _ _ _ _ _ four.enough (sym four.is)
+
+-- each result is the one result
+result_is : (greatest : ℕ) (old : Input) (x : Outcome) → LengthAt greatest old x → x ≡ length_at greatest old
+result_is greatest old (Ok x, new) (in_four_bytes takes low) =
+    (λ i. (Ok (Dwarf32, takes.is i), takes.left i))
+    ∙ four_bytes-is _ _ _ _ _ _ takes.enough (subst (λ n. n < 0xffff_fff0) takes.is low)
+result_is greatest old (Ok x, new) (in_eight_bytes four eight fits) =
+    long-is greatest _ four ((λ i. (Ok (Dwarf64, eight.is i), eight.left i))
+    ∙ eight_bytes-is _ _ _ _ _ _ eight.enough (subst (λ n. n ≤ greatest) eight.is fits))
+result_is greatest old (Err e, new) (four_cut short) =
+    (λ i. (Err (short.fault i), short.left i)) ∙ four_cut-is _ _ _ _ _ _ short.short
+result_is greatest old (Err e, new) (reserved takes high other) =
+    (λ i. (Err (UnknownReservedLength (takes.is i)), takes.left i))
+    ∙ reserved-is _ _ _ _ _ _ takes.enough (subst (λ n. 0xffff_fff0 ≤ n) takes.is high)
+    (λ same. other (takes.is ∙ same))
+result_is greatest old (Err e, new) (eight_cut four short) =
+    long-is greatest _ four ((λ i. (Err (short.fault i), short.left i)) ∙ eight_cut-is _ _ _ _ _ _ short.short)
+result_is greatest old (Err e, new) (too_great four eight over) =
+    long-is greatest _ four ((λ i. (Err UnsupportedOffset, eight.left i))
+    ∙ too_great-is _ _ _ _ _ _ eight.enough (subst (λ n. greatest < n) eight.is over))
+
+-- there is a result
+some_result : (greatest : ℕ) (old : Input) → (x : Outcome) × LengthAt greatest old x
+some_result greatest old =
+    let n = front_number 4 old in
+    let mid = after 4 old in
+    elim (cases_lt (length old.bytes) 4) [
+      | inl short ↦ ((Err (end_fault old), old), four_cut (front_cut 4 old short))
+      | inr enough ↦
+          elim (cases_lt n 0xffff_fff0) [
+            | inl low ↦ ((Ok (Dwarf32, n), mid), in_four_bytes (front_taken 4 old enough) low)
+            | inr high ↦
+                elim (cases_eq n 0xffff_ffff) [
+                  | inl same ↦
+                      let four : TakesNumber 4 old 0xffff_ffff mid =
+                      record { enough = enough; is = sym same; left = refl } in
+                      elim (cases_lt (length mid.bytes) 8) [
+                        | inl short ↦ ((Err (end_fault mid), mid), eight_cut four (front_cut 8 mid short))
+                        | inr more ↦
+                            elim (cases_lt greatest (front_number 8 mid)) [
+                              | inl over ↦ (
+                                (Err UnsupportedOffset, after 8 mid),
+                                too_great four (front_taken 8 mid more) over,
+                              )
+                              | inr fits ↦ (
+                                (Ok (Dwarf64, front_number 8 mid), after 8 mid),
+                                in_eight_bytes four (front_taken 8 mid more) fits,
+                              )
+                            ]
+                      ]
+                  | inr other ↦ (
+                    (Err (UnknownReservedLength n), mid),
+                    reserved (front_taken 4 old enough) high other,
+                  )
+                ]
+          ]
+    ]
+
+-- every input has exactly one result for an initial length
+pub exactly_one_length : (greatest : ℕ) (old : Input) → HasOne (LengthAt greatest old)
+exactly_one_length greatest old =
+    let some = some_result greatest old in
+    (some.0, some.1, λ other is. result_is greatest old other is ∙ sym (result_is greatest old some.0 some.1))
+
+-- ---- what an initial length consumes, and more bytes after it
+
+-- an initial length has four or twelve bytes, by its format
+pub length_taken : {greatest : ℕ} {old new : Input} {format : Format} {n : ℕ} → HasLength greatest old format n new
+    → Takes (initial_length_size format) old new
+length_taken (in_four_bytes takes low) = record { enough = takes.enough; left = takes.left }
+length_taken (in_eight_bytes four eight fits) =
+    takes-both (record { enough = four.enough; left = four.left }) (record { enough = eight.enough; left = eight.left })
+
+-- an initial length stays with more bytes appended
+pub length_more : {greatest : ℕ} {old new : Input} {format : Format} {n : ℕ} (more : List ℕ)
+    → HasLength greatest old format n new → HasLength greatest (followed_by old more) format n (followed_by new more)
+length_more more (in_four_bytes takes low) = in_four_bytes (number_more more takes) low
+length_more more (in_eight_bytes four eight fits) =
+    in_eight_bytes (number_more more four) (number_more more eight) fits
+
+-- so does an error in place of one, unless bytes are missing
+pub no_length-more : {greatest : ℕ} {old new : Input} {e : Error} (more : List ℕ) → HasNoLength greatest old e new
+    → IsNotEof e → HasNoLength greatest (followed_by old more) e (followed_by new more)
+no_length-more {old = old} more (four_cut short) settled = absurd (settled old.position short.fault)
+no_length-more more (reserved takes high other) settled = reserved (number_more more takes) high other
+no_length-more more (eight_cut {mid = mid} four short) settled = absurd (settled mid.position short.fault)
+no_length-more more (too_great four eight over) settled =
+    too_great (number_more more four) (number_more more eight) over
+
+-- the ways to read an initial length, and not to
+pub ruleset initial_lengths = (in_four_bytes, in_eight_bytes, four_cut, reserved, eight_cut, too_great)

@@ -11,6 +11,6 @@ pub mod Writing
 pub mod Bytes
 pub mod Once
 pub mod Results
-pub mod Layouts
-pub mod LayoutErrors
+pub mod Consuming
 pub mod InitialLengths
+pub mod Headers

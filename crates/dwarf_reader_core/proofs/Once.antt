@@ -1,18 +1,38 @@
 -- Bytes have exactly one outcome as a string.
-use Rattle.dwarf_reader_core.proofs.Common.{◌≡◌, ◌≢◌, ℕ, zero, suc, ◌+◌, take, refl, sym, subst, ◌∙◌, arith, ◌⊎◌, inl, inr, Ok, List, [], ◌∷◌, All, All-nil, All-cons, Error, Input, after, first, IsFirst, TakesString, HasNoByte, end_fault, until}
-use Rattle.dwarf_reader_core.specs.Layout.{FailsAt, read}
-use Rattle.dwarf_reader_core.proofs.Layouts.{string_reads, string_fails}
+use Rattle.dwarf_reader_core.proofs.Common.{◌≡◌, ◌≢◌, ℕ, zero, suc, ◌+◌, ◌<◌, take, refl, sym, ap, ◌∙◌, arith, ◌⊎◌, inl, inr, List, [], ◌∷◌, All, All-nil, All-cons, cases_lt, length-take, Error, Input, after, first, IsFirst, TakesString, HasNoByte, end_fault}
+use Rattle.std.proofs.Common.{get_or-take, slice_index}
+use Rattle.std.proofs.lemmas.List.Elements.{All-get_or}
+
+-- no byte before the first one with a value has that value
+not_below : {byte i j : ℕ} {bytes : List ℕ} → IsFirst byte bytes i → IsFirst byte bytes j → i < j → ⊥
+not_below {byte} {i} {j} {bytes} a b below =
+    let long = length-take j bytes in
+    let here : slice_index (take j bytes) i ≡ byte = get_or-take j bytes i 0 below ∙ a.here in
+    All-get_or (λ b. b ≢ byte) (take j bytes) i 0 (omega (arith, below, long, a.within)) b.before here
+
+-- bytes have one first byte with a value
+same_index : {byte i j : ℕ} {bytes : List ℕ} → IsFirst byte bytes i → IsFirst byte bytes j → i ≡ j
+same_index {i = i} {j} a b =
+    elim (cases_lt i j) [
+      | inl below ↦ absurd (not_below a b below)
+      | inr above ↦
+          elim (cases_lt j i) [
+            | inl below ↦ absurd (not_below b a below)
+            | inr equal ↦ omega arith
+          ]
+    ]
 
 -- two strings that are consumed from the same bytes are equal, and the same bytes remain
 pub one_string : (old s t x y : Input) → TakesString old s x → TakesString old t y → (s ≡ t) × (x ≡ y)
 one_string old s t x y a b =
-    let both = sym (string_reads a) ∙ string_reads b in
-    let same : ◌≡◌ {A = Input × Input} (s, x) (t, y) = cc in
-    (λ i. (same i).0, λ i. (same i).1)
+    let same = same_index a.ends b.ends in (
+      a.is ∙ ap (λ n. first n old) same ∙ sym b.is,
+      a.left ∙ ap (λ n. after (n + 1) old) same ∙ sym b.left,
+    )
 
 -- bytes that begin with a string have a zero byte
 pub string_not_none : (old s x : Input) (e : Error) → TakesString old s x → HasNoByte 0 old e → ⊥
-string_not_none old s x e a b = let both = sym (string_reads a) ∙ string_fails b in cc
+string_not_none old s x e a b = All-get_or (λ b. b ≢ 0) old.bytes a.len 0 a.ends.within b.none a.ends.here
 
 -- bytes have no zero byte, or a first zero byte at some index
 zero_or_none : (bytes : List ℕ) → All (λ b. b ≢ 0) bytes ⊎ ((index : ℕ) × IsFirst 0 bytes index)
@@ -45,26 +65,4 @@ some_string old =
           let taken : TakesString old (first found.0 old) (after (found.0 + 1) old) =
           record { len = found.0; ends = found.1; is = refl; left = refl } in
           inl (first found.0 old, after (found.0 + 1) old, taken)
-    ]
-
--- a string that is read is the bytes before the first zero byte
-pub string_was_read : {old string new : Input} → read (until 0) old ≡ Ok (string, new) → TakesString old string new
-string_was_read {old} {string} {new} is =
-    elim (some_string old) [
-      | inl found ↦
-          let both = sym (string_reads found.2) ∙ is in
-          let same : ◌≡◌ {A = Input × Input} (found.0, found.1) (string, new) = cc in
-          subst (λ (z : Input × Input). TakesString old z.0 z.1) same found.2
-      | inr none ↦ absurd (let both = sym (string_fails none.1) ∙ is in cc)
-    ]
-
--- if no string is read, no byte is zero
-pub string_failed : {old new : Input} {e : Error} → FailsAt (until 0) old e new → HasNoByte 0 old e
-string_failed {old} {new} {e} fails =
-    elim (some_string old) [
-      | inl found ↦ absurd (let both = sym (string_reads found.2) ∙ fails.fault in cc)
-      | inr none ↦
-          let both = sym (string_fails none.1) ∙ fails.fault in
-          let same : none.0 ≡ e = cc in
-          subst (HasNoByte 0 old) same none.1
     ]

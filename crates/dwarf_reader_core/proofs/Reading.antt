@@ -13,7 +13,7 @@ after-zero input = ap (λ (p : ℕ). let i : Input = record input { position = p
 pub after-after : (m n : ℕ) (input : Input) → after m (after n input) ≡ after (n + m) input
 after-after m n input = rw (drop-drop, add_assoc) refl
 
--- a byte that is found remains behind those before it
+-- a byte that is found remains after those before it
 pub found_left : {byte n : ℕ} {old mid : Input} → IsFirst byte old.bytes n → Takes n old mid → length mid.bytes < 1 → ⊥
 found_left {n = n} {old = old} found takes none =
     omega (arith, found.within, length-drop n old.bytes, ap (λ (i : Input). length i.bytes) takes.left, none)
@@ -41,7 +41,7 @@ begun_below {old} {k = k} b = grind (arith, worth_below)
 pub begun_below_nine : {old mid : Input} {k value : ℕ} → Begun old k mid value → k ≡ 9 → value < 2 ^ 63
 begun_below_nine b nine = rw nine at (begun_below b)
 
--- without a byte behind the first k, all bytes are consumed and no encoding ends in them
+-- without a byte after the first k, all bytes are consumed and no encoding ends in them
 pub begun_cut : {old mid new : Input} {k value : ℕ} {e : Error} → Begun old k mid value → IsTooShort 1 mid e new
     → LacksEncoding old e new × (k ≡ length old.bytes)
 begun_cut {old} {k = k} b ends =
@@ -64,7 +64,7 @@ cut_rejects kind b within ends =
     inl (record { cut = short; left = cut.0.left; fault = cut.0.fault })
 
 module _ {old mid new : Input} {k value byte : ℕ} (b : Begun old k mid value) (t : TakesByte mid byte new) where
-  -- the next byte is consumed behind the first k
+  -- the next byte is consumed after the first k
   next : (k < length old.bytes) × (take (k + 1) old.bytes ≡ take k old.bytes ++ byte ∷ []) × (new ≡ after (k + 1) old)
   next = grind (arith, common_steps, after-after)
 

@@ -2,8 +2,8 @@
 use Rattle.dwarf_reader_core.proofs.Common.{◌≡◌, ℕ, zero, suc, ◌+◌, ◌-◌, ◌*◌, ◌^◌, ◌<◌, List, [], ◌∷◌, ◌++◌, length, take, drop, set, replicate, sym, ap, ◌∙◌, arith, ℤ, pos, negsuc, ◌+ℤ◌, ◌*ℤ◌, ◌≤ℤ◌, ◌<ℤ◌, take_more_set, drop-set-lt, drop-drop, drop-replicate, append_assoc, length-set, Kind, Number, value, signed_value, IsPadded, IsShortest}
 use Rattle.dwarf_reader_core.proofs.Shortest.{join, IsLong, IsShortest-one, IsShortest-more}
 
--- the bytes so far, with the shortest encoding of the rest behind them, are the shortest of the number, and zeros are
--- in the places behind them
+-- the bytes so far, with the shortest encoding of the rest after them, are the shortest of the number, and zeros are
+-- in the places after them
 pub record IsBegun (k : Kind) (number rest : Number k) (bytes : List ℕ) (len : ℕ) : Type 0 where
   pub completes : (tail : List ℕ) → IsShortest k rest tail → IsShortest k number (take len bytes ++ tail)
   pub places : length bytes ≡ 10
@@ -12,11 +12,11 @@ pub record IsBegun (k : Kind) (number rest : Number k) (bytes : List ℕ) (len :
 
 module _ {k : Kind} {number rest : Number k} {bytes : List ℕ} {len : ℕ} (begun : IsBegun k number rest bytes len)
     (digit : ℕ) (small : digit < 128) where
-  -- a byte is placed behind the bytes so far
+  -- a byte is placed after the bytes so far
   placed : (byte : ℕ) → take (len + 1) (set bytes len byte) ≡ take len bytes ++ byte ∷ []
   placed byte = take_more_set bytes len byte (rw begun.places begun.room)
 
-  -- the places behind one more byte are still zeros
+  -- the places after one more byte are still zeros
   zeros-more : (byte : ℕ) → drop (len + 1) (set bytes len byte) ≡ replicate (10 - (len + 1)) 0
   zeros-more byte =
       let one_less : 10 - len - 1 ≡ 10 - (len + 1) = omega arith in
@@ -38,7 +38,7 @@ module _ {k : Kind} {number rest : Number k} {bytes : List ℕ} {len : ℕ} (beg
   pub begun-ends : value k (digit ∷ []) ≡ rest → IsShortest k number (take (len + 1) (set bytes len digit))
   begun-ends is = rw (placed digit) (begun.completes (digit ∷ []) (IsShortest-one k rest digit small is))
 
-  -- with the byte of a rest of one byte, the buffer has an encoding and zeros behind it
+  -- with the byte of a rest of one byte, the buffer has an encoding and zeros after it
   pub begun-padded : value k (digit ∷ []) ≡ rest → IsPadded record { bytes = set bytes len digit; len = len + 1 }
   begun-padded is = record {
     places = length-set bytes len digit ∙ begun.places;

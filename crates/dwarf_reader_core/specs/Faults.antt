@@ -23,7 +23,7 @@ pub record HasNoByte (byte : ℕ) (input : Input) (e : Error) : Type 0 where
   pub none : All (λ b. b ≢ byte) input.bytes
   pub fault : e ≡ end_fault input
 
--- a clone ran out of memory, which can only happen if clones allocate
+-- a clone ran out of memory, which can only happen if clones can fail
 pub record CloneRanOutOfMemory (clone_is_free : Bool) (e : Error) : Type 0 where
   pub costs : clone_is_free ≡ false
   pub fault : e ≡ OutOfMemory

@@ -2,8 +2,8 @@ pub mod Once
 pub mod Input
 pub mod Slice
 pub mod Faults
+pub mod Headers
 pub mod Appended
-pub mod Layout
 pub mod Leb128
 pub mod InitialLength
 pub mod Shortest

@@ -22,7 +22,7 @@ pub record IsShortestLength (k : Kind) (number : Number k) (len : ℕ) : Type 0 
   pub shortest : IsShortest k number bytes
   pub is : len ≡ length bytes
 
--- ten places: an encoding of `len` bytes, and zeros behind it
+-- ten places: an encoding of `len` bytes, and zeros after it
 pub record IsPadded (buffer : Inside) : Type 0 where
   pub places : length buffer.bytes ≡ 10
   pub within : buffer.len ≤ 10
@@ -32,7 +32,7 @@ pub record IsPadded (buffer : Inside) : Type 0 where
 abbrev pub encoding_of : Inside → List ℕ
 encoding_of buffer = take buffer.len buffer.bytes
 
--- an encoding with zeros behind it, in ten places
+-- an encoding with zeros after it, in ten places
 abbrev pub padded : List ℕ → Inside
 padded bytes = record { bytes = bytes ++ replicate (10 - length bytes) 0; len = length bytes }
 

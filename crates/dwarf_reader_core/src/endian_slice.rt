@@ -152,7 +152,7 @@ impl<'input, Endian: Endianity> EndianSlice<'input, Endian> {
         self.slice()
     }
 
-    /// Returns a reader of the first `idx` bytes that remain, and one of those behind them.
+    /// Returns a reader of the first `idx` bytes that remain, and one of those after them.
     ///
     /// The caller has to make sure that at least `idx` bytes remain.
     #[inline]
@@ -304,6 +304,7 @@ impl<'input, Endian: Endianity> Reader for EndianSlice<'input, Endian> {
     }
 
     #[inline]
+    // A struct with a ghost field is copied field by field, since `*self` gets no proof.
     fn try_clone(&self) -> Result<Self> {
         Ok(EndianSlice {
             slice: self.slice,
@@ -377,11 +378,7 @@ impl<'input, Endian: Endianity> Reader for EndianSlice<'input, Endian> {
             endian: self.endian,
             end: self.end - rest.len() as u64,
         };
-        *self = EndianSlice {
-            slice: rest,
-            endian: self.endian,
-            end: self.end,
-        };
+        self.slice = rest;
         Ok(part)
     }
 
@@ -434,11 +431,7 @@ impl<'input, Endian: Endianity> Reader for EndianSlice<'input, Endian> {
         let Some((byte, rest)) = self.slice.split_first() else {
             return Err(Error::UnexpectedEof(self.offset_id()));
         };
-        *self = EndianSlice {
-            slice: rest,
-            endian: self.endian,
-            end: self.end,
-        };
+        self.slice = rest;
         Ok(*byte)
     }
 

@@ -1,12 +1,10 @@
 //! Laws of the definitions that the contracts cite.
 
 ghost use Rattle.std.specs.Prelude.{◌≡◌, ◌<◌, ◌≤◌, ◌⊎◌, ◌++◌, ℕ, All, List, Ok, length, IsTrue};
-ghost use Rattle.dwarf_base_core.specs.declared.common.Format.{Format};
 ghost use Rattle.dwarf_base_core.specs.declared.error.Error.{Error};
 ghost use Rattle.dwarf_reader_core.specs.Input.{Input, TakesString};
 ghost use Rattle.dwarf_reader_core.specs.Faults.{HasNoByte};
-ghost use Rattle.dwarf_reader_core.specs.InitialLength.{HasLength, HasNoLength, initial_length};
-ghost use Rattle.dwarf_reader_core.specs.Layout.{FailsAt, read};
+ghost use Rattle.dwarf_reader_core.specs.InitialLength.{LengthAt};
 ghost use Rattle.dwarf_reader_core.specs.Leb128.{unsigned64, unsigned16, signed64, HasNumber, HasOutcome, IsEncoding, Kind, Number, is_in_range, limit};
 ghost use Rattle.dwarf_reader_core.specs.Once.{HasOne};
 ghost use Rattle.dwarf_reader_core.specs.Shortest.{Encodes, IsShortest};
@@ -52,15 +50,8 @@ pub fn one_string()
         ⊎ ((e : Error) × HasNoByte 0 old e) }
 {}
 
-/// An initial length is the number of the first four bytes, if that is below 0xfffffff0. Behind the
-/// four bytes of 0xffffffff it is the number of eight bytes, which has to be an offset. Without an
-/// initial length, the error is that of the first bytes that are missing, reserved or too great.
-#[tactic(auto, using(crate::proofs::InitialLengths::length_held, crate::proofs::InitialLengths::length_none))]
-pub fn initial_lengths_are_numbers()
-    ensures length { (greatest : ℕ) (old new : Input) (format : Format) (n : ℕ)
-        → All (λ b. b < 256) old.bytes
-        → read (initial_length greatest) old ≡ Ok ((format, n), new)
-        → HasLength greatest old format n new }
-    ensures none { (greatest : ℕ) (old new : Input) (e : Error) → All (λ b. b < 256) old.bytes
-        → FailsAt (initial_length greatest) old e new → HasNoLength greatest old e new }
+/// Bytes have exactly one result for an initial length: they begin with one, or have one error.
+#[tactic(auto, using(crate::proofs::InitialLengths::exactly_one_length))]
+pub fn exactly_one_initial_length()
+    ensures { (greatest : ℕ) (old : Input) → HasOne (LengthAt greatest old) }
 {}

@@ -9,8 +9,7 @@ ghost use Rattle.dwarf_base_core.specs.Format.{word_size};
 ghost use Rattle.dwarf_reader_core.specs.Input.{Input, first, IsPartOf, IsBounded, IsFirst, Covers, Takes, TakesByte, TakesNumber, TakesSigned, TakesString};
 ghost use Rattle.dwarf_reader_core.specs.Faults.{IsTooShort, IsUnsupportedAddressSize, HasNoByte, RejectsAddress, RejectsOffset, RejectsWord, CloneRanOutOfMemory, is_number_size};
 ghost use Rattle.dwarf_reader_core.specs.Leb128.{unsigned64, unsigned16, signed64, IsOver, LacksEncoding, ReadsNumber, RejectsNumber, TakesEncoding};
-ghost use Rattle.dwarf_reader_core.specs.InitialLength.{initial_length};
-ghost use Rattle.dwarf_reader_core.specs.Layout.{read, FailsAt};
+ghost use Rattle.dwarf_reader_core.specs.InitialLength.{HasLength, HasNoLength};
 
 use crate::leb128::{
     MAX_TENTH_BYTE, MAX_THIRD_BYTE, has_continuation_bit, has_sign_bit, with_digit, with_sign,
@@ -46,9 +45,8 @@ pub trait Reader: Debug + Drop + Sized {
     /// The type of lengths, and of offsets within the bytes.
     type Offset: ReaderOffset;
 
-    /// Whether `try_clone`, `split` and `read_null_terminated_slice` allocate no memory, and so
-    /// never return [`Error::OutOfMemory`]. It is what [`is_clone_free`](Reader::is_clone_free)
-    /// returns.
+    /// Whether clones can't fail: `try_clone`, `split` and `read_null_terminated_slice` never return
+    /// [`Error::OutOfMemory`]. It is what [`is_clone_free`](Reader::is_clone_free) returns.
     const CLONE_IS_FREE: bool;
 
     // What `is_clone_free` returns, for contracts.
@@ -60,7 +58,7 @@ pub trait Reader: Debug + Drop + Sized {
     // The byte order itself; `view` only has whether the highest byte comes first.
     ghost order: { Self → Self.Endian };
 
-    /// Returns whether clones allocate no memory, as [`CLONE_IS_FREE`](Reader::CLONE_IS_FREE) says.
+    /// Returns whether clones can't fail, as [`CLONE_IS_FREE`](Reader::CLONE_IS_FREE) says.
     ///
     /// The checker proves what this call returns. It proves nothing of a constant, so a program
     /// that has to know calls this.
@@ -551,13 +549,14 @@ pub trait Reader: Debug + Drop + Sized {
     /// - [`Error::UnsupportedOffset`] if the length doesn't fit the offset type. All twelve bytes
     ///   are consumed.
     #[inline]
-    #[tactic(auto, unfolding(crate::specs::InitialLength::initial_length, crate::specs::InitialLength::long_length, crate::specs::Layout::read, crate::specs::Layout::remains, crate::specs::Layout::fixed, crate::specs::Layout::check))]
+    #[tactic(auto, using(crate::proofs::InitialLengths::initial_lengths))]
     fn read_initial_length(&mut self) -> Result<(Self::Offset, Format)>
-        ensures ok { let f = initial_length Self.Offset.GREATEST in IfOk result (λ found.
-            read f (view self.old) ≡ Ok ((found.1, Self.Offset.value found.0), view self.new)) }
+        ensures ok { IfOk result
+            (λ found. HasLength Self.Offset.GREATEST (view self.old) found.1
+            (Self.Offset.value found.0) (view self.new)) }
         ensures in_range { IfOk result (λ found. Self.Offset.value found.0 ≤ Self.Offset.GREATEST) }
-        ensures err { let f = initial_length Self.Offset.GREATEST in
-            IfErr result (λ e. FailsAt f (view self.old) e (view self.new)) }
+        ensures err { IfErr result
+            (λ e. HasNoLength Self.Offset.GREATEST (view self.old) e (view self.new)) }
         ensures order { order self.new ≡ order self.old }
     {
         const FIRST_RESERVED: u32 = 0xffff_fff0;
@@ -613,9 +612,9 @@ pub trait Reader: Debug + Drop + Sized {
         ensures order { order self.new ≡ order self.old }
     {
         match size {
-            1 => Ok(self.read_u8()? as u64),
-            2 => Ok(self.read_u16()? as u64),
-            4 => Ok(self.read_u32()? as u64),
+            1 => Ok(u64::from(self.read_u8()?)),
+            2 => Ok(u64::from(self.read_u16()?)),
+            4 => Ok(u64::from(self.read_u32()?)),
             8 => self.read_u64(),
             _ => Err(Error::UnsupportedAddressSize(size)),
         }
@@ -639,7 +638,7 @@ pub trait Reader: Debug + Drop + Sized {
         ensures order { order self.new ≡ order self.old }
     {
         let word = match format {
-            Format::Dwarf32 => self.read_u32()? as u64,
+            Format::Dwarf32 => u64::from(self.read_u32()?),
             Format::Dwarf64 => self.read_u64()?,
         };
         Self::Offset::from_u64(word)
@@ -701,9 +700,9 @@ pub trait Reader: Debug + Drop + Sized {
         ensures order { order self.new ≡ order self.old }
     {
         let number = match size {
-            1 => self.read_u8()? as u64,
-            2 => self.read_u16()? as u64,
-            4 => self.read_u32()? as u64,
+            1 => u64::from(self.read_u8()?),
+            2 => u64::from(self.read_u16()?),
+            4 => u64::from(self.read_u32()?),
             8 => self.read_u64()?,
             _ => return Err(Error::UnsupportedOffsetSize(size)),
         };

@@ -6,11 +6,11 @@ use Rattle.dwarf_read_core.specs.Answer.{Answer, TableEndsAt}
 use Rattle.dwarf_read_core.specs.Grammar.{Table}
 use Rattle.dwarf_read_core.specs.Input.{Input}
 
--- the result behind the table at an offset
+-- the result after the table at an offset
 abbrev pub IsBehind : Input → ℕ → Table → Result Table Error → Type 0
 IsBehind section offset table behind = (end : ℕ) × TableEndsAt section offset table end × Answer section end behind
 
--- the error at an offset, or else the one behind the table there
+-- the error at an offset, or else the one after the table there
 abbrev pub IsErrorOfTwo : Input → ℕ → Error → Type 0
 IsErrorOfTwo section offset e = Answer section offset (Err e)
     ⊎ ((t : Table) × Answer section offset (Ok t) × IsBehind section offset t (Err e))

@@ -1,6 +1,6 @@
-//! Small callers of the library, to start from. `docs/API.md` and doc comments quote them.
+//! Small callers of the library, to start from. `docs/USING.md` and doc comments quote them.
 
-ghost use Rattle.std.specs.Prelude.{◌≡◌, ◌≢◌, ℕ, Ok, Err, IfOk, IfErr, map, option_map};
+ghost use Rattle.std.specs.Prelude.{◌≡◌, ◌≢◌, ◌⊎◌, ◌∷◌, ◌++◌, [], ℕ, List, Ok, Err, IfOk, IfErr, map, option_map};
 ghost use Rattle.std.specs.FinMap as finite;
 ghost use Rattle.dwarf_read_core.specs.Entries.{RepresentsAddresses};
 ghost use Rattle.dwarf_read_core.specs.Format.{word_size};
@@ -12,11 +12,11 @@ ghost use Rattle.dwarf_read_core.specs.Words.{WordAt, slot};
 ghost use Rattle.dwarf_uses.specs.Callers.{HaveLengths, IsBehind, IsErrorOfTwo, IsFirstError};
 
 use dwarf_read_core::{
-    Abbreviation, Abbreviations, AbbreviationsCache, AbbreviationsCacheStrategy, AddrHeader,
-    DebugAbbrev, DebugAbbrevOffset, DebugStr, DebugStrOffsets, DebugStrOffsetsBase,
-    DebugStrOffsetsIndex, DwTag, Error, Format, Reader, Result,
+    Abbreviations, AbbreviationsCache, AbbreviationsCacheStrategy, AddrHeader, DebugAbbrev,
+    DebugAbbrevOffset, DebugStr, DebugStrOffsets, DebugStrOffsetsBase, DebugStrOffsetsIndex, DwTag,
+    Error, Format, Reader, Result,
 };
-use std::alloc::{AllocError, Global};
+use std::alloc::Global;
 
 /// Returns the tag of the abbreviation with this code.
 pub fn tag_of(table: &Abbreviations, code: u64) -> Option<DwTag>
@@ -26,28 +26,7 @@ pub fn tag_of(table: &Abbreviations, code: u64) -> Option<DwTag>
     Some(table.get(code)?.tag())
 }
 
-/// Returns the table at `offset`, a line for each declaration and for each of its attributes.
-///
-/// # Errors
-///
-/// Those of [`DebugAbbrev::abbreviations`].
-pub fn table_text<R: Reader>(
-    mem: Global,
-    section: &DebugAbbrev<R>,
-    offset: DebugAbbrevOffset<R::Offset>,
-) -> Result<String>
-    ensures err { let bytes = R.view (debug_abbrev_reader section.now) in
-        IfErr result (λ e. e ≢ Error.OutOfMemory → Answer bytes (R.Offset.value offset.0) (Err e)) }
-{
-    let table = section.abbreviations(mem, offset)?;
-    let mut text = String::new(mem);
-    for abbreviation in table.iter() {
-        append(abbreviation, &mut text)?;
-    }
-    Ok(text)
-}
-
-/// Returns the table at `offset` and the one behind it.
+/// Returns the table at `offset` and the one after it.
 ///
 /// # Errors
 ///
@@ -68,17 +47,6 @@ pub fn two_tables<R: Reader>(
     let (first, end) = section.abbreviations_and_end(mem, offset)?;
     let second = section.abbreviations(mem, end)?;
     Ok((first, second))
-}
-
-// Appends the line of a declaration, and those of its attributes.
-fn append(abbreviation: &Abbreviation, text: &mut String) -> std::result::Result<(), AllocError> {
-    let (code, tag) = (abbreviation.code(), abbreviation.tag());
-    writeln!(text, "{code} {tag}")?;
-    for attribute in abbreviation.attributes() {
-        let (name, form) = (attribute.name(), attribute.form());
-        writeln!(text, "  {name} {form}")?;
-    }
-    Ok(())
 }
 
 /// Returns how many abbreviations the table of each unit has. A table that two units share is read
@@ -129,6 +97,13 @@ pub fn string_by_index<R: Reader>(
         IfOk result (λ string. (offset : ℕ)
         × WordAt R.Offset.GREATEST (R.view (debug_str_offsets_reader offsets.now)) place (Ok offset)
         × StringAt (R.view (debug_str_reader strings.now)) offset (Ok (R.view string))) }
+    ensures err { let width = word_size format in
+        let place = slot (R.Offset.value base.0) (R.Offset.value index.0) width in
+        IfErr result (λ e. e ≢ Error.OutOfMemory
+        → WordAt R.Offset.GREATEST (R.view (debug_str_offsets_reader offsets.now)) place (Err e)
+        ⊎ ((offset : ℕ)
+        × WordAt R.Offset.GREATEST (R.view (debug_str_offsets_reader offsets.now)) place (Ok offset)
+        × StringAt (R.view (debug_str_reader strings.now)) offset (Err e))) }
 {
     let offset = offsets.get_str_offset(format, base, index)?;
     strings.get_str(offset)
@@ -143,6 +118,9 @@ pub fn string_by_index<R: Reader>(
 pub fn addresses_in<R: Reader>(mem: Global, header: &AddrHeader<R>) -> Result<Vec<u64>>
     ensures ok { let entries = addresses_of (seen_by R.view header.now) in
         IfOk result (λ addresses. RepresentsAddresses entries (map (λ n. Ok n) addresses.items)) }
+    ensures err { let entries = addresses_of (seen_by R.view header.now) in
+        IfErr result (λ e. e ≢ Error.OutOfMemory → (addresses : List ℕ)
+        × RepresentsAddresses entries (map (λ n. Ok n) addresses ++ Err e ∷ [])) }
 {
     let mut addresses = Vec::new(mem);
     let mut entries = header.entries()?;

@@ -2,12 +2,13 @@
 //!
 //! Nothing here is part of the library. [`owned_reader`] and [`shared_reader`] are examples of a
 //! type that implements [`Reader`](dwarf_read_core::Reader), to start from if sections come from a
-//! mapped file, a shared buffer or a socket. [`callers`] has callers to start from. [`parts`] shows
-//! what a contract requires of a caller.
+//! mapped file, a shared buffer or a socket. [`callers`] and [`calling`] have callers to start from.
+//! [`parts`] shows what a contract requires of a caller.
 
 #![tactic(auto)]
 
 pub mod callers;
+pub mod calling;
 pub mod owned_reader;
 pub mod parts;
 pub mod shared_reader;

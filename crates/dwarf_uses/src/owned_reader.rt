@@ -29,13 +29,13 @@ use std::borrow::{CowSlice, CowStr};
 /// A clone copies the bytes that remain, so memory for it can run out. The reader also limits its
 /// clones: it counts how deep they may go. If that number is 0, `try_clone` and `split` return
 /// [`Error::OutOfMemory`]. The reader that they return has one fewer, and the number of the reader
-/// itself doesn't change. So a test can make each clone of a call fail, one after the other.
+/// itself doesn't change. So a test can make each clone of a call fail in turn.
 #[derive(Debug, Drop)]
 pub struct OwnedReader {
     alloc: Global,
     bytes: Vec<u8>,
     endian: RunTimeEndian,
-    // The bytes in front of this index were consumed.
+    // The bytes before this index were consumed.
     start: usize,
     position: u64,
     // How deep clones may go.

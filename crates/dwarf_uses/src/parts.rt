@@ -6,7 +6,7 @@ use dwarf_read_core::{EndianSlice, Endianity, LittleEndian, Reader, Result};
 
 /// Returns the first three of ten bytes, and the last seven.
 ///
-/// [`split_at`](EndianSlice::split_at) requires that so many bytes remain: a call with 30 in place
+/// [`split_at`](EndianSlice::split_at) requires that this many bytes remain: a call with 30 in place
 /// of 3 isn't accepted.
 pub fn split_ten(bytes: &[u8; 10]) -> (&[u8], &[u8])
     ensures front { result.0.now ≡ take 3 bytes.now }

@@ -1,6 +1,7 @@
 -- What a cache keeps after one more offset.
-use Rattle.dwarf_read_core.proofs.Common.{common_steps, ◌≡◌, ◌≢◌, ℕ, ◌+◌, ◌<◌, ◌≤◌, cond, eqb, List, [], ◌∷◌, ◌++◌, length, take, get_or, map, Option, Some, Result, refl, arith, All, IsPermutation, take_more, map_push, nat_tests, All-head, All-tail, sum_by-IsPermutation, sum_by_push, Error, Input, Answer, KeepsAnswers, occurrences, Table, ap, Cache, get, insert, get-insert, nat_cmp_total, nat_cmp, empty, least_count}
+use Rattle.dwarf_read_core.proofs.Common.{common_steps, ◌≡◌, ◌≢◌, ℕ, ◌+◌, ◌<◌, ◌≤◌, cond, eqb, List, [], ◌∷◌, ◌++◌, length, take, get_or, map, Option, Some, None, Result, refl, arith, All, IsPermutation, take_more, map_push, nat_tests, All-head, All-tail, sum_by-IsPermutation, sum_by_push, Error, Input, Answer, KeepsAnswers, occurrences, Table, ap, Cache, get, insert, get-insert, nat_cmp_total, nat_cmp, empty, least_count}
 use Rattle.std.specs.FinMap.{get-empty}
+use Rattle.std.specs.Prelude.{IsSome}
 use Rattle.dwarf_read_core.specs.declared.read.abbrev.cache.AbbreviationsCacheStrategy.{AbbreviationsCacheStrategy}
 
 -- after one more offset, that offset occurs once more, and the others as often as before
@@ -55,3 +56,26 @@ kept_in_any_order least section offsets others kept moved h q = grind (arith, su
 pub get_inserted : (cache : Cache) (key : ℕ) (answer : Result Table Error) (q : ℕ)
     → get (insert cache key answer) q ≡ cond (eqb q key) (Some answer) (get cache q)
 get_inserted cache key answer q = grind (arith, nat_tests, get-insert nat_cmp_total cache key answer q)
+
+-- ---- what the strategies keep of few offsets
+
+-- an offset that occurs at least `least` times is kept
+pub enough_kept : (least : ℕ) (section : Input) (offsets : List ℕ) (key : ℕ) (kept : ℕ → Option (Result Table Error))
+    → KeepsAnswers least section offsets kept → least ≤ occurrences key offsets → IsSome (kept key)
+enough_kept least section offsets key kept h enough = grind (arith, h key)
+
+-- an offset that occurs less often isn't kept
+pub few_not_kept : (least : ℕ) (section : Input) (offsets : List ℕ) (key : ℕ) (kept : ℕ → Option (Result Table Error))
+    → KeepsAnswers least section offsets kept → occurrences key offsets < least → kept key ≡ None
+few_not_kept least section offsets key kept h few = grind (arith, h key)
+
+-- an offset occurs once among one that is it
+pub one_occurs : (key : ℕ) → occurrences key (key ∷ []) ≡ 1
+one_occurs key = grind (arith, nat_tests)
+
+-- and twice among two
+pub two_occur : (key : ℕ) → occurrences key (key ∷ key ∷ []) ≡ 2
+two_occur key = grind (arith, nat_tests)
+
+-- what each strategy keeps of no, one and two offsets
+pub ruleset strategies = (enough_kept, few_not_kept, one_occurs, two_occur)

@@ -1,5 +1,5 @@
 -- A cache whose entries are those of a section stays faithful to it.
-use Rattle.dwarf_read_core.proofs.Common.{arith, subst, Option, Some, ℕ, Bool, List, Result, ◌≡◌, Error, Table, Answer, outside, table, first_error, get, followed_by, Cache, KeepsAnswers, IsFaithful, IfSome, still_kept, Input}
+use Rattle.dwarf_read_core.proofs.Common.{arith, subst, Option, Some, ℕ, Bool, List, Result, ◌≡◌, Error, Table, Answer, outside, table, first_error, get, followed_by, Cache, KeepsAnswers, IsFaithful, IfSome, StillKept, Input}
 use Rattle.dwarf_read_core.proofs.tables.AppendedBytes.{answer_more}
 
 -- a section's result is the same in either byte order
@@ -22,13 +22,13 @@ kept_answer cache section key faithful is =
     subst (λ (kept : Option (Result Table Error)). IfSome kept (Answer section key)) is (faithful section.is_big key)
 
 -- what is kept of a section's results once appended bytes may have changed them are results of the longer section
-final_results : (old new : Cache) → ((key : ℕ) → get new key ≡ still_kept (get old key))
+final_results : (old new : Cache) → ((key : ℕ) → StillKept (get old key) (get new key))
     → (section : Input) (more : List ℕ) → ((key : ℕ) → IfSome (get old key) (Answer section key))
     → (key : ℕ) → IfSome (get new key) (Answer (followed_by section more) key)
 final_results old new h section more results key = grind (arith, answer_more, h key, results key)
 
 -- a faithful cache is faithful to the longer section once it has dropped what appended bytes may change
-pub faithful_of_final : (old new : Cache) → ((key : ℕ) → get new key ≡ still_kept (get old key))
+pub faithful_of_final : (old new : Cache) → ((key : ℕ) → StillKept (get old key) (get new key))
     → (section : Input) (more : List ℕ) → IsFaithful old section → IsFaithful new (followed_by section more)
 faithful_of_final old new h section more faithful is_big =
     final_results old new h (record section { is_big = is_big }) more (faithful is_big)

@@ -1,5 +1,5 @@
 -- A cache keeps no `OutOfMemory`.
-use Rattle.dwarf_read_core.proofs.Common.{arith, ◌≡◌, ◌≢◌, ℕ, Err, Result, List, nat_cmp, nat_cmp_total, Error, OutOfMemory, Table, Answer, IsFirstError, Cache, KeepsNoOutOfMemory, still_kept, Input}
+use Rattle.dwarf_read_core.proofs.Common.{arith, ◌≡◌, ◌≢◌, ℕ, Err, Result, List, nat_cmp, nat_cmp_total, Error, OutOfMemory, Table, Answer, IsFirstError, Cache, KeepsNoOutOfMemory, StillKept, Input}
 use Rattle.std.specs.FinMap as finite
 
 -- the empty cache keeps no `OutOfMemory`
@@ -22,6 +22,6 @@ pub answer_not_memory : {section : Input} {key : ℕ} {answer : Result Table Err
 answer_not_memory h is = grind (arith, first_error_not_memory)
 
 -- a cache that keeps no `OutOfMemory` keeps none after it has dropped entries
-pub no_memory_error_final : (old new : Cache) → ((key : ℕ) → finite.get new key ≡ still_kept (finite.get old key))
+pub no_memory_error_final : (old new : Cache) → ((key : ℕ) → StillKept (finite.get old key) (finite.get new key))
     → KeepsNoOutOfMemory old → KeepsNoOutOfMemory new
-no_memory_error_final old new h none key is = grind arith
+no_memory_error_final old new h none key is = grind (arith, h key, none key)

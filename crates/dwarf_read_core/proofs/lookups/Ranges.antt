@@ -1,55 +1,71 @@
--- A part that is read is the range at its offset.
-use Rattle.dwarf_read_core.proofs.Common.{◌≡◌, ◌∙◌, ap, arith, inl, inr, ℕ, ◌+◌, ◌<◌, ◌≤◌, length, take, drop, Ok, Err, refl, Error, IsTooShort, Input, first, Takes, At_failed, At_read, ReadsAs_value, ReadsAs_error, then_read, then_failed, part_read, part_failed, rest-length, after_part, no_part, part_reads, part_fails}
-use Rattle.dwarf_read_core.specs.Ranges.{HasNoRange, HoldsRange, RangeAt, range_at, range_cut, range_past_end}
+-- The part that a reader reads after an offset is the section's part there, and a section has one result there.
+use Rattle.dwarf_read_core.proofs.Common.{◌≡◌, ◌∙◌, sym, ap, arith, inl, inr, ℕ, ◌+◌, ◌<◌, ◌≤◌, length, take, drop, Result, Ok, Err, refl, cases_lt, Error, end_fault, IsTooShort, Input, after, first, Takes, HasOne, rest-length}
+use Rattle.dwarf_read_core.specs.Ranges.{HasNoRange, HoldsRange, RangeAt, range_cut, range_past_end}
 
--- the first bytes behind an offset are the range there, if the section has as many
+-- the first bytes after an offset are the range there, if the section has as many
 pub range_taken : (section : Input) (offset size : ℕ) (rest part : Input) → Takes offset section rest
-    → size ≤ length rest.bytes → part ≡ first size rest → RangeAt section offset size (Ok part)
-unfolding RangeAt range_at
+    → size ≤ length rest.bytes → part ≡ first size rest → HoldsRange section offset size part
 range_taken section offset size rest part takes enough is =
-    ReadsAs_value _ _ (after_part _ refl takes (part_reads is (record { enough = enough; left = refl })))
+    let bytes : rest.bytes ≡ drop offset section.bytes = ap (λ (i : Input). i.bytes) takes.left in
+    record {
+      within = omega (arith, takes.enough, enough, rest-length offset section rest takes);
+      is = ap (λ (i : Input). i.bytes) is ∙ ap (take size) bytes;
+      place = ap (λ (i : Input). i.position) is ∙ ap (λ (i : Input). i.position) takes.left;
+      order = ap (λ (i : Input). i.is_big) is ∙ ap (λ (i : Input). i.is_big) takes.left;
+    }
 
--- a range is an `UnexpectedEof` if fewer bytes than its size remain behind its offset
+-- a range is an `UnexpectedEof` if fewer bytes than its size remain after its offset
 pub range_ends_early : (section : Input) (offset size : ℕ) (rest : Input) (e : Error) (new : Input)
-    → Takes offset section rest → IsTooShort size rest e new → RangeAt section offset size (Err e)
-unfolding RangeAt range_at
+    → Takes offset section rest → IsTooShort size rest e new → HasNoRange section offset size e
 range_ends_early section offset size rest e new takes short =
-    ReadsAs_error _ _ (after_part _ refl takes (part_fails short))
+    let long = rest-length offset section rest takes in
+    let over : length section.bytes < offset + size = omega (arith, takes.enough, short.short, long) in
+    rw (short.fault, takes.left) (range_cut takes.enough over)
 
 -- a range is an `UnexpectedEof` if the section ends before its offset
 pub range_outside : (section : Input) (offset size : ℕ) (e : Error) (new : Input) → IsTooShort offset section e new
-    → RangeAt section offset size (Err e)
-unfolding RangeAt range_at
-range_outside section offset size e new short = ReadsAs_error _ _ (no_part _ short)
-
--- a range is so many bytes behind its offset
-pub range_held : (section : Input) (offset size : ℕ) (part : Input) → RangeAt section offset size (Ok part)
-    → HoldsRange section offset size part
-unfolding RangeAt range_at
-range_held section offset size part is =
-    let found = At_read (range_at offset size) section is in
-    let front = then_read _ _ _ found.1 in
-    let takes = (part_read _ _ front.2).1 in
-    let last = part_read _ _ front.3 in
-    let bytes : front.1.bytes ≡ drop offset section.bytes = ap (λ (i : Input). i.bytes) takes.left in
-    record {
-      within = omega (arith, takes.enough, last.1.enough, rest-length offset section front.1 takes);
-      is = ap (λ (i : Input). i.bytes) last.0 ∙ ap (take size) bytes;
-      place = ap (λ (i : Input). i.position) last.0 ∙ ap (λ (i : Input). i.position) takes.left;
-      order = ap (λ (i : Input). i.is_big) last.0 ∙ ap (λ (i : Input). i.is_big) takes.left;
-    }
-
--- if there is no range, the section ends before its offset, or before its end
-pub range_none : (section : Input) (offset size : ℕ) (e : Error) → RangeAt section offset size (Err e)
     → HasNoRange section offset size e
-unfolding RangeAt range_at
-range_none section offset size e is =
-    elim (then_failed _ _ _ (At_failed (range_at offset size) section is)) [
-      | inl short ↦ let past = part_failed _ _ short in rw past.fault (range_past_end past.short)
-      | inr front ↦
-          let takes = (part_read _ _ front.2).1 in
-          let cut = part_failed _ _ front.3 in
-          let long = rest-length offset section front.1 takes in
-          let over : length section.bytes < offset + size = omega (arith, takes.enough, cut.short, long) in
-          rw (cut.fault, takes.left) (range_cut takes.enough over)
+range_outside section offset size e new short = rw short.fault (range_past_end short.short)
+
+-- ---- exactly one result
+
+-- a section has a part or an error at an offset
+range_some : (section : Input) (offset size : ℕ) → (r : Result Input Error) × RangeAt section offset size r
+range_some section offset size =
+    elim (cases_lt (length section.bytes) offset) [
+      | inl past ↦ (Err (end_fault section), range_past_end past)
+      | inr within ↦
+          elim (cases_lt (length section.bytes) (offset + size)) [
+            | inl cut ↦ (Err (end_fault (after offset section)), range_cut within cut)
+            | inr enough ↦ (
+              Ok (first size (after offset section)),
+              record { within = enough; is = refl; place = refl; order = refl },
+            )
+          ]
     ]
+
+-- a section that has a part at an offset has no error there
+range_or_none : {section part : Input} {offset size : ℕ} {e : Error} → HoldsRange section offset size part
+    → HasNoRange section offset size e → ⊥
+range_or_none h (range_past_end past) = omega (arith, h.within)
+range_or_none h (range_cut within cut) = omega (arith, h.within)
+
+-- two results at an offset are equal
+range_same : (section : Input) (offset size : ℕ) (r t : Result Input Error) → RangeAt section offset size r
+    → RangeAt section offset size t → r ≡ t
+range_same section offset size (Ok s) (Ok t) h k = λ i. Ok (record {
+  bytes = (h.is ∙ sym k.is) i;
+  position = (h.place ∙ sym k.place) i;
+  is_big = (h.order ∙ sym k.order) i;
+})
+range_same section offset size (Ok s) (Err e) h k = absurd (range_or_none h k)
+range_same section offset size (Err e) (Ok t) h k = absurd (range_or_none k h)
+range_same section offset size (Err e) (Err d) (range_past_end past) (range_past_end more) = refl
+range_same section offset size (Err e) (Err d) (range_past_end past) (range_cut within cut) = absurd (omega arith)
+range_same section offset size (Err e) (Err d) (range_cut within cut) (range_past_end past) = absurd (omega arith)
+range_same section offset size (Err e) (Err d) (range_cut within cut) (range_cut more other) = refl
+
+-- a section has exactly one part or error at an offset
+pub ranges_exactly_one : (section : Input) (offset size : ℕ) → HasOne (RangeAt section offset size)
+ranges_exactly_one section offset size =
+    let found = range_some section offset size in (found.0, found.1, λ other is. range_same section offset size other found.0 is found.1)

@@ -1,8 +1,7 @@
--- Lookups of numbers by an index, as layouts.
-use Rattle.dwarf_read_core.proofs.Common.{common_steps, ◌≡◌, ℕ, ◌<◌, ◌≤◌, List, Bool, Result, Ok, Err, refl, sym, ◌∙◌, arith, inl, inr, IsTrue, IfOk, IfErr, OnOk, le-leb, lt-leb, Error, UnsupportedOffset, IsTooShort, RejectsAddress, RejectsWord, is_number_size, Input, after, first, Takes, TakesNumber, followed_by, IsNotEof, read, AnswersBy, ReadsAs_more, ReadsAs_value, ReadsAs_error, then_reads, then_fails, error_is, part_reads, part_fails, number_reads, number_fails, after_part, no_part, after_check, no_check, rest-length, takes-both, StaysBy}
-use Rattle.dwarf_reader_core.proofs.Reading.{after-after}
-use Rattle.dwarf_read_core.specs.Words.{Slot, distance, place, IsPlaced, Misplaced, Holds, to_slot, word, address, WordAt, AddressAt}
-use Rattle.dwarf_read_core.proofs.sets.Entries.{offset_reads, offset_fails}
+-- What a reader reads at the place of a slot is the section's result there, and a section has one result there.
+use Rattle.dwarf_read_core.proofs.Common.{common_steps, ◌≡◌, ◌≢◌, ℕ, ◌+◌, ◌<◌, ◌≤◌, length, take, drop, List, Bool, true, false, Result, Ok, Err, refl, sym, ◌∙◌, arith, inl, inr, ◌⊎◌, IsTrue, IfOk, IfErr, OnOk, cases_lt, length-append, drop-append-le, take-append-le, length-drop, ap, Error, UnsupportedOffset, UnsupportedAddressSize, end_fault, IsTooShort, RejectsAddress, RejectsWord, is_number_size, Input, after, Takes, TakesNumber, followed_by, IsNotEof, HasOne, AnswersBy, rest-length, takes-both, StaysBy}
+use Rattle.dwarf_base_core.specs.Number.{number_of}
+use Rattle.dwarf_read_core.specs.Words.{Slot, distance, place, IsPlaced, Holds, HasWord, HasAddress, HasNoPlace, no_base, no_distance, no_place, HasNoWord, word_unplaced, word_cut, word_too_great, HasNoAddress, address_unplaced, address_unsized, address_cut, WordAt, AddressAt}
 
 -- ---- going to the place
 
@@ -24,27 +23,25 @@ slot_holds section s x rest new takes number = grind (arith, common_steps, rest-
 
 module _ (greatest : ℕ) (section : Input) (s : Slot) where
   -- if the base is past the end, that is the first error
-  pub no_base : (e : Error) (new : Input) → IsTooShort s.base section e new → Misplaced greatest section s e
-  unfolding to_slot
-  no_base e new short = no_part _ short
+  pub base_outside : (e : Error) (new : Input) → IsTooShort s.base section e new → HasNoPlace greatest section s e
+  base_outside e new short = rw short.fault (no_base short.short)
 
-  -- if the distance is too great for an offset, that is the error behind the base
+  -- if the distance is too great for an offset, that is the error after the base
   pub too_far_off : (rest : Input) → Takes s.base section rest → greatest < distance s
-      → Misplaced greatest section s UnsupportedOffset
-  unfolding to_slot
-  too_far_off rest takes over = after_part _ refl takes (no_check _ _ _ (lt-leb (distance s) greatest over))
+      → HasNoPlace greatest section s UnsupportedOffset
+  too_far_off rest takes over = no_distance takes.enough over
 
-  -- if the place is past the end, that is the error behind the base
+  -- if the place is past the end, that is the error after the base
   pub past_end : (rest : Input) (e : Error) (new : Input) → Takes s.base section rest → distance s ≤ greatest
-      → IsTooShort (distance s) rest e new → Misplaced greatest section s e
-  unfolding to_slot
+      → IsTooShort (distance s) rest e new → HasNoPlace greatest section s e
   past_end rest e new takes counted short =
-      after_part _ refl takes (after_check _ _ _ (le-leb (distance s) greatest counted) (part_fails short))
+      let long = rest-length s.base section rest takes in
+      rw (short.fault, takes.left) (no_place takes.enough counted (omega (arith, short.short, long)))
 
   -- a place past the end is the error, also with a distance that the code computed
   pub past_end_found : {A : Type 0} (rest new : Input) (far : ℕ) (r : Result A Error) → Takes s.base section rest
       → far ≡ distance s → far ≤ greatest → IfErr r (λ e. IsTooShort far rest e new)
-      → IfErr r (Misplaced greatest section s)
+      → IfErr r (HasNoPlace greatest section s)
   past_end_found rest new far r takes is counted h = grind (arith, past_end)
 
   -- if the bytes before the base and the distance are consumed, the slot has a place in the section
@@ -59,78 +56,239 @@ module _ (greatest : ℕ) (section : Input) (s : Slot) where
       placed rest new takes (omega arith) (rw is at further)
   placed_found rest new far (Err e) takes is counted further = tt
 
-  -- if a slot has no place, its word is that error
-  pub word_misplaced : (e : Error) → Misplaced greatest section s e → WordAt greatest section s (Err e)
-  unfolding word
-  word_misplaced e misplaced = ReadsAs_error _ _ (then_fails _ _ _ misplaced)
-
-  -- and so is its address
-  pub address_misplaced : (e : Error) → Misplaced greatest section s e → AddressAt greatest section s (Err e)
-  unfolding address
-  address_misplaced e misplaced = ReadsAs_error _ _ (then_fails _ _ _ misplaced)
-
   -- ---- the number at a place
   module _ (rest : Input) (is_placed : IsPlaced greatest section s) (takes : Takes (place s) section rest) where
-    -- the bytes before the slot are read
-    slot_reached : read (to_slot greatest s) section ≡ Ok (first (distance s) (after s.base section), rest)
-    unfolding to_slot
-    slot_reached =
-        let based : Takes s.base section (after s.base section) = record { enough = is_placed.based; left = refl } in
-        let long = rest-length s.base section (after s.base section) based in
-        after_part _ refl based (after_check _ _ _ (le-leb (distance s) greatest is_placed.counted)
-        (part_reads refl (record {
-          enough = omega (arith, is_placed.within, long);
-          left = takes.left ∙ sym (after-after (distance s) s.base section);
-        })))
+    -- if too few bytes remain at the place, the slot isn't within the section
+    slot_ends : length rest.bytes < s.width → length section.bytes < place s + s.width
+    slot_ends short = omega (arith, rest-length (place s) section rest takes, takes.enough)
 
     -- an offset that is read there is the slot's word
     pub word_taken : {x : ℕ} {new : Input} → TakesNumber s.width rest x new → x ≤ greatest
-        → WordAt greatest section s (Ok x)
-    unfolding word
-    word_taken number fits = ReadsAs_value _ _ (then_reads _ _ _ slot_reached ∙ offset_reads greatest number fits)
+        → HasWord greatest section s x
+    word_taken {x} number fits =
+        record { placed = is_placed; held = slot_holds section s x rest _ takes number; fits = fits }
 
     -- if the word is cut, or too great for an offset, that is the error at the slot
     pub word_fails : {e : Error} {new : Input} → RejectsWord greatest s.width rest e new
-        → WordAt greatest section s (Err e)
-    unfolding word
-    word_fails failed = ReadsAs_error _ _ (then_reads _ _ _ slot_reached ∙ offset_fails greatest failed)
+        → HasNoWord greatest section s e
+    word_fails (inl short) = rw (short.fault, takes.left) (word_cut is_placed (slot_ends short.short))
+    word_fails (inr unfit) =
+        let held = slot_holds section s unfit.number rest _ takes unfit.taken in
+        rw unfit.fault (word_too_great unfit.number is_placed held unfit.over)
 
     -- what a reader returns for an address there is the section's result
     pub address-read : (new : Input) (clone_is_free : Bool) (r : Result ℕ Error)
         → IfOk r (λ x. TakesNumber s.width rest x new × IsTrue (is_number_size s.width))
         → IfErr r (λ e. RejectsAddress s.width rest e new)
         → AnswersBy (AddressAt greatest section s) (λ x. x) clone_is_free r
-    unfolding address
     address-read new clone_is_free (Ok x) (number, size) h =
-        ReadsAs_value _ _ (then_reads _ _ _ slot_reached ∙ after_check _ _ _ size (number_reads number))
+        record { placed = is_placed; sized = size; held = slot_holds section s x rest _ takes number }
     address-read new clone_is_free (Err e) given (inl other) =
-        inl (ReadsAs_error _ _ (then_reads _ _ _ slot_reached ∙ error_is other.fault (no_check _ _ _ other.none)))
+        inl (rw other.fault (address_unsized is_placed other.none))
     address-read new clone_is_free (Err e) given (inr (size, short)) =
-        inl (ReadsAs_error _ _ (then_reads _ _ _ slot_reached ∙ after_check _ _ _ size (number_fails short)))
+        inl (rw (short.fault, takes.left) (address_cut is_placed size (slot_ends short.short)))
 
   -- ---- appended bytes keep the result
+  module _ (more : List ℕ) where
+    -- a slot that has a place still has it when bytes are appended
+    placed_more : IsPlaced greatest section s → IsPlaced greatest (followed_by section more) s
+    placed_more h = record {
+      based = omega (arith, h.based, length-append section.bytes more);
+      counted = h.counted;
+      within = omega (arith, h.within, length-append section.bytes more);
+    }
+
+    -- a slot still holds its number when bytes are appended
+    holds_more : {x : ℕ} → Holds section s x → Holds (followed_by section more) s x
+    holds_more h = record {
+      within = omega (arith, h.within, length-append section.bytes more);
+      is = grind (arith, common_steps, h.is, h.within);
+    }
+
+  -- a slot still has its word when bytes are appended
+  pub word_kept : {x : ℕ} → HasWord greatest section s x → (more : List ℕ)
+      → HasWord greatest (followed_by section more) s x
+  word_kept h more = record { placed = placed_more more h.placed; held = holds_more more h.held; fits = h.fits }
 
   -- appended bytes change neither a word nor its error, unless that is an `UnexpectedEof`
   pub word_more : (answer : Result ℕ Error) (more : List ℕ) → WordAt greatest section s answer
       → IfErr answer IsNotEof → WordAt greatest (followed_by section more) s answer
-  word_more = ReadsAs_more (word greatest s) section
+  word_more (Ok x) more h settled = word_kept h more
+  word_more (Err e) more (word_unplaced (no_base past)) settled = absurd (settled _ refl)
+  word_more (Err e) more (word_unplaced (no_distance based over)) settled =
+      word_unplaced (no_distance (omega (arith, based, length-append section.bytes more)) over)
+  word_more (Err e) more (word_unplaced (no_place based counted past)) settled = absurd (settled _ refl)
+  word_more (Err e) more (word_cut is_placed cut) settled = absurd (settled _ refl)
+  word_more (Err e) more (word_too_great x is_placed held over) settled =
+      word_too_great x (placed_more more is_placed) (holds_more more held) over
 
   -- appended bytes change neither an address nor its error, unless that is an `UnexpectedEof`
   pub address_more : (answer : Result ℕ Error) (more : List ℕ) → AddressAt greatest section s answer
       → IfErr answer IsNotEof → AddressAt greatest (followed_by section more) s answer
-  address_more = ReadsAs_more (address greatest s) section
+  address_more (Ok x) more h settled =
+      record { placed = placed_more more h.placed; sized = h.sized; held = holds_more more h.held }
+  address_more (Err e) more (address_unplaced (no_base past)) settled = absurd (settled _ refl)
+  address_more (Err e) more (address_unplaced (no_distance based over)) settled =
+      address_unplaced (no_distance (omega (arith, based, length-append section.bytes more)) over)
+  address_more (Err e) more (address_unplaced (no_place based counted past)) settled = absurd (settled _ refl)
+  address_more (Err e) more (address_unsized is_placed other) settled =
+      address_unsized (placed_more more is_placed) other
+  address_more (Err e) more (address_cut is_placed size cut) settled = absurd (settled _ refl)
 
   -- what a lookup of a word returned, except `UnexpectedEof` and `OutOfMemory`, stays when bytes are appended
   pub word-stays : {X : Type 0} (view : X → ℕ) (clone_is_free : Bool) (r : Result X Error)
       → AnswersBy (WordAt greatest section s) view clone_is_free r
       → StaysBy (λ input. WordAt greatest input s) view clone_is_free section r
-  word-stays view clone_is_free r = grind (arith, word_more)
+  word-stays view clone_is_free (Ok x) is = λ more. word_more (Ok (view x)) more is tt
+  word-stays view clone_is_free (Err e) (inl is) = λ settled more. inl (word_more (Err e) more is settled)
+  word-stays view clone_is_free (Err e) (inr want) = λ settled more. inr want
 
   -- what a lookup of an address returned, except `UnexpectedEof` and `OutOfMemory`, stays when bytes are appended
   pub address-stays : (clone_is_free : Bool) (r : Result ℕ Error)
       → AnswersBy (AddressAt greatest section s) (λ x. x) clone_is_free r
       → StaysBy (λ input. AddressAt greatest input s) (λ x. x) clone_is_free section r
-  address-stays clone_is_free r = grind (arith, address_more)
+  address-stays clone_is_free (Ok x) is = λ more. address_more (Ok x) more is tt
+  address-stays clone_is_free (Err e) (inl is) = λ settled more. inl (address_more (Err e) more is settled)
+  address-stays clone_is_free (Err e) (inr want) = λ settled more. inr want
+
+  -- ---- exactly one result
+
+  -- a slot has a place, or an error
+  place_some : ((e : Error) × HasNoPlace greatest section s e) ⊎ IsPlaced greatest section s
+  place_some =
+      elim (cases_lt (length section.bytes) s.base) [
+        | inl past ↦ inl (end_fault section, no_base past)
+        | inr based ↦
+            elim (cases_lt greatest (distance s)) [
+              | inl over ↦ inl (UnsupportedOffset, no_distance based over)
+              | inr counted ↦
+                  elim (cases_lt (length section.bytes) (place s)) [
+                    | inl past ↦ inl (end_fault (after s.base section), no_place based counted past)
+                    | inr within ↦ inr (record { based = based; counted = counted; within = within })
+                  ]
+            ]
+      ]
+
+  -- a slot that has a place has no error
+  place_or_none : {e : Error} → IsPlaced greatest section s → HasNoPlace greatest section s e → ⊥
+  place_or_none h (no_base past) = omega (arith, h.based)
+  place_or_none h (no_distance based over) = omega (arith, h.counted)
+  place_or_none h (no_place based counted past) = omega (arith, h.within)
+
+  -- a slot without a place has one error
+  place_same : {e d : Error} → HasNoPlace greatest section s e → HasNoPlace greatest section s d → e ≡ d
+  place_same (no_base past) (no_base more) = refl
+  place_same (no_base past) (no_distance based over) = absurd (omega arith)
+  place_same (no_base past) (no_place based counted more) = absurd (omega arith)
+  place_same (no_distance based over) (no_base past) = absurd (omega arith)
+  place_same (no_distance based over) (no_distance other more) = refl
+  place_same (no_distance based over) (no_place other counted past) = absurd (omega arith)
+  place_same (no_place based counted past) (no_base more) = absurd (omega arith)
+  place_same (no_place based counted past) (no_distance other over) = absurd (omega arith)
+  place_same (no_place based counted past) (no_place other more last) = refl
+
+  -- a slot holds one number
+  holds_same : {x y : ℕ} → Holds section s x → Holds section s y → x ≡ y
+  holds_same h k = h.is ∙ sym k.is
+
+  -- a slot has a word, or an error
+  word_some : (r : Result ℕ Error) × WordAt greatest section s r
+  word_some =
+      elim place_some [
+        | inl none ↦ (Err none.0, word_unplaced none.1)
+        | inr there ↦
+            elim (cases_lt (length section.bytes) (place s + s.width)) [
+              | inl cut ↦ (Err (end_fault (after (place s) section)), word_cut there cut)
+              | inr within ↦
+                  let x = number_of section.is_big (take s.width (drop (place s) section.bytes)) in
+                  let held : Holds section s x = record { within = within; is = refl } in
+                  elim (cases_lt greatest x) [
+                    | inl over ↦ (Err UnsupportedOffset, word_too_great x there held over)
+                    | inr fits ↦ (Ok x, record { placed = there; held = held; fits = fits })
+                  ]
+            ]
+      ]
+
+  -- a slot that has a word has no error
+  word_or_none : {x : ℕ} {e : Error} → HasWord greatest section s x → HasNoWord greatest section s e → ⊥
+  word_or_none h (word_unplaced none) = place_or_none h.placed none
+  word_or_none h (word_cut there cut) = omega (arith, h.held.within)
+  word_or_none h (word_too_great y there held over) = omega (arith, h.fits, holds_same h.held held)
+
+  -- two results for a word are equal
+  word_same : (r t : Result ℕ Error) → WordAt greatest section s r → WordAt greatest section s t → r ≡ t
+  word_same (Ok x) (Ok y) h k = let same = holds_same h.held k.held in λ i. Ok (same i)
+  word_same (Ok x) (Err e) h k = absurd (word_or_none h k)
+  word_same (Err e) (Ok x) h k = absurd (word_or_none k h)
+  word_same (Err e) (Err d) (word_unplaced none) (word_unplaced other) =
+      let same = place_same none other in λ i. Err (same i)
+  word_same (Err e) (Err d) (word_unplaced none) (word_cut there cut) = absurd (place_or_none there none)
+  word_same (Err e) (Err d) (word_unplaced none) (word_too_great x there held over) =
+      absurd (place_or_none there none)
+  word_same (Err e) (Err d) (word_cut there cut) (word_unplaced none) = absurd (place_or_none there none)
+  word_same (Err e) (Err d) (word_cut there cut) (word_cut here more) = refl
+  word_same (Err e) (Err d) (word_cut there cut) (word_too_great x here held over) =
+      absurd (omega (arith, held.within))
+  word_same (Err e) (Err d) (word_too_great x there held over) (word_unplaced none) =
+      absurd (place_or_none there none)
+  word_same (Err e) (Err d) (word_too_great x there held over) (word_cut here cut) =
+      absurd (omega (arith, held.within))
+  word_same (Err e) (Err d) (word_too_great x there held over) (word_too_great y here found more) = refl
+
+  -- a slot has exactly one word or error
+  pub words_exactly_one : HasOne (WordAt greatest section s)
+  words_exactly_one = (word_some.0, word_some.1, λ other is. word_same other word_some.0 is word_some.1)
+
+  -- a slot has an address, or an error
+  address_some : (r : Result ℕ Error) × AddressAt greatest section s r
+  address_some =
+      elim place_some [
+        | inl none ↦ (Err none.0, address_unplaced none.1)
+        | inr there ↦ go there (is_number_size s.width) refl
+      ]
+    where
+      go : IsPlaced greatest section s → (sized : Bool) → is_number_size s.width ≡ sized
+          → (r : Result ℕ Error) × AddressAt greatest section s r
+      go there false other = (Err (UnsupportedAddressSize s.width), address_unsized there other)
+      go there true size =
+          elim (cases_lt (length section.bytes) (place s + s.width)) [
+            | inl cut ↦ (Err (end_fault (after (place s) section)), address_cut there size cut)
+            | inr within ↦
+                let x = number_of section.is_big (take s.width (drop (place s) section.bytes)) in
+                let held : Holds section s x = record { within = within; is = refl } in
+                (Ok x, record { placed = there; sized = size; held = held })
+          ]
+
+  -- a slot that has an address has no error
+  address_or_none : {x : ℕ} {e : Error} → HasAddress greatest section s x → HasNoAddress greatest section s e → ⊥
+  address_or_none h (address_unplaced none) = place_or_none h.placed none
+  address_or_none h (address_unsized there other) = let size = h.sized in cc
+  address_or_none h (address_cut there size cut) = omega (arith, h.held.within)
+
+  -- two results for an address are equal
+  address_same : (r t : Result ℕ Error) → AddressAt greatest section s r → AddressAt greatest section s t → r ≡ t
+  address_same (Ok x) (Ok y) h k = let same = holds_same h.held k.held in λ i. Ok (same i)
+  address_same (Ok x) (Err e) h k = absurd (address_or_none h k)
+  address_same (Err e) (Ok x) h k = absurd (address_or_none k h)
+  address_same (Err e) (Err d) (address_unplaced none) (address_unplaced other) =
+      let same = place_same none other in λ i. Err (same i)
+  address_same (Err e) (Err d) (address_unplaced none) (address_unsized there other) =
+      absurd (place_or_none there none)
+  address_same (Err e) (Err d) (address_unplaced none) (address_cut there size cut) =
+      absurd (place_or_none there none)
+  address_same (Err e) (Err d) (address_unsized there other) (address_unplaced none) =
+      absurd (place_or_none there none)
+  address_same (Err e) (Err d) (address_unsized there other) (address_unsized here more) = refl
+  address_same (Err e) (Err d) (address_unsized there other) (address_cut here size cut) = absurd cc
+  address_same (Err e) (Err d) (address_cut there size cut) (address_unplaced none) =
+      absurd (place_or_none there none)
+  address_same (Err e) (Err d) (address_cut there size cut) (address_unsized here other) = absurd cc
+  address_same (Err e) (Err d) (address_cut there size cut) (address_cut here more last) = refl
+
+  -- a slot has exactly one address or error
+  pub addresses_exactly_one : HasOne (AddressAt greatest section s)
+  addresses_exactly_one =
+      (address_some.0, address_some.1, λ other is. address_same other address_some.0 is address_some.1)
 
 -- each way a lookup of a word can return
-pub ruleset word_steps = (word_taken, word_fails, word_misplaced)
+pub ruleset word_steps = (word_taken, word_fails, word_unplaced)

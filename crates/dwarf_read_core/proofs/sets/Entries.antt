@@ -1,37 +1,91 @@
--- The entries of sets, as layouts, and what `next` returns of them.
-use Rattle.dwarf_read_core.proofs.Common.{◌≡◌, ◌≢◌, ℕ, ◌<◌, ◌≤◌, List, [], length, Result, Ok, Err, sym, ◌∙◌, arith, inl, inr, sum_by, IsTrue, le-leb, lt-leb, Error, is_number_size, RejectsAddress, RejectsWord, Input, TakesNumber, HasOne, Entries, RepresentsAddresses, RepresentsStringOffsets, string_offset, ComesFirst, least_taken, Layout, read, AreItems, more, fixed, TakesLeast, spans_least, number_spans, pure_spans, check_spans, then_spans, number_reads, number_fails, pure_reads, after_number, no_number, after_check, no_check}
+-- Bytes have exactly one list of entries, and `next` returns the first.
+use Rattle.dwarf_read_core.proofs.Common.{common_steps, ◌≡◌, ◌≢◌, ◌∙◌, ℕ, zero, suc, ◌+◌, ◌-◌, ◌*◌, ◌/◌, ◌<◌, ◌≤◌, Bool, cond, ◌∷◌, sum_by-cons, true, false, List, [], length, take, Result, Ok, Err, refl, sym, ap, subst, arith, ◌⊎◌, inl, inr, cases_lt, sum_by, IsTrue, le-leb, lt-leb, leb, UnsupportedOffset, Error, end_fault, is_number_size, RejectsAddress, RejectsWord, Input, after, TakesNumber, HasOne, Entries, RepresentsAddresses, RepresentsStringOffsets, ComesFirst, least_taken, length-drop}
+use Rattle.std.specs.Prelude.{if◌then◌else◌, nat_lt, slice_get, count_by, is_ok, IfSome}
+use Rattle.std.proofs.lemmas.Nat.{div-mul-add}
+use Rattle.std.proofs.Math.Nat.{suc-mul}
+use Rattle.std.proofs.lemmas.Bool.{cases_Bool}
 use Rattle.dwarf_base_core.specs.declared.common.Format.{Format}
 use Rattle.dwarf_base_core.specs.declared.common.Format.TheVariants.{Dwarf32, Dwarf64}
 use Rattle.dwarf_base_core.specs.Format.{word_size}
-use Rattle.dwarf_read_core.proofs.sets.ItemLists.{items-exactly_one, items-bounded, items-anywhere, error-first}
+use Rattle.dwarf_base_core.specs.Number.{number_of}
+use Rattle.dwarf_read_core.specs.Entries.{AreNumbers, EntryAt, HasNoEntry, entry_cut, entry_too_great}
+use Rattle.dwarf_read_core.specs.Items.{AreItems, none, more, first_error}
+use Rattle.dwarf_read_core.proofs.sets.ItemLists.{TakesLeast, items-exactly_one, items-bounded, item-first, error-first}
 
-module _ {f : Layout ℕ} {width : ℕ} (least : TakesLeast width f) (positive : 1 ≤ width) {old new : Input}
-    (some : old.bytes ≢ []) where
-  -- an entry that is read is the first item, and the others are behind it
-  entry-first : {x : ℕ} → read f old ≡ Ok (x, new) → ComesFirst (λ rest. AreItems (λ _. f) 0 rest) old (Ok x) new
-  entry-first {x} h =
-      let found = items-exactly_one (λ _. least) positive 0 new in
-      ((found.0, found.1), λ others k. more some h (items-anywhere _ k))
+module _ (fits : ℕ → Bool) (width : ℕ) where
+  -- the number of the first bytes
+  abbrev entry_number : Input → ℕ
+  entry_number old = number_of old.is_big (take width old.bytes)
+
+  -- the one result for an entry
+  entry_of : Input → Result ℕ Error
+  entry_of old =
+      if nat_lt (length old.bytes) width then Err (end_fault old) else if fits (entry_number old) then
+      Ok (entry_number old) else Err UnsupportedOffset
+
+  -- a result for an entry is the one result
+  entry-is : (old : Input) (r : Result ℕ Error) → EntryAt fits width old r → r ≡ entry_of old
+  unfolding entry_of
+  entry-is old (Ok x) has = grind arith
+  entry-is old (Err e) (entry_cut short) = grind arith
+  entry-is old (Err e) (entry_too_great taken over) = grind arith
+
+  -- there is a result for an entry
+  entry-some : (old : Input) → (r : Result ℕ Error) × EntryAt fits width old r
+  entry-some old =
+      elim (cases_lt (length old.bytes) width) [
+        | inl short ↦ (Err (end_fault old), entry_cut short)
+        | inr enough ↦
+            let taken : TakesNumber width old (entry_number old) (after width old) =
+            record { enough = enough; is = refl; left = refl } in
+            elim (cases_Bool (fits (entry_number old))) [
+              | inl fit ↦ (Ok (entry_number old), record { number = taken; fitting = fit })
+              | inr over ↦ (Err UnsupportedOffset, entry_too_great taken over)
+            ]
+      ]
+
+  -- there is exactly one result for an entry
+  entry_exactly_one : (old : Input) → HasOne (EntryAt fits width old)
+  entry_exactly_one old =
+      let some = entry-some old in
+      (some.0, some.1, λ other is. entry-is old other is ∙ sym (entry-is old some.0 some.1))
+
+  -- an entry has as many bytes as its width
+  entry_least : TakesLeast (λ (i : Input). i) (EntryAt fits width) (λ _ i. after width i) width
+  entry_least = record { by = λ old x has. omega (arith, has.number.enough, length-drop width old.bytes) }
 
 -- the entries of a width that an input has
 abbrev entries_in : ℕ → Input → Entries
 entries_in width rest = record { width = width; rest = rest }
 
+module _ (fits : ℕ → Bool) where
+  -- the bytes that remain have exactly one list of numbers
+  pub numbers_exactly_one : (entries : Entries) → 0 < entries.width → HasOne (AreNumbers fits entries)
+  numbers_exactly_one entries positive =
+      items-exactly_one (entry_exactly_one fits entries.width) (entry_least fits entries.width) (omega (arith, positive))
+      entries.rest
+
+  -- numbers consume no more bytes than there are
+  pub numbers_bounded : (entries : Entries) (items : List (Result ℕ Error)) → AreNumbers fits entries items
+      → sum_by (least_taken entries.width) items ≤ length entries.rest.bytes
+  numbers_bounded entries items are = items-bounded (entry_least fits entries.width) are
+
+  module _ (width : ℕ) (positive : 0 < width) (old new : Input) (some : old.bytes ≢ []) where
+    -- a number that is read, and fits, is the first item
+    number_first : {x : ℕ} → TakesNumber width old x new → IsTrue (fits x)
+        → ComesFirst (AreNumbers fits) (entries_in width old) (Ok x) (entries_in width new)
+    number_first {x} takes fit =
+        let taken : TakesNumber width old x (after width old) =
+        record { enough = takes.enough; is = takes.is; left = refl } in
+        item-first (entry_exactly_one fits width) (entry_least fits width) (omega (arith, positive)) old new some
+        (record { number = taken; fitting = fit }) takes.left
+
+    -- an error in place of a number is the first item, after which nothing remains
+    number_error_first : {e : Error} {left : Input} → HasNoEntry fits width old e → left.bytes ≡ []
+        → ComesFirst (AreNumbers fits) (entries_in width old) (Err e) (entries_in width left)
+    number_error_first {left = left} lacks empty = error-first (entry_exactly_one fits width) old left some lacks empty
+
 -- ---- addresses
-
--- an address consumes as many bytes as its width
-number_least : (width : ℕ) → TakesLeast width (fixed width)
-number_least width = spans_least {size = λ _. width} (λ x. omega arith) (number_spans width)
-
--- the bytes that remain have exactly one list of addresses
-pub addresses_exactly_one : (entries : Entries) → 0 < entries.width → HasOne (RepresentsAddresses entries)
-addresses_exactly_one entries positive =
-    items-exactly_one (λ _. number_least entries.width) (omega (arith, positive)) 0 entries.rest
-
--- addresses consume no more bytes than there are
-pub addresses_bounded : (entries : Entries) (items : List (Result ℕ Error)) → RepresentsAddresses entries items
-    → sum_by (least_taken entries.width) items ≤ length entries.rest.bytes
-addresses_bounded entries items are_items = items-bounded (λ _. number_least entries.width) are_items
 
 -- a size of addresses is above 0
 pub size-positive : (width : ℕ) → IsTrue (is_number_size width) → 0 < width
@@ -41,13 +95,15 @@ module _ (width : ℕ) (old new : Input) (sized : IsTrue (is_number_size width))
   -- an address that is read is the first item
   pub address_first : {x : ℕ} → TakesNumber width old x new
       → ComesFirst RepresentsAddresses (entries_in width old) (Ok x) (entries_in width new)
-  address_first takes = entry-first (number_least width) (size-positive width sized) some (number_reads takes)
+  address_first takes = number_first (λ x. true) width (size-positive width sized) old new some takes refl
 
-  -- an address that is cut is the first item, as an error behind which nothing remains
+  -- an address that is cut is the first item, as an error after which nothing remains
   pub address_error_first : {e : Error} {left : Input} → RejectsAddress width old e new → left.bytes ≡ []
       → ComesFirst RepresentsAddresses (entries_in width old) (Err e) (entries_in width left)
   address_error_first (inl size) empty = absurd (let n = size.none in cc)
-  address_error_first {e} {left} (inr (_, short)) empty = error-first 0 0 old left e some (number_fails short) empty
+  address_error_first (inr (_, short)) empty =
+      number_error_first (λ x. true) width (size-positive width sized) old new some
+      (rw short.fault (entry_cut short.short)) empty
 
 -- ---- offsets of strings
 
@@ -56,54 +112,89 @@ pub word_size-positive : (format : Format) → 0 < word_size format
 word_size-positive Dwarf32 = omega arith
 word_size-positive Dwarf64 = omega arith
 
-module _ (greatest : ℕ) where
-  -- a string offset consumes as many bytes as its width
-  string_offset-least : (width : ℕ) → TakesLeast width (string_offset greatest width)
-  unfolding string_offset
-  string_offset-least width =
-      spans_least {size = λ _. width} (λ x. omega arith)
-      (then_spans (number_spans width) (λ number. then_spans (check_spans _ _) (λ fits. pure_spans (omega arith))))
+module _ (greatest : ℕ) (format : Format) (old new : Input) (some : old.bytes ≢ []) where
+  -- a string offset that is read is the first item
+  pub string_offset_first : {x : ℕ} → TakesNumber (word_size format) old x new → x ≤ greatest
+      → ComesFirst (RepresentsStringOffsets greatest) (entries_in (word_size format) old) (Ok x)
+      (entries_in (word_size format) new)
+  string_offset_first {x} takes fit =
+      number_first (λ x. leb x greatest) (word_size format) (word_size-positive format) old new some takes
+      (le-leb x greatest fit)
 
-  -- a number that is read, and fits the offset type, is a string offset
-  pub offset_reads : {width : ℕ} {old new : Input} {x : ℕ} → TakesNumber width old x new → x ≤ greatest
-      → read (string_offset greatest width) old ≡ Ok (x, new)
-  unfolding string_offset
-  offset_reads {x = x} takes fits = after_number _ takes (after_check _ _ _ (le-leb x greatest fits) (pure_reads x _))
+  -- a string offset that is cut or too great is the first item, as an error after which nothing remains
+  pub string_offset_error_first : {e : Error} {left : Input} → RejectsWord greatest (word_size format) old e new
+      → left.bytes ≡ [] → ComesFirst (RepresentsStringOffsets greatest) (entries_in (word_size format) old)
+      (Err e) (entries_in (word_size format) left)
+  string_offset_error_first {e} {left} failed empty =
+      number_error_first (λ x. leb x greatest) (word_size format) (word_size-positive format) old new some
+      (lacks failed) empty
+    where
+      lacks : RejectsWord greatest (word_size format) old e new
+          → HasNoEntry (λ x. leb x greatest) (word_size format) old e
+      lacks (inl short) = rw short.fault (entry_cut short.short)
+      lacks (inr unfit) =
+          let taken : TakesNumber (word_size format) old unfit.number (after (word_size format) old) =
+          record { enough = unfit.taken.enough; is = unfit.taken.is; left = refl } in
+          rw unfit.fault (entry_too_great taken (lt-leb unfit.number greatest unfit.over))
 
-  -- a string offset fails if bytes are missing, or if the number is too great for an offset
-  pub offset_fails : {width : ℕ} {old new : Input} {e : Error}
-      → RejectsWord greatest width old e new
-      → read (string_offset greatest width) old ≡ Err e
-  unfolding string_offset
-  offset_fails (inl short) = no_number _ short
-  offset_fails (inr unfit) =
-      after_number _ unfit.taken (no_check _ _ _ (lt-leb unfit.number greatest unfit.over))
-      ∙ λ i. Err ((sym unfit.fault) i)
+-- ---- entries by their index, and how many there are
 
-  -- the bytes that remain have exactly one list of string offsets
-  pub string_offsets_exactly_one : (entries : Entries) → 0 < entries.width
-      → HasOne (RepresentsStringOffsets greatest entries)
-  string_offsets_exactly_one entries positive =
-      items-exactly_one (λ _. string_offset-least entries.width) (omega (arith, positive)) 0 entries.rest
+-- the bytes after an entry and others are those after one more
+behind_entry : (width index : ℕ) (old : Input) → after (index * width) (after width old) ≡ after (suc index * width) old
+behind_entry width index old = grind (arith, common_steps, suc-mul)
 
-  -- string offsets consume no more bytes than there are
-  pub string_offsets_bounded : (entries : Entries) (items : List (Result ℕ Error))
-      → RepresentsStringOffsets greatest entries items
-      → sum_by (least_taken entries.width) items ≤ length entries.rest.bytes
-  string_offsets_bounded entries items are_items = items-bounded (λ _. string_offset-least entries.width) are_items
+-- after no entries are all bytes
+behind_none : (width : ℕ) (old : Input) → old ≡ after (0 * width) old
+behind_none width old = grind (arith, common_steps)
 
-  module _ (format : Format) (old new : Input) (some : old.bytes ≢ []) where
-    -- a string offset that is read is the first item
-    pub string_offset_first : {x : ℕ} → TakesNumber (word_size format) old x new → x ≤ greatest
-        → ComesFirst (RepresentsStringOffsets greatest) (entries_in (word_size format) old) (Ok x)
-        (entries_in (word_size format) new)
-    string_offset_first {x} takes fits =
-        entry-first (string_offset-least (word_size format)) (word_size-positive format) some
-        (offset_reads takes fits)
+module _ {fits : ℕ → Bool} {width : ℕ} where
+  -- the item with an index is the entry after those before it
+  item_at : {old : Input} {items : List (Result ℕ Error)}
+      → AreItems (λ i. i) (EntryAt fits width) (λ _ i. after width i) old items
+      → (index : ℕ) → IfSome (slice_get items index) (EntryAt fits width (after (index * width) old))
+  item_at (none empty) index = tt
+  item_at (more {old = old} {x = x} some has others) zero =
+      subst (λ (i : Input). EntryAt fits width i (Ok x)) (behind_none width old) has
+  item_at (more {old = old} {items = items} some has others) (suc index) =
+      subst (λ (i : Input). IfSome (slice_get items index) (EntryAt fits width i)) (behind_entry width index old)
+      (item_at others index)
+  item_at (first_error {old = old} {e = e} some has) zero =
+      subst (λ (i : Input). EntryAt fits width i (Err e)) (behind_none width old) has
+  item_at (first_error some has) (suc index) = tt
 
-    -- a string offset that is cut or too great is the first item, as an error behind which nothing remains
-    pub string_offset_error_first : {e : Error} {left : Input}
-        → RejectsWord greatest (word_size format) old e new
-        → left.bytes ≡ [] → ComesFirst (RepresentsStringOffsets greatest) (entries_in (word_size format) old)
-        (Err e) (entries_in (word_size format) left)
-    string_offset_error_first {e} {left} failed empty = error-first 0 0 old left e some (offset_fails failed) empty
+-- the item with an index is the number of the bytes at its place
+pub number_at : (fits : ℕ → Bool) (entries : Entries) (items : List (Result ℕ Error)) (index : ℕ)
+    → AreNumbers fits entries items
+    → IfSome (slice_get items index) (EntryAt fits entries.width (after (index * entries.width) entries.rest))
+number_at fits entries items index are = item_at are index
+
+module _ (width : ℕ) (positive : 0 < width) where
+  -- as many entries fit into the bytes, and one more doesn't
+  counted : {old : Input} {items : List (Result ℕ Error)}
+      → AreItems (λ i. i) (EntryAt (λ x. true) width) (λ _ i. after width i) old items
+      → (count_by is_ok items * width ≤ length old.bytes)
+      × (length old.bytes < count_by is_ok items * width + width)
+  counted (none empty) = (omega arith, omega (arith, ap length empty, positive))
+  counted (more {old = old} {x = x} {items = items} some has others) =
+      let behind = counted others in
+      let one : count_by is_ok (Ok x ∷ items) ≡ 1 + count_by is_ok items =
+      sum_by-cons (λ (r : Result ℕ Error). cond (is_ok r) 1 0) (Ok x) items in
+      let long = length-drop width old.bytes in
+      let all : (1 + count_by is_ok items) * width ≡ count_by is_ok items * width + width = grind (arith, suc-mul) in
+      rw one (
+        omega (arith, behind.0, long, all, has.number.enough),
+        omega (arith, behind.1, long, all, has.number.enough),
+      )
+  counted (first_error some (entry_cut short)) = (omega arith, omega (arith, short))
+  counted (first_error some (entry_too_great taken over)) = absurd cc
+
+-- as many items are numbers as entries fit into the bytes
+pub numbers_counted : (entries : Entries) (items : List (Result ℕ Error)) → 0 < entries.width
+    → AreNumbers (λ x. true) entries items → count_by is_ok items ≡ length entries.rest.bytes / entries.width
+numbers_counted entries items positive are =
+    let bounds = counted entries.width positive are in
+    let count = count_by is_ok items in
+    let cut = length entries.rest.bytes - count * entries.width in
+    let whole : count * entries.width + cut ≡ length entries.rest.bytes = omega (arith, bounds.0) in
+    subst (λ n. count ≡ n / entries.width) whole
+    (sym (div-mul-add count entries.width cut (omega (arith, bounds.1, bounds.0))))

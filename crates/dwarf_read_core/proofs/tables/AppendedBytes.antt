@@ -20,7 +20,7 @@ all_front : (bytes more : List ℕ) → NoneIsLast (bytes ++ more) → NoneIsLas
 all_front [] more h = tt
 all_front (x ∷ bytes) more h = (h.0, all_front bytes more h.1)
 
--- bytes that begin with a bad number still do with more bytes behind them
+-- bytes that begin with a bad number still do with more bytes after them
 bad_more : (k : Kind) (bytes more : List ℕ) → IsMalformed k bytes → IsMalformed k (bytes ++ more)
 bad_more k bytes more bad = record {
   no_number = λ number n h. elim (cases_lt (length bytes) n) [
@@ -39,7 +39,7 @@ bad_more k bytes more bad = record {
 
 -- ---- tables and errors
 
--- bytes that begin with a table that a code of value 0 closes still do with more bytes behind them
+-- bytes that begin with a table that a code of value 0 closes still do with more bytes after them
 table_more : {bytes : List ℕ} {t : Table} (more : List ℕ) → IsTable bytes t → t.close ≡ by_null
     → IsTable (bytes ++ more) t
 table_more more (_, closed_by_null bytes zero_code rest ds are is) final =
@@ -47,7 +47,7 @@ table_more more (_, closed_by_null bytes zero_code rest ds are is) final =
     (rest ++ more, closed_by_null bytes zero_code (rest ++ more) ds are is)
 table_more more (_, closed_by_end bytes ds are) final = absurd cc
 
--- an error in a declaration, unless it is an `UnexpectedEof`, stays the error with more bytes behind
+-- an error in a declaration, unless it is an `UnexpectedEof`, stays the error with more bytes appended
 declaration_error_more : {end : ℕ} {bytes : List ℕ} {e : Error} (longer : ℕ) (more : List ℕ) → HasError end bytes e
     → IsNotEof e → HasError longer (bytes ++ more) e
 declaration_error_more longer more (number_bad front bytes k b c) final =
@@ -64,7 +64,7 @@ declaration_error_more longer more (form_zero front name form rest d n is is_nam
     (form_zero front name form (rest ++ more) d n is is_name named is_form)
 declaration_error_more longer more h final = grind arith
 
--- the first error of bytes, unless it is an `UnexpectedEof`, stays the first with more bytes behind
+-- the first error of bytes, unless it is an `UnexpectedEof`, stays the first with more bytes appended
 first_error_more : {end : ℕ} {bytes : List ℕ} {e : Error} (longer : ℕ) (more : List ℕ) → IsFirstError end bytes e
     → IsNotEof e → IsFirstError longer (bytes ++ more) e
 first_error_more longer more h final =

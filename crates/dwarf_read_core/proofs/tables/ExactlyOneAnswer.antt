@@ -39,7 +39,7 @@ only_answer {section} {offset} (table t le is) =
 only_answer {section} {offset} (first_error e le is) =
     rw (le-ltb (length section.bytes) offset le, first_error_again is) refl
 
--- what is read behind the offset is the section's result there
+-- what is read after the offset is the section's result there
 pub answer_read : (r : TableRead) (section : Input) (offset : ℕ) (rest : Input) → Takes offset section rest
     → table_in (end_of rest) empty rest.bytes ≡ r → Answer section offset r
 unfolding answer_at

@@ -5,7 +5,7 @@ use Rattle.std.proofs.lemmas.List.{take_more_set}
 use Rattle.dwarf_read_core.specs.Views.{collected}
 use Rattle.dwarf_read_core.proofs.tables.ReadingSpecifications.{SomeFound, specification_behind, specification_again, null_again, found_shorter, specification_shorter}
 
--- the bytes of items, with those of one more behind them, are the bytes of all of them
+-- the bytes of items, with those of one more after them, are the bytes of all of them
 pub Sequence-push : {A : Type 0} (Is : List ℕ → A → Type 0) (bytes : List ℕ) (xs : List A) (last : List ℕ) (x : A)
     → Sequence Is bytes xs → Is last x → Sequence Is (bytes ++ last) (xs ++ x ∷ [])
 Sequence-push Is bytes [] last x e is = (last, [], rw e (sym (append-nil last)), is, refl)
@@ -16,7 +16,7 @@ Sequence-push Is bytes (y ∷ ys) last x s is =
 abbrev pub AttributesRead : Type 0
 AttributesRead = Result (List Specification × List ℕ) Error
 
--- some specifications in front of those that are read
+-- some specifications before those that are read
 abbrev pub with_front : List Specification → AttributesRead → AttributesRead
 with_front front read = read >>= λ x. Ok (front ++ x.0, x.1)
 
@@ -56,36 +56,36 @@ attributes_fail end bytes e q = grind arith
 
 -- ---- as the loop does
 
--- a specification in front of those that are read, and a list in front of both, is the list with that one at its end
+-- a specification before those that are read, and a list before both, is the list with that one at its end
 front-regrouped : (front : List Specification) (s : Specification) (read : AttributesRead)
     → with_front front (read >>= λ x. Ok (s ∷ x.0, x.1)) ≡ with_front (front ++ s ∷ []) read
 front-regrouped front s read = grind (arith, append_assoc)
 
--- reading behind a list of specifications goes on behind the list with the next one at its end
+-- reading after a list of specifications goes on after the list with the next one at its end
 pub front-goes_on : (front : List Specification) (end : ℕ) (bytes : List ℕ) (s : Specification) (after : List ℕ)
     (total : AttributesRead) → specification_at end bytes ≡ Ok (Some s, after)
     → with_front front (attributes_in end bytes) ≡ total
     → with_front (front ++ s ∷ []) (attributes_in end after) ≡ total
 front-goes_on front end bytes s after total q so_far = grind (arith, front-regrouped, next end bytes (Some s, after) q)
 
--- reading behind a list of specifications ends with that list if the null one is next
+-- reading after a list of specifications ends with that list if the null one is next
 pub front-ends : (front : List Specification) (end : ℕ) (bytes : List ℕ) (o : Option Specification) (after : List ℕ)
     (total : AttributesRead) → specification_at end bytes ≡ Ok (o, after) → o ≡ None
     → with_front front (attributes_in end bytes) ≡ total → total ≡ Ok (front, after)
 front-ends front end bytes o after total q none so_far = grind (arith, append-nil, next end bytes (o, after) q)
 
--- reading behind a list of specifications fails with the error of the next one
+-- reading after a list of specifications fails with the error of the next one
 pub front-fails : (front : List Specification) (end : ℕ) (bytes : List ℕ) (e : Error) (total : AttributesRead)
     → specification_at end bytes ≡ Err e → with_front front (attributes_in end bytes) ≡ total → total ≡ Err e
 front-fails front end bytes e total q so_far = sym so_far ∙ ap (with_front front) (attributes_fail end bytes e q)
 
--- an empty list in front of what is read changes nothing
+-- an empty list before what is read changes nothing
 pub front-begins : (read : AttributesRead) → with_front [] read ≡ read
 front-begins read = grind arith
 
 -- ---- what is read is in the grammar
 
--- specifications and the null one behind them are at the front of bytes, and this remains
+-- specifications and the null one after them are at the front of bytes, and this remains
 pub record AttributesFound (bytes : List ℕ) (ss : List Specification) (rest : List ℕ) : Type 0 where
   pub specifications : List ℕ
   pub null : List ℕ
@@ -93,11 +93,11 @@ pub record AttributesFound (bytes : List ℕ) (ss : List Specification) (rest : 
   pub are : Sequence IsSpecification specifications ss
   pub is_null : IsNull null
 
--- a declaration with more attributes behind its own
+-- a declaration with more attributes after its own
 abbrev pub declaration_with : Declaration → List Specification → Declaration
 declaration_with d more = declaration_of d.code d.tag d.children (d.attributes ++ more)
 
--- the front of a declaration with the bytes of a specification behind it is a front with one more attribute
+-- the front of a declaration with the bytes of a specification after it is a front with one more attribute
 front_push : (front first : List ℕ) (d : Declaration) (s : Specification) → IsFront front d
     → IsSpecification first s → IsFront (front ++ first) (declaration_with d (s ∷ []))
 front_push front first d s is one = record {
@@ -108,7 +108,7 @@ front_push front first d s is one = record {
   are_attributes = Sequence-push IsSpecification is.specifications d.attributes first s is.are_attributes one;
 }
 
--- under a bound above the bytes, specifications are read behind a front, or an error of both together
+-- under a bound above the bytes, specifications are read after a front, or an error of both together
 behind_by : (n end : ℕ) (front bytes whole : List ℕ) (d : Declaration) → whole ≡ front ++ bytes → length bytes < n
     → IsFront front d → HasOutcome (λ x. AttributesFound bytes x.0 x.1) (HasError end whole) (attributes_at n end bytes)
 unfolding attributes_at
@@ -138,7 +138,7 @@ behind_by (suc n) end front bytes whole d parts short is =
           is_null = g.is_null;
         }))
 
--- specifications are read behind a front, or an error of both together
+-- specifications are read after a front, or an error of both together
 pub attributes_behind : (end : ℕ) (front bytes whole : List ℕ) (d : Declaration) → whole ≡ front ++ bytes
     → IsFront front d → HasOutcome (λ x. AttributesFound bytes x.0 x.1) (HasError end whole) (attributes_in end bytes)
 unfolding attributes_in
@@ -147,12 +147,12 @@ attributes_behind end front bytes whole d parts is =
 
 -- ---- what is in the grammar is read
 
--- one specification in front of others in front of a reading are all of them in front of that reading
+-- one specification before others before a reading are all of them before that reading
 twice : (s : Specification) (ss : List Specification) (read : AttributesRead)
     → (with_front ss read >>= λ x. Ok (s ∷ x.0, x.1)) ≡ with_front (s ∷ ss) read
 twice s ss read = grind arith
 
--- the bytes of specifications are read as those, in front of what is read behind them
+-- the bytes of specifications are read as those, before what is read after them
 pub attributes_again : (end : ℕ) (bytes rest : List ℕ) (ss : List Specification)
     → Sequence IsSpecification bytes ss → attributes_in end (bytes ++ rest) ≡ with_front ss (attributes_in end rest)
 attributes_again end bytes rest [] e = rw e (sym (front-begins (attributes_in end rest)))
@@ -168,7 +168,7 @@ attributes_end end bytes rest is = next end (bytes ++ rest) (None, rest) (null_a
 
 -- ---- where attributes are collected
 
--- an attribute that is put behind those in the first list is behind all that are collected
+-- an attribute that is put after those in the first list is after all that are collected
 pub collected_push : (overflow scratch : List Specification) (n : ℕ) (s : Specification) → n < length scratch
     → overflow ++ take (n + 1) (slice_set scratch n s) ≡ (overflow ++ take n scratch) ++ s ∷ []
 collected_push overflow scratch n s short =

@@ -11,13 +11,13 @@ EntryRead = Result (Option Declaration × List ℕ) Error
 abbrev found : Result (Declaration × List ℕ) Error → EntryRead
 found read = read >>= λ d. Ok (Some d.0, d.1)
 
--- what it returns behind a code and a tag that were read
+-- what it returns after a code and a tag that were read
 abbrev after_tag : ℕ → ℕ → ℕ → List ℕ → EntryRead
 after_tag end code tag bytes =
     found (children_at end bytes >>= λ children. attributes_in end children.1 >>= λ attributes. Ok
     (declaration_of code tag children.0 attributes.0, attributes.1))
 
--- what it returns behind the attributes that were read
+-- what it returns after the attributes that were read
 abbrev after_attributes : ℕ → ℕ → Bool → AttributesRead → EntryRead
 after_attributes code tag children read =
     found (read >>= λ attributes. Ok (declaration_of code tag children attributes.0, attributes.1))
@@ -53,7 +53,7 @@ children_again : (end : ℕ) (children : Bool) (rest : List ℕ)
 unfolding children_at
 children_again end children rest = grind arith
 
--- a declaration that begins with a front is read as that front and the attributes behind it
+-- a declaration that begins with a front is read as that front and the attributes after it
 front_again : (end : ℕ) (front rest : List ℕ) (d : Declaration) → IsFront front d
     → declaration_at end (front ++ rest)
     ≡ after_attributes d.code d.tag d.children (with_front d.attributes (attributes_in end rest))
@@ -84,12 +84,12 @@ end_again end = refl
 
 -- ---- errors
 
--- a declaration fails with the error of a specification behind its front
+-- a declaration fails with the error of a specification after its front
 front_fails : (end : ℕ) (front bytes : List ℕ) (d : Declaration) (e : Error) → IsFront front d
     → specification_at end bytes ≡ Err e → declaration_at end (front ++ bytes) ≡ Err e
 front_fails end front bytes d e is q = front_again end front bytes d is ∙ rw (attributes_fail end bytes e q) refl
 
--- a declaration fails with the error of a number behind its beginning, unless there are no bytes
+-- a declaration fails with the error of a number after its beginning, unless there are no bytes
 stops : {k : Kind} {front : List ℕ} (end : ℕ) (bytes : List ℕ) (e : Error) → IsBeginning front k
     → front ++ bytes ≢ [] → number_at k end bytes ≡ Err e → declaration_at end (front ++ bytes) ≡ Err e
 unfolding declaration_at declared_at tag_at specification_at value_at

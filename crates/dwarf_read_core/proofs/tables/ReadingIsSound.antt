@@ -9,7 +9,7 @@ pub record TagFound (bytes : List ℕ) (tag : ℕ) (rest : List ℕ) : Type 0 wh
   pub found : Found unsigned16 bytes tag rest
   pub tagged : 0 < tag
 
--- a tag is read behind a code, or an error of both together
+-- a tag is read after a code, or an error of both together
 tag_behind : (end : ℕ) (front bytes whole : List ℕ) (code : ℕ) → whole ≡ front ++ bytes → IsCode front code
     → HasOutcome (λ x. TagFound bytes x.0 x.1) (HasError end whole) (tag_at end bytes)
 unfolding tag_at
@@ -20,7 +20,7 @@ tag_behind end front bytes whole code parts is =
     (tag_zero front f.front x.1 code is (subst (IsNumber unsigned16 f.front) (eqb-true x.0 0 t) f.string))))
     (λ t. returned x (record { found = f; tagged = number-positive x.0 t })))
 
--- a flag for children is read behind a code and a tag, or an error of all of them together
+-- a flag for children is read after a code and a tag, or an error of all of them together
 children_behind : (end : ℕ) (front bytes whole : List ℕ) (code tag : ℕ) → whole ≡ front ++ bytes → IsHead front code tag
     → HasOutcome (λ (x : Bool × List ℕ). bytes ≡ children_byte x.0 ∷ x.1) (HasError end whole) (children_at end bytes)
 unfolding children_at
@@ -103,14 +103,14 @@ declaration_outcome end bytes =
     (λ z. outcome-bind _ (declared_behind end code.0 f.front code.1 bytes f.parts
     (record { is_code = f.string; nonzero = number-positive code.0 z })) (λ d h. returned (Some d.0, d.1) h)))))
 
--- ---- fewer bytes remain behind a declaration
+-- ---- fewer bytes remain after a declaration
 
--- fewer bytes remain behind a declaration that is found
+-- fewer bytes remain after a declaration that is found
 pub declaration_found_shorter : (bytes : List ℕ) (d : Declaration) (rest : List ℕ) → DeclarationFound bytes d rest
     → length rest < length bytes
 declaration_found_shorter bytes d rest f = grind (arith, common_steps, length-append, encoding-nonempty)
 
--- fewer bytes remain behind a declaration that is read
+-- fewer bytes remain after a declaration that is read
 pub declaration_shorter : (end : ℕ) (bytes : List ℕ) (d : Declaration) (rest : List ℕ)
     → declaration_at end bytes ≡ Ok (Some d, rest) → length rest < length bytes
 declaration_shorter end bytes d rest e =

@@ -71,7 +71,7 @@ pub record Found (k : Kind) (bytes : List ℕ) (number : Number k) (rest : List 
   pub parts : bytes ≡ front ++ rest
   pub string : IsNumber k front number
 
--- a number that the first n bytes encode is read, and the bytes behind them remain
+-- a number that the first n bytes encode is read, and the bytes after them remain
 pub number_at-has : (k : Kind) (end : ℕ) (bytes : List ℕ) (number : Number k) (n : ℕ) → HasNumber k bytes number n
     → number_at k end bytes ≡ Ok (number, drop n bytes)
 number_at-has k end bytes number n h =
@@ -117,7 +117,7 @@ pub found_has : {k : Kind} {bytes : List ℕ} {number : Number k} {rest : List �
 found_has {k = k} {bytes = bytes} {number = number} {rest = rest} f =
     grind (arith, common_steps, length-append, take-append_seam)
 
--- fewer bytes remain behind a number that is read; `grind` finds the lemma by the call that it states first
+-- fewer bytes remain after a number that is read; `grind` finds the lemma by the call that it states first
 pub number_shorter : (k : Kind) (end : ℕ) (bytes : List ℕ) → (number_at k end bytes ≡ number_at k end bytes)
     × IfOk (number_at k end bytes) (λ x. length x.1 < length bytes)
 number_shorter k end bytes = (refl, go (number_outcome k end bytes))

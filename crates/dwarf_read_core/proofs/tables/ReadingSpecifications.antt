@@ -4,7 +4,7 @@ use Rattle.dwarf_read_core.proofs.tables.ReadingNumbers.{encoding-nonempty, numb
 
 -- ---- what is read, value or error, is in the grammar
 
--- a number is read behind the beginning of a declaration, or an error of both together
+-- a number is read after the beginning of a declaration, or an error of both together
 pub number_behind : (k : Kind) (end : ℕ) (front bytes whole : List ℕ) → whole ≡ front ++ bytes → IsBeginning front k
     → HasOutcome (λ x. Found k bytes x.0 x.1) (HasError end whole) (number_at k end bytes)
 number_behind k end front bytes whole parts begins =
@@ -16,7 +16,7 @@ pub record ValueFound (form : ℕ) (bytes : List ℕ) (value : Option ℤ) (rest
   pub parts : bytes ≡ front ++ rest
   pub is_value : IsImplicit form front value
 
--- a value is read behind a form, or an error of what begins the declaration and the value together
+-- a value is read after a form, or an error of what begins the declaration and the value together
 value_behind : (end form : ℕ) (front bytes whole : List ℕ) → whole ≡ front ++ bytes
     → (form ≡ implicit_const → IsBeginning front signed64)
     → HasOutcome (λ (x : Option ℤ × List ℕ). ValueFound form bytes x.0 x.1) (HasError end whole)
@@ -47,7 +47,7 @@ abbrev pub SomeFound : List ℕ → Option Specification → List ℕ → Type 0
 SomeFound bytes None rest = NullFound bytes rest
 SomeFound bytes (Some s) rest = SpecificationFound bytes s rest
 
--- a specification is read behind the front of a declaration, or the null one, or an error of both together
+-- a specification is read after the front of a declaration, or the null one, or an error of both together
 pub specification_behind : (end : ℕ) (front bytes whole : List ℕ) (d : Declaration) → whole ≡ front ++ bytes
     → IsFront front d
     → HasOutcome (λ (x : Option Specification × List ℕ). SomeFound bytes x.0 x.1) (HasError end whole)
@@ -95,7 +95,7 @@ specification_behind end front bytes whole d parts is =
 
 -- ---- what is in the grammar is read
 
--- the bytes of the value behind a form are read as that value, whatever follows
+-- the bytes of the value after a form are read as that value, whatever follows
 value_read_again : (end form : ℕ) (bytes rest : List ℕ) (value : Option ℤ) → IsImplicit form bytes value
     → value_at end form (bytes ++ rest) ≡ Ok (value, rest)
 unfolding value_at
@@ -132,12 +132,12 @@ specification_long s bytes is = grind (arith, common_steps, encoding-nonempty, l
 pub null_long : (bytes : List ℕ) → IsNull bytes → 2 ≤ length bytes
 null_long bytes is = grind (arith, common_steps, encoding-nonempty, length-append)
 
--- fewer bytes remain behind a specification that is found, or the null one
+-- fewer bytes remain after a specification that is found, or the null one
 pub found_shorter : (bytes : List ℕ) (o : Option Specification) (rest : List ℕ) → SomeFound bytes o rest
     → length rest < length bytes
 found_shorter bytes o rest f = grind (arith, common_steps, null_long, length-append, specification_long)
 
--- fewer bytes remain behind a specification that is read, or the null one
+-- fewer bytes remain after a specification that is read, or the null one
 pub specification_shorter : (end : ℕ) (bytes : List ℕ) (o : Option Specification) (rest : List ℕ)
     → specification_at end bytes ≡ Ok (o, rest) → length rest < length bytes
 unfolding specification_at value_at

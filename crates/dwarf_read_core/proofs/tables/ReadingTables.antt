@@ -60,7 +60,7 @@ pub table_repeats : (end : ℕ) (t : ByCode) (bytes : List ℕ) (d : Declaration
 unfolding table_in table_at
 table_repeats end t bytes d rest q twice = grind arith
 
--- reading a table goes on behind the next declaration with that one inserted, if its code is new
+-- reading a table goes on after the next declaration with that one inserted, if its code is new
 pub table_goes_on : (end : ℕ) (t : ByCode) (bytes : List ℕ) (d : Declaration) (rest : List ℕ)
     → declaration_at end bytes ≡ Ok (Some d, rest) → contains_key t d.code ≡ false
     → table_in end t bytes ≡ table_in end (insert t d.code d) rest

@@ -11,7 +11,7 @@ use Rattle.dwarf_read_core.proofs.tables.CodesOnce.{fresh_code, repeated_code, d
 
 -- ---- what is read is in the grammar
 
--- declarations at the front of bytes, by their codes, and the bytes behind them
+-- declarations at the front of bytes, by their codes, and the bytes after them
 pub record BeginsWith (bytes : List ℕ) (t : ByCode) (rest : List ℕ) : Type 0 where
   pub front : List ℕ
   pub declarations : List Declaration
@@ -24,7 +24,7 @@ pub begins_with_none : (bytes : List ℕ) → BeginsWith bytes empty bytes
 begins_with_none bytes =
     record { front = []; declarations = []; parts = refl; are = record { each = refl; distinct = tt }; by_code = refl }
 
--- a declaration with a new code behind some declarations is one more of them
+-- a declaration with a new code after some declarations is one more of them
 begins_with_more : {whole bytes rest : List ℕ} {t : ByCode} (d : Declaration) → BeginsWith whole t bytes
     → DeclarationFound bytes d rest → contains_key t d.code ≡ false → BeginsWith whole (insert t d.code d) rest
 begins_with_more d b f fresh =
@@ -40,7 +40,7 @@ begins_with_more d b f fresh =
       by_code = rw b.by_code (sym (table_push b.declarations d new));
     }
 
--- declarations and an end of the table behind them are a table with that close
+-- declarations and an end of the table after them are a table with that close
 begins_and_ends : {whole bytes rest : List ℕ} {t : ByCode} → BeginsWith whole t bytes → EndFound bytes rest
     → IsTableBefore whole (closed t (close_of bytes)) rest
 begins_and_ends b at_end =
@@ -55,20 +55,20 @@ begins_and_ends b (at_zero bytes rest z) =
     )
     (closed_by_null b.front z.front rest b.declarations b.are z.is_zero)
 
--- fewer or as many bytes are behind a table as there are in all
+-- fewer or as many bytes are after a table as there are in all
 pub table_before_fits : {bytes rest : List ℕ} {t : Table} → IsTableBefore bytes t rest → length rest ≤ length bytes
 table_before_fits (closed_by_null bytes zero_code rest ds are is) =
     omega (arith, length-append (bytes ++ zero_code) rest)
 table_before_fits (closed_by_end bytes ds are) = omega arith
 
--- a declaration with a new code that is read behind some declarations is one more of them
+-- a declaration with a new code that is read after some declarations is one more of them
 pub begins_with_read : {whole bytes rest : List ℕ} {t : ByCode} (end : ℕ) (d : Declaration) → BeginsWith whole t bytes
     → declaration_at end bytes ≡ Ok (Some d, rest) → contains_key t d.code ≡ false
     → BeginsWith whole (insert t d.code d) rest
 begins_with_read {bytes = bytes} end d b read fresh =
     begins_with_more d b (outcome-ok (declaration_outcome end bytes) (Some d, _) read) fresh
 
--- if no declaration is read behind some declarations, these are a table, by a test for the end of the bytes
+-- if no declaration is read after some declarations, these are a table, by a test for the end of the bytes
 pub begins_and_closes : {whole bytes rest : List ℕ} {t : ByCode} (end : ℕ) (is_end : Bool) → BeginsWith whole t bytes
     → declaration_at end bytes ≡ Ok (None, rest) → (IsTrue is_end ↔ (bytes ≡ []))
     → IsTableBefore whole (closed t (close_from (not is_end))) rest
@@ -76,7 +76,7 @@ begins_and_closes {bytes = bytes} end is_end b read test =
     rw (close_by_test bytes is_end test)
     (begins_and_ends b (outcome-ok (declaration_outcome end bytes) (None, _) read))
 
--- what is read behind some declarations is the table that all bytes begin with, or their first error
+-- what is read after some declarations is the table that all bytes begin with, or their first error
 pub table_behind : (n end : ℕ) (bytes whole : List ℕ) (t : ByCode) → BeginsWith whole t bytes → length bytes < n
     → HasOutcome (IsTable whole) (IsFirstError end whole) (table_at n end t bytes)
 unfolding table_at
@@ -103,7 +103,7 @@ table_behind (suc n) end bytes whole t b short =
 
 -- ---- what is in the grammar is read
 
--- declarations with new and distinct codes are read into the table, and reading goes on behind them
+-- declarations with new and distinct codes are read into the table, and reading goes on after them
 feed : (end : ℕ) (seen : List Declaration) (bytes rest : List ℕ) (ds : List Declaration)
     → Sequence IsDeclaration bytes ds → AreDistinct (seen ++ ds)
     → table_in end (by_code_of seen) (bytes ++ rest) ≡ table_in end (by_code_of (seen ++ ds)) rest

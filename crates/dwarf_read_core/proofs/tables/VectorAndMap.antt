@@ -41,7 +41,7 @@ map_of ds es = from_entries (entries_of ds es)
 abbrev IsBelow : ℕ → Entries → Type 0
 IsBelow k es = AllByRecursion (λ y. nat_cmp k y ≡ Less) (keys_of es)
 
--- an entry whose code is below all others is put in front of them
+-- an entry whose code is below all others is put before them
 put_first : (k : ℕ) (d : Declaration) (es : Entries) → IsBelow k es → put nat_cmp k d es ≡ (k, d) ∷ es
 put_first k d [] h = refl
 put_first k d (e ∷ es) h = ap (λ r. by_order r ((k, d) ∷ e ∷ es) ((e.0, d) ∷ es) (e ∷ put nat_cmp k d es)) h.0
@@ -178,7 +178,7 @@ keyed_by_update : (es fs : Entries) (code : ℕ) (d : Declaration) → Updates e
 keyed_by_update es fs code d h same above keyed q x found = grind arith
 
 module _ (ds : List Declaration) (es : Entries) (code : ℕ) where
-  -- a declaration that is found among the others has the code by which it is found
+  -- a declaration that is found among the others has the code that it is found under
   pub keyed_in_map : (d : Declaration) → AreKeyed ds es → at_code code es ≡ Some d → (d.code ≡ code) × (0 < code)
   keyed_in_map d kept h = grind (arith, at_above 1 code ds es, kept.apart code, kept.keyed code d)
 

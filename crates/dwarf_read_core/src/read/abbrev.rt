@@ -34,7 +34,7 @@ pub use attribute::AttributeSpecification;
 pub use cache::{AbbreviationsCache, AbbreviationsCacheStrategy};
 pub use table::{Abbreviations, AbbreviationsIter};
 
-/// The `.debug_abbrev` section (DWARF 5, 7.5.3): tables of abbreviations, one behind the other.
+/// The `.debug_abbrev` section (DWARF 5, 7.5.3): consecutive tables of abbreviations.
 ///
 /// A unit's header says at which offset its table begins.
 #[derive(Debug, Default, Clone, Copy, Drop)]
@@ -101,7 +101,7 @@ impl<R: Reader> DebugAbbrev<R> {
             IfOk result (λ table. 5 * finite.len table.by_code + 2 * attribute_count table.by_code
             + R.Offset.value offset.0 ≤ length section.bytes) }
 
-        // If clones don't allocate, a table without declarations needs no memory.
+        // If clones can't fail, a table without declarations needs no memory.
         ensures memory { let section = R.view (debug_abbrev_reader self.now) in
             R.clone_is_free ≡ true → TakesNoMemory section (R.Offset.value offset.0)
             → IsErrOf result Error.OutOfMemory → ⊥ }
@@ -118,7 +118,7 @@ impl<R: Reader> DebugAbbrev<R> {
     /// Returns the table of abbreviations at `offset`, and the offset of its end, in bytes from the
     /// section's start.
     ///
-    /// A table ends behind the code of value 0 that closes it, or at the section's end. A section
+    /// A table ends after the code of value 0 that closes it, or at the section's end. A section
     /// is walked table by table if each is read at the end of the one before it:
     ///
     /// ```
@@ -148,7 +148,7 @@ impl<R: Reader> DebugAbbrev<R> {
             IfOk result (λ r. 5 * finite.len r.0.by_code + 2 * attribute_count r.0.by_code
             + R.Offset.value offset.0 ≤ length section.bytes) }
 
-        // If clones don't allocate, a table without declarations needs no memory.
+        // If clones can't fail, a table without declarations needs no memory.
         ensures memory { let section = R.view (debug_abbrev_reader self.now) in
             R.clone_is_free ≡ true → TakesNoMemory section (R.Offset.value offset.0)
             → IsErrOf result Error.OutOfMemory → ⊥ }
@@ -189,7 +189,7 @@ impl<R: Reader> DebugAbbrev<R> {
             IfOk result (λ table. 5 * finite.len table.by_code + 2 * attribute_count table.by_code
             + R.Offset.value offset.0 ≤ length section.bytes) }
 
-        // If clones don't allocate, a table without declarations needs no memory.
+        // If clones can't fail, a table without declarations needs no memory.
         ensures memory { let section = R.view (debug_abbrev_reader self.now) in
             R.clone_is_free ≡ true → TakesNoMemory section (R.Offset.value offset.0)
             → IsErrOf result Error.OutOfMemory → ⊥ }

@@ -8,7 +8,9 @@ ghost use Rattle.dwarf_reader_core.specs.Faults.{CloneRanOutOfMemory, is_number_
 ghost use Rattle.dwarf_read_core.specs.Entries.{RepresentsAddresses};
 ghost use Rattle.dwarf_read_core.specs.Items.{GivesFirst};
 ghost use Rattle.dwarf_read_core.specs.Lookups.{AnswersBy, StaysBy};
-ghost use Rattle.dwarf_read_core.specs.Sets.{address_header, address_header-size, addresses_of, remaining_by, seen_by};
+ghost use Rattle.dwarf_reader_core.specs.Headers.{AddressHeaderAt};
+ghost use Rattle.dwarf_reader_core.proofs.Headers.{address_header};
+ghost use Rattle.dwarf_read_core.specs.Sets.{addresses_of, remaining_by, seen_by};
 ghost use Rattle.dwarf_read_core.specs.Words.{AddressAt, slot};
 
 use super::indexed::skip_to_index;
@@ -71,7 +73,7 @@ impl<R: Reader> DebugAddr<R> {
         input.read_address(address_size)
     }
 
-    /// Returns the sets of addresses, one after the other from the section's start.
+    /// Returns the sets of addresses in order, from the section's start.
     ///
     /// GNU's split DWARF 4 has addresses without headers. Only [`get_address`](Self::get_address)
     /// reads them, and this call would take entries for a header.
@@ -143,7 +145,7 @@ impl<R> From<R> for DebugAddr<R> {
 /// ```
 /// for header in section.headers()? {
 ///     for address in header?.entries()? {
-///         println!(rt; "{:#x}", address?)?;
+///         addresses.push(address?)?;
 ///     }
 /// }
 /// ```
@@ -183,7 +185,7 @@ impl AddressSize {
 }
 
 impl HeaderFields for AddressSize {
-    ghost layout = { address_header };
+    ghost header = { AddressHeaderAt };
 
     ghost BYTES = { 4 };
 
@@ -191,7 +193,7 @@ impl HeaderFields for AddressSize {
 
     const NAME: &'static str = "AddrHeader";
 
-    #[tactic(auto, unfolding(crate::specs::Sets::address_header, dwarf_reader_core::specs::Layout::read, dwarf_reader_core::specs::Layout::fixed, dwarf_reader_core::specs::Layout::byte, dwarf_reader_core::specs::Layout::check))]
+    #[tactic(auto, using(dwarf_reader_core::proofs::Headers::address_headers))]
     fn parse<R: Reader>(unit: &mut R) -> Result<Self> {
         let version = unit.read_u16()?;
         if version != VERSION {
@@ -204,7 +206,7 @@ impl HeaderFields for AddressSize {
         }
     }
 
-    ghost has_size = { address_header-size };
+    ghost is_header = { address_header };
 }
 
 impl<R: Reader> AddrHeader<R> {
@@ -285,6 +287,7 @@ impl<R: Reader> AddrEntryIter<R> {
             (λ _. (length self.new.rest.bytes + self.old.width ≡ length self.old.rest.bytes)
             × (length self.new.rest.bytes < length self.old.rest.bytes))) }
         ensures some { OnErr result (1 ≤ length self.old.rest.bytes) }
+        ensures width { self.new.width ≡ self.old.width }
     {
         if self.input.is_empty() {
             return Ok(None);

@@ -4,7 +4,7 @@ ghost use Rattle.std.specs.Prelude.{◌+◌, ◌*◌, OnOk, IfErr};
 ghost use Rattle.dwarf_base_core.specs.Checked.{OkBelow};
 ghost use Rattle.dwarf_base_core.specs.Format.{word_size};
 ghost use Rattle.dwarf_reader_core.specs.Input.{Takes};
-ghost use Rattle.dwarf_read_core.specs.Words.{slot, place, IsPlaced, Misplaced};
+ghost use Rattle.dwarf_read_core.specs.Words.{slot, place, HasNoPlace, IsPlaced};
 
 use dwarf_base_core::{Error, Format, ReaderOffset, Result};
 use dwarf_reader_core::Reader;
@@ -44,7 +44,7 @@ pub(crate) fn skip_to_index<R: Reader>(
         (Takes (place (slot (R.Offset.value base) (R.Offset.value index) width)) (R.view input.old)
         (R.view input.new)) }
     ensures err { IfErr result
-        (Misplaced R.Offset.GREATEST (R.view input.old)
+        (HasNoPlace R.Offset.GREATEST (R.view input.old)
         (slot (R.Offset.value base) (R.Offset.value index) width)) }
 {
     input.skip(base)?;
@@ -73,7 +73,7 @@ pub(crate) fn skip_to_word<R: Reader>(
         (Takes (place (slot (R.Offset.value base) (R.Offset.value index) (word_size format)))
         (R.view input.old) (R.view input.new)) }
     ensures err { IfErr result
-        (Misplaced R.Offset.GREATEST (R.view input.old)
+        (HasNoPlace R.Offset.GREATEST (R.view input.old)
         (slot (R.Offset.value base) (R.Offset.value index) (word_size format))) }
 {
     input.skip(base)?;

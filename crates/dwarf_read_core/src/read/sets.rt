@@ -1,12 +1,14 @@
-//! Sets: what a section has one after the other, each with a header (DWARF 5, 7.26 and 7.27).
+//! Sets: consecutive parts of a section, each with a header (DWARF 5, 7.26 and 7.27).
 
-ghost use Rattle.std.specs.Prelude.{◌≡◌, ◌+◌, ◌≤◌, ◌⊎◌, ℕ, [], Ok, Err, true, length, IfOk, IfErr, IfSome, OnOk, OnErr};
+ghost use Rattle.std.specs.Prelude.{◌≡◌, ◌+◌, ◌≤◌, ◌⊎◌, ℕ, [], Result, Ok, Err, true, length, IfOk, IfErr, IfSome, OnOk, OnErr};
 ghost use Rattle.std.specs.Result.{result_transpose};
 ghost use Rattle.dwarf_reader_core.specs.Faults.{CloneRanOutOfMemory};
-ghost use Rattle.dwarf_reader_core.specs.Layout.{Layout, read};
+ghost use Rattle.dwarf_base_core.specs.declared.error.Error.{Error};
+ghost use Rattle.dwarf_reader_core.specs.Input.{Input, Takes};
 ghost use Rattle.dwarf_read_core.specs.Equality.{same_set, same_set_per, same_set_equiv};
+ghost use Rattle.dwarf_reader_core.specs.Headers.{IsHeader};
 ghost use Rattle.dwarf_read_core.specs.Items.{GivesFirst, StaysFirst};
-ghost use Rattle.dwarf_read_core.specs.Sets.{HasSize, RepresentsSets, RepresentsSetsBy, followed_headers, remaining_by, seen_by, set};
+ghost use Rattle.dwarf_read_core.specs.Sets.{HasNoSet, HasSet, RepresentsSets, RepresentsSetsBy, followed_headers, remaining_by, seen_by, set_size};
 
 use dwarf_base_core::{Format, Result};
 use dwarf_reader_core::Reader;
@@ -17,15 +19,15 @@ use std::marker::{Model, PhantomData};
 // The version of every set. Earlier standards have no sets.
 pub(super) const VERSION: u16 = 5;
 
-/// What the header of a set says behind the set's length, for one kind of sets.
+/// What the header of a set says after the set's length, for one kind of sets.
 ///
 /// [`SetHeader`] and [`SetHeaderIter`] read each kind by its fields. A set of addresses has an
 /// [`AddressSize`](super::AddressSize), and a set of string offsets has none, `()`.
 pub trait HeaderFields: fmt::Debug + Copy + Drop {
-    // How the fields follow each other.
-    ghost layout: { Layout Self };
+    // Which bytes begin with a header, what it says, and which bytes remain; or their error.
+    ghost header: { Input → Result (Self × Input) Error → Type 0 };
 
-    // How many bytes they have.
+    // How many bytes a header has.
     ghost BYTES: { ℕ };
 
     /// How many bytes of the header follow the set's length.
@@ -41,12 +43,12 @@ pub trait HeaderFields: fmt::Debug + Copy + Drop {
     /// The first error of the fields.
     fn parse<R: Reader>(unit: &mut R) -> Result<Self>
         ensures ok { IfOk result
-            (λ fields. read layout (R.view unit.old) ≡ Ok (fields, R.view unit.new)) }
-        ensures err { IfErr result (λ e. read layout (R.view unit.old) ≡ Err e) }
+            (λ fields. header (R.view unit.old) (Ok (fields, R.view unit.new))) }
+        ensures err { IfErr result (λ e. header (R.view unit.old) (Err e)) }
         ensures order { R.order unit.new ≡ R.order unit.old };
 
-    // Fields that are read have as many bytes as the constant says.
-    ghost has_size: { HasSize BYTES layout };
+    // Bytes have exactly one header or error, and a header has as many bytes as the constant says.
+    ghost is_header: { IsHeader BYTES header };
 }
 
 /// The sets that remain of a section, each by its header.
@@ -56,7 +58,7 @@ pub trait HeaderFields: fmt::Debug + Copy + Drop {
 #[derive(Debug, Drop)]
 pub struct SetHeaderIter<R: Reader, H: HeaderFields> {
     input: R,
-    // The offset behind the last byte. The bytes that remain say where the next set begins.
+    // The offset after the last byte. The bytes that remain say where the next set begins.
     end: R::Offset,
     fields: PhantomData<H>,
 }
@@ -114,7 +116,7 @@ impl<R: Reader, H: HeaderFields> SetHeaderIter<R, H> {
     /// `OutOfMemory` if memory for a reader of the set runs out. After any error the iterator is
     /// exhausted: `next` returns `Ok(None)`.
     pub fn next(&mut self) -> Result<Option<SetHeader<R, H>>>
-        ensures first { GivesFirst (RepresentsSetsBy R.view H.layout R.Offset.GREATEST)
+        ensures first { GivesFirst (RepresentsSetsBy R.view H.header R.Offset.GREATEST)
             (seen_by R.view) R.clone_is_free self.old
             (result_transpose result) self.new }
         ensures failed { OnErr result ((R.view self.new.rest).bytes ≡ []) }
@@ -129,7 +131,7 @@ impl<R: Reader, H: HeaderFields> SetHeaderIter<R, H> {
         // Appended bytes change neither a set nor an error, unless that is an `UnexpectedEof` or
         // memory ran out.
         ensures stable { let old = remaining_by R.view self.old in
-            StaysFirst (RepresentsSets H.layout R.Offset.GREATEST)
+            StaysFirst (RepresentsSets H.header R.Offset.GREATEST)
             (seen_by R.view) R.clone_is_free followed_headers old
             (result_transpose result) (remaining_by R.view self.new) }
     {
@@ -156,7 +158,7 @@ impl<R: Reader, H: HeaderFields> Iterator for SetHeaderIter<R, H> {
     ghost use Rattle.dwarf_read_core.specs.Items.{GivesFirst};
     ghost use Rattle.dwarf_read_core.specs.Sets.{RepresentsSetsBy, seen_by};
 
-    ghost next_gives = { GivesFirst (RepresentsSetsBy R.view H.layout R.Offset.GREATEST) (seen_by R.view) R.clone_is_free };
+    ghost next_gives = { GivesFirst (RepresentsSetsBy R.view H.header R.Offset.GREATEST) (seen_by R.view) R.clone_is_free };
 
     ghost remaining = { λ headers. at_most (length (R.view headers.rest).bytes) };
 
@@ -263,14 +265,17 @@ impl<R: Reader, H: HeaderFields> fmt::Debug for SetHeader<R, H> {
 }
 
 impl<R: Reader, H: HeaderFields> SetHeader<R, H> {
-    #[tactic(auto, unfolding(crate::specs::Sets::set, dwarf_reader_core::specs::Layout::read))]
     fn parse(input: &mut R, offset: R::Offset) -> Result<Self>
         ensures ok { IfOk result
-            (λ header. read (set H.layout R.Offset.GREATEST (R.Offset.value offset))
-            (R.view input.old) ≡ Ok (seen_by R.view header, R.view input.new)) }
+            (λ header. HasSet H.header R.Offset.GREATEST
+            (record { offset = R.Offset.value offset; rest = R.view input.old })
+            (seen_by R.view header)) }
+        ensures taken { IfOk result
+            (λ header. Takes (set_size (seen_by R.view header)) (R.view input.old)
+            (R.view input.new)) }
         ensures err { IfErr result
-            (λ e. (read (set H.layout R.Offset.GREATEST (R.Offset.value offset))
-            (R.view input.old) ≡ Err e) ⊎ CloneRanOutOfMemory R.clone_is_free e) }
+            (λ e. HasNoSet H.header R.Offset.GREATEST (R.view input.old) e
+            ⊎ CloneRanOutOfMemory R.clone_is_free e) }
         ensures bound { OnOk result
             (length (R.view input.new).bytes + (4 + H.BYTES) ≤ length (R.view input.old).bytes) }
         ensures entries_order { IfOk result

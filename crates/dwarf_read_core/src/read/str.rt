@@ -174,7 +174,7 @@ impl<R: Reader> DebugStrOffsets<R> {
         Ok(DebugStrOffset(input.read_offset(format)?))
     }
 
-    /// Returns the sets of string offsets, one after the other from the section's start.
+    /// Returns the sets of string offsets in order, from the section's start.
     ///
     /// GNU's split DWARF 4 has string offsets without headers. Only
     /// [`get_str_offset`](DebugStrOffsets::get_str_offset) reads them, and this call would take

@@ -111,7 +111,7 @@ impl Abbreviation {
         Ok(self.clone()?)
     }
 
-    /// Returns the code by which entries refer to this abbreviation. It is not 0.
+    /// Returns this abbreviation's code, which entries refer to. It is not 0.
     pub fn code(&self) -> u64
         ensures { result ≡ self.now.code }
     {

@@ -220,7 +220,7 @@ impl Collector {
     }
 }
 
-// Copies attributes behind those in `overflow`. It is a call out of line, since few declarations
+// Copies attributes after those in `overflow`. It is a call out of line, since few declarations
 // have so many attributes that one is made.
 #[inline(never)]
 pub(super) fn spill(

@@ -6,7 +6,7 @@ ghost use Rattle.std.specs.Iterator.{IsFinite};
 ghost use Rattle.dwarf_reader_core.specs.Input.{Input};
 ghost use Rattle.dwarf_reader_core.specs.Appended.{followed_by};
 ghost use Rattle.dwarf_read_core.specs.Answer.{Answer, Answers};
-ghost use Rattle.dwarf_read_core.specs.Cache.{answer_of, KeepsAnswers, least_count, NamesOffsets, GivesBeforeError, HasFirstItem, IsFaithful, ReturnsKept, is_final, still_kept};
+ghost use Rattle.dwarf_read_core.specs.Cache.{answer_of, KeepsAnswers, least_count, NamesOffsets, GivesBeforeError, HasFirstItem, IsFaithful, ReturnsKept, StillKept, is_final};
 ghost use Rattle.dwarf_read_core.specs.Sections.{debug_abbrev_reader};
 
 use super::super::key::Key;
@@ -177,7 +177,7 @@ impl AbbreviationsCache {
     /// Call this each time the section has grown, before the next `get` on the longer section. It
     /// doesn't allocate.
     pub fn section_grew(&mut self)
-        ensures kept { (key : ℕ) → finite.get self.new key ≡ still_kept (finite.get self.old key) }
+        ensures kept { (key : ℕ) → StillKept (finite.get self.old key) (finite.get self.new key) }
         ensures faithful { (section : Input) (more : List ℕ)
             → IsFaithful self.old section → IsFaithful self.new (followed_by section more) }
     {

@@ -36,49 +36,60 @@ fn table_of(mem: Global, codes: &[u64]) -> Result<Abbreviations> {
     Ok(table)
 }
 
-// Codes in the order in which they are added, and how many of them the vector has.
-static ORDERS: &[(&[u64], usize)] = &[
-    (&[1, 2], 2),
-    (&[2, 3], 0),
-    (&[1, 3, 2], 2),
-    (&[1, 2, 3, 4], 4),
-    (&[1, 2, 4, 3], 3),
-    (&[1, 3, 2, 4], 2),
-    (&[1, 3, 4, 2], 2),
-    (&[1, 4, 2, 3], 3),
-    (&[1, 4, 3, 2], 2),
-    (&[2, 1, 3, 4], 1),
-    (&[2, 1, 4, 3], 1),
-    (&[2, 3, 1, 4], 1),
-    (&[2, 3, 4, 1], 1),
-    (&[2, 4, 1, 3], 1),
-    (&[2, 4, 3, 1], 1),
-    (&[3, 1, 2, 4], 2),
-    (&[3, 1, 4, 2], 2),
-    (&[3, 2, 1, 4], 1),
-    (&[3, 2, 4, 1], 1),
-    (&[3, 4, 1, 2], 2),
-    (&[3, 4, 2, 1], 1),
-    (&[4, 1, 2, 3], 3),
-    (&[4, 1, 3, 2], 2),
-    (&[4, 2, 1, 3], 1),
-    (&[4, 2, 3, 1], 1),
-    (&[4, 3, 1, 2], 2),
-    (&[4, 3, 2, 1], 1),
-    (&[u64::MAX, 1], 1),
+// The codes of a table, in the order in which it gives its declarations.
+fn codes_of(mem: Global, table: &Abbreviations) -> std::result::Result<Vec<u64>, AllocError> {
+    let mut codes = Vec::new(mem);
+    for abbreviation in table.iter() {
+        codes.push(abbreviation.code())?;
+    }
+    Ok(codes)
+}
+
+const ONE_TO_FOUR: &[u64] = &[1, 2, 3, 4];
+
+// Codes in the order in which they are added, the order in which a table gives them, and how many the vector has.
+#[rattlefmt::skip]
+static ORDERS: &[(&[u64], &[u64], usize)] = &[
+    (&[1, 2], &[1, 2], 2),
+    (&[2, 3], &[2, 3], 0),
+    (&[1, 3, 2], &[1, 2, 3], 2),
+    (&[1, 2, 3, 4], ONE_TO_FOUR, 4),
+    (&[1, 2, 4, 3], ONE_TO_FOUR, 3),
+    (&[1, 3, 2, 4], ONE_TO_FOUR, 2),
+    (&[1, 3, 4, 2], ONE_TO_FOUR, 2),
+    (&[1, 4, 2, 3], ONE_TO_FOUR, 3),
+    (&[1, 4, 3, 2], ONE_TO_FOUR, 2),
+    (&[2, 1, 3, 4], ONE_TO_FOUR, 1),
+    (&[2, 1, 4, 3], ONE_TO_FOUR, 1),
+    (&[2, 3, 1, 4], ONE_TO_FOUR, 1),
+    (&[2, 3, 4, 1], ONE_TO_FOUR, 1),
+    (&[2, 4, 1, 3], ONE_TO_FOUR, 1),
+    (&[2, 4, 3, 1], ONE_TO_FOUR, 1),
+    (&[3, 1, 2, 4], ONE_TO_FOUR, 2),
+    (&[3, 1, 4, 2], ONE_TO_FOUR, 2),
+    (&[3, 2, 1, 4], ONE_TO_FOUR, 1),
+    (&[3, 2, 4, 1], ONE_TO_FOUR, 1),
+    (&[3, 4, 1, 2], ONE_TO_FOUR, 2),
+    (&[3, 4, 2, 1], ONE_TO_FOUR, 1),
+    (&[4, 1, 2, 3], ONE_TO_FOUR, 3),
+    (&[4, 1, 3, 2], ONE_TO_FOUR, 2),
+    (&[4, 2, 1, 3], ONE_TO_FOUR, 1),
+    (&[4, 2, 3, 1], ONE_TO_FOUR, 1),
+    (&[4, 3, 1, 2], ONE_TO_FOUR, 2),
+    (&[4, 3, 2, 1], ONE_TO_FOUR, 1),
+    (&[u64::MAX, 1], &[1, u64::MAX], 1),
 ];
 
 #[test]
 fn codes_from_one_on_are_in_the_vector(rt: HostRuntime) -> std::result::Result<(), Fail> {
-    for (codes, in_vec) in ORDERS {
+    for (codes, in_order, in_vec) in ORDERS {
         let table = table_of(rt.alloc(), codes)?;
         let lengths = (table.vec.len(), table.vec.len() + table.others.len());
         assert_eq!(rt; lengths, (*in_vec, codes.len()), "{codes:?}");
-        let mut last = 0;
-        for abbreviation in table.iter() {
-            assert!(rt; last < abbreviation.code(), "{codes:?}");
-            last = abbreviation.code();
-        }
+        let found = codes_of(rt.alloc(), &table)?;
+        assert_eq!(rt; found.as_slice(), *in_order, "{codes:?}");
+        let copied = codes_of(rt.alloc(), &table.try_clone()?)?;
+        assert_eq!(rt; copied.as_slice(), *in_order, "{codes:?}");
         for code in *codes {
             assert!(rt; table.get(*code).is_some(), "{code} of {codes:?}");
         }
@@ -150,7 +161,7 @@ fn fields_are_parsed(rt: HostRuntime) {
     }
 }
 
-// The bytes behind each entry, and one with a name, and one whose attribute has a value, before these.
+// The bytes after each entry, and one with a name, and one whose attribute has a value, before these.
 const BEHIND: &[u8] = b"\x01\x02\x03\x04";
 
 const NAMED: &[u8] = b"\x01\x2e\0\x03\x08\0\0\x01\x02\x03\x04";

@@ -5,7 +5,9 @@ ghost use Rattle.std.specs.Result.{result_transpose};
 ghost use Rattle.dwarf_reader_core.specs.Faults.{CloneRanOutOfMemory};
 ghost use Rattle.dwarf_read_core.specs.Entries.{RepresentsStringOffsets};
 ghost use Rattle.dwarf_read_core.specs.Items.{GivesFirst};
-ghost use Rattle.dwarf_read_core.specs.Sets.{seen_by, string_offsets_header, string_offsets_header-size, string_offsets_of};
+ghost use Rattle.dwarf_reader_core.specs.Headers.{StringOffsetsHeaderAt};
+ghost use Rattle.dwarf_reader_core.proofs.Headers.{string_offsets_header};
+ghost use Rattle.dwarf_read_core.specs.Sets.{seen_by, string_offsets_of};
 
 use crate::read::sets::{HeaderFields, SetHeader, SetHeaderIter, VERSION};
 use dwarf_base_core::{DebugStrOffset, Error, Format, Result};
@@ -18,18 +20,18 @@ use std::marker::Model;
 /// ```
 /// for header in section.headers()? {
 ///     for offset in header?.entries()? {
-///         println!(rt; "{}", offset?.0)?;
+///         offsets.push(offset?.0)?;
 ///     }
 /// }
 /// ```
 pub type StrOffsetsHeaderIter<R> = SetHeaderIter<R, ()>;
 
 /// The header of a set of string offsets, and the offsets that follow it. The header says nothing
-/// behind its version.
+/// after its version.
 pub type StrOffsetsHeader<R> = SetHeader<R, ()>;
 
 impl HeaderFields for () {
-    ghost layout = { string_offsets_header };
+    ghost header = { StringOffsetsHeaderAt };
 
     ghost BYTES = { 4 };
 
@@ -37,7 +39,7 @@ impl HeaderFields for () {
 
     const NAME: &'static str = "StrOffsetsHeader";
 
-    #[tactic(auto, unfolding(crate::specs::Sets::string_offsets_header, dwarf_reader_core::specs::Layout::read, dwarf_reader_core::specs::Layout::fixed, dwarf_reader_core::specs::Layout::check))]
+    #[tactic(auto, using(dwarf_reader_core::proofs::Headers::string_offsets_headers))]
     fn parse<R: Reader>(unit: &mut R) -> Result<()> {
         let version = unit.read_u16()?;
         if version != VERSION {
@@ -47,7 +49,7 @@ impl HeaderFields for () {
         Ok(())
     }
 
-    ghost has_size = { string_offsets_header-size };
+    ghost is_header = { string_offsets_header };
 }
 
 impl<R: Reader> StrOffsetsHeader<R> {
@@ -116,6 +118,7 @@ impl<R: Reader> StrOffsetsEntryIter<R> {
             (λ _. (length self.new.rest.bytes + self.old.width ≡ length self.old.rest.bytes)
             × (length self.new.rest.bytes < length self.old.rest.bytes))) }
         ensures some { OnErr result (1 ≤ length self.old.rest.bytes) }
+        ensures width { self.new.width ≡ self.old.width }
     {
         if self.input.is_empty() {
             return Ok(None);

@@ -3,7 +3,7 @@ use Rattle.dwarf_read_core.specs.declared.Error.{Error}
 use Rattle.dwarf_read_core.specs.Entries.{RepresentsAddresses}
 use Rattle.dwarf_uses.proofs.callers.addresses_in.Given as goal
 
--- whatever the entries that are left stand for comes behind the addresses so far
+-- whatever the entries that are left represent comes after the addresses so far
 abbrev pub invariant-loop-entries : goal.invariant-loop-entries
 invariant-loop-entries g l =
     (rest : List (Result _ Error)) → RepresentsAddresses l.entries rest

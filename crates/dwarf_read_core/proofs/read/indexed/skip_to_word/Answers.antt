@@ -1,6 +1,6 @@
 use Rattle.std.proofs.Common.{◌*◌, ◌<◌, arith}
 use Rattle.dwarf_read_core.proofs.Results.{propagated-err}
-use Rattle.dwarf_read_core.proofs.lookups.Words.{no_base, past_end_found, placed_found, skipped_found, too_far_off}
+use Rattle.dwarf_read_core.proofs.lookups.Words.{base_outside, past_end_found, placed_found, skipped_found, too_far_off}
 use Rattle.dwarf_read_core.proofs.read.indexed.skip_to_word.Goals as goal
 
 pub returns-in_err-length_before-clause-err : goal.returns-in_err-length_before-clause-err
@@ -21,7 +21,7 @@ returns-clause-err g c =
 
 pub returns-in_err-skip-clause-err : goal.returns-in_err-skip-clause-err
 returns-in_err-skip-clause-err g c =
-    propagated-err _ _ c.from_residual.ensures.1 (no_base _ _ _ _ _ c.in_err-skip.ensures.err)
+    propagated-err _ _ c.from_residual.ensures.1 (base_outside _ _ _ _ _ c.in_err-skip.ensures.err)
 
 pub returns-clause-ok : goal.returns-clause-ok
 returns-clause-ok g c =

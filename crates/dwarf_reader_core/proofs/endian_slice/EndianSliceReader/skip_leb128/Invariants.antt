@@ -2,7 +2,7 @@ use Rattle.dwarf_reader_core.proofs.Common.{◌≡◌, ◌≤◌, take, TakesByt
 use Rattle.dwarf_reader_core.proofs.Reading.{slice_input}
 use Rattle.dwarf_reader_core.proofs.endian_slice.EndianSliceReader.skip_leb128.Given as goal
 
--- none of the bytes behind the first and before the index is the last of the encoding
+-- none of the bytes after the first and before the index is the last of the encoding
 abbrev pub invariant-loop-index : goal.invariant-loop-index
 invariant-loop-index g l =
     let is_big = g.Endian.Endianity.is_big in

@@ -6,7 +6,7 @@ pub returns-in_default-clause-repeated : goal.returns-in_default-clause-repeated
 returns-in_default-clause-repeated c = grind
     (arith, has_by_place (is_at (nat_cmp c.code-code.result)) c.args.items.now.items c.args.places.now.entries)
 
--- the new abbreviation's place is behind all others
+-- the new abbreviation's place is after all others
 last : (c : goal.After-push_reserved) → c.len.result ≡ length c.args.items.now.items
 last c = omega (arith, c.len.ensures, c.reserve.ensures.len, c.args.items.now.ok.0)
 

@@ -1,4 +1,5 @@
-use Rattle.dwarf_read_core.proofs.Common.{refl, none, ap, inl, rules, Input}
+use Rattle.dwarf_read_core.proofs.Common.{refl, ap, inl, rules, Input}
+use Rattle.dwarf_read_core.specs.Items.{none}
 use Rattle.dwarf_read_core.proofs.sets.ItemLists.{bytes-some}
 use Rattle.dwarf_read_core.proofs.sets.Entries.{address_error_first, address_first}
 use Rattle.dwarf_read_core.proofs.read.addr.AddrEntryIter.next.Goals as goal

@@ -1,12 +1,12 @@
-use Rattle.dwarf_read_core.specs.Words.{AddressAt}
+use Rattle.dwarf_read_core.specs.Words.{AddressAt, address_unplaced}
 use Rattle.dwarf_read_core.proofs.ResultLemmas.{result-propagated}
-use Rattle.dwarf_read_core.proofs.lookups.Words.{address-read, address_misplaced, address-stays}
+use Rattle.dwarf_read_core.proofs.lookups.Words.{address-read, address-stays}
 use Rattle.dwarf_read_core.proofs.read.addr.DebugAddr.get_address.Goals as goal
 
 pub returns-in_err-skip_to_index-clause-answer : goal.returns-in_err-skip_to_index-clause-answer
 returns-in_err-skip_to_index-clause-answer g c =
     result-propagated (AddressAt _ _ _) _ _ _ c.from_residual-in_err-skip_to_index.ensures.1
-    (address_misplaced _ _ _ _ (rw c.in_ok-input.ensures.ok at c.in_err-skip_to_index.ensures.err))
+    (address_unplaced (rw c.in_ok-input.ensures.ok at c.in_err-skip_to_index.ensures.err))
 
 pub returns-in_err-skip_to_index-clause-stable : goal.returns-in_err-skip_to_index-clause-stable
 returns-in_err-skip_to_index-clause-stable g c =

@@ -1,6 +1,31 @@
-use Rattle.dwarf_read_core.proofs.Common.{arith}
-use Rattle.dwarf_read_core.proofs.sets.Sets.{set_bounds}
+use Rattle.dwarf_read_core.proofs.Common.{inl}
+use Rattle.dwarf_read_core.specs.Sets.{set_unmeasured}
+use Rattle.dwarf_read_core.proofs.Results.{propagated-err}
+use Rattle.dwarf_read_core.proofs.sets.Sets.{headless_read, set_bound, set_read, set_taken, unit_cut_read}
 use Rattle.dwarf_read_core.proofs.read.sets.SetHeader.parse.Goals as goal
 
+pub returns-in_err-length-clause-err : goal.returns-in_err-length-clause-err
+returns-in_err-length-clause-err g c =
+    propagated-err _ _ c.from_residual.ensures.1 (inl (set_unmeasured c.in_err-length.ensures.err))
+
+pub returns-in_err-unit-clause-err : goal.returns-in_err-unit-clause-err
+returns-in_err-unit-clause-err g c =
+    propagated-err _ _ c.from_residual-in_err-unit.ensures.1
+    (unit_cut_read c.in_ok-length.ensures.ok _ c.in_err-unit.ensures.err)
+
+pub returns-in_err-fields-clause-err : goal.returns-in_err-fields-clause-err
+returns-in_err-fields-clause-err g c =
+    propagated-err _ _ c.from_residual-in_err-fields.ensures.1
+    (inl (headless_read c.in_ok-length.ensures.ok c.in_ok-unit.ensures.part c.in_ok-unit.ensures.ok
+    c.in_err-fields.ensures.err))
+
+pub returns-clause-ok : goal.returns-clause-ok
+returns-clause-ok g c =
+    set_read c.in_ok-length.ensures.ok _ c.in_ok-unit.ensures.part c.in_ok-unit.ensures.ok c.in_ok-fields.ensures.ok
+
+pub returns-clause-taken : goal.returns-clause-taken
+returns-clause-taken g c = set_taken c.in_ok-length.ensures.ok c.in_ok-unit.ensures.ok
+
 pub returns-clause-bound : goal.returns-clause-bound
-returns-clause-bound g c = grind (arith, set_bounds)
+returns-clause-bound g c =
+    set_bound g.met.H.HeaderFields.is_header _ (returns-clause-ok g c) (returns-clause-taken g c)

@@ -1,27 +1,28 @@
-use Rattle.dwarf_read_core.proofs.Common.{refl, none, rules, ap, Input}
+use Rattle.dwarf_read_core.proofs.Common.{refl, rules, ap, arith, Input}
+use Rattle.dwarf_read_core.specs.Items.{none}
 use Rattle.dwarf_read_core.proofs.sets.ItemLists.{bytes-some}
 use Rattle.dwarf_read_core.proofs.sets.Sets.{set_first, set_error_first, set_error_stays, set_stays}
 use Rattle.dwarf_read_core.proofs.read.sets.SetHeaderIter.next.Goals as goal
 
 pub returns-in-Ok-clause-first : goal.returns-in-Ok-clause-first
 returns-in-Ok-clause-first g c =
-    rw (← c.self.view_is) (set_first g.met.H.HeaderFields.has_size _ _ _ _ _ (search rules) c.in-Ok.ensures.ok
-    (search rules) (search rules))
+    rw (← c.self.view_is) (set_first g.met.H.HeaderFields.is_header _ _ _ _ _ (search rules) c.in-Ok.ensures.ok
+    c.in-Ok.ensures.taken (omega (arith, g.met.R.Offset.ReaderOffset.sub_law _ _ _ c.sub-offset.ensures, c.len.ensures)) (search rules))
 
 pub returns-in-Ok-clause-stable : goal.returns-in-Ok-clause-stable
 returns-in-Ok-clause-stable g c =
-    rw (← c.self.view_is) (set_stays g.met.H.HeaderFields.has_size _ _ _ _ _ (search rules) c.in-Ok.ensures.ok
-    (search rules) (search rules))
+    rw (← c.self.view_is) (set_stays g.met.H.HeaderFields.is_header _ _ _ _ _ (search rules) c.in-Ok.ensures.ok
+    c.in-Ok.ensures.taken (omega (arith, g.met.R.Offset.ReaderOffset.sub_law _ _ _ c.sub-offset.ensures, c.len.ensures)) (search rules))
 
 pub returns-in-Err-clause-first : goal.returns-in-Err-clause-first
 returns-in-Err-clause-first g c =
-    rw (← c.self.view_is) (set_error_first g.H.HeaderFields.layout _ _ _ _ _ _ (search rules) c.in-Err.ensures.err
-    (search rules) (ap (λ (i : Input). i.bytes) c.empty.ensures.left))
+    rw (← c.self.view_is) (set_error_first g.met.H.HeaderFields.is_header _ _ _ _ _ _ (search rules)
+    c.in-Err.ensures.err (ap (λ (i : Input). i.bytes) c.empty.ensures.left))
 
 pub returns-in-Err-clause-stable : goal.returns-in-Err-clause-stable
 returns-in-Err-clause-stable g c =
-    rw (← c.self.view_is) (set_error_stays g.H.HeaderFields.layout _ _ _ _ (search rules) c.in-Err.ensures.err
-    (search rules))
+    rw (← c.self.view_is) (set_error_stays g.met.H.HeaderFields.is_header _ _ _ _ (search rules)
+    c.in-Err.ensures.err)
 
 pub returns-then-is_empty-clause-first : goal.returns-then-is_empty-clause-first
 returns-then-is_empty-clause-first g c =

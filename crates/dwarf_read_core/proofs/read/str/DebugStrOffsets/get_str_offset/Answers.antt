@@ -1,13 +1,13 @@
-use Rattle.dwarf_read_core.specs.Words.{WordAt}
+use Rattle.dwarf_read_core.specs.Words.{WordAt, word_unplaced}
 use Rattle.std.proofs.Common.{arith}
 use Rattle.dwarf_read_core.proofs.ResultLemmas.{result-propagated}
-use Rattle.dwarf_read_core.proofs.lookups.Words.{word-stays, word_misplaced, word_more, word_fails, word_taken}
+use Rattle.dwarf_read_core.proofs.lookups.Words.{word-stays, word_kept, word_fails, word_taken}
 use Rattle.dwarf_read_core.proofs.read.str.DebugStrOffsets.get_str_offset.Goals as goal
 
 pub returns-in_err-skip_to_word-clause-answer : goal.returns-in_err-skip_to_word-clause-answer
 returns-in_err-skip_to_word-clause-answer g c =
     result-propagated (WordAt _ _ _) _ _ _ c.from_residual-in_err-skip_to_word.ensures.1
-    (word_misplaced _ _ _ _ (rw c.in_ok-input.ensures.ok at c.in_err-skip_to_word.ensures.err))
+    (word_unplaced (rw c.in_ok-input.ensures.ok at c.in_err-skip_to_word.ensures.err))
 
 pub returns-in_err-skip_to_word-clause-stable : goal.returns-in_err-skip_to_word-clause-stable
 returns-in_err-skip_to_word-clause-stable g c = word-stays _ _ _ _ _ _ (returns-in_err-skip_to_word-clause-answer g c)
@@ -25,4 +25,4 @@ returns-clause-answer g c =
     c.in_ok-read_offset.ensures.in_range
 
 pub returns-clause-stable : goal.returns-clause-stable
-returns-clause-stable g c = λ more. word_more _ _ _ _ more (returns-clause-answer g c) tt
+returns-clause-stable g c = word_kept _ _ _ (returns-clause-answer g c)

@@ -2,7 +2,7 @@ use Rattle.dwarf_reader_core.proofs.Common.{◌-◌, pos, unsigned64}
 use Rattle.dwarf_reader_core.proofs.Writing.{FitsBytes, IsBegun}
 use Rattle.dwarf_reader_core.proofs.leb128.write.Leb128.unsigned.Given as goal
 
--- the bytes so far, with the shortest encoding of the rest behind them, are the shortest of the number
+-- the bytes so far, with the shortest encoding of the rest after them, are the shortest of the number
 abbrev pub invariant-digits : goal.invariant-digits
 invariant-digits l = record {
   begun : IsBegun unsigned64 l.value l.rest l.bytes l.len;

@@ -2,7 +2,7 @@ use Rattle.dwarf_read_core.proofs.Common.{◌≡◌, ◌≤◌, ◌++◌, take, 
 use Rattle.dwarf_read_core.proofs.tables.ReadingAttributes.{with_front}
 use Rattle.dwarf_read_core.proofs.read.abbrev.abbreviation.Abbreviation.parse_attributes.Given as goal
 
--- the specifications so far and those that are read behind them are all of the declaration
+-- the specifications so far and those that are read after them are all of the declaration
 abbrev pub invariant-attributes : goal.invariant-attributes
 invariant-attributes g l =
     let view = g.R.Reader.view in

@@ -1,4 +1,4 @@
-use Rattle.dwarf_read_core.proofs.Common.{ap, rules, ◌∙◌, get, Cache, answer_of, is_final, still_kept}
+use Rattle.dwarf_read_core.proofs.Common.{rules, subst, get, Cache, StillKept, answer_of, is_final}
 use Rattle.std.proofs.lemmas.Map.Made.{filter_same_pairs}
 use Rattle.dwarf_read_core.proofs.cache.FaithfulToSection.{faithful_of_final}
 use Rattle.dwarf_read_core.proofs.cache.NoMemoryError.{no_memory_error_final}
@@ -11,8 +11,8 @@ returns-clause-kept c =
     let new = c.retain.new.self.entries in
     let retained = filter_same_pairs _ (λ entry. is_final (answer_of entry.1)) _ (λ k v b w f' called. search rules)
     old new c.retain.ensures.filtered in
-    λ key. get-shown-final old new retained c.retain.ensures.was_ordered key
-    ∙ ap (λ (cache : Cache). still_kept (get cache key)) c.self.view_is
+    λ key. subst (λ (cache : Cache). StillKept (get cache key) (get (shown new) key)) c.self.view_is
+    (get-shown-final old new retained c.retain.ensures.was_ordered key)
 
 pub invariant_of-self : goal.invariant_of-self
 invariant_of-self c =

@@ -2,7 +2,7 @@ use Rattle.dwarf_read_core.proofs.Common.{◌≡◌, ℕ, List, length, None, Ok
 use Rattle.dwarf_read_core.proofs.tables.TablesAreRead.{BeginsWith}
 use Rattle.dwarf_read_core.proofs.read.abbrev.table.Abbreviations.parse.Given as goal
 
--- the declarations so far and what is read behind them are the whole table
+-- the declarations so far and what is read after them are the whole table
 abbrev pub invariant-declarations : goal.invariant-declarations
 invariant-declarations g l =
     let view = g.R.Reader.view in

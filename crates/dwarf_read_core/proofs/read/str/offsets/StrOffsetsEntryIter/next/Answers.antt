@@ -1,4 +1,5 @@
-use Rattle.dwarf_read_core.proofs.Common.{refl, none, ap, inl, rules, Input}
+use Rattle.dwarf_read_core.proofs.Common.{refl, ap, inl, rules, Input}
+use Rattle.dwarf_read_core.specs.Items.{none}
 use Rattle.dwarf_read_core.proofs.sets.ItemLists.{bytes-some}
 use Rattle.dwarf_read_core.proofs.sets.Entries.{string_offset_error_first, string_offset_first}
 use Rattle.dwarf_read_core.proofs.read.str.offsets.StrOffsetsEntryIter.next.Goals as goal

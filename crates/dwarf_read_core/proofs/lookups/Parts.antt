@@ -1,0 +1,65 @@
+-- Strings and words are parts of their section, and so is each part of a part.
+use Rattle.dwarf_read_core.proofs.Common.{common_steps, ◌≡◌, ◌∙◌, ℕ, ◌+◌, ◌-◌, ◌≤◌, ◌∷◌, ◌++◌, length, take, drop, Ok, refl, sym, subst, ap, arith, slice_index, get_or, length-append, length-drop, length-take-le, take_all, Input, after, first}
+use Rattle.std.proofs.lemmas.List.{get_or-append-add, get_or-drop, drop-drop, drop-take, take-take}
+use Rattle.std.proofs.Math.Nat.{add-zero}
+use Rattle.std.proofs.Math.Seq.{take-append_seam}
+use Rattle.dwarf_base_core.specs.Number.{number_of}
+use Rattle.dwarf_read_core.specs.Ranges.{HoldsRange}
+use Rattle.dwarf_read_core.specs.Strings.{HoldsString}
+use Rattle.dwarf_read_core.specs.Words.{Holds, Slot, place}
+
+-- the part from the start on that has the section's length is the section
+pub range_whole : (section : Input) → HoldsRange section 0 (length section.bytes) section
+range_whole section = grind (arith, common_steps, take_all)
+
+-- a part of a part is a part, at the sum of their offsets
+pub range_nested : (section part inner : Input) (offset size at n : ℕ) → HoldsRange section offset size part
+    → HoldsRange part at n inner → HoldsRange section (offset + at) n inner
+range_nested section part inner offset size at n outer nested =
+    let behind = drop offset section.bytes in
+    let long : length part.bytes ≡ size =
+    ap length outer.is ∙ length-take-le size behind (omega (arith, outer.within, length-drop offset section.bytes)) in
+    let rest = size - at in
+    let whole : at + rest ≡ size = omega (arith, long, nested.within) in
+    let cut : drop at part.bytes ≡ take rest (drop at behind) =
+    ap (drop at) (outer.is ∙ ap (λ k. take k behind) (sym whole)) ∙ drop-take at rest behind in
+    record {
+      within = omega (arith, outer.within, nested.within, long);
+      is = nested.is ∙ ap (take n) cut ∙ take-take n rest (drop at behind) (omega (arith, nested.within, long))
+          ∙ ap (take n) (drop-drop at offset section.bytes);
+      place = omega (arith, nested.place, outer.place);
+      order = nested.order ∙ outer.order;
+    }
+
+-- a string is the part at its offset that has its length, and a zero byte follows
+pub string_part : (section : Input) (offset : ℕ) (string : Input) → HoldsString section offset string
+    → HoldsRange section offset (length string.bytes) string
+    × (slice_index section.bytes (offset + length string.bytes) ≡ 0)
+string_part section offset string has =
+    let long : length (drop offset section.bytes) ≡ length (string.bytes ++ 0 ∷ has.rest) = ap length has.parts in (
+      record {
+        within = omega (
+          arith,
+          long,
+          length-drop offset section.bytes,
+          length-append string.bytes (0 ∷ has.rest),
+          has.within,
+        );
+        is = sym (ap (take (length string.bytes)) has.parts ∙ take-append_seam string.bytes (0 ∷ has.rest));
+        place = has.place;
+        order = has.order;
+      },
+      sym (get_or-drop offset section.bytes (length string.bytes) 0)
+          ∙ ap (λ bytes. get_or bytes (length string.bytes) 0) has.parts
+          ∙ subst (λ n. get_or (string.bytes ++ 0 ∷ has.rest) n 0 ≡ 0) (add-zero (length string.bytes))
+          (get_or-append-add string.bytes (0 ∷ has.rest) 0 0),
+    )
+
+-- the number that a slot holds is that of the part at its place
+pub number_part : {section : Input} {s : Slot} {x : ℕ} → Holds section s x
+    → (part : Input) × HoldsRange section (place s) s.width part × (x ≡ number_of part.is_big part.bytes)
+number_part {section} {s} held = (
+  first s.width (after (place s) section),
+  record { within = held.within; is = refl; place = refl; order = refl },
+  held.is,
+)

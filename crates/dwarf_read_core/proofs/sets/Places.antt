@@ -1,0 +1,66 @@
+-- Each set of a list is where its offset says.
+use Rattle.dwarf_read_core.proofs.Common.{◌≡◌, ◌∙◌, ℕ, zero, suc, ◌+◌, ◌-◌, ◌≤◌, List, length, take, drop, Option, Some, Result, Ok, sym, ap, subst, arith, length-drop, Error, Input, after, Set, Headers}
+use Rattle.std.specs.Prelude.{slice_get}
+use Rattle.std.proofs.lemmas.List.{drop-drop, drop-take, length-take}
+use Rattle.dwarf_base_core.specs.Format.{initial_length_size}
+use Rattle.dwarf_reader_core.specs.Headers.{Header, IsHeader}
+use Rattle.dwarf_read_core.specs.Items.{AreItems, none, more, first_error}
+use Rattle.dwarf_read_core.specs.Ranges.{HoldsRange}
+use Rattle.dwarf_read_core.specs.Sets.{HasSet, SetAt, after_set, set_size}
+
+-- a part of what remains after k bytes is a part of all, k bytes later
+range_behind : {k offset n : ℕ} {rest part : Input} → k ≤ length rest.bytes → HoldsRange (after k rest) offset n part
+    → HoldsRange rest (k + offset) n part
+range_behind {k} {offset} {n} {rest} {part} enough held = record {
+  within = omega (arith, enough, held.within, length-drop k rest.bytes);
+  is = held.is ∙ ap (take n) (drop-drop offset k rest.bytes);
+  place = omega (arith, held.place);
+  order = held.order;
+}
+
+module _ {H : Type 0} {header : Header H} {size : ℕ} (is_header : IsHeader size header) {greatest : ℕ} where
+  -- the entries of a set are the part after its initial length and its header
+  entries_range : {headers : Headers} {s : Set H} → HasSet header greatest headers s
+      → HoldsRange headers.rest (initial_length_size s.format + size) (s.unit_length - size) s.entries
+  entries_range {headers} {s} has =
+      let front = initial_length_size s.format in
+      let taken = is_header.sized _ _ _ has.said in
+      let bytes = drop front headers.rest.bytes in
+      let n = s.unit_length - size in
+      let long = length-take s.unit_length bytes in
+      let whole : size + n ≡ s.unit_length = omega (arith, taken.enough, long) in
+      record {
+        within = omega (arith, has.within, whole);
+        is = ap (λ (i : Input). i.bytes) taken.left ∙ ap (λ k. drop size (take k bytes)) (sym whole)
+            ∙ drop-take size n bytes ∙ ap (take n) (drop-drop size front headers.rest.bytes);
+        place = omega (arith, ap (λ (i : Input). i.position) taken.left);
+        order = ap (λ (i : Input). i.is_big) taken.left;
+      }
+
+  -- a set of a list is where its offset says
+  pub set_placed : {headers : Headers} {items : List (Result (Set H) Error)} (index : ℕ) {s : Set H}
+      → AreItems (λ (h : Headers). h.rest) (SetAt header greatest) after_set headers items
+      → slice_get items index ≡ Some (Ok s)
+      → (place : ℕ) × (s.offset ≡ headers.offset + place)
+      × HoldsRange headers.rest (place + initial_length_size s.format + size) (s.unit_length - size) s.entries
+  set_placed index (none empty) is = absurd cc
+  set_placed {headers} zero {s} (more {x = x} some has others) is =
+      let same : x ≡ s = cc in
+      let there : HasSet header greatest headers s = subst (HasSet header greatest headers) same has in
+      let none_before : initial_length_size s.format + size ≡ 0 + initial_length_size s.format + size = omega arith in (
+        0,
+        omega (arith, there.here),
+        subst (λ n. HoldsRange headers.rest n (s.unit_length - size) s.entries) none_before (entries_range there),
+      )
+  set_placed {headers} (suc index) {s} (more {x = x} some has others) is =
+      let behind = set_placed index others is in
+      let k = set_size x in
+      let far : k + (behind.0 + initial_length_size s.format + size) ≡ k + behind.0 + initial_length_size s.format + size =
+      omega arith in (
+        k + behind.0,
+        omega (arith, behind.1),
+        subst (λ n. HoldsRange headers.rest n (s.unit_length - size) s.entries) far
+            (range_behind has.within behind.2),
+      )
+  set_placed zero (first_error some has) is = absurd cc
+  set_placed (suc index) (first_error some has) is = absurd cc
