@@ -2,16 +2,17 @@
 //! for abbreviation tables, `str SECTION [OFFSETS]` for strings.
 //!
 //! `SECTION` and `OFFSETS` name files, or standard input by `-`, and without `OFFSETS` these come
-//! from standard input. The offsets are decimal, one a line. For each offset in turn the program
-//! writes a title, `table 0xOFFSET:` on a line of its own or `0xOFFSET: ` before a string, and then
-//! the lines that `dwarf_list` writes of that offset.
+//! from standard input. The offsets are decimal, or hexadecimal after `0x`, one a line. For each
+//! offset in turn the program writes a title, `table 0xOFFSET:` on a line of its own or `0xOFFSET: `
+//! before a string, and then the lines that `dwarf_list` writes of that offset.
 //!
 //! The first error ends the run. The lines before an error at an offset are written, and the error
-//! is printed to standard error with its offset. Nothing is written if a line isn't an offset. The
-//! exit statuses are those of `dwarf_list`. The error of a file that can't be read begins with its
-//! name.
+//! is printed to standard error with its offset. If a line isn't an offset, nothing is written, and
+//! the error quotes that line. The exit statuses are those of `dwarf_list`. The error of a file that
+//! can't be read begins with its name. If the reader of the output closes it, the program says
+//! nothing and ends with status 141, as `cat` does in a shell.
 //!
-//! With `--keep-going` in front of the arguments an error at an offset is a line of the output,
+//! With `--keep-going` before the arguments an error at an offset is a line of the output,
 //! `error at 0xOFFSET, status 1: TEXT`, where the lines of that offset would be, and the run goes
 //! on. The exit status is 1 if there is such a line.
 
@@ -21,10 +22,11 @@ use dwarf_listing_core::arguments::{Arguments, STANDARD_INPUT, parse_arguments};
 use dwarf_listing_core::fault::Fault;
 use dwarf_listing_core::many::fault::{ManyFault, many_exit_code};
 use dwarf_listing_core::many::run_many;
+use dwarf_listing_core::piped::{CLOSED_STATUS, Piped};
 use dwarf_listing_core::words::command_line;
 use std::fs::File;
 use std::io;
-use std::io::{Read, Stdin};
+use std::io::{Read, Stdin, Stdout};
 use std::process::ExitCode;
 
 // Where the section or the offsets are read from.
@@ -53,7 +55,11 @@ fn open(rt: &HostRuntime, name: &str, fault: ManyFault) -> Result<Input, ManyFau
     }
 }
 
-fn list_named(rt: &HostRuntime, named: &Arguments<'_>) -> Result<bool, ManyFault> {
+fn list_named(
+    rt: &HostRuntime,
+    named: &Arguments<'_>,
+    output: &mut Piped<Stdout>,
+) -> Result<bool, ManyFault> {
     let mut section = open(rt, named.section, ManyFault::ReadSection)?;
     let mut offsets = open(rt, named.offsets, ManyFault::ReadOffsets)?;
     run_many(
@@ -62,14 +68,14 @@ fn list_named(rt: &HostRuntime, named: &Arguments<'_>) -> Result<bool, ManyFault
         named.kind,
         &mut section,
         &mut offsets,
-        &mut rt.stdout(),
+        output,
     )
 }
 
-fn list(rt: &HostRuntime) -> Result<bool, ManyFault> {
+fn list(rt: &HostRuntime, output: &mut Piped<Stdout>) -> Result<bool, ManyFault> {
     let words = command_line(rt.alloc(), rt)?;
     let named = parse_arguments(&words).ok_or(Fault::Usage)?;
-    let outcome = list_named(rt, &named);
+    let outcome = list_named(rt, &named, output);
     let unread = match outcome {
         Err(ManyFault::ReadSection) => named.section,
         Err(ManyFault::ReadOffsets) => named.offsets,
@@ -81,7 +87,11 @@ fn list(rt: &HostRuntime) -> Result<bool, ManyFault> {
 }
 
 fn main(rt: HostRuntime) -> ExitCode {
-    let outcome = list(&rt);
+    let mut output = Piped::new(rt.stdout());
+    let outcome = list(&rt, &mut output);
+    if output.is_closed() {
+        return ExitCode::from(CLOSED_STATUS);
+    }
     if let Err(fault) = outcome {
         // If standard error can't be written either, the status still reports the error.
         let _ = eprintln!(rt; "{fault}");

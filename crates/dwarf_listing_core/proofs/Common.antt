@@ -17,14 +17,13 @@ pub use Rattle.dwarf_listing_core.specs.Lines.{hex_byte, hex_text, line, string_
 pub use Rattle.std.proofs.lemmas.Result.{err_from_is_err_and}
 pub use Rattle.dwarf_read_core.specs.Once.{HasOne}
 pub use Rattle.std.proofs.lemmas.Grind.{common_steps}
-pub use Rattle.dwarf_listing_core.specs.Offsets.{AreOffsets, lines_of}
+pub use Rattle.dwarf_listing_core.specs.Offsets.{AreOffsets, lines_of, offset_of}
 pub use Rattle.dwarf_listing_core.specs.Tables.{table_text, attribute_line, declaration_lines}
 pub use Rattle.dwarf_listing_core.specs.Listing.{ListsBy, section_of}
 pub use Rattle.std.specs.Fmt.{digit_glyph, digits_onto}
 pub use Rattle.std.proofs.lemmas.Bool.Decides.{nat_tests}
-pub use Rattle.dwarf_listing_core.specs.Number.{is_all_digits, number_below, signed_of, unsigned_of, without_minus}
+pub use Rattle.dwarf_listing_core.specs.Number.{hexadecimal_below, hexadecimal_of, is_all_digits, is_all_hex, number_below, signed_of, unsigned_of, without_minus}
 pub use Rattle.dwarf_read_core.specs.declared.Error.TheVariants.{OutOfMemory}
-pub use Rattle.dwarf_read_core.specs.Entries.{RepresentsEntries}
 pub use Rattle.std.specs.List.{join_with_byte, after_first, before_first, position}
 pub use Rattle.dwarf_read_core.specs.Input.{Input}
 pub use Rattle.dwarf_listing_core.specs.Command.{command_of}

@@ -3,7 +3,7 @@ use Rattle.dwarf_listing_core.proofs.Common.{◌≡◌, ◌≢◌, ℕ, zero, su
 use Rattle.std.proofs.Common.{set}
 use Rattle.std.specs.Fmt.{digits}
 
--- the digits of a number in front of a text are its digits, joined with the text
+-- the digits of a number before a text are its digits, joined with the text
 digits_onto-append : (base k n : ℕ) (text : List ℕ)
     → digits_onto k base false n text ≡ digits_onto k base false n [] ++ text
 digits_onto-append base zero n text = refl
@@ -13,24 +13,24 @@ digits_onto-append base (suc k) n text =
     let alone = digits_onto-append base k (n / base) (digit ∷ []) in
     grind (arith, append_assoc)
 
--- the digits of a number with 64 places, in front of a text, are its digits, joined with the text
+-- the digits of a number with 64 places, before a text, are its digits, joined with the text
 pub digits_onto-digits : (base n : ℕ) (text : List ℕ) → digits_onto 64 base false n text ≡ digits base false n ++ text
 unfolding digits
 digits_onto-digits base n text = digits_onto-append base 64 n text
 
--- a number below the base puts one digit in front of a text
+-- a number below the base puts one digit before a text
 digits_onto-last : (base i n : ℕ) (text : List ℕ) → 0 < i → n / base ≡ 0
     → digits_onto i base false n text ≡ digit_glyph false (n % base) ∷ text
 digits_onto-last base zero n text some last = absurd (omega arith)
 digits_onto-last base (suc k) n text some last = rw last refl
 
--- a number of at least the base puts its last digit in front of a text, and then its other digits
+-- a number of at least the base puts its last digit before a text, and then its other digits
 digits_onto-more : (base i n : ℕ) (text : List ℕ) → 0 < i → n / base ≢ 0
     → digits_onto i base false n text ≡ digits_onto (i - 1) base false (n / base) (digit_glyph false (n % base) ∷ text)
 digits_onto-more base zero n text some more = absurd (omega arith)
 digits_onto-more base (suc k) n text some more = grind arith
 
--- putting a byte before a place puts it in front of the bytes from that place on
+-- putting a byte before a place puts it before the bytes from that place on
 drop-put : (bytes : List ℕ) (i byte : ℕ) → 0 < i → i ≤ length bytes
     → drop (i - 1) (set bytes (i - 1) byte) ≡ byte ∷ drop i bytes
 drop-put bytes i byte some within = grind (arith, drop-set)

@@ -2,7 +2,7 @@
 use Rattle.std.proofs.lemmas.Fmt.{hex_byte as hex_byte-written}
 use Rattle.dwarf_listing_core.proofs.Common.{common_steps, ◌≡◌, ℕ, ◌+◌, ◌<◌, List, [], ◌∷◌, ◌++◌, length, take, get_or, refl, arith, append_assoc, length-take, take_more, map-append, length-map, join_with_byte, hex_byte, hex_text}
 
--- one more piece is joined to the others behind a separator
+-- one more piece is joined to the others after a separator
 joined_more : (c : ℕ) (pieces : List (List ℕ)) (piece : List ℕ) → 0 < length pieces
     → join_with_byte c (pieces ++ piece ∷ []) ≡ join_with_byte c pieces ++ c ∷ piece
 joined_more c [] piece some = absurd (omega arith)

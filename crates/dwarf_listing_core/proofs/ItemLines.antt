@@ -1,5 +1,5 @@
--- The texts of items that are read one after the other.
-use Rattle.dwarf_listing_core.proofs.Common.{arith, ◌≡◌, ℕ, ◌-◌, length, Bool, List, [], ◌∷◌, ◌++◌, Result, Ok, Err, refl, ap, ◌∙◌, append_assoc, inl, inr, Error, OutOfMemory, RepresentsEntries, Set, AppendsText, ListsItemsOf, ListsRun, nothing, bad_item, bad_text, item, in_front, SetListing, HasSets, ListsLine, ListsSection, ListsSet}
+-- The texts of consecutive items.
+use Rattle.dwarf_listing_core.proofs.Common.{arith, ◌≡◌, ℕ, ◌-◌, length, Bool, List, [], ◌∷◌, ◌++◌, Result, Ok, Err, refl, ap, ◌∙◌, append_assoc, inl, inr, Error, OutOfMemory, Set, AppendsText, ListsItemsOf, ListsRun, nothing, bad_item, bad_text, item, in_front, SetListing, HasSets, ListsLine, ListsSection, ListsSet}
 use Rattle.std.proofs.Common.{subst}
 use Rattle.std.specs.Prelude.{◌≢◌, Vec}
 use Rattle.std.specs.declared.alloc.Global.{Global}
@@ -17,13 +17,13 @@ use Rattle.dwarf_read_core.specs.Sets.{Headers, HeadersOf, remaining_by, seen_by
 
 -- ---- the loop over an iterator
 
--- a text in front of one that is in front of a listing is both texts, joined, in front of it
+-- a text before one that is before a listing is both texts, joined, before it
 pub in_front-append : (a b : List ℕ) (listed : Result (List ℕ) Error)
     → in_front a (in_front b listed) ≡ in_front (a ++ b) listed
 in_front-append a b (Ok text) = grind (arith, append_assoc)
 in_front-append a b (Err e) = refl
 
--- the text ends with those of the items so far, which are in front of those of the items that remain
+-- the text ends with those of the items so far, which are before those of the items that remain
 pub record AreListed {I : Type 0} (Lists : I → Result (List ℕ) Error → Type 0) (start now : I)
     (old text : List ℕ) : Type 0 where
   pub added : List ℕ
@@ -75,15 +75,15 @@ module _ {endianity : Endianity RunTimeEndian} {debug : Debug RunTimeEndian} {de
 -- the line of a set and the lines that its entries append are those of the set
 pub set_appended : {H X : Type 0} (listing : SetListing H) (s : Set H) (view : X → ℕ) (is_free : Bool)
     (old between new : List ℕ) (r : Result (Unit {0}) Error) → between ≡ old ++ listing.header_line s
-    → AppendsText (ListsRun (GivesFirst (RepresentsEntries listing.entry) view is_free)
+    → AppendsText (ListsRun (GivesFirst listing.represents view is_free)
     (λ x. ListsLine listing.entry_line (view x)) (listing.entries s)) between new r
     → AppendsText (ListsSet listing s) old new r
 set_appended listing s view is_free old between new (Ok x) line h = (
   listing.header_line s ++ h.0,
-  (Ok h.0, items_of_run (RepresentsEntries listing.entry) view (ListsLine listing.entry_line) h.1 (λ ran. cc), refl),
+  (Ok h.0, items_of_run listing.represents view (ListsLine listing.entry_line) h.1 (λ ran. cc), refl),
   h.2 ∙ ap (λ t. t ++ h.0) line ∙ append_assoc old (listing.header_line s) h.0,
 )
 set_appended listing s view is_free old between new (Err e) line h = λ memory.
-    let lines = items_of_run (RepresentsEntries listing.entry) view (ListsLine listing.entry_line) (h memory)
+    let lines = items_of_run listing.represents view (ListsLine listing.entry_line) (h memory)
     (λ ran. memory cc) in
     (Err e, lines, refl)

@@ -6,6 +6,7 @@ pub mod ItemLines
 pub mod Numbers
 pub mod OffsetLemmas
 pub mod OneText
+pub mod QuoteLemmas
 pub mod SetTexts
 pub mod StringLines
 pub mod Texts

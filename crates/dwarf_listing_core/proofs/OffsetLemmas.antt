@@ -1,9 +1,9 @@
 -- The offsets of an input, read one line after the other.
-use Rattle.dwarf_listing_core.proofs.Common.{arith, ◌≡◌, ◌<◌, ◌≤◌, ◌+◌, ◌-◌, ℕ, Bool, cond, List, [], ◌∷◌, ◌++◌, length, take, drop, nat_eq, nat_lt, Some, None, nat_tests, common_steps, drop_all, map-append, take_all, take_rest, after_first, before_first, position, unsigned_of, AreOffsets, lines_of}
+use Rattle.dwarf_listing_core.proofs.Common.{arith, ◌≡◌, ◌<◌, ◌≤◌, ◌+◌, ◌-◌, ℕ, Bool, cond, List, [], ◌∷◌, ◌++◌, length, take, drop, nat_eq, nat_lt, Some, None, nat_tests, common_steps, drop_all, map-append, take_all, take_rest, after_first, before_first, position, offset_of, AreOffsets, lines_of}
 
 -- one more line that is an offset adds that offset to the offsets
 pub offsets_more : (lines : List (List ℕ)) (line : List ℕ) (offsets : List ℕ) (offset : ℕ)
-    → AreOffsets lines offsets → Some offset ≡ unsigned_of line
+    → AreOffsets lines offsets → Some offset ≡ offset_of line
     → AreOffsets (lines ++ line ∷ []) (offsets ++ offset ∷ [])
 offsets_more lines line offsets offset so named = grind (arith, map-append)
 

@@ -1,5 +1,5 @@
--- What is written one after the other.
-use Rattle.dwarf_listing_core.proofs.Common.{ℕ, Bool, Option, List, [], ◌∷◌, ◌++◌, take, drop, flat_map, sym, take-append-drop, common_steps, Appends, ListsAll}
+-- What consecutive writes leave.
+use Rattle.dwarf_listing_core.proofs.Common.{arith, ℕ, suc, ◌<◌, Bool, Option, List, [], ◌∷◌, ◌++◌, length, take, drop, get_or, flat_map, take-append-drop, drop-cons, common_steps, Appends, ListsAll}
 use Rattle.std.proofs.Common.{subst}
 use Rattle.std.proofs.KnownBytes.{Appends-trans}
 use Rattle.std.proofs.lemmas.List.{flat_map_more}
@@ -7,7 +7,7 @@ use Rattle.dwarf_listing_core.specs.Many.{ListsFirst}
 use Rattle.dwarf_listing_core.specs.declared.arguments.Kind.{Kind}
 use Rattle.dwarf_listing_core.specs.declared.arguments.OnError.{OnError}
 
--- two texts that are written one after the other are one
+-- two texts that are written in order are one
 pub ruleset one_text = (common_steps, Appends-trans)
 
 -- the texts of the items so far, and that of the next one, are those of one item more
@@ -17,14 +17,15 @@ pub text_more : {A : Type 0} (text_of : A → List ℕ) (old now new : Option (L
 text_more text_of old now new items next before one =
     subst (Appends old new) (flat_map_more text_of [] items next) (Appends-trans old now new _ _ before one)
 
--- the text of the offsets so far is that of the first offsets
+-- the text of the offsets so far is that of the offsets before the next one
 pub first_offsets : {on_error : OnError} {kind : Kind} {section text : List ℕ} {failed : Bool}
-    (offsets : List ℕ) (i : ℕ) → ListsAll on_error kind section (take i offsets) text failed
+    (offsets : List ℕ) (i : ℕ) → i < length offsets → ListsAll on_error kind section (take i offsets) text failed
     → ListsFirst on_error kind section offsets text
-first_offsets {failed = failed} offsets i listed = record {
+first_offsets {failed = failed} offsets i within listed = record {
   before = take i offsets;
-  after = drop i offsets;
-  place = sym (take-append-drop i offsets);
+  offset = get_or offsets i 0;
+  after = drop (suc i) offsets;
+  place = grind (arith, take-append-drop, drop-cons);
   failed = failed;
   listed = listed;
 }

@@ -24,7 +24,7 @@ named_inputs on_error name section offsets =
     if bytes_eq section standard_input && bytes_eq offsets standard_input then None
     else option_map (λ kind. (on_error, kind, section, offsets)) (kind_of name)
 
--- what the arguments behind the option name; without a third one the offsets are standard input
+-- what the arguments after the option name; without a third one the offsets are standard input
 abbrev pub inputs_of : OnError → List (List ℕ) → Option (OnError × Kind × List ℕ × List ℕ)
 inputs_of on_error (name ∷ section ∷ []) = named_inputs on_error name section standard_input
 inputs_of on_error (name ∷ section ∷ offsets ∷ []) = named_inputs on_error name section offsets

@@ -1,5 +1,6 @@
 -- How the program reports an error.
-use Rattle.std.specs.Prelude.{◌≡◌, ℕ, List, ◌++◌, ⊤, codes}
+use Rattle.std.specs.Prelude.{◌≡◌, ◌<◌, ◌⊎◌, ℕ, List, ◌++◌, length, Option, Some, None, IfSome, ⊤, codes}
+use Rattle.std.specs.Io.KnownBytes.{IsAtEnd}
 use Rattle.dwarf_read_core.specs.ErrorText.{error_text}
 use Rattle.dwarf_read_core.specs.declared.Error.TheVariants.{OutOfMemory}
 use Rattle.dwarf_listing_core.specs.declared.fault.Fault.{Fault}
@@ -28,3 +29,8 @@ abbrev pub IsReadFault : Fault → Type 0
 IsReadFault (Section error) = error ≡ OutOfMemory
 IsReadFault Read = ⊤
 IsReadFault _ = ⊥
+
+-- an input was read: its end, or some of its known bytes
+abbrev pub WasRead : Option (List ℕ) → Option (List ℕ) → Type 0
+WasRead None new = ⊤
+WasRead (Some bytes) new = IsAtEnd new ⊎ IfSome new (λ left. length left < length bytes)

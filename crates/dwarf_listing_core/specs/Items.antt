@@ -1,14 +1,14 @@
--- Items that are read one after the other, and listed in this order.
+-- Consecutive items, listed in the order in which they are read.
 use Rattle.std.specs.Prelude.{◌≡◌, ◌≢◌, ℕ, List, [], ◌∷◌, ◌++◌, Option, Some, None, Result, Ok, Err}
 use Rattle.dwarf_read_core.specs.declared.Error.{Error}
 use Rattle.dwarf_read_core.specs.declared.Error.TheVariants.{OutOfMemory}
 
--- a text in front of what is listed behind it
+-- a text before what is listed after it
 abbrev pub in_front : List ℕ → Result (List ℕ) Error → Result (List ℕ) Error
 in_front text (Ok more) = Ok (text ++ more)
 in_front text (Err e) = Err e
 
--- a text joined with what is listed behind it, or an error, behind which nothing is listed
+-- a text joined with what is listed after it, or an error, after which nothing is listed
 abbrev pub Joins : Result (List ℕ) Error → (Result (List ℕ) Error → Type 0) → Result (List ℕ) Error → Type 0
 Joins (Ok text) Lists listed = (rest : Result (List ℕ) Error) × Lists rest × (listed ≡ in_front text rest)
 Joins (Err e) Lists listed = listed ≡ Err e

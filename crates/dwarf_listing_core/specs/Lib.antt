@@ -9,6 +9,7 @@ pub mod ManyFault
 pub mod Number
 pub mod Offsets
 pub mod Output
+pub mod Quote
 pub mod Sets
 pub mod Tables
 pub mod Text

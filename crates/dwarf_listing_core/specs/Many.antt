@@ -10,7 +10,7 @@ use Rattle.dwarf_listing_core.specs.declared.arguments.Kind.TheVariants.{Tables,
 use Rattle.dwarf_listing_core.specs.declared.arguments.OnError.{OnError}
 use Rattle.dwarf_listing_core.specs.declared.arguments.OnError.TheVariants.{Stop, GoOn}
 
--- the title of an offset, in front of its lines
+-- the title of an offset, before its lines
 abbrev pub title : Kind → ℕ → List ℕ
 title Tables offset = line (codes "table 0x" ++ hexadecimal offset ++ codes ":")
 title Strings offset = codes "0x" ++ hexadecimal offset ++ codes ": "
@@ -33,7 +33,7 @@ ListsAt GoOn kind section offset text true =
     (error : Error) × ListsOne kind section offset (Err error) × (text ≡ error_line offset error)
 ListsAt Stop kind section offset text true = ⊥
 
--- the texts of these offsets, one behind the other, and whether one of them is an error
+-- the texts of these offsets in order, and whether one of them is an error
 pub data ListsAll (on_error : OnError) (kind : Kind) (section : List ℕ) : List ℕ → List ℕ → Bool → Type 0 where
   nothing : ListsAll on_error kind section [] [] false
   one_more : (offsets text more : List ℕ) (offset : ℕ) (failed fails : Bool)
@@ -48,11 +48,12 @@ pub record EndsAt (kind : Kind) (section offsets : List ℕ) (offset : ℕ) (err
   pub listed : ListsAll Stop kind section before text false
   pub fails : ListsOne kind section offset (Err error)
 
--- the text is that of the first offsets, however many these are
+-- the text is that of the offsets before one of them, whichever that is
 pub record ListsFirst (on_error : OnError) (kind : Kind) (section offsets text : List ℕ) : Type 0 where
   pub before : List ℕ
+  pub offset : ℕ
   pub after : List ℕ
-  pub place : offsets ≡ before ++ after
+  pub place : offsets ≡ before ++ offset ∷ after
   pub failed : Bool
   pub listed : ListsAll on_error kind section before text failed
 
@@ -66,7 +67,7 @@ abbrev pub EndsManyAt : Kind → List ℕ → List (List ℕ) → ℕ → Error 
 EndsManyAt kind section lines offset error text =
     (offsets : List ℕ) × AreOffsets lines offsets × EndsAt kind section offsets offset error text
 
--- the text that a section has for the first of the offsets on these lines
+-- the text that a section has for the offsets before one of those on these lines
 abbrev pub ListsManyFirst : OnError → Kind → List ℕ → List (List ℕ) → List ℕ → Type 0
 ListsManyFirst on_error kind section lines text =
     (offsets : List ℕ) × AreOffsets lines offsets × ListsFirst on_error kind section offsets text

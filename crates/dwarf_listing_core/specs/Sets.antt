@@ -3,11 +3,11 @@ use Rattle.std.specs.Prelude.{◌≡◌, ℕ, ◌*◌, ◌-◌, ◌^◌, List, �
 use Rattle.dwarf_read_core.specs.declared.Error.{Error}
 use Rattle.dwarf_read_core.specs.declared.RunTimeEndian.{RunTimeEndian}
 use Rattle.dwarf_read_core.specs.Endian.{is_big_at_run_time}
-use Rattle.dwarf_read_core.specs.Entries.{Entries, RepresentsEntries, string_offset}
+use Rattle.dwarf_read_core.specs.Entries.{Entries, RepresentsAddresses, RepresentsStringOffsets}
 use Rattle.dwarf_read_core.specs.ErrorText.{hexadecimal}
 use Rattle.dwarf_read_core.specs.Format.{word_size}
-use Rattle.dwarf_read_core.specs.Layout.{Layout, fixed}
-use Rattle.dwarf_read_core.specs.Sets.{Headers, Set, RepresentsSets, address_header, addresses_of, string_offsets_header, string_offsets_of}
+use Rattle.dwarf_read_core.specs.Headers.{AddressHeaderAt, Header, StringOffsetsHeaderAt}
+use Rattle.dwarf_read_core.specs.Sets.{Headers, Set, RepresentsSets, addresses_of, string_offsets_of}
 use Rattle.dwarf_listing_core.specs.Items.{Joins, ListsItemsOf}
 use Rattle.dwarf_listing_core.specs.Lines.{line}
 
@@ -34,12 +34,12 @@ address_line address = line (codes "  0x" ++ hexadecimal address)
 abbrev pub offset_line : ℕ → List ℕ
 offset_line offset = line (codes "  " ++ decimal offset)
 
--- how a section of sets is listed: the layouts of a header and of an entry, the entries of a set, and the lines of a
--- header and of an entry
+-- how a section of sets is listed: what a header is, the entries of a set and their items, and the lines of a header
+-- and of an entry
 pub record SetListing (H : Type 0) : Type 1 where
-  pub header : Layout H
-  pub entry : ℕ → Layout ℕ
+  pub header : Header H
   pub entries : Set H → Entries
+  pub represents : Entries → List (Result ℕ Error) → Type 0
   pub header_line : Set H → List ℕ
   pub entry_line : ℕ → List ℕ
 
@@ -47,9 +47,9 @@ pub record SetListing (H : Type 0) : Type 1 where
 abbrev pub address_listing : SetListing ℕ
 address_listing =
     record {
-      header = address_header;
-      entry = fixed;
+      header = AddressHeaderAt;
       entries = addresses_of;
+      represents = RepresentsAddresses;
       header_line = λ s. address_header_line s.offset s.unit_length (word_size s.format * 8) s.header;
       entry_line = λ address. address_line address;
     }
@@ -58,9 +58,9 @@ address_listing =
 abbrev pub offset_listing : ℕ → SetListing (Unit {0})
 offset_listing greatest =
     record {
-      header = string_offsets_header;
-      entry = string_offset greatest;
+      header = StringOffsetsHeaderAt;
       entries = string_offsets_of;
+      represents = RepresentsStringOffsets greatest;
       header_line = λ s. offset_header_line s.offset s.unit_length (word_size s.format * 8);
       entry_line = λ offset. offset_line offset;
     }
@@ -73,7 +73,7 @@ ListsLine line_of number listed = listed ≡ Ok (line_of number)
 abbrev pub ListsSet : {H : Type 0} → SetListing H → Set H → Result (List ℕ) Error → Type 0
 ListsSet listing s listed =
     Joins (Ok (listing.header_line s))
-    (ListsItemsOf (RepresentsEntries listing.entry) (ListsLine listing.entry_line) (listing.entries s)) listed
+    (ListsItemsOf listing.represents (ListsLine listing.entry_line) (listing.entries s)) listed
 
 -- the sets of a whole section: the first one is at its start
 abbrev pub sets_section : RunTimeEndian → List ℕ → Headers

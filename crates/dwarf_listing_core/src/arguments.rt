@@ -38,7 +38,7 @@ pub struct Arguments<'a> {
 }
 
 /// Returns what the arguments name: a kind, a section, and where its offsets are. With
-/// `--keep-going` in front of these the run goes on after an error at an offset.
+/// `--keep-going` before these, the run goes on after an error at an offset.
 ///
 /// Without an argument for the offsets they are read from standard input. Returns `None` if the
 /// arguments are anything else, or if both inputs are standard input.

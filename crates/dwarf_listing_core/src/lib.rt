@@ -22,6 +22,8 @@ pub mod many;
 pub mod number;
 pub mod offsets;
 mod output;
+pub mod piped;
+pub mod quote;
 pub mod run;
 mod sets;
 mod tables;

@@ -25,7 +25,7 @@ pub fn string(mem: Global, section: &[u8], offset: u64) -> Result<Vec<u8>, Error
 
 /// Returns the text that [`string`] returns, in the memory of the section.
 ///
-/// The line end replaces the zero byte behind the string, which is then moved to the front.
+/// The line end replaces the zero byte after the string, which is then moved to the front.
 ///
 /// # Errors
 ///

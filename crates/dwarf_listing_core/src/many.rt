@@ -1,8 +1,9 @@
-//! A run over many offsets of one section: what is listed at each offset, behind its title.
+//! A run over many offsets of one section: what is listed at each offset, after its title.
 
 ghost use Rattle.std.specs.Prelude.{◌≡◌, ◌≢◌, ◌⊎◌, ℕ, true, List, Ok, Err, IfErr, IfOk, IfSome, OnOk};
 ghost use Rattle.std.specs.Io.KnownBytes.{Appends, IsAtEnd};
-ghost use Rattle.dwarf_listing_core.specs.Fault.{IsMemoryFault};
+ghost use Rattle.dwarf_listing_core.specs.Fault.{IsMemoryFault, WasRead};
+ghost use Rattle.dwarf_read_core.specs.declared.Error.TheVariants.{OutOfMemory};
 ghost use Rattle.dwarf_listing_core.specs.Many.{EndsAt, EndsManyAt, IfKnown, IsManyText, ListsAll, ListsAt, ListsFirst, ListsManyFirst, ListsOne, error_line, title};
 ghost use Rattle.dwarf_listing_core.specs.ManyFault.{IsListingFault};
 ghost use Rattle.dwarf_listing_core.specs.Offsets.{IsBadLine, lines_of};
@@ -24,9 +25,9 @@ use std::io::{Read, Write};
 
 pub mod fault;
 
-/// Writes what is listed at each offset of a section, behind its title.
+/// Writes what is listed at each offset of a section, after its title.
 ///
-/// Both inputs are read to their ends, and all offsets are parsed: decimal numbers, one a line.
+/// Both inputs are read to their ends, and all offsets are parsed, in decimal or hexadecimal.
 /// Then what each offset names is read whole, and its lines are written through a buffer. The
 /// output is flushed at the end, and before an error at an offset is returned, also if memory ran
 /// out there. With `GoOn` an error at an offset is a line of the output, and the run goes on. What
@@ -35,7 +36,8 @@ pub mod fault;
 /// # Errors
 ///
 /// - `ReadSection` and `ReadOffsets` if an input can't be read, and `Line` if a line isn't an
-///   offset. Nothing is written then.
+///   offset. Nothing is written then. The section is read first: if neither input can be read, the
+///   error is `ReadSection`, and of the offsets nothing is read.
 /// - `At` with `Stop` if the section is malformed at an offset, with the first error. The lines
 ///   before it are written.
 /// - `Other` with `OutOfMemory` if memory runs out. The lines before the offset where that happens
@@ -63,11 +65,22 @@ pub fn run_many<S: Read, I: Read, O: Write>(
         → (on_error ≡ OnError.Stop) × IfKnown (S.remaining section.old) (I.remaining offsets.old)
         (λ bytes input. (text : List ℕ) × EndsManyAt kind bytes (lines_of input) offset error text
         × Appends (O.contents output.old) (O.contents output.new) text) }
-    ensures line { (number : ℕ) → result ≡ Err (ManyFault.Line number)
-        → IfSome (I.remaining offsets.old) (λ input. IsBadLine (lines_of input) number)
+    ensures line { (number : ℕ) (quote : _) → result ≡ Err (ManyFault.Line number quote)
+        → IfSome (I.remaining offsets.old) (λ input. IsBadLine (lines_of input) number quote)
         × (output.new ≡ output.old) }
     ensures read_section { result ≡ Err ManyFault.ReadSection → output.new ≡ output.old }
     ensures read_offsets { result ≡ Err ManyFault.ReadOffsets → output.new ≡ output.old }
+    // The section is read first, and the offsets once it is at its end.
+    ensures section_first { result ≡ Err ManyFault.ReadSection → offsets.new ≡ offsets.old }
+    ensures offsets_second { result ≡ Err ManyFault.ReadOffsets
+        → IsAtEnd (S.remaining section.new) }
+    ensures lines_last { (number : ℕ) (quote : _) → result ≡ Err (ManyFault.Line number quote)
+        → IsAtEnd (S.remaining section.new) × IsAtEnd (I.remaining offsets.new) }
+    // An input of which nothing can be read isn't `OutOfMemory`.
+    ensures memory { result ≡ Err (ManyFault.Other (Fault.Section OutOfMemory))
+        → (WasRead (S.remaining section.old) (S.remaining section.new)
+        × (offsets.new ≡ offsets.old)) ⊎ (IsAtEnd (S.remaining section.new)
+        × WasRead (I.remaining offsets.old) (I.remaining offsets.new)) }
     ensures other { (fault : _) → result ≡ Err (ManyFault.Other fault)
         → (fault ≡ Fault.Write) ⊎ IsMemoryFault fault }
     ensures stopped { (fault : _) → result ≡ Err (ManyFault.Other fault) → fault ≢ Fault.Write
@@ -87,7 +100,7 @@ pub fn run_many<S: Read, I: Read, O: Write>(
     write_all_at(mem, on_error, kind, &section, &offsets, output)
 }
 
-/// Writes what is listed at these offsets of a section, each behind its title, through a buffer,
+/// Writes what is listed at these offsets of a section, each after its title, through a buffer,
 /// and flushes the output. With `GoOn` an error at an offset is a line of the output. Returns
 /// whether there is such a line.
 ///
@@ -111,8 +124,9 @@ pub fn write_all_at<O: Write>(
         × (text : List ℕ) × EndsAt kind section.now offsets.now offset error text
         × Appends (O.contents output.old) (O.contents output.new) text }
     ensures stopped { (fault : _) → result ≡ Err (ManyFault.Other fault) → fault ≢ Fault.Write
-        → (text : List ℕ) × ListsFirst on_error kind section.now offsets.now text
-        × Appends (O.contents output.old) (O.contents output.new) text }
+        → (output.new ≡ output.old) ⊎ ((text : List ℕ)
+        × ListsFirst on_error kind section.now offsets.now text
+        × Appends (O.contents output.old) (O.contents output.new) text) }
     ensures err { IfErr result IsListingFault }
 {
     let buffer = Vec::with_capacity(mem, BUFFER_SIZE)?;

@@ -2,7 +2,7 @@
 //! optional minus.
 
 ghost use Rattle.std.specs.Prelude.{◌≡◌};
-ghost use Rattle.dwarf_listing_core.specs.Number.{is_all_digits, signed_of, unsigned_of, without_minus};
+ghost use Rattle.dwarf_listing_core.specs.Number.{hexadecimal_of, is_all_digits, is_all_hex, signed_of, unsigned_of, without_minus};
 
 /// Parses one or more ASCII digits as a number below 2^64. Leading zeros are allowed.
 #[tactic(auto, using(crate::proofs::Numbers::parsed_unsigned))]
@@ -37,6 +37,24 @@ pub fn parse_digits(text: &[u8]) -> Option<u64>
         Ok(text) => parse_unsigned(text),
         Err(_) => None,
     }
+}
+
+/// Parses one or more hexadecimal ASCII digits, of either case, as a number below 2^64. The bytes
+/// may not be UTF-8.
+#[tactic(auto, using(crate::proofs::Numbers::parsed_hexadecimal, crate::proofs::Numbers::not_hex_text))]
+pub fn parse_hexadecimal(text: &[u8]) -> Option<u64>
+    ensures { result ≡ hexadecimal_of text.now }
+{
+    match str::from_utf8(text) {
+        Ok(text) if is_all_hex(text.as_bytes()) => u64::from_str_radix(text, 16).ok(),
+        _ => None,
+    }
+}
+
+fn is_all_hex(text: &[u8]) -> bool
+    ensures { result ≡ is_all_hex text.now }
+{
+    text.iter().all(|byte| byte.is_ascii_hexdigit())
 }
 
 fn is_all_digits(text: &[u8]) -> bool

@@ -1,4 +1,4 @@
-//! The buffer in front of an output.
+//! A buffered output.
 //!
 //! It takes the place of the `BufWriter` of `std`. The clauses of that type don't say that it keeps
 //! the reference it was given, nor that it writes nothing if an allocation fails.
@@ -13,7 +13,7 @@ use std::io::{ErrorKind, Write};
 /// The capacity of a buffer, in bytes. A longer write goes to the output directly.
 pub(crate) const BUFFER_SIZE: usize = 65536;
 
-/// A buffer in front of an output. What remains in it is written before a write that doesn't fit,
+/// An output with a buffer. What remains in it is written before a write that doesn't fit,
 /// and by a flush, but not by a drop.
 #[derive(Drop)]
 pub(crate) struct Buffered<'a, O> {
@@ -22,7 +22,7 @@ pub(crate) struct Buffered<'a, O> {
 }
 
 impl<'a, O: Write> Buffered<'a, O> {
-    /// Puts a buffer in front of an output. The buffer never grows.
+    /// Returns the output with a buffer, which never grows.
     pub(crate) fn new(output: &'a mut O, buffer: Vec<u8>) -> Buffered<'a, O>
         ensures same_reference { result.output.ghost_name ≡ output.entry.ghost_name }
         ensures output { result.output.now ≡ output.old }
@@ -111,7 +111,7 @@ fn write_out<O: Write>(output: &mut O, bytes: &[u8]) -> (usize, io::Result<()>)
     ensures all { OnOk result.1 (result.0 ≡ length bytes.now) }
 {
     let mut written = 0;
-    // No output takes so many calls; the bound shows that the loop ends.
+    // No output takes this many calls; the bound shows that the loop ends.
     'calls: for _ in 0..u64::MAX {
         if written == bytes.len() {
             return (written, Ok(()));

@@ -54,7 +54,7 @@ trait Listed: Drop {
         ensures { AppendsText (lists self.now) text.old.items text.new.items result };
 }
 
-// Returns the lines of items, one after the other.
+// Returns the lines of items, in order.
 fn text_of<T: Listed, I: Iterator<Item = Result<T, Error>>>(
     mem: Global,
     items: I,
@@ -68,7 +68,7 @@ fn text_of<T: Listed, I: Iterator<Item = Result<T, Error>>>(
     Ok(text)
 }
 
-// Appends the lines of items, one after the other.
+// Appends the lines of items, in order.
 fn push_items<T: Listed, I: Iterator<Item = Result<T, Error>>>(
     text: &mut Vec<u8>,
     items: I,
@@ -181,7 +181,7 @@ fn push_number<const BASE: u64>(
     text.extend_from_slice(&line[start..])
 }
 
-// Puts the digits of a number in front of the last byte, and returns where they begin.
+// Puts the digits of a number before the last byte, and returns where they begin.
 // A section has many entries, and formatting each by `{:x}` takes twice as long. A number has at
 // most 64 digits.
 fn put_digits<const BASE: u64>(line: &mut [u8; 65], number: u64) -> usize

@@ -10,7 +10,7 @@ use std::env::{Env, FillError};
 use std::io::ErrorKind;
 use std::{env, io};
 
-// The arguments behind the program's own name, which may not be UTF-8.
+// The arguments after the program's own name, which may not be UTF-8.
 #[derive(Drop)]
 struct BehindName<'env, E: Env>(&'env E);
 

@@ -6,6 +6,7 @@ ghost use Rattle.std.specs.Process.{exit_status};
 ghost use Rattle.dwarf_listing_core.specs.ManyFault.{many_fault_status};
 
 use crate::fault::Fault;
+use crate::quote::Quote;
 use dwarf_read_core::Error;
 use std::alloc::{AllocError, AllocFailed};
 use std::io::ErrorKind;
@@ -17,8 +18,8 @@ use std::{fmt, io};
 pub enum ManyFault {
     /// The section has this error at this offset.
     At(u64, Error),
-    /// This line of the offsets, counted from 1, isn't an offset.
-    Line(u64),
+    /// The line of the offsets that isn't one, counted from 1, and how it begins.
+    Line(u64, Quote),
     /// The section can't be opened or read.
     ReadSection,
     /// The offsets can't be opened or read.
@@ -71,7 +72,7 @@ impl ManyFault {
         ensures { result ≡ many_fault_status self.now }
     {
         match self {
-            ManyFault::At(..) | ManyFault::Line(_) => 1,
+            ManyFault::At(..) | ManyFault::Line(..) => 1,
             ManyFault::ReadSection | ManyFault::ReadOffsets => 3,
             ManyFault::Other(fault) => fault.status(),
         }
@@ -79,7 +80,7 @@ impl ManyFault {
 }
 
 /// Writes the line on standard error, without its line end. The program writes the name of an input
-/// that can't be read in front of it.
+/// that can't be read before it.
 impl fmt::Display for ManyFault {
     ghost use Rattle.std.specs.Prelude.{Some};
     ghost use Rattle.dwarf_listing_core.specs.ManyFault.{many_fault_text};
@@ -89,8 +90,9 @@ impl fmt::Display for ManyFault {
     fn fmt<W: fmt::Write>(&self, f: &mut fmt::Formatter<W>) -> fmt::Result {
         match self {
             ManyFault::At(offset, error) => write!(f, "error at 0x{offset:x}: {error}"),
-            ManyFault::Line(number) => {
-                write!(f, "error: line {number} of the offsets is no offset")
+            ManyFault::Line(number, quote) => {
+                write!(f, "error: line {number} of the offsets is no offset: ")?;
+                fmt::Display::fmt(quote, f)
             }
             ManyFault::ReadSection => write!(f, "error: cannot read the section"),
             ManyFault::ReadOffsets => write!(f, "error: cannot read the offsets"),

@@ -1,30 +1,21 @@
-use Rattle.dwarf_listing_core.proofs.Common.{ℕ, ◌-◌, ◌^◌, string_line, section_of, address_listing, offset_listing, sets_section, table_text, addresses_of, string_offsets_of}
+use Rattle.dwarf_listing_core.proofs.Common.{◌-◌, ◌^◌, string_line, section_of, address_listing, offset_listing, sets_section, table_text, addresses_of, string_offsets_of}
 use Rattle.dwarf_listing_core.proofs.OneText.{one_text_by}
 use Rattle.dwarf_listing_core.proofs.SetTexts.{address_size, one_section}
-use Rattle.dwarf_read_core.specs.Input.{Input}
-use Rattle.dwarf_read_core.specs.Once.{HasOne}
-use Rattle.dwarf_read_core.specs.Strings.{StringAt, string_at}
-use Rattle.dwarf_read_core.proofs.Layouts.{ReadsAs_one}
+use Rattle.dwarf_read_core.proofs.lookups.Strings.{strings_exactly_one}
 use Rattle.dwarf_read_core.proofs.sets.Entries.{word_size-positive}
 use Rattle.dwarf_listing_core.proofs.laws.exactly_one_listing.Goals as goal
-
--- a section has one string or error at an offset
-string_one : (section : Input) (offset : ℕ) → HasOne (StringAt section offset)
-unfolding StringAt
-string_one section offset = ReadsAs_one (string_at offset) section
 
 pub returns : goal.returns
 returns c = record {
   table = λ section offset. one_text_by table_text _ (c.exactly_one_answer.ensures (section_of section) offset);
   strict = λ section offset.
       one_text_by table_text _ (c.exactly_one_strict_answer.ensures.one (section_of section) offset);
-  string = λ section offset. one_text_by string_line _ (string_one (section_of section) offset);
+  string = λ section offset. one_text_by string_line _ (strings_exactly_one (section_of section) offset);
   addresses = λ endian section. one_section address_listing (sets_section endian section)
-      (λ offset old new s h. c.exactly_one_list_of_addresses.ensures.one (addresses_of s)
-      (address_size (2 ^ 64 - 1) offset old new s h))
+      (λ old s has. c.exactly_one_list_of_addresses.ensures.one (addresses_of s) (address_size old s has))
       (c.exactly_one_list_of_sets.ensures.one (2 ^ 64 - 1) (sets_section endian section));
   string_offsets = λ endian section. one_section (offset_listing (2 ^ 64 - 1)) (sets_section endian section)
-      (λ offset old new s h. c.exactly_one_list_of_string_offsets.ensures.one (2 ^ 64 - 1) (string_offsets_of s)
+      (λ old s has. c.exactly_one_list_of_string_offsets.ensures.one (2 ^ 64 - 1) (string_offsets_of s)
       (word_size-positive s.format))
       (c.exactly_one_list_of_sets-2.ensures.one (2 ^ 64 - 1) (sets_section endian section));
 }

@@ -62,6 +62,6 @@ returns-in_err-failed-clause-stopped g c fault failed other =
     let before = c.loop-offset.invariant.0 in
     let same = c.in_err-failed.ensures.stopped fault (cc (p.1, p.2)) other in (
       before.0,
-      first_offsets c.args.offsets.now c.loop-offset.offset-index before.1,
+      first_offsets c.args.offsets.now c.loop-offset.offset-index c.loop-offset-test.true before.1,
       rw same before.2,
     )

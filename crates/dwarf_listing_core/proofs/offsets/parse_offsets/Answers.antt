@@ -11,5 +11,5 @@ loop-rest-preserved c =
       read.1 ∙ ap (λ lines. read.0 ++ lines) c.split_line.ensures.lines
           ∙ sym (append_assoc read.0 (line ∷ []) (lines_of rest)),
       rw c.in_ok-push.ensures.items (offsets_more read.0 line _ c.in-Some.offset read.2
-          (sym c.in-Some.is ∙ c.parse_digits.ensures)),
+          (sym c.in-Some.is ∙ c.parse_offset.ensures)),
     )

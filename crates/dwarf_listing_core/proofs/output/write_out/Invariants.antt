@@ -1,7 +1,7 @@
 use Rattle.dwarf_listing_core.proofs.Common.{◌≤◌, length, take, Appends}
 use Rattle.dwarf_listing_core.proofs.output.write_out.Given as goal
 
--- so many of the bytes were written
+-- how many of the bytes were written
 abbrev pub invariant-calls : goal.invariant-calls
 invariant-calls g l = record {
   within : l.written ≤ length l.bytes;

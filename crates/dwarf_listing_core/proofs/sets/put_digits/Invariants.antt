@@ -2,7 +2,7 @@ use Rattle.dwarf_listing_core.proofs.Common.{◌≡◌, ◌≤◌, ◌++◌, dro
 use Rattle.std.specs.Fmt.{digits}
 use Rattle.dwarf_listing_core.proofs.sets.put_digits.Given as goal
 
--- the digits of the rest, in front of those that were put, are the digits of the number
+-- the digits of the rest, before those that were put, are the digits of the number
 abbrev pub invariant-loop-start : goal.invariant-loop-start
 invariant-loop-start g l =
     (l.start ≤ 64) × (length l.line ≡ 65)
