@@ -1,8 +1,11 @@
-//! Links both static libraries, which `tools/compare` has built and whose folder it names, and says which gimli is
-//! there.
+//! Links both static libraries, which `tools/compare` has built and whose folder it names, says which gimli is there, and
+//! compares the structs that are passed with the header.
 
 use std::env;
 use std::fs;
+
+#[path = "src/layout.rs"]
+mod layout;
 
 /// The version of gimli by the lock file, which cargo has written before it runs this.
 fn gimli_version() -> Option<String> {
@@ -13,6 +16,8 @@ fn gimli_version() -> Option<String> {
 }
 
 fn main() {
+    println!("cargo:rerun-if-env-changed=COMPARE_INCLUDE");
+    layout::check(&env::var("COMPARE_INCLUDE").expect("COMPARE_INCLUDE names the folder of the headers"));
     println!("cargo:rerun-if-changed=build.rs");
     println!("cargo:rerun-if-changed=Cargo.lock");
     println!("cargo:rerun-if-env-changed=COMPARE_LIB");
@@ -26,7 +31,7 @@ fn main() {
     }
     let folder = env::var("COMPARE_LIB").expect("COMPARE_LIB names the folder of both static libraries");
     println!("cargo:rustc-link-search=native={folder}");
-    // Nothing names what is in it. It moves the code of the libraries behind it.
+    // Nothing names what is in it. It moves the code of the libraries after it.
     println!("cargo:rerun-if-changed={folder}/libin_front.a");
     println!("cargo:rustc-link-lib=static:+whole-archive=in_front");
     for library in ["dwarf_read_c", "dwarf_compare", "dwarf_read_heap"] {

@@ -1,4 +1,4 @@
-//! The calls of the proved library by which a copy of gimli 0.27 reads tables, strings, lookups and LEB128 numbers.
+//! The calls of the proved library with which a copy of gimli 0.27 reads tables, strings, lookups and LEB128 numbers.
 //!
 //! `tools/compare client` puts this file into the copy, and lets the bodies there call these functions. The environment
 //! variable `COMPARE_PLANTED` plants an error: what is compared has to show it.
@@ -7,11 +7,12 @@ use crate::common::Format;
 use crate::endianity::Endianity;
 use crate::library::*;
 use crate::read::{Error, Reader, ReaderOffset, ReaderOffsetId, Result};
+use std::cell::RefCell;
 use std::string::String;
-use std::vec::Vec;
 
 thread_local! {
     static PLANTED: String = std::env::var("COMPARE_PLANTED").unwrap_or_default();
+    static ROOM: RefCell<Room> = RefCell::default();
 }
 
 /// Whether an error is planted at this place.
@@ -112,26 +113,24 @@ pub fn address<R: Reader>(section: &R, size: u8, base: R::Offset, index: R::Offs
     })
 }
 
-/// The declarations of a table by their order, and the attributes of all of them.
-pub fn table<R: Reader>(section: &R, offset: R::Offset) -> Result<(Vec<Abbreviation>, Vec<Attribute>)> {
-    let offset = offset.into_u64() as usize;
-    let measure = read(section, |bytes, measure: &mut Measure, fault| unsafe {
-        dwarf_table_measure(bytes.as_ptr(), bytes.len(), offset, measure, fault)
-    })?;
-    if measure.closed_by_null == 0 {
-        // This version of gimli wants the code of value 0.
-        let value = section.len().into_u64();
-        return Err(error(section, Fault { kind: 1, value }));
-    }
-    let mut declarations = vec![Abbreviation::default(); measure.abbreviations];
-    let mut attributes = vec![Attribute::default(); measure.attributes];
-    read(section, |bytes, again: &mut Measure, fault| unsafe {
-        let (to, room) = (declarations.as_mut_ptr(), declarations.len());
-        let (more, more_room) = (attributes.as_mut_ptr(), attributes.len());
-        dwarf_table_read(bytes.as_ptr(), bytes.len(), offset, to, room, more, more_room, again, fault)
-    })?;
-    if is_planted("tag") {
-        declarations.iter_mut().filter(|it| it.tag == 0x34).for_each(|it| it.tag += 1);
-    }
-    Ok((declarations, attributes))
+/// Calls a function with the declarations of a table by their order, and the attributes of all of them. They are in
+/// places that are used again.
+pub fn table<R: Reader, T>(
+    section: &R, offset: R::Offset, call: impl FnOnce(&[Abbreviation], &[Attribute]) -> T,
+) -> Result<T> {
+    ROOM.with(|room| {
+        let room = &mut *room.borrow_mut();
+        let found = room.read(&section.to_slice()?, offset.into_u64() as usize);
+        let measure = found.map_err(|(_, fault)| error(section, fault))?;
+        if measure.closed_by_null == 0 {
+            // This version of gimli returns the code of value 0.
+            let value = section.len().into_u64();
+            return Err(error(section, Fault { kind: 1, value }));
+        }
+        let declarations = &mut room.abbreviations[..measure.abbreviations];
+        if is_planted("tag") {
+            declarations.iter_mut().filter(|it| it.tag == 0x34).for_each(|it| it.tag += 1);
+        }
+        Ok(call(declarations, &room.attributes))
+    })
 }

@@ -1,11 +1,12 @@
-//! All short inputs: sections over a small alphabet, numbers of up to three bytes, and the edges of longer ones.
+//! All short inputs: sections over a small alphabet, sets whose headers are nearly right, lookups in a few bytes, numbers
+//! of up to three bytes, and the edges of longer ones.
 
 use crate::question::{Question, What};
 use crate::tally::Tally;
 
 const ALPHABET: [u8; 11] = [0x00, 0x01, 0x02, 0x03, 0x11, 0x21, 0x40, 0x7f, 0x80, 0x81, 0xff];
-/// The bytes of which all sections of up to so many bytes are made, and what is in front of them: nothing, a head, a
-/// value, a declaration, and the code of a second one.
+/// What a section begins with, and up to how many bytes of the alphabet follow: nothing, a head, a value, a declaration,
+/// and the code of a second one.
 const FRONTS: [(&[u8], u32); 6] = [
     (&[], 5),
     (&[1, 0x11, 0], 4),
@@ -15,18 +16,68 @@ const FRONTS: [(&[u8], u32); 6] = [
     (&[2, 0x11, 0, 0, 0, 2], 4),
 ];
 
-/// Asks for the table of each section, also strictly and behind each cut that it grew from, and for its string.
+/// All lists of bytes of an alphabet with this length.
+fn lists(alphabet: &[u8], count: u32) -> impl Iterator<Item = Vec<u8>> + '_ {
+    let digit = |index, i| alphabet[index / alphabet.len().pow(i) % alphabet.len()];
+    (0..alphabet.len().pow(count)).map(move |index| (0..count).map(|i| digit(index, i)).collect())
+}
+
+/// Asks for the table of each section, also strictly and after each cut that it grew from, and for its string.
 fn sections(tally: &mut Tally) {
     for (front, most) in FRONTS {
         for count in 0..=most {
-            for index in 0..ALPHABET.len().pow(count) {
-                let behind = (0..count).map(|i| ALPHABET[index / ALPHABET.len().pow(i) % ALPHABET.len()]);
-                let bytes: Vec<u8> = front.iter().copied().chain(behind).collect();
+            for after in lists(&ALPHABET, count) {
+                let bytes = [front, &after[..]].concat();
                 tally.ask(&Question::new(What::Table, 0), &bytes);
                 tally.ask(&Question::new(What::Strict, 0), &bytes);
                 tally.ask(&Question::new(What::Text, 0), &bytes);
                 for before in front.len()..bytes.len() {
                     tally.ask(&Question { more: before, ..Question::new(What::Grown, 0) }, &bytes);
+                }
+            }
+        }
+    }
+}
+
+/// The lengths that sets begin with, lowest byte first: short ones, and those on either side of the reserved ones.
+fn lengths() -> Vec<Vec<u8>> {
+    let short = (0..14u32).map(|it| it.to_le_bytes().to_vec());
+    let edges = [0xffff_ffefu32, 0xffff_fff0, 0xffff_fffe, 0xffff_ffff].map(|it| it.to_le_bytes().to_vec());
+    let long = [0u64, 3, 4, 5, 8, 12, 1 << 32, u64::MAX].map(|it| [&[0xff; 4][..], &it.to_le_bytes()].concat());
+    short.chain(edges).chain(long).collect()
+}
+
+/// Asks for the set that each of these lengths begins, with each header that is nearly right and up to five bytes of
+/// entries, and for the sum of the addresses. In the other byte order most of them are malformed.
+fn sets(tally: &mut Tally) {
+    for length in lengths() {
+        for version in [[5, 0], [4, 0], [0, 5]] {
+            for (size, segments) in (0..=9).flat_map(|size| [(size, 0), (size, 1)]) {
+                for entries in (0..=5).flat_map(|count| lists(&[0x01, 0xfe], count)) {
+                    let bytes = [&length[..], &version, &[size, segments], &entries].concat();
+                    for is_big in [false, true] {
+                        tally.ask(&Question { is_big, ..Question::new(What::AddressSet, 0) }, &bytes);
+                        tally.ask(&Question { is_big, ..Question::new(What::StrOffsetSet, 0) }, &bytes);
+                    }
+                    tally.ask(&Question::new(What::Addresses, 0), &bytes);
+                }
+            }
+        }
+    }
+}
+
+/// Asks for the number at each index, counted from each base, in up to five bytes: at small places, and where the
+/// product of index and size is as large as an offset can be.
+fn lookups(tally: &mut Tally) {
+    let widths = (0..=9).map(|size| (What::Address, size)).chain([(What::StrOffset, 4), (What::StrOffset, 8)]);
+    let widths: Vec<(What, u8)> = widths.collect();
+    for bytes in (0..=5).flat_map(|count| lists(&[0x00, 0x01, 0xfe], count)) {
+        for at in [0, 1, 2, 5, 6, 1 << 32] {
+            for more in [0, 1, 2, 1 << 29, 1 << 30, 1 << 60, 1 << 61, 1 << 62, 1 << 63, usize::MAX] {
+                for (what, size) in &widths {
+                    for is_big in [false, true] {
+                        tally.ask(&Question { is_big, size: *size, more, ..Question::new(*what, at) }, &bytes);
+                    }
                 }
             }
         }
@@ -73,6 +124,8 @@ fn long_numbers(tally: &mut Tally) {
 /// Asks for all of them.
 pub fn ask(tally: &mut Tally) {
     sections(tally);
+    sets(tally);
+    lookups(tally);
     short_numbers(tally);
     long_numbers(tally);
 }

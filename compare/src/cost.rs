@@ -23,7 +23,7 @@ fn processor_nanos() -> u64 {
     time[0] as u64 * 1_000_000_000 + time[1] as u64
 }
 
-/// Nanoseconds of a call, which is repeated for so many milliseconds.
+/// Nanoseconds of a call, which is repeated for this many milliseconds.
 pub fn nanos_of(call: &dyn Fn() -> u64, milliseconds: u64) -> f64 {
     let (start, mut calls) = (processor_nanos(), 0);
     loop {
@@ -36,8 +36,8 @@ pub fn nanos_of(call: &dyn Fn() -> u64, milliseconds: u64) -> f64 {
     }
 }
 
-/// How many bytes the pages have that are first touched while a call runs. The system hands out a page then, and counts
-/// a minor fault. A page that is given back and handed out again counts twice. Before the call, free pages are given
+/// How many bytes the pages have that are first touched while a call runs. The system allocates a page then, and counts
+/// a minor fault. A page that is freed and allocated once more counts twice. Before the call, free pages are given
 /// back, and pages of 2 MB are switched off, so that each has 4,096 bytes.
 pub fn touched_bytes(call: &dyn Fn() -> u64) -> i64 {
     const PR_SET_THP_DISABLE: c_int = 41;
@@ -46,7 +46,7 @@ pub fn touched_bytes(call: &dyn Fn() -> u64) -> i64 {
     let faults = || {
         let mut usage = [0; 18];
         assert_eq!(unsafe { getrusage(0, &mut usage) }, 0);
-        // Behind two times of two numbers each, and four numbers of memory.
+        // After two times of two numbers each, and four numbers of memory.
         usage[8]
     };
     let before = faults();

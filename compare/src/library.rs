@@ -1,5 +1,7 @@
-//! The calls of the library for C, as `include/dwarf_read.h` declares them, and those of `crates/dwarf_compare` that the
-//! copy of gimli needs too.
+//! The calls of the library for C, as `include/dwarf_read.h` declares them, and those of `crates/dwarf_compare` that
+//! the copy of gimli needs too. `layout.rs` compares the structs with the header when a package is built.
+
+use std::vec::Vec;
 
 /// The error of a call, by its number in the header, and the position or the value that it carries.
 #[repr(C)]
@@ -25,8 +27,8 @@ pub struct Abbreviation {
     pub code: u64,
     pub tag: u16,
     pub has_children: u8,
-    pub first: usize,
-    pub count: usize,
+    pub first_attribute: usize,
+    pub attribute_count: usize,
 }
 
 /// An attribute, with the value that is in the table itself.
@@ -35,7 +37,7 @@ pub struct Abbreviation {
 pub struct Attribute {
     pub name: u16,
     pub form: u16,
-    pub value: i64,
+    pub implicit_const: i64,
 }
 
 /// The header of a set.
@@ -73,12 +75,44 @@ extern "C" {
     pub fn dwarf_str_offset_set(
         bytes: Byte, len: usize, is_big: bool, offset: usize, set: &mut Set, fault: &mut Fault,
     ) -> u32;
-    pub fn dwarf_table_measure(bytes: Byte, len: usize, offset: usize, measure: &mut Measure, fault: &mut Fault)
-        -> u32;
+    pub fn dwarf_table_measure_strict(
+        bytes: Byte, len: usize, offset: usize, measure: &mut Measure, fault: &mut Fault,
+    ) -> u32;
     pub fn dwarf_table_read(
         bytes: Byte, len: usize, offset: usize, abbreviations: *mut Abbreviation, abbreviation_room: usize,
         attributes: *mut Attribute, attribute_room: usize, measure: &mut Measure, fault: &mut Fault,
     ) -> u32;
     pub fn compare_short(bytes: Byte, len: usize, value: &mut u16, rest: &mut usize, fault: &mut Fault) -> u32;
     pub fn compare_skipped(bytes: Byte, len: usize, rest: &mut usize, fault: &mut Fault) -> u32;
+}
+
+pub const OK: u32 = 0;
+pub const NO_ROOM: u32 = 100;
+
+/// Places for tables, which are used again. There are as many as a table has needed so far.
+#[derive(Default)]
+pub struct Room {
+    pub abbreviations: Vec<Abbreviation>,
+    pub attributes: Vec<Attribute>,
+}
+
+impl Room {
+    /// Reads a table by one call, or by two if there are too few places. Returns its measure, or the status with the
+    /// error.
+    pub fn read(&mut self, bytes: &[u8], offset: usize) -> Result<Measure, (u32, Fault)> {
+        let (mut measure, mut fault) = (Measure::default(), Fault::default());
+        loop {
+            let (room, more_room) = (self.abbreviations.len(), self.attributes.len());
+            let (to, more) = (self.abbreviations.as_mut_ptr(), self.attributes.as_mut_ptr());
+            let (data, len) = (bytes.as_ptr(), bytes.len());
+            match unsafe { dwarf_table_read(data, len, offset, to, room, more, more_room, &mut measure, &mut fault) } {
+                OK => return Ok(measure),
+                NO_ROOM => {
+                    self.abbreviations.resize(measure.abbreviations.max(room), Default::default());
+                    self.attributes.resize(measure.attributes.max(more_room), Default::default());
+                }
+                status => return Err((status, fault)),
+            }
+        }
+    }
 }

@@ -18,7 +18,7 @@ impl Random {
         (self.next() % bound as u64) as usize
     }
 
-    /// Whether a case of so many comes up.
+    /// Whether one of this many equally likely cases comes up.
     fn one_of(&mut self, count: usize) -> bool {
         self.below(count) == 0
     }
@@ -92,7 +92,7 @@ fn digits(random: &mut Random) -> Vec<u8> {
         let end = random.pick(&[0, 1, 2, 3, 4, 0x3f, 0x40, 0x7e, 0x7f, 0x55]);
         bytes[count - 1] = end;
     }
-    // What is behind a number doesn't matter.
+    // What follows a number doesn't matter.
     if random.one_of(4) {
         let more = random.below(4);
         bytes.extend(random.bytes(more));
@@ -214,7 +214,7 @@ fn of_tables(random: &mut Random) -> (Question, Vec<u8>) {
     (question, bytes)
 }
 
-/// A number that may be an offset or an index for so many bytes.
+/// A number that may be an offset or an index into this many bytes.
 fn place(random: &mut Random, len: usize) -> usize {
     match random.below(8) {
         0 => random.number() as usize,
@@ -257,7 +257,7 @@ fn put(to: &mut Vec<u8>, value: u64, size: usize, is_big: bool) {
     to.extend((0..size).map(|i| bytes[if is_big { size - 1 - i } else { i }]));
 }
 
-/// A set, of either kind: the third and fourth byte behind the length are the two sizes, or padding.
+/// A set, of either kind: the third and fourth byte after the length are the two sizes, or padding.
 fn set(random: &mut Random, to: &mut Vec<u8>, is_big: bool) {
     let size = if random.one_of(12) { random.below(20) } else { random.pick(&[1, 2, 4, 8, 8, 4]) };
     let entries = random.below(5) * size + if random.one_of(6) { random.below(8) } else { 0 };
@@ -367,7 +367,7 @@ const ATTRIBUTES: [u64; 12] = [0x02, 0x03, 0x0b, 0x11, 0x12, 0x13, 0x1c, 0x31, 0
 /// How many addresses each set of a section to be listed has.
 const LISTED_ADDRESSES: u32 = 100_000;
 
-/// A section to be listed, of at least so many bytes. `None` if there is no such kind.
+/// A section to be listed, of at least this many bytes. `None` if there is no such kind.
 pub fn listed_section(kind: &str, bytes: usize) -> Option<Vec<u8>> {
     let (mut random, mut to) = (Random(88_172_645_463_325_252), vec![]);
     match kind {

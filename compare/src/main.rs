@@ -29,7 +29,7 @@ const TURN: u32 = 1000;
 /// How long a planted error is looked for.
 const PLANT_TIME: Duration = Duration::from_secs(10);
 
-/// What is behind the kind of a section of a file with the highest byte first.
+/// What follows the kind of a section of a file with the highest byte first.
 const BIG: &str = ", big";
 
 /// What the words ask for.
@@ -70,14 +70,14 @@ fn question_of(text: &str) -> Option<(Question, Vec<u8>)> {
 fn wanted(words: &mut dyn Iterator<Item = String>) -> Result<Wanted, String> {
     let mut found = Wanted { seconds: 60.0, seed: 1, again: "compare --case".into(), ..Wanted::default() };
     while let Some(word) = words.next() {
-        let mut next = || words.next().ok_or(format!("{word} needs a word behind it"));
+        let mut next = || words.next().ok_or(format!("{word} needs a word after it"));
         match word.as_str() {
             "--seconds" => found.seconds = next()?.parse().map_err(|_| "--seconds needs a number")?,
             "--seed" => found.seed = next()?.parse().map_err(|_| "--seed needs a number below 2^64")?,
             "--case" => {
                 let text = next()?;
                 let case = question_of(&text);
-                found.case = Some(case.ok_or(format!("'{text}' is no question with bytes in hexadecimal behind it"))?);
+                found.case = Some(case.ok_or(format!("'{text}' is no question followed by bytes in hexadecimal"))?);
             }
             "--time" => found.measured = Some(Measured::Time),
             "--count" => found.measured = Some(Measured::Calls),

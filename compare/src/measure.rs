@@ -1,16 +1,19 @@
-//! Measures the library beside gimli on equal inputs: time by turns, one call of each side to be counted, or the memory
+//! Measures the library and gimli on equal inputs: time by turns, one call of each side to be counted, or the memory
 //! that a call touches.
 //!
-//! The library's side is a call of `crates/dwarf_compare` that does the whole loop. What fills a cache from units
-//! is left out, since units belong to gimli's upper layers, and so are written numbers, which another feature has.
+//! The library's side is a call of `crates/dwarf_compare` that does the whole loop, or a call for C for each table.
+//! What fills a cache from units is left out, since units belong to gimli's upper layers, and so are written numbers,
+//! which another feature has.
 
 use crate::cost::{hidden, nanos_of, touched_bytes};
+use crate::library::Room;
 use crate::made::{made_sets, put_signed, put_unsigned, shaped_table, Random};
 use crate::plain;
 use gimli::{
     DebugAbbrev, DebugAbbrevOffset, DebugAddr, DebugAddrBase, DebugAddrIndex, DebugStr, DebugStrOffset,
     DebugStrOffsets, DebugStrOffsetsBase, DebugStrOffsetsIndex, EndianSlice, Format, LittleEndian, Reader,
 };
+use std::cell::RefCell;
 
 /// How many codes the tables have that are made.
 const CODES: u64 = 5000;
@@ -141,7 +144,7 @@ fn addresses(section: Bytes, indices: Places) -> u64 {
     indices.iter().fold(0u64, |sum, it| sum.wrapping_add(found(it)))
 }
 
-/// What reads these tables, with so many declarations.
+/// What reads these tables, with this many declarations.
 fn reading(name: String, count: usize, s: Bytes, o: Places) -> Workload {
     let ours = move || unsafe { compare_tables(s.as_ptr(), s.len(), o.as_ptr(), o.len()) };
     Workload { is_same: false, ..workload(name, count, move || tables(s, o), ours) }
@@ -150,7 +153,19 @@ fn reading(name: String, count: usize, s: Bytes, o: Places) -> Workload {
 /// Where a table is, and its codes as they rise.
 type Table = (usize, Vec<u64>);
 
-fn of_tables(name: &str, section: Vec<u8>, given: Vec<Table>, all: &mut Vec<Workload>) {
+/// What reads and looks at a section's tables, and what reads them by the call for C.
+fn of_tables_for_c(name: &str, section: Vec<u8>, given: Vec<Table>, all: &mut Vec<Workload>) {
+    let count = given.iter().map(|it| it.1.len()).sum();
+    let (s, o) = of_tables(name, section, given, all);
+    // The places are kept from table to table, as a program in C keeps them.
+    let room = RefCell::new(Room::default());
+    let ours = move || o.iter().filter(|it| room.borrow_mut().read(s, **it).is_ok()).count() as u64;
+    let name = format!("a declaration of a table by the call for C, {name}");
+    all.push(workload(name, count, move || tables(s, o), ours));
+}
+
+/// What reads and looks at a section's tables. Returns the section and where they are.
+fn of_tables(name: &str, section: Vec<u8>, given: Vec<Table>, all: &mut Vec<Workload>) -> (Bytes, Places) {
     let offsets: Vec<usize> = given.iter().map(|it| it.0).collect();
     let (s, o): (Bytes, Places) = (section.leak(), offsets.leak());
     let walk_all =
@@ -166,6 +181,7 @@ fn of_tables(name: &str, section: Vec<u8>, given: Vec<Table>, all: &mut Vec<Work
         let ours = move || unsafe { compare_get_sum(s.as_ptr(), s.len(), 0, CODES, ROUNDS) };
         all.push(workload(name, count, move || get_sum(s), ours));
     }
+    (s, o)
 }
 
 /// The codes from 2 on at random. As code 1 is missing, none of them is in the vector of codes that count up.
@@ -197,7 +213,7 @@ fn all_of_tables(random: &mut Random, all: &mut Vec<Workload>) {
         tables.push((small.len(), (1..=count).collect()));
         shaped_table(random, 1..=count, &mut small);
     }
-    of_tables("small tables", small, tables, all);
+    of_tables_for_c("small tables", small, tables, all);
 }
 
 fn all_of_numbers(random: &mut Random, all: &mut Vec<Workload>) {
@@ -335,7 +351,7 @@ pub fn workloads(sections: &[(String, String, Vec<u8>)]) -> Vec<Workload> {
     for (name, kind, bytes) in sections {
         let name = name.rsplit('/').next().unwrap_or_default();
         match kind.as_str() {
-            "debug_abbrev" => of_tables(name, bytes.clone(), plain::tables(bytes), &mut all),
+            "debug_abbrev" => of_tables_for_c(name, bytes.clone(), plain::tables(bytes), &mut all),
             "debug_str" => of_strings(&format!("strings of {name}"), &mut random, bytes.clone(), &mut all),
             _ => {}
         }
@@ -351,7 +367,7 @@ pub fn workloads(sections: &[(String, String, Vec<u8>)]) -> Vec<Workload> {
     all
 }
 
-/// The workload of one table with so many codes, which fall, have gaps, or rise from 1.
+/// The workload of one table with this many codes, which fall, have gaps, or rise from 1.
 pub fn of_table(kind: &str, count: u64) -> Vec<Workload> {
     let codes = (1..=count).map(|it| match kind {
         "falling" => count + 1 - it,
@@ -387,7 +403,7 @@ extern "C" fn ours_counted(workload: &Workload) {
     hidden((workload.ours)());
 }
 
-/// Nanoseconds of an operation of either side by turns, and the quarters and the middle of the ratios of neighbours.
+/// Nanoseconds of an operation of either side by turns, and the quartiles and the median of the ratios of neighbours.
 fn turns(workload: &Workload) -> String {
     let (mut left, mut right, mut ratios) = (vec![], vec![], vec![]);
     for sample in 0..if workload.operations < 1_000_000 { 31 } else { 3 } {

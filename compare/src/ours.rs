@@ -5,10 +5,9 @@
 //! mutably.
 
 use crate::library::*;
+use crate::plain::length_at;
 use crate::question::{error_name, fault_of_text, Answer, Declaration, Question, What};
 
-const OK: u32 = 0;
-const NO_ROOM: u32 = 100;
 const END: u32 = 102;
 
 /// What one of `READERS` is asked.
@@ -25,7 +24,6 @@ struct Asked {
 type Byte = *const u8;
 
 extern "C" {
-    fn compare_strict(bytes: Byte, len: usize, offset: usize, count: &mut usize, fault: &mut Fault) -> u32;
     fn compare_grown(
         bytes: Byte, len: usize, before: usize, offset: usize, count: &mut usize, fault: &mut Fault,
     ) -> u32;
@@ -40,11 +38,10 @@ extern "C" {
     ) -> usize;
 }
 
-/// The library, with places for tables that are used again. There are as many as a table has needed so far.
+/// The library, with places for tables.
 #[derive(Default)]
 pub struct Ours {
-    abbreviations: Vec<Abbreviation>,
-    attributes: Vec<Attribute>,
+    room: Room,
 }
 
 impl Ours {
@@ -83,30 +80,24 @@ impl Ours {
     }
 
     fn table(&mut self, bytes: &[u8], offset: usize) -> Answer {
-        let (mut measure, mut fault) = (Measure::default(), Fault::default());
-        loop {
-            let (room, more_room) = (self.abbreviations.len(), self.attributes.len());
-            let (to, more) = (self.abbreviations.as_mut_ptr(), self.attributes.as_mut_ptr());
-            let (data, len) = (bytes.as_ptr(), bytes.len());
-            match unsafe { dwarf_table_read(data, len, offset, to, room, more, more_room, &mut measure, &mut fault) } {
-                OK => return self.shown(&measure),
-                NO_ROOM => {
-                    self.abbreviations.resize(measure.abbreviations.max(room), Default::default());
-                    self.attributes.resize(measure.attributes.max(more_room), Default::default());
-                }
-                status => return failed(status, fault, None),
-            }
+        match self.room.read(bytes, offset) {
+            Ok(measure) => self.shown(&measure),
+            Err((status, fault)) => failed(status, fault, None),
         }
     }
 
     fn shown(&self, measure: &Measure) -> Answer {
+        let Room { abbreviations, attributes } = &self.room;
         let shown = |it: &Abbreviation| Declaration {
             code: it.code,
             tag: it.tag,
             has_children: it.has_children != 0,
-            attributes: self.attributes[it.first..][..it.count].iter().map(|it| (it.name, it.form, it.value)).collect(),
+            attributes: attributes[it.first_attribute..][..it.attribute_count]
+                .iter()
+                .map(|it| (it.name, it.form, it.implicit_const))
+                .collect(),
         };
-        let declarations = self.abbreviations[..measure.abbreviations].iter().map(shown).collect();
+        let declarations = abbreviations[..measure.abbreviations].iter().map(shown).collect();
         Answer::Table { declarations, close: Some((measure.closed_by_null != 0, measure.end)) }
     }
 }
@@ -137,7 +128,7 @@ fn number(what: What, bytes: &[u8]) -> Answer {
     Answer::Value { value: i128::from(unsigned) + i128::from(signed) + i128::from(short), rest: Some(rest) }
 }
 
-/// How many bytes remain behind an error, which the calls for C don't tell.
+/// How many bytes remain after an error, which the calls for C don't tell.
 fn rest_of_error(what: What, bytes: &[u8]) -> usize {
     let asked = Asked { reader: 0, question: what as u32, is_big: 0, size: 0, base: 0, index: 0 };
     let (mut found, mut text) = ([u64::MAX; 4], [0; 1]);
@@ -167,8 +158,9 @@ fn returned<T: Default>(call: impl FnOnce(&mut T, &mut Fault) -> u32, shown: imp
 
 /// The table at an offset, strictly read.
 pub fn strict(bytes: &[u8], offset: usize) -> Answer {
-    let call = |it: &mut _, fault: &mut _| unsafe { compare_strict(bytes.as_ptr(), bytes.len(), offset, it, fault) };
-    returned(call, |it| Answer::value(it as u64))
+    let (data, len) = (bytes.as_ptr(), bytes.len());
+    let call = |it: &mut _, fault: &mut _| unsafe { dwarf_table_measure_strict(data, len, offset, it, fault) };
+    returned(call, |it: Measure| Answer::value(it.abbreviations as u64))
 }
 
 fn found(bytes: &[u8], offset: usize, codes: &[u64]) -> Answer {
@@ -185,19 +177,30 @@ fn found(bytes: &[u8], offset: usize, codes: &[u64]) -> Answer {
 const READERS: [&str; 4] = ["EndianSlice<BigEndian>", "EndianSlice<RunTimeEndian>", OWNED, "SharedReader"];
 const OWNED: &str = "OwnedReader";
 
-/// What each of them finds that doesn't find the same. Offsets of `OwnedReader` have 32 bits, and it says so of longer
-/// ones.
+/// What each of them finds that doesn't find the same.
 pub fn by_readers(question: &Question, bytes: &[u8], ours: &Answer) -> Vec<(&'static str, Answer)> {
     let (mut differing, wanted) = (vec![], ours.in_parts());
     for (reader, name) in READERS.iter().enumerate() {
         if let Some(found) = by_reader(reader as u32, question, bytes) {
-            let is_beyond = matches!(found, Answer::Fault { kind: "UnsupportedOffset", .. });
-            if !found.agrees(&wanted) && (!is_beyond || *name != OWNED) {
+            let is_refused = *name == OWNED && matches!(found, Answer::Fault { kind: "UnsupportedOffset", .. });
+            if !found.agrees(&wanted) && !(is_refused && has_long_offset(question, bytes, &wanted)) {
                 differing.push((*name, found));
             }
         }
     }
     differing
+}
+
+/// Whether a question has, or finds, an offset that doesn't fit the 32 bits of an offset of `OwnedReader`.
+fn has_long_offset(question: &Question, bytes: &[u8], wanted: &Answer) -> bool {
+    let Question { what, is_big, size, at, more, .. } = *question;
+    let found = match (what, wanted) {
+        (What::StrOffset, Answer::Parts([offset, ..])) => *offset,
+        (What::AddressSet | What::StrOffsetSet, _) => length_at(bytes, is_big, at),
+        _ => 0,
+    };
+    let product = more as u128 * u128::from(size);
+    [at as u128, more as u128, product, found.into()].iter().any(|it| *it >= 1 << 32)
 }
 
 /// What a reader finds, or `None` if it isn't asked that. Where the order of bytes doesn't matter, it is big.

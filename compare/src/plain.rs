@@ -10,34 +10,64 @@ use std::sync::atomic::{AtomicUsize, Ordering::Relaxed};
 
 const DW_FORM_IMPLICIT_CONST: u16 = 0x21;
 
-/// The errors that can be planted here, so that the comparison has to find them.
-#[derive(Clone, Copy)]
-pub enum Plant {
-    /// A number that isn't whole is missed at the end of the bytes, and not where it begins.
-    Position = 1,
-    /// A number of ten bytes lacks its bit 63.
-    Value,
-    /// A wrong size of addresses is seen before it is known that a word isn't there.
-    Order,
-    /// A number that is too long takes a byte too many.
-    Consumed,
-    /// A table that the section's end closes has no error when it is read strictly.
-    Missing,
-    /// A repeated code passes if it is greater than the number of declarations.
-    Duplicate,
-    /// The next set begins eight bytes too early behind one of 64 bits.
-    Length,
-    /// The section's end ends a string.
-    String,
-    /// The product of an index and a size wraps.
-    Product,
-    /// Addresses may have 3, 5, 6 or 7 bytes.
-    Size,
+/// Declares the errors that can be planted, each with its name.
+macro_rules! plants {
+    ($($(#[$doc:meta])* $plant:ident $name:literal,)*) => {
+        /// The errors that can be planted, so that the comparison has to find them.
+        #[derive(Clone, Copy)]
+        pub enum Plant { $($(#[$doc])* $plant,)* }
+
+        /// Their names, in this order.
+        pub const PLANTS: &[&str] = &[$($name,)*];
+    };
 }
 
-/// Their names, in this order.
-pub const PLANTS: [&str; 10] =
-    ["position", "value", "order", "consumed", "missing", "duplicate", "length", "string", "product", "size"];
+plants! {
+    /// A number that isn't whole is missed at the end of the bytes, and not where it begins.
+    Position "position",
+    /// A number of ten bytes lacks its bit 63.
+    Value "value",
+    /// A wrong size of addresses is seen before it is known that a word isn't there.
+    Order "order",
+    /// A number that is too long takes a byte too many.
+    Consumed "consumed",
+    /// A table that the section's end closes has no error when it is read strictly.
+    Missing "missing",
+    /// A repeated code passes if it is greater than the number of declarations.
+    Duplicate "duplicate",
+    /// The next set begins eight bytes too early after one of 64 bits.
+    Length "length",
+    /// The section's end ends a string.
+    String "string",
+    /// The product of an index and a size wraps.
+    Product "product",
+    /// Addresses may have 3, 5, 6 or 7 bytes.
+    Size "size",
+    /// A signed number is never below 0.
+    Sign "sign",
+    /// A tag loses what its second byte has.
+    Tag "tag",
+    /// No declaration has children.
+    Children "children",
+    /// The last attribute of a declaration is left out.
+    Attributes "attributes",
+    /// The lowest byte of a number comes first in either byte order.
+    Big "big",
+    /// The section's end and a code of value 0 close a table the other way round.
+    Close "close",
+    /// A table ends one byte too late.
+    End "end",
+    /// A cache reads a table once, and has nothing the second time.
+    Cached "cached",
+    /// A cache keeps what it read before the section grew.
+    Grown "grown",
+    /// A code that no declaration has is found at the one before it.
+    Get "get",
+    /// A number is written with one byte too many.
+    Written "written",
+    /// gimli's result of a number leaves one byte more. This one is planted where gimli is called.
+    Gimli "gimli",
+}
 
 /// The number of the one that is planted, or 0.
 static PLANTED: AtomicUsize = AtomicUsize::new(0);
@@ -47,8 +77,9 @@ pub fn plant(number: usize) {
     PLANTED.store(number, Relaxed);
 }
 
-fn has(plant: Plant) -> bool {
-    PLANTED.load(Relaxed) == plant as usize
+/// Whether this error is planted.
+pub fn has(plant: Plant) -> bool {
+    PLANTED.load(Relaxed) == plant as usize + 1
 }
 
 /// An error by its name, with its value or position.
@@ -61,7 +92,7 @@ fn eof(at: usize) -> Fault {
     ("UnexpectedEof", at as u64)
 }
 
-/// Bytes that are read one after the other.
+/// Bytes that are read in order.
 struct Input<'a> {
     bytes: &'a [u8],
     at: usize,
@@ -74,7 +105,7 @@ impl Input<'_> {
         Ok(byte)
     }
 
-    /// The bytes of a number, of which the last one has a high bit of 0. They end behind the limit, if there is one.
+    /// The bytes of a number, of which the last one has a high bit of 0. They end after the limit, if there is one.
     fn digits(&mut self, limit: usize) -> Result<Vec<u8>, Fault> {
         let mut digits = Vec::new();
         while digits.len() < limit {
@@ -113,23 +144,23 @@ impl Input<'_> {
         u16::try_from(self.number(3, BAD_UNSIGNED)?.1).map_err(|_| BAD_UNSIGNED)
     }
 
-    /// A signed number: bit 6 of the last byte says that the bits in front of it are ones.
+    /// A signed number: bit 6 of the last byte says that all bits before it are ones.
     fn signed(&mut self) -> Result<i64, Fault> {
         let (digits, mut value) = self.number(10, BAD_SIGNED)?;
-        if digits[digits.len() - 1] & 0x40 != 0 {
+        if digits[digits.len() - 1] & 0x40 != 0 && !has(Plant::Sign) {
             value -= 1 << (7 * digits.len());
         }
         i64::try_from(value).map_err(|_| BAD_SIGNED)
     }
 
-    /// The number of so many bytes.
+    /// The number of that many bytes.
     fn fixed(&mut self, size: usize, is_big: bool) -> Result<u64, Fault> {
         if self.bytes.len() - self.at < size {
             return Err(eof(if has(Plant::Position) { self.bytes.len() } else { self.at }));
         }
         let mut value = 0;
         for i in 0..size {
-            let index = if is_big { i } else { size - 1 - i };
+            let index = if is_big && !has(Plant::Big) { i } else { size - 1 - i };
             value = value << 8 | u64::from(self.bytes[self.at + index]);
         }
         self.at += size;
@@ -157,14 +188,21 @@ fn found(question: &Question, bytes: &[u8]) -> Result<Answer, Fault> {
             _ => return Err(("UnterminatedAbbreviations", bytes.len() as u64)),
         },
         // A section that grew is read as if it had always been so.
+        What::Grown if has(Plant::Grown) => {
+            let before = &bytes[..more.min(bytes.len())];
+            Answer::value(table(before, at)?.0.len() as u64)
+        }
         What::Grown => Answer::value(table(bytes, at)?.0.len() as u64),
         What::Cached => {
             let length = |it: &u64| table(bytes, *it as usize).map_or(1 << 32, |it| it.0.len() as u64);
-            Answer::value(2 * list.iter().map(length).sum::<u64>())
+            let times = if has(Plant::Cached) { 1 } else { 2 };
+            Answer::value(times * list.iter().map(length).sum::<u64>())
         }
         What::Found => {
             let (by_code, _) = table(bytes, at)?;
-            Answer::Tags(list.iter().map(|it| by_code.get(it).map_or(0, |it| it.tag)).collect())
+            let least = |code: u64| if has(Plant::Get) { 0 } else { code };
+            let tag = |it: &u64| by_code.range(least(*it)..=*it).next_back().map_or(0, |it| it.1.tag);
+            Answer::Tags(list.iter().map(tag).collect())
         }
         What::Text => string(bytes, at)?,
         What::StrOffset | What::Address => Answer::value(slot(bytes, size, at, more, is_big)?),
@@ -199,6 +237,7 @@ fn written(value: i128, is_signed: bool) -> Answer {
     while !fits(count) {
         count += 1;
     }
+    count += u32::from(has(Plant::Written));
     let digit = |i: u32| (value >> (7 * i) & 0x7f) as u8 | if i + 1 < count { 0x80 } else { 0 };
     Answer::Written((0..count).map(digit).collect())
 }
@@ -210,7 +249,7 @@ fn table(bytes: &[u8], offset: usize) -> Result<(BTreeMap<u64, Declaration>, (bo
     }
     let mut input = Input { bytes, at: offset };
     let (by_code, is_null) = next_table(&mut input)?;
-    Ok((by_code, (is_null, input.at)))
+    Ok((by_code, (is_null != has(Plant::Close), input.at + usize::from(has(Plant::End)))))
 }
 
 /// Where the tables of a section begin that follow each other up to the first that isn't closed, and their codes.
@@ -247,6 +286,7 @@ fn declaration(input: &mut Input, code: u64) -> Result<Declaration, Fault> {
     if tag == 0 {
         return Err(("AbbreviationTagZero", 0));
     }
+    let tag = if has(Plant::Tag) { tag & 0x7f } else { tag };
     let children = input.byte()?;
     if children > 1 {
         return Err(("InvalidAbbreviationChildren", u64::from(children)));
@@ -263,7 +303,10 @@ fn declaration(input: &mut Input, code: u64) -> Result<Declaration, Fault> {
             _ => attributes.push((name, form, 0)),
         }
     }
-    Ok(Declaration { code, tag, has_children: children == 1, attributes })
+    if has(Plant::Attributes) {
+        attributes.pop();
+    }
+    Ok(Declaration { code, tag, has_children: children == 1 && !has(Plant::Children), attributes })
 }
 
 fn string(bytes: &[u8], offset: usize) -> Result<Answer, Fault> {
@@ -273,12 +316,12 @@ fn string(bytes: &[u8], offset: usize) -> Result<Answer, Fault> {
     Ok(Answer::value(len as u64))
 }
 
-/// Whether addresses may have so many bytes.
+/// Whether addresses may have that many bytes.
 fn is_size(size: u8) -> bool {
     [1, 2, 4, 8].contains(&size) || has(Plant::Size) && (3..8).contains(&size)
 }
 
-/// The number at an index behind a base. Which sizes there are is asked once its place is known.
+/// The number at an index, counted from a base. The size is checked once the place is known.
 fn slot(bytes: &[u8], size: u8, base: usize, index: usize, is_big: bool) -> Result<u64, Fault> {
     if base > bytes.len() {
         return Err(eof(0));
@@ -300,6 +343,21 @@ fn slot(bytes: &[u8], size: u8, base: usize, index: usize, is_big: bool) -> Resu
     Input { bytes, at: at as usize }.fixed(usize::from(size), is_big)
 }
 
+/// The initial length of a set (7.4), and the size of its words in bytes.
+fn initial_length(input: &mut Input, is_big: bool) -> Result<(u64, u8), Fault> {
+    match input.fixed(4, is_big)? {
+        0xffff_ffff => Ok((input.fixed(8, is_big)?, 8)),
+        length if length >= 0xffff_fff0 => Err(("UnknownReservedLength", length)),
+        length => Ok((length, 4)),
+    }
+}
+
+/// The length that a set at an offset says, or 0 if there is none.
+pub fn length_at(bytes: &[u8], is_big: bool, offset: usize) -> u64 {
+    let mut input = Input { bytes, at: offset.min(bytes.len()) };
+    initial_length(&mut input, is_big).map_or(0, |it| it.0)
+}
+
 /// The header of a set of addresses (7.27) or of string offsets (7.26) at an offset.
 fn set(bytes: &[u8], is_big: bool, offset: usize, is_of_addresses: bool) -> Result<Answer, Fault> {
     if offset > bytes.len() {
@@ -309,13 +367,7 @@ fn set(bytes: &[u8], is_big: bool, offset: usize, is_of_addresses: bool) -> Resu
         return Ok(Answer::End);
     }
     let mut input = Input { bytes, at: offset };
-    let (mut length, mut word_size) = (input.fixed(4, is_big)?, 4);
-    if length == 0xffff_ffff {
-        length = input.fixed(8, is_big)?;
-        word_size = 8;
-    } else if length >= 0xffff_fff0 {
-        return Err(("UnknownReservedLength", length));
-    }
+    let (length, word_size) = initial_length(&mut input, is_big)?;
     if length > (bytes.len() - input.at) as u64 {
         return Err(eof(input.at));
     }

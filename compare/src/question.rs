@@ -69,7 +69,7 @@ whats! {
     Strict "strict",
     /// The string at an offset.
     Text "string",
-    /// The string offset of 4 or 8 bytes, or the address, at an index behind a base.
+    /// The string offset of 4 or 8 bytes, or the address, at an index, counted from a base.
     StrOffset "str-offset",
     Address "address",
     /// The header of the set at an offset.
@@ -77,7 +77,7 @@ whats! {
     StrOffsetSet "str-offset-set",
     /// The sum of all addresses of all sets, or 0 for an error.
     Addresses "addresses",
-    /// How long the table of a cache is that was filled from so many bytes, before the section grew.
+    /// The length of the table of a cache that was filled from this many bytes, before the section grew.
     Grown "grown",
     /// How many declarations a cache that was filled at these offsets has there, twice. An error counts as 2^32.
     Cached "cached",
@@ -228,12 +228,12 @@ impl Question {
         Question { what, is_big: false, size: 0, at, more: 0, list: vec![] }
     }
 
-    /// The first word by which it is asked again.
+    /// The first word that asks it once more.
     pub fn name(&self) -> &'static str {
         WHATS[self.what as usize].0
     }
 
-    /// All words by which it is asked again.
+    /// All words that ask it once more.
     pub fn words(&self) -> String {
         let mut words = vec![self.name().to_string()];
         words.extend(self.is_big.then(|| "big".to_string()));

@@ -2,10 +2,10 @@
 
 use crate::question::{Question, What};
 
-/// So many smaller inputs are tried.
+/// How many smaller inputs are tried.
 const TRIES: u32 = 3000;
 
-/// The question of the bytes without so many in front of its offset, if it has one.
+/// The same question without this many bytes before its offset, if it has one.
 fn moved(question: &Question, by: usize) -> Option<Question> {
     let mut moved = question.clone();
     match question.what {
@@ -31,7 +31,7 @@ pub fn shrink(
             from = from.saturating_sub(size);
             let mut fewer = bytes[..from].to_vec();
             fewer.extend(&bytes[end..]);
-            // With the bytes in front of the offset the offset moves; elsewhere it stays.
+            // If bytes before the offset go, the offset moves; otherwise it stays.
             for candidate in [moved(&question, end - from), Some(question.clone())].iter().flatten() {
                 tries += 1;
                 if differs(candidate, &fewer) {

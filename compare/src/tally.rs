@@ -7,7 +7,7 @@ use crate::shrink::shrink;
 use crate::theirs::{Theirs, HAS_SETS};
 use std::collections::BTreeMap;
 
-/// So many differences of one question are printed. The others are counted.
+/// How many differences of one question are printed. The others are counted.
 const PRINTED: u64 = 3;
 
 /// What the readers gave.

@@ -1,5 +1,6 @@
 //! The published gimli, as far as the version at hand has what is asked.
 
+use crate::plain::{has, Plant};
 use crate::question::{fault_of_text, Answer, Declaration, Question, What};
 #[cfg(gimli_0_34)]
 use crate::{library::Set, measure::sets_sum};
@@ -37,7 +38,7 @@ impl Theirs {
     }
 
     /// The result that gimli has to agree with if the library's result is this one: a table that the section's end
-    /// closes is an error in a version that wants the null code.
+    /// closes is an error in a version that needs the null code.
     pub fn wanted(&self, question: &Question, bytes: &[u8], ours: Answer) -> Answer {
         let is_unclosed = match (question.what, &ours) {
             (What::Table, Answer::Table { close, .. }) => matches!(close, Some((false, _))),
@@ -99,7 +100,7 @@ fn number(what: What, bytes: &[u8]) -> Answer {
         What::Short => gimli::leb128::read::u16(&mut input).map(i128::from),
         _ => gimli::leb128::read::skip(&mut input).map(|()| 0),
     };
-    let rest = Some(Reader::len(&input));
+    let rest = Some(Reader::len(&input) + usize::from(has(Plant::Gimli)));
     read.map_or_else(|error| fault(error, bytes, rest), |value| Answer::Value { value, rest })
 }
 

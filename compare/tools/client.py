@@ -12,7 +12,7 @@ import subprocess
 import tempfile
 
 import checks
-from common import DEBIAN, OUT, PACKAGE, Failed, Missing, files_by_default, link_libraries, must, need, put
+from common import DEBIAN, INCLUDE, OUT, PACKAGE, Failed, Missing, files_by_default, link_libraries, must, need, put
 from common import put_sections, run
 
 MANIFEST = """[package]
@@ -43,7 +43,11 @@ debug = 2
 
 [workspace]
 """
-BUILD = """fn main() {
+BUILD = """#[path = "src/layout.rs"]
+mod layout;
+
+fn main() {
+    layout::check("INCLUDE");
     println!("cargo:rerun-if-changed=build.rs");
     println!("cargo:rustc-link-search=native=FOLDER");
     for library in ["dwarf_read_c", "dwarf_compare", "dwarf_read_heap"] {
@@ -54,19 +58,20 @@ BUILD = """fn main() {
 """
 MODULE = "#[allow(missing_docs, missing_debug_implementations, dead_code)]\npub mod {};\n"
 TABLE = """
-        let (declarations, attributes) = crate::calls::table(&self.debug_abbrev_section, debug_abbrev_offset.0)?;
-        let mut table = Abbreviations::empty();
-        for it in declarations {
-            let mut list = Attributes::new();
-            for it in &attributes[it.first..][..it.count] {
-                let form = constants::DwForm(it.form);
-                let value = Some(it.value).filter(|_| form == constants::DW_FORM_implicit_const);
-                list.push(AttributeSpecification::new(constants::DwAt(it.name), form, value));
+        crate::calls::table(&self.debug_abbrev_section, debug_abbrev_offset.0, |declarations, attributes| {
+            let mut table = Abbreviations::empty();
+            for it in declarations {
+                let mut list = Attributes::new();
+                for it in &attributes[it.first_attribute..][..it.attribute_count] {
+                    let form = constants::DwForm(it.form);
+                    let value = Some(it.implicit_const).filter(|_| form == constants::DW_FORM_implicit_const);
+                    list.push(AttributeSpecification::new(constants::DwAt(it.name), form, value));
+                }
+                let (tag, children) = (constants::DwTag(it.tag), constants::DwChildren(it.has_children));
+                let _ = table.insert(Abbreviation::new(it.code, tag, children, list));
             }
-            let (tag, children) = (constants::DwTag(it.tag), constants::DwChildren(it.has_children));
-            let _ = table.insert(Abbreviation::new(it.code, tag, children, list));
-        }
-        Ok(table)"""
+            table
+        })"""
 # The bodies that are replaced: the file, a text before the function, the function's head, and the new body.
 BODIES = [
     ("leb128.rs", "pub mod read", "fn skip<", "crate::calls::skip(r)"),
@@ -151,9 +156,10 @@ def copy(gimli, folder, is_patched):
     # The documentation of gimli has examples that include its page.
     put(f"{gimli}/README.md", f"{folder}/README.md")
     if is_patched:
-        write(BUILD.replace("FOLDER", f"{OUT}/lib"), f"{folder}/build.rs")
+        write(BUILD.replace("FOLDER", f"{OUT}/lib").replace("INCLUDE", INCLUDE), f"{folder}/build.rs")
         put(f"{PACKAGE}/client/calls.rs", f"{folder}/src/calls.rs")
-        put(f"{PACKAGE}/src/library.rs", f"{folder}/src/library.rs")
+        for name in ("library.rs", "layout.rs"):
+            put(f"{PACKAGE}/src/{name}", f"{folder}/src/{name}")
 
 
 def tests(folder, planted=""):

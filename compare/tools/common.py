@@ -8,8 +8,10 @@ import subprocess
 import sys
 
 import kit
+import products
 
 PACKAGE, OUT = f"{kit.ROOT}/compare", f"{kit.ROOT}/compare/out"
+INCLUDE = f"{kit.ROOT}/include"
 LIBRARIES = ("dwarf_read_c", "dwarf_compare")
 DEBIAN = "/usr/share/cargo/registry"
 # How long cargo may try to reach crates.io.
@@ -90,14 +92,14 @@ def make_library(source):
 def link_libraries():
     """Puts both static libraries, and the functions by which they request memory, into one folder."""
     for crate in LIBRARIES:
-        is_built = kit.is_fresh(f"{kit.ROOT}/crates/{crate}/out/lib{crate}.a", crate)
-        if not is_built and not (shutil.which("rt") and shutil.which("rattle")):
+        path = f"{kit.ROOT}/crates/{crate}/out/lib{crate}.a"
+        if not products.find(path, crate) and not (shutil.which("rt") and shutil.which("rattle")):
             raise Missing("there is no rt: CONTRIBUTING.md names the kit that has it")
         words = [f"{kit.ROOT}/tools/static-library", crate]
         if subprocess.run(words, stdin=subprocess.DEVNULL, check=False).returncode:
             raise Failed(f"the static library of {crate} isn't built")
-        put(f"{kit.ROOT}/crates/{crate}/out/lib{crate}.a", f"{OUT}/lib/lib{crate}.a")
-    put(make_library(f"{kit.ROOT}/include/dwarf_read_heap.c"), f"{OUT}/lib/libdwarf_read_heap.a")
+        put(path, f"{OUT}/lib/lib{crate}.a")
+    put(make_library(f"{INCLUDE}/dwarf_read_heap.c"), f"{OUT}/lib/libdwarf_read_heap.a")
 
 
 def copy_package(folder, is_locked):
@@ -146,7 +148,7 @@ def build(is_debian, in_front=0):
     put_in_front(in_front)
     # The processor that the kit compiles for.
     flags = os.environ.get("RUSTFLAGS", "") + " -C target-cpu=x86-64-v2"
-    environment = {**os.environ, "COMPARE_LIB": f"{OUT}/lib", "RUSTFLAGS": flags.strip()}
+    environment = {**os.environ, "COMPARE_LIB": f"{OUT}/lib", "COMPARE_INCLUDE": INCLUDE, "RUSTFLAGS": flags.strip()}
     words = ["cargo", "build", "--quiet", "--release", "--target-dir", f"{folder}/target", *words]
     must(words, "the program that compares isn't built", cwd=folder, env=environment)
     return f"{folder}/target/release/compare"

@@ -8,7 +8,7 @@ from common import say
 COMMENT = re.compile(r"/\*.*?\*/|//[^\n]*", re.S)
 # An enumerator, or a macro whose value is a number or another name.
 ENUMERATOR = re.compile(r"^\s*(?:#\s*define\s+)?(DW_\w+)(?:\s*=\s*|[ \t]+)(\w+)\s*,?\s*$", re.M)
-# The arguments of a macro: a value, and the name behind that of the family. Some values hold only for one
+# The arguments of a macro: a value, and the name after that of the family. Some values hold only for one
 # machine, which the family's name tells.
 HANDLED = re.compile(r"^HANDLE_(DW_[A-Z_]+?)(?:_PRED)?\((\w+),\s*(\w+)", re.M)
 

@@ -12,7 +12,7 @@ from common import Failed, build, must, need, run, sections
 # The C library copies a large block by one instruction that valgrind counts once a byte. With this setting it copies by
 # moves of 32 bytes, as it does small blocks.
 COUNTED_COPIES = {"GLIBC_TUNABLES": "glibc.cpu.x86_rep_movsb_threshold=1073741824"}
-# A processor runs the same code faster or slower by where it lies, so the library is timed with so many bytes in front.
+# A processor runs the same code faster or slower by where it lies, so the library is timed with this many bytes before it.
 PLACES = (0, 16, 32, 48)
 
 

@@ -7,6 +7,7 @@ import subprocess
 import tempfile
 
 import kit
+import products
 from common import Failed, build, must, say
 from measure import what_ran
 
@@ -82,11 +83,8 @@ def row_of(name, found):
 
 def program(given):
     """Prints the table."""
-    where = f"{kit.ROOT}/crates/dwarf_list/out/dwarf_list"
-    if not os.path.isfile(where):
-        raise Failed("dwarf_list isn't built: `./dwarf_list --prove` builds it")
-    if not kit.is_fresh(where, "dwarf_list"):
-        say("dwarf_list is older than some source: this is the speed of what was built")
+    if not products.find(kit.programs("dwarf_list")[0], "dwarf_list"):
+        raise Failed("dwarf_list isn't built from these sources: `./dwarf_list --prove` builds it")
     built = build(given.debian)
     for tool, package in (("readelf", "binutils"), ("llvm-dwarfdump", "llvm")):
         if not shutil.which(tool):

@@ -1,4 +1,4 @@
-//! The library's calls, for programs that compare them with another library or measure them beside
+//! The library's calls, for programs that compare them with another library or measure them next to
 //! it.
 //!
 //! `tools/compare` calls these functions from Rust: `ours.rs`, `measure.rs` and `library.rs` of

@@ -3,7 +3,7 @@
 use dwarf_read_core::leb128::read;
 use dwarf_read_core::{EndianSlice, LittleEndian, Reader};
 
-/// Reads the unsigned numbers that `bytes` are one after the other, and returns their sum modulo
+/// Reads the consecutive unsigned numbers that `bytes` consist of, and returns their sum modulo
 /// 2^64, or 0 if one of them is none.
 #[unsafe(no_mangle)]
 pub extern "C" fn compare_unsigned_sum(bytes: &[u8]) -> u64 {
@@ -46,7 +46,7 @@ pub extern "C" fn compare_short_sum(bytes: &[u8]) -> u64 {
     sum
 }
 
-/// Skips the numbers that `bytes` are one after the other, and returns how many there are, or 0 if
+/// Skips the consecutive numbers that `bytes` consist of, and returns how many there are, or 0 if
 /// the last one is cut.
 #[unsafe(no_mangle)]
 pub extern "C" fn compare_skipped_count(bytes: &[u8]) -> u64 {

@@ -2,7 +2,7 @@
 
 ghost use Rattle.std.specs.Prelude.{◌≡◌, ◌≢◌, ◌≤◌, Ok, Err, length, map, IfOk, IfErr};
 ghost use Rattle.std.specs.FinMap as finite;
-ghost use Rattle.dwarf_read_core.specs.Answer.{Answer, Answers, AnswersStrictly, StrictAnswer};
+ghost use Rattle.dwarf_read_core.specs.Answer.{Answer, Answers};
 ghost use Rattle.dwarf_read_core.specs.Cache.{IsFaithful, answer_of};
 ghost use Rattle.dwarf_read_core.specs.Grammar.{Table};
 ghost use Rattle.dwarf_read_core.specs.Input.{Input};
@@ -66,38 +66,6 @@ pub extern "C" fn compare_skipped(bytes: &[u8], rest: &mut usize, fault: &mut Dw
         Ok(()) => 0,
         Err(error) => reject(error, fault),
     }
-}
-
-/// Reads the table at `offset` of `.debug_abbrev` strictly. Returns 0 if a code of value 0 closes
-/// it, and then `count` is how many abbreviations it has. Otherwise it returns the number of the
-/// error.
-#[unsafe(no_mangle)]
-pub extern "C" fn compare_strict(
-    mem: Global,
-    section: &[u8],
-    offset: usize,
-    count: &mut usize,
-    fault: &mut DwarfFault,
-) -> u32
-    ensures read { let s = section_of section.now in result ≡ 0
-        → (t : Table) × StrictAnswer s offset (Ok t) × (count.new ≡ finite.len t.by_code) }
-    ensures rejected { let s = section_of section.now in
-        result ≢ 0 → Rejects (λ e. AnswersStrictly (Err e) s offset) result fault.new }
-{
-    match strict_at(mem, section, offset) {
-        Ok(table) => {
-            *count = table.len();
-            0
-        }
-        Err(error) => reject(error, fault),
-    }
-}
-
-// The table at an offset, strictly read.
-fn strict_at(mem: Global, section: &[u8], offset: usize) -> Result<Abbreviations>
-    ensures { AnswersStrictly result (section_of section.now) offset }
-{
-    DebugAbbrev::new(section, LittleEndian).abbreviations_strict(mem, DebugAbbrevOffset(offset))
 }
 
 /// Fills a cache with the table at `offset` of the first `before` bytes of `.debug_abbrev`, tells

@@ -34,7 +34,7 @@ fn get_all(table: &Abbreviations, codes: u64) -> u64 {
     sum
 }
 
-// The same, so many times.
+// The same, repeated this many times.
 fn get_rounds(table: &Abbreviations, codes: u64, rounds: u64) -> u64 {
     let mut sum: u64 = 0;
     for _ in 0..rounds {
@@ -43,7 +43,7 @@ fn get_rounds(table: &Abbreviations, codes: u64, rounds: u64) -> u64 {
     sum
 }
 
-/// Looks up the codes from 1 to `codes`, so many times, in the table at `offset`. Returns the sum
+/// Looks up the codes from 1 to `codes`, this many times, in the table at `offset`. Returns the sum
 /// of the tags that are found modulo 2^64, or 2^32 if no table is there.
 #[unsafe(no_mangle)]
 pub extern "C" fn compare_get_sum(

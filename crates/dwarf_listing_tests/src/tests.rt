@@ -14,7 +14,7 @@ mod many;
 
 const CUT: &str = "error: unexpected end of input";
 
-// A declaration with one attribute and children, a code of value 0, and a byte behind it.
+// A declaration with one attribute and children, a code of value 0, and a byte after it.
 const UNIT: &[u8] = b"\x01\x11\x01\x03\x08\0\0\0\xff";
 
 const UNIT_TEXT: &[u8] = b"1 DW_TAG_compile_unit yes\n  DW_AT_name DW_FORM_string\n";

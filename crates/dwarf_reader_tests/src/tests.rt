@@ -17,7 +17,7 @@ mod code_core;
 mod const_core;
 mod reader_core;
 
-// Ends the test where a value isn't the one that is wanted, and tells of what it is the value.
+// Ends the test where a value isn't the one that is wanted, and says what it is the value of.
 fn same<T: PartialEq + Debug + Drop, W: Debug + Copy>(rt: &impl Abort, got: T, wanted: T, what: W) {
     assert_eq!(rt; got, wanted, "{what:?}");
 }

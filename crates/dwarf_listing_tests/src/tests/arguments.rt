@@ -31,7 +31,7 @@ impl Env for Given<'_, '_> {
     }
 }
 
-// The arguments that are read from a system, each with a `;` behind it.
+// The arguments that are read from a system, each with a `;` after it.
 fn taken(mem: Global, given: &[&[u8]]) -> Result<String, Fault> {
     let mut text = String::new(mem);
     for word in command_line(mem, &Given(given))?.iter() {

@@ -65,3 +65,17 @@ fn lists_seventy_declarations_in_rising_order(rt: HostRuntime) -> Result<(), Fai
     let line = "error: duplicate abbreviation code: 35";
     check(&rt, mem, &words, &mut bytes.as_slice(), Err((line, 1)))
 }
+
+// More bytes than the buffer of an input has.
+#[test]
+fn reads_an_input_longer_than_the_buffer(rt: HostRuntime) -> Result<(), Fail> {
+    let mem = rt.alloc();
+    let mut bytes = Vec::new(mem);
+    for _ in 0..70_000 {
+        bytes.push(b'a')?;
+    }
+    let mut text = bytes.clone()?;
+    text.push(b'\n')?;
+    bytes.push(0)?;
+    check(&rt, mem, &["str", "0"], &mut bytes.as_slice(), Ok(&text))
+}

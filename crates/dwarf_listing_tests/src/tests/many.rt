@@ -23,7 +23,7 @@ type Bytes = &'static [u8];
 type Run = (OnError, Kind, Bytes, Bytes, Bytes, Result<bool, ManyFault>);
 
 #[rattlefmt::skip]
-const THREE_STRINGS: Run = (Stop, Strings, STRINGS, b"4\n0\n0008", b"0x4: two\n0x0: one\n0x8: \n", Ok(false));
+const THREE_STRINGS: Run = (Stop, Strings, STRINGS, b"4\n0x0\n0008", b"0x4: two\n0x0: one\n0x8: \n", Ok(false));
 
 #[rattlefmt::skip]
 const TABLES: Run = (
@@ -40,17 +40,35 @@ const GOES_ON: Run = (
     Ok(true),
 );
 
-const RUNS: [Run; 3] = [THREE_STRINGS, TABLES, GOES_ON];
+const NO_OFFSETS: Run = (Stop, Strings, STRINGS, b"", b"", Ok(false));
 
-// Offsets, and the number of the first line that isn't one.
-static BAD_LINES: &[(&[u8], u64)] = &[
-    (b"0\n\n", 2),
-    (b"0\r\n", 1),
-    (b"9\n0\n+0\n", 3),
-    (b"0x0", 1),
-    (b"0 \n", 1),
-    (b"0\n\xe9\n", 2),
-    (b"18446744073709551616", 1),
+// Each of the tables needs memory.
+#[rattlefmt::skip]
+const TWO_TABLES: Run = (
+    Stop, Tables, b"\x01\x11\0\0\0\0\x01\x11\0\0\0\0", b"0\n6\n",
+    b"table 0x0:\n1 DW_TAG_compile_unit no\ntable 0x6:\n1 DW_TAG_compile_unit no\n",
+    Ok(false),
+);
+
+const RUNS: [Run; 5] = [THREE_STRINGS, TABLES, GOES_ON, NO_OFFSETS, TWO_TABLES];
+
+// Offsets, and the number and the quote of the first line that isn't one.
+#[rattlefmt::skip]
+static BAD_LINES: &[(&[u8], u64, &str)] = &[
+    (b"0\n\n", 2, r#""""#),
+    (b"0\r\n", 1, r#""0\r""#),
+    (b"9\n0xAf\n+0\n", 3, r#""+0""#),
+    (b"0x", 1, r#""0x""#),
+    (b"0x+1", 1, r#""0x+1""#),
+    (b"0xg", 1, r#""0xg""#),
+    (b"0X1", 1, r#""0X1""#),
+    (b"ff", 1, r#""ff""#),
+    (b"0 \n", 1, r#""0 ""#),
+    (b"0\n\xe9\t\"\\\n", 2, r#""\xe9\t\"\\""#),
+    (b"0x0ffffffffffffffff\n18446744073709551616", 2, r#""18446744073709551616""#),
+    (b"0x10000000000000000", 1, r#""0x10000000000000000""#),
+    (b"a234567890b234567890c234567890d234567890\n", 1, r#""a234567890b234567890c234567890d234567890""#),
+    (b"a234567890b234567890c234567890d234567890e", 1, r#""a234567890b234567890c234567890d234567890"..."#),
 ];
 
 fn write_run<O: Write>(mem: Global, run: &Run, output: &mut O) -> Result<bool, ManyFault> {
@@ -61,13 +79,24 @@ fn write_run<O: Write>(mem: Global, run: &Run, output: &mut O) -> Result<bool, M
 #[test]
 fn a_bad_line_ends_the_run(rt: HostRuntime) -> Result<(), Fail> {
     let mem = rt.alloc();
-    for (offsets, line) in BAD_LINES {
+    for (offsets, line, quote) in BAD_LINES {
+        let wanted = format!(in mem; "error: line {line} of the offsets is no offset: {quote}")?;
         for on_error in [Stop, GoOn] {
-            let end = Err(ManyFault::Line(*line));
-            let run = (on_error, Strings, *offsets, *offsets, b"".as_slice(), end);
+            let run = (
+                on_error,
+                Strings,
+                *offsets,
+                *offsets,
+                b"".as_slice(),
+                Ok(false),
+            );
             let mut output = Vec::new(mem);
-            assert_eq!(rt; write_run(mem, &run, &mut output), end, "{offsets:?}");
-            assert_eq!(rt; output.len(), 0, "{offsets:?}");
+            let Err(fault) = write_run(mem, &run, &mut output) else {
+                assert!(rt; false, "{offsets:?}");
+                continue;
+            };
+            assert_eq!(rt; fault.to_string(mem)?.as_str(), wanted.as_str());
+            assert_eq!(rt; (fault.status(), output.len()), (1, 0), "{offsets:?}");
         }
     }
     Ok(())
@@ -82,9 +111,18 @@ type Named = (
 #[rattlefmt::skip]
 static NAMED: &[Named] = &[
     (&[b"abbrev", b"x"], Some((Stop, Tables, "x", "-"))),
+    (&[b"str", b"x", b"-"], Some((Stop, Strings, "x", "-"))),
     (&[b"str", b"-", b"x"], Some((Stop, Strings, "-", "x"))),
+    (&[b"str", b"x", b"x"], Some((Stop, Strings, "x", "x"))),
     (&[b"--keep-going", b"str", b"x"], Some((GoOn, Strings, "x", "-"))),
+    (&[], None),
+    (&[b"--keep-going"], None),
+    (&[b"abbrev"], None),
+    (&[b"addr", b"x"], None),
     (&[b"abbrev", b"-"], None),
+    (&[b"abbrev", b"-", b"-"], None),
+    (&[b"abbrev", b"x", b"-", b"0"], None),
+    (&[b"abbrev", b"x", b"--keep-going", b"0"], None),
 ];
 
 #[test]
@@ -134,12 +172,16 @@ fn inputs_fail_at_each_call(rt: HostRuntime) -> Result<(), Fail> {
             let end = (b"".as_slice(), Err(ManyFault::ReadOffsets));
             check_ends(&rt, mem, &run, (section_calls, good_calls), end)?;
         }
+        // The section is read first.
+        let end = (b"".as_slice(), Err(ManyFault::ReadSection));
+        check_ends(&rt, mem, &run, (0, 0), end)?;
         check_ends(&rt, mem, &run, (section_calls, calls), (text, outcome))?;
     }
     Ok(())
 }
 
-// Each byte of the text is written by a call of its own, also before an error at an offset. Then the output is flushed.
+// Each byte of the text is written by a call of its own, also before an error at an offset, and then the output is
+// flushed. No call follows the one that fails.
 #[test]
 fn outputs_fail_at_each_call(rt: HostRuntime) -> Result<(), Fail> {
     let mem = rt.alloc();
@@ -156,14 +198,33 @@ fn outputs_fail_at_each_call(rt: HostRuntime) -> Result<(), Fail> {
             assert_eq!(rt; ended, wanted, "{good_calls}");
             let written = &text[..good_calls.min(text.len())];
             assert_eq!(rt; output.inner.as_slice(), written, "{good_calls}");
+            let calls = (text.len() + 1).min(good_calls.saturating_add(1));
+            assert_eq!(rt; output.calls, calls, "{good_calls}");
         }
     }
     Ok(())
 }
 
-// A run writes the whole text, or it returns that memory ran out and has written the text of the offsets before: so
-// many bytes. `tools/fail-alloc` makes each allocation fail.
-fn check_refused(rt: &impl Abort, mem: Global, run: &Run, stops: &[usize]) -> Result<(), Fail> {
+// The second of these texts doesn't fit into the buffer, so a write fails before the last offset.
+#[test]
+fn no_write_follows_one_that_fails(rt: HostRuntime) -> Result<(), Fail> {
+    let mem = rt.alloc();
+    let mut section = Vec::new(mem);
+    for _ in 0..40_000 {
+        section.push(b'a')?;
+    }
+    section.push(0)?;
+    let mut output = Failing::new(Vec::new(mem), 0, ErrorKind::OutOfMemory);
+    let (mut section, mut offsets) = (section.as_slice(), b"0\n0\n0\n".as_slice());
+    let outcome = run_many(mem, Stop, Strings, &mut section, &mut offsets, &mut output);
+    let wanted = (Err(ManyFault::Other(Fault::Write)), 1);
+    assert_eq!(rt; (outcome, output.calls), wanted);
+    Ok(())
+}
+
+// A run writes the whole text, or it returns that memory ran out and has written the text of the offsets before. How
+// many bytes these are is printed, for `tools/fail-alloc`.
+fn check_refused<R: Abort + Print>(rt: &R, mem: Global, run: &Run) -> Result<(), Fail> {
     let Ok(mut output) = Vec::with_capacity(mem, 128) else {
         return Ok(());
     };
@@ -171,7 +232,7 @@ fn check_refused(rt: &impl Abort, mem: Global, run: &Run, stops: &[usize]) -> Re
     let outcome = write_run(mem, run, &mut output);
     if outcome == Err(ManyFault::Other(Fault::out_of_memory())) {
         assert!(rt; text.starts_with(output.as_slice()), "{offsets:?}");
-        assert!(rt; stops.contains(&output.len()), "{offsets:?}");
+        println!(rt; "reached: {} of {} bytes", output.len(), text.len())?;
     } else {
         assert_eq!(rt; outcome, wanted, "{offsets:?}");
         assert_eq!(rt; output.as_slice(), text, "{offsets:?}");
@@ -179,12 +240,47 @@ fn check_refused(rt: &impl Abort, mem: Global, run: &Run, stops: &[usize]) -> Re
     Ok(())
 }
 
+// `tools/fail-alloc` makes each allocation fail, and looks for each line that begins with `wanted: ` among those that
+// begin with `reached: `. So memory runs out before the first table, and before the second.
 #[test]
 fn refused_memory_for_many_offsets(rt: HostRuntime) -> Result<(), Fail> {
     let mem = rt.alloc();
-    check_refused(&rt, mem, &THREE_STRINGS, &[0, 9, 18])?;
-    check_refused(&rt, mem, &TABLES, &[0, 36, 47])?;
-    check_refused(&rt, mem, &GOES_ON, &[0, 36, 91])?;
+    for run in RUNS {
+        check_refused(&rt, mem, &run)?;
+    }
+    println!(rt; "wanted: 0 of 72 bytes")?;
+    println!(rt; "wanted: 36 of 72 bytes")?;
     end_requests(&rt, mem);
+    Ok(())
+}
+
+// Errors, each with its line and its status.
+#[rattlefmt::skip]
+static SAID: &[(ManyFault, &str, u8)] = &[
+    (ManyFault::At(31, Error::AbbreviationTagZero), "error at 0x1f: invalid abbreviation tag: zero", 1),
+    (ManyFault::ReadSection, "error: cannot read the section", 3),
+    (ManyFault::ReadOffsets, "error: cannot read the offsets", 3),
+    (ManyFault::Other(Fault::Section(Error::OutOfMemory)), "error: out of memory", 1),
+    (ManyFault::Other(Fault::Usage), "usage: dwarf_list_many [--keep-going] abbrev|str SECTION [OFFSETS]", 2),
+    (ManyFault::Other(Fault::Write), "error: cannot write output", 3),
+];
+
+fn check_said(
+    rt: &impl Abort,
+    mem: Global,
+    fault: ManyFault,
+    line: &str,
+    status: u8,
+) -> Result<(), Fail> {
+    assert_eq!(rt; fault.to_string(mem)?.as_str(), line);
+    assert_eq!(rt; fault.status(), status, "{line}");
+    Ok(())
+}
+
+#[test]
+fn errors_have_a_line_and_a_status(rt: HostRuntime) -> Result<(), Fail> {
+    for (fault, line, status) in SAID {
+        check_said(&rt, rt.alloc(), *fault, line, *status)?;
+    }
     Ok(())
 }

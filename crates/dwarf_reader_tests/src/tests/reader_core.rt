@@ -15,7 +15,7 @@ mod readers;
 // A call of a reader. One that returns no number returns 0 here.
 #[derive(Clone, Copy)]
 enum Call {
-    // A number of so many bytes.
+    // A number of this many bytes.
     Unsigned(u8),
     Signed(u8),
     // A LEB128 number.
@@ -36,11 +36,11 @@ enum Call {
     Skip(u8),
     Truncate(u8),
     Empty,
-    // Both are told of the bytes that remain, and the second is 1 if there are none.
+    // Both get the bytes that remain, and the second is 1 if there are none.
     Len,
     IsEmpty,
     Find(u8),
-    // The offset behind so many bytes, from their first.
+    // The offset after this many bytes, from their first.
     OffsetBehind(u8),
     // The offset of a position, or -1 if it is outside of the bytes.
     Lookup(u64),
@@ -52,10 +52,10 @@ enum Call {
     SplitPosition(u8),
 }
 
-// A call, what it returns, and the position behind it.
+// A call, what it returns, and the position after it.
 type Step = (Call, Result<i128>, u64);
 
-// A byte order, bytes, and calls one behind the other.
+// A byte order, bytes, and consecutive calls.
 type Row = (RunTimeEndian, &'static [u8], &'static [Step]);
 
 const LITTLE: RunTimeEndian = RunTimeEndian::Little;
@@ -222,7 +222,7 @@ fn place<R: Reader>(input: &R, call: Call) -> Result<i128> {
     }
 }
 
-// What a call returns, and the position behind it.
+// What a call returns, and the position after it.
 fn result_of<R: Reader>(input: &mut R, asked: Call) -> (Result<i128>, u64) {
     let returned = outcome(input, asked);
     (returned, input.offset_id().0)

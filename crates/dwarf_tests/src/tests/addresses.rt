@@ -63,7 +63,7 @@ static ADDRESSES: &[(&[u8], RunTimeEndian, u8, usize, usize, Result<u64>)] = &[
     (b"", Little, 4, 0, 0, Err(eof!(0))),
 ];
 
-// The address of a size that an index names behind a base.
+// The address of a size at an index, counted from a base.
 fn address_in(
     bytes: &[u8],
     order: RunTimeEndian,
@@ -223,7 +223,7 @@ fn push(address: Result<u64>, addresses: &mut Vec<u64>) -> Result<()> {
     Ok(addresses.push(address?)?)
 }
 
-// Ends the test where the sets in these bytes don't have so many of the four addresses up to the first error, or have
+// Ends the test where the sets in these bytes don't have that many of the four addresses up to the first error, or have
 // another error.
 fn check_walk(rt: &impl Abort, mem: Global, bytes: &[u8], count: usize, end: Result<()>) {
     let (mut found, wanted) = (Vec::new(mem), &FOUR_ADDRESSES[..count.min(4)]);

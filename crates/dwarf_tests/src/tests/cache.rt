@@ -175,11 +175,11 @@ fn next_after_populate(
 }
 
 #[test]
-fn nothing_is_asked_behind_an_error(rt: HostRuntime) {
+fn nothing_is_asked_after_an_error(rt: HostRuntime) {
     let mut cache = AbbreviationsCache::new(rt.alloc());
     let next = next_after_populate(&mut cache, ONE, UNITS);
-    let behind = Ok(Some(Ok(DebugAbbrevOffset(7))));
-    same(&rt, next, behind, "behind the error");
+    let after = Ok(Some(Ok(DebugAbbrevOffset(7))));
+    same(&rt, next, after, "after the error");
     let kept: &[Row] = &[(NONE, 5, Ok(NO_TABLE))];
     check_get(&rt, &cache, kept, "before the error");
 }
@@ -208,13 +208,13 @@ fn growing_sections_are_read_again(rt: HostRuntime) {
     ];
     check_get(&rt, &cache, before, "before");
     cache.section_grew();
-    let behind: &[Row] = &[
+    let after: &[Row] = &[
         (LONGER, 0, Ok(CLOSED_TABLE)),
         (LONGER, 2, Err(Error::AbbreviationTagZero)),
         (LONGER, 5, Ok(CLOSED_TABLE)),
         (LONGER, 11, Ok(CLOSED_TABLE)),
     ];
-    check_get(&rt, &cache, behind, "grown");
+    check_get(&rt, &cache, after, "grown");
 }
 
 // What a cache keeps of the section with one declaration at 0, 5 and 7, seen by sections that have something else
@@ -232,7 +232,7 @@ fn populated(mem: Global) -> Result<AbbreviationsCache> {
     Ok(cache)
 }
 
-// Ends the test where such a cache has something else behind a call: these tables, or if memory ran out the old ones.
+// Ends the test where such a cache has something else after a call: these tables, or if memory ran out the old ones.
 fn check_changed(rt: &impl Abort, cache: &AbbreviationsCache, changed: Result<()>, rows: &[Row]) {
     match changed {
         Ok(()) => check_get(rt, cache, rows, "changed"),

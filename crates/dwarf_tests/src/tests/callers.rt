@@ -8,9 +8,8 @@ use dwarf_read_core::{
     DebugStrOffsets, DebugStrOffsetsBase, DebugStrOffsetsIndex, Format, Reader, ReaderOffset,
     Result,
 };
-use dwarf_uses::callers::{
-    addresses_in, string_by_index, table_lengths, table_text, tag_of, two_tables,
-};
+use dwarf_uses::callers::{addresses_in, string_by_index, table_lengths, tag_of, two_tables};
+use dwarf_uses::calling::read_core::table_text;
 use dwarf_uses::parts::{clone_is_equal, split_ten};
 use std::alloc::Global;
 use std::process::Abort;
@@ -51,7 +50,7 @@ fn check_lengths<R: Reader<Offset = usize>>(
     Ok(())
 }
 
-// Ends the test if the table at 0 hasn't three declarations, and the one behind it none.
+// Ends the test if the table at 0 hasn't three declarations, and the one after it none.
 fn check_two<R: Reader>(rt: &impl Abort, mem: Global, section: &DebugAbbrev<R>) -> Result<()> {
     let offset = DebugAbbrevOffset(R::Offset::from_u8(0));
     let (first, second) = two_tables(mem, section, offset)?;
@@ -67,8 +66,8 @@ fn tables_are_walked(rt: HostRuntime) {
     same(&rt, lengths, Ok(()), "lengths");
     let two = check_two(&rt, rt.alloc(), &little(THREE).into());
     same(&rt, two, Ok(()), "two tables");
-    let behind = check_two(&rt, rt.alloc(), &little(UNIT).into());
-    same(&rt, behind, Err(eof!(9)), "a number is cut behind a table");
+    let after = check_two(&rt, rt.alloc(), &little(UNIT).into());
+    same(&rt, after, Err(eof!(9)), "a number is cut after a table");
 }
 
 const OFFSETS: &[u8] = b"\x0c\0\0\0\x05\0\0\0\0\0\0\0\x04\0\0\0";

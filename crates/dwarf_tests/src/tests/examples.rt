@@ -1,6 +1,7 @@
 //! The examples of the documentation, each as it is there. `tools/api` compares them.
 
-use super::worked::{STRINGS, TWO_SETS, UNIT};
+use super::string_offset_sets::TWO_SETS as TWO_OFFSET_SETS;
+use super::worked::{FOUR_ADDRESSES, STRINGS, TWO_SETS, UNIT};
 use super::{little, same};
 use dwarf_read_core::constants::{DW_TAG_compile_unit, DwTag};
 use dwarf_read_core::leb128::write::Leb128;
@@ -10,7 +11,6 @@ use dwarf_read_core::{
     LittleEndian, Reader, ReaderAddress, ReaderOffset, ReaderOffsetId, Result, Section,
 };
 use std::alloc::Global;
-use std::fmt::Display;
 use std::test::Fail;
 
 // The end of a part, at any type of offsets.
@@ -99,36 +99,31 @@ fn examples_of_sections(rt: HostRuntime) {
     same(&rt, string_of_file(), Ok(b"two".as_slice()), "string");
 }
 
-fn print_addresses<R: Reader>(
-    rt: &impl Print,
-    section: &DebugAddr<R>,
-) -> std::result::Result<(), Fail> {
+fn addresses_of<R: Reader>(mem: Global, section: &DebugAddr<R>) -> Result<Vec<u64>> {
+    let mut addresses = Vec::new(mem);
     for header in section.headers()? {
         for address in header?.entries()? {
-            println!(rt; "{:#x}", address?)?;
+            addresses.push(address?)?;
         }
     }
-    Ok(())
+    Ok(addresses)
 }
 
-fn print_offsets<R: Reader>(
-    rt: &impl Print,
-    section: &DebugStrOffsets<R>,
-) -> std::result::Result<(), Fail>
-where
-    R::Offset: Display,
-{
+fn offsets_of<R: Reader>(mem: Global, section: &DebugStrOffsets<R>) -> Result<Vec<R::Offset>> {
+    let mut offsets = Vec::new(mem);
     for header in section.headers()? {
         for offset in header?.entries()? {
-            println!(rt; "{}", offset?.0)?;
+            offsets.push(offset?.0)?;
         }
     }
-    Ok(())
+    Ok(offsets)
 }
 
 #[test]
 fn examples_of_sets(rt: HostRuntime) -> std::result::Result<(), Fail> {
-    let offsets = b"\x08\0\0\0\x05\0\0\0\x04\0\0\0";
-    print_addresses(&rt, &little(TWO_SETS).into())?;
-    print_offsets(&rt, &little(offsets).into())
+    let addresses = addresses_of(rt.alloc(), &little(TWO_SETS).into())?;
+    assert_eq!(rt; addresses.as_slice(), FOUR_ADDRESSES.as_slice());
+    let offsets = offsets_of(rt.alloc(), &little(TWO_OFFSET_SETS).into())?;
+    assert_eq!(rt; offsets.as_slice(), [1000, 1001, 1000].as_slice());
+    Ok(())
 }

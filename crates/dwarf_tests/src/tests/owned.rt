@@ -37,7 +37,7 @@ fn constants_tell_of_clones(rt: HostRuntime) {
 // Ends the test where the strings one and two aren't there, or one has a clone.
 fn check_parts<R: Reader>(rt: &impl Abort, mem: Global, strings: &mut R) -> Result<()> {
     check_one(rt, mem, &mut strings.read_null_terminated_slice()?)?;
-    same(rt, strings.offset_id().0, 4, "behind one");
+    same(rt, strings.offset_id().0, 4, "after one");
     check_two(rt, &mut strings.split(R::Offset::from_u8(3))?)
 }
 
@@ -66,7 +66,7 @@ fn check_two<R: Reader>(rt: &impl Abort, two: &mut R) -> Result<()> {
     check_bytes(rt, two, b"two")?;
     same(rt, two.read_sleb128()?, -12, "t");
     two.skip_leb128()?;
-    same(rt, two.offset_id().0, 6, "behind w");
+    same(rt, two.offset_id().0, 6, "after w");
     Ok(())
 }
 
@@ -85,7 +85,7 @@ fn lengths_have_32_bits(rt: HostRuntime) -> std::result::Result<(), Fail> {
     let mut reader = owned(rt.alloc(), LONG, 0)?;
     let error = reader.read_initial_length().err();
     same(&rt, error, Some(UnsupportedOffset), "a length");
-    same(&rt, reader.offset_id().0, 12, "behind the length");
+    same(&rt, reader.offset_id().0, 12, "after the length");
     let section = DebugAddr::from(owned(rt.alloc(), LONG, 2)?);
     let checked = check_sets(&rt, &section, (&[], Err(UnsupportedOffset)), LONG);
     same(&rt, checked, Ok(()), "a set");

@@ -1,11 +1,15 @@
 //! Sections: their names, and what they have in common.
 
-use super::{check_part, little, reader_at, same};
+use super::owned::owned;
+use super::{check_bytes, check_part, little, reader_at, same};
 use dwarf_read_core::{
     DebugAbbrev, DebugAddr, DebugLineStr, DebugStr, DebugStrOffsets, EndianSlice, LittleEndian,
     Reader, ReaderOffsetId, Result, Section, SectionId,
 };
+use dwarf_uses::OwnedReader;
+use std::alloc::Global;
 use std::process::Abort;
+use std::test::Fail;
 
 type Slice<'a> = EndianSlice<'a, LittleEndian>;
 
@@ -34,10 +38,23 @@ fn check_range<R: Reader, S: Section<R> + Drop>(
     }
 }
 
-// Ends the test where a kind of section has another identifier, another name or other ranges.
-fn check_section<R: Reader, S: Section<R> + Drop>(rt: &impl Abort, reader: R, id: SectionId) {
+// The names of a section: its own, that of its split form, and that in XCOFF.
+type Names = (&'static str, Option<&'static str>, Option<&'static str>);
+
+// Ends the test where a kind of section has another identifier, other names or other ranges.
+fn check_section<R: Reader, S: Section<R> + Drop>(
+    rt: &impl Abort,
+    reader: R,
+    id: SectionId,
+    names: Names,
+) {
     same(rt, S::id(), id, id);
-    same(rt, S::section_name(), id.name(), id);
+    let found = (
+        S::section_name(),
+        S::dwo_section_name(),
+        S::xcoff_section_name(),
+    );
+    same(rt, found, names, id);
     let section = S::from(reader);
     for row in RANGES {
         same(rt, check_range::<R, S>(rt, &section, *row), Ok(()), id);
@@ -45,15 +62,20 @@ fn check_section<R: Reader, S: Section<R> + Drop>(rt: &impl Abort, reader: R, id
 }
 
 fn check_sections<R: Reader + Copy>(rt: &impl Abort, reader: R) {
-    check_section::<R, DebugAbbrev<R>>(rt, reader, SectionId::DebugAbbrev);
-    check_section::<R, DebugAddr<R>>(rt, reader, SectionId::DebugAddr);
-    check_section::<R, DebugStr<R>>(rt, reader, SectionId::DebugStr);
-    check_section::<R, DebugStrOffsets<R>>(rt, reader, SectionId::DebugStrOffsets);
-    check_section::<R, DebugLineStr<R>>(rt, reader, SectionId::DebugLineStr);
+    let names = (".debug_abbrev", Some(".debug_abbrev.dwo"), Some(".dwabrev"));
+    check_section::<R, DebugAbbrev<R>>(rt, reader, SectionId::DebugAbbrev, names);
+    let names = (".debug_addr", None, None);
+    check_section::<R, DebugAddr<R>>(rt, reader, SectionId::DebugAddr, names);
+    let names = (".debug_str", Some(".debug_str.dwo"), Some(".dwstr"));
+    check_section::<R, DebugStr<R>>(rt, reader, SectionId::DebugStr, names);
+    let names = (".debug_str_offsets", Some(".debug_str_offsets.dwo"), None);
+    check_section::<R, DebugStrOffsets<R>>(rt, reader, SectionId::DebugStrOffsets, names);
+    let names = (".debug_line_str", None, None);
+    check_section::<R, DebugLineStr<R>>(rt, reader, SectionId::DebugLineStr, names);
 }
 
 #[test]
-fn sections_have_identifiers_and_ranges(rt: HostRuntime) {
+fn sections_have_names_and_ranges(rt: HostRuntime) {
     check_sections(&rt, little(b"0123456789"));
 }
 
@@ -74,28 +96,38 @@ fn positions_are_looked_up(rt: HostRuntime) {
     }
 }
 
-// A loader that has strings alone.
-fn load(id: SectionId) -> std::result::Result<Slice<'static>, SectionId> {
-    match id {
-        SectionId::DebugStr => Ok(little(b"abc\0")),
-        _ => Err(id),
+// Ends the test where a kind of section doesn't call its loader once, with this identifier, or doesn't return what that
+// returns.
+fn check_load<S: Section<OwnedReader> + Drop>(
+    rt: &impl Abort,
+    mem: Global,
+    id: SectionId,
+) -> Result<()> {
+    let reader = owned(mem, b"abc\0", 0)?;
+    let mut calls = 0u8;
+    let loaded = S::load(|asked| {
+        calls = calls.wrapping_add(1);
+        if asked == id { Ok(reader) } else { Err(asked) }
+    });
+    match loaded {
+        Ok(section) => check_bytes(rt, section.reader(), b"abc\0")?,
+        Err(other) => same(rt, other, id, id),
     }
-}
-
-// The bytes of the strings that are loaded.
-fn loaded() -> std::result::Result<&'static [u8], SectionId> {
-    Ok(DebugStr::load(load)?.reader().slice())
-}
-
-// What is returned in place of the addresses.
-fn unloaded() -> Option<SectionId> {
-    DebugAddr::load(load).err()
+    same(rt, calls, 1, id);
+    let refused = S::load(|asked| Err((asked, 7u8))).err();
+    same(rt, refused, Some((id, 7)), id);
+    Ok(())
 }
 
 #[test]
-fn sections_are_loaded(rt: HostRuntime) {
-    same(&rt, loaded(), Ok(b"abc\0".as_slice()), "strings");
-    same(&rt, unloaded(), Some(SectionId::DebugAddr), "addresses");
+fn sections_are_loaded(rt: HostRuntime) -> std::result::Result<(), Fail> {
+    let mem = rt.alloc();
+    check_load::<DebugAbbrev<OwnedReader>>(&rt, mem, SectionId::DebugAbbrev)?;
+    check_load::<DebugAddr<OwnedReader>>(&rt, mem, SectionId::DebugAddr)?;
+    check_load::<DebugStr<OwnedReader>>(&rt, mem, SectionId::DebugStr)?;
+    check_load::<DebugStrOffsets<OwnedReader>>(&rt, mem, SectionId::DebugStrOffsets)?;
+    check_load::<DebugLineStr<OwnedReader>>(&rt, mem, SectionId::DebugLineStr)?;
+    Ok(())
 }
 
 fn borrowed<'a>(bytes: &'a [u8; 4]) -> Slice<'a> {

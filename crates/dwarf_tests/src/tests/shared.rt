@@ -15,13 +15,13 @@ fn clone_of<R: Reader>(reader: R) -> Result<R> {
 fn check_second<R: Reader>(rt: &impl Abort, reader: &mut R) -> Result<()> {
     reader.skip(R::Offset::from_u8(4))?;
     check_two(rt, &mut reader.read_null_terminated_slice()?)?;
-    same(rt, reader.read_u8().err(), Some(eof!(8)), "behind two");
+    same(rt, reader.read_u8().err(), Some(eof!(8)), "after two");
     Ok(())
 }
 
 fn check_two<R: Reader>(rt: &impl Abort, two: &mut R) -> Result<()> {
     same(rt, read_u8_array::<_, 3>(two)?, *b"two", "two");
-    same(rt, two.offset_id().0, 7, "behind o");
+    same(rt, two.offset_id().0, 7, "after o");
     Ok(())
 }
 

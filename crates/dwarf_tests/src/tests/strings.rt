@@ -71,7 +71,7 @@ fn default_sections_have_no_bytes(rt: HostRuntime) {
     }
 }
 
-// The offset that an index names behind a base.
+// The offset at an index, counted from a base.
 fn offset_in(
     bytes: &[u8],
     order: RunTimeEndian,
@@ -84,7 +84,7 @@ fn offset_in(
     Ok(section.get_str_offset(format, base, index)?.0)
 }
 
-// A format, a base and an index, and the offset that they name behind a header of the words 1000 to 1019.
+// A format, a base and an index, and the offset that they name after a header of the words 1000 to 1019.
 static OFFSETS: &[(Format, usize, usize, Result<usize>)] = &[
     (Dwarf32, 8, 0, Ok(1000)),
     (Dwarf32, 8, 1, Ok(1001)),

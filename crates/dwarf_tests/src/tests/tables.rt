@@ -29,7 +29,7 @@ macro_rules! unterminated {
 // Two declarations with the code 1.
 const TWICE: &[u8] = b"\x01\x11\0\0\0\x01\x11\0\0\0";
 
-// Two declarations behind four bytes, and bytes behind their table.
+// Two declarations after four bytes, and bytes after their table.
 const TWO_CODES: &[u8] = b"\x01\x02\x03\x04\x02\x2e\0\x03\x08\0\0\
     \x01\x11\x01\x25\x0e\x13\x05\0\0\0\x05\x06\x07\x08";
 
@@ -58,19 +58,17 @@ fn strict_table_at(mem: Global, first: u8, bytes: &[u8], offset: usize) -> Resul
     section.abbreviations_strict(mem, DebugAbbrevOffset(offset))
 }
 
-// Whether a table has these declarations and no others, by rising code and by `get`, and has the same end.
+// Whether a table has these declarations and no others, by rising code and by `get`, and what closes it.
 pub(super) fn is_table(table: &Abbreviations, (declarations, is_closed): Table) -> bool {
-    for (found, (code, declaration)) in table.iter().zip(declarations) {
-        if found.code() != *code || !is_declared(found, *declaration) {
-            return false;
-        }
-    }
+    let mut found = table.iter();
     for (code, declaration) in declarations {
-        if !is_found(table.get(*code), *code, *declaration) {
+        let is_next = is_found(found.next(), *code, *declaration);
+        if !is_next || !is_found(table.get(*code), *code, *declaration) {
             return false;
         }
     }
-    table.len() == declarations.len()
+    found.next().is_none()
+        && table.len() == declarations.len()
         && table.is_empty() == declarations.is_empty()
         && table.closed_by_null() == is_closed
 }
@@ -197,40 +195,61 @@ fn default_sections_have_no_bytes(rt: HostRuntime) {
     check_read(&rt, table, Ok(NO_TABLE), b"");
 }
 
-// Bytes, and the lengths of their beginnings that are whole tables, each with its number of declarations, whether a
-// code of value 0 closes it, and where it ends.
+const NAMED_UNIT: (u64, Declaration) = (1, (DW_TAG_compile_unit, true, &[NAME]));
+
+const VALUED: (u64, Declaration) = (1, (DW_TAG_subprogram, false, &[VALUE]));
+
+// Bytes, and the lengths of their beginnings that are whole tables, each with the table and where it ends.
 #[rattlefmt::skip]
-static CUTS: &[(&[u8], &[(usize, (usize, bool, usize))])] = &[
-    (UNIT, &[(0, (0, false, 0)), (7, (1, false, 7)), (8, (1, true, 8)), (9, (1, true, 8))]),
-    (IMPLICIT, &[(0, (0, false, 0)), (8, (1, false, 8)), (9, (1, true, 9))]),
-    (THREE, &[(0, (0, false, 0)), (5, (1, false, 5)), (10, (2, false, 10)), (15, (3, false, 15)), (16, (3, true, 16))]),
+static CUTS: &[(&[u8], &[(usize, (Table, usize))])] = &[
+    (UNIT, &[
+        (0, (NO_TABLE, 0)),
+        (7, ((&[NAMED_UNIT], false), 7)),
+        (8, ((&[NAMED_UNIT], true), 8)),
+        (9, ((&[NAMED_UNIT], true), 8)),
+    ]),
+    (IMPLICIT, &[(0, (NO_TABLE, 0)), (8, ((&[VALUED], false), 8)), (9, ((&[VALUED], true), 9))]),
+    (THREE, &[
+        (0, (NO_TABLE, 0)),
+        (5, ((&[(1, BARE)], false), 5)),
+        (10, ((&[(1, BARE), (3, BARE)], false), 10)),
+        (15, ((&[(1, BARE), (2, BARE), (3, BARE)], false), 15)),
+        (16, ((&[(1, BARE), (2, BARE), (3, BARE)], true), 16)),
+    ]),
 ];
 
-// How many declarations a table has, whether a code of value 0 closes it, and where it ends.
-fn length_at(mem: Global, bytes: &[u8]) -> Result<(usize, bool, usize)> {
-    let section = DebugAbbrev::from(reader_at(bytes, LittleEndian, 100));
-    let (table, end) = section.abbreviations_and_end(mem, DebugAbbrevOffset(0))?;
-    Ok((table.len(), table.closed_by_null(), end.0))
+// Ends the test where bytes begin with another table, or it ends elsewhere, or where the first error is another one.
+fn check_cut(rt: &impl Abort, mem: Global, bytes: &[u8], wanted: Result<(Table, usize)>) {
+    let section = DebugAbbrev::from(reader_at(bytes, LittleEndian, 0));
+    match (
+        section.abbreviations_and_end(mem, DebugAbbrevOffset(0)),
+        wanted,
+    ) {
+        (Ok((table, end)), Ok((wanted, wanted_end))) => {
+            same(rt, is_table(&table, wanted), true, bytes);
+            same(rt, end.0, wanted_end, bytes);
+        }
+        (found, wanted) => same(rt, found.err(), wanted.err(), bytes),
+    }
 }
 
 #[test]
 fn cut_tables_end_early(rt: HostRuntime) {
     for (bytes, whole) in CUTS {
         for len in 0..bytes.len() + 1 {
-            let mut wanted = Err(eof!(100 + len as u64));
+            let mut wanted = Err(eof!(len as u64));
             for (whole_len, table) in *whole {
                 if *whole_len == len {
                     wanted = Ok(*table);
                 }
             }
-            let bytes = &bytes[..len];
-            same(&rt, length_at(rt.alloc(), bytes), wanted, bytes);
+            check_cut(&rt, rt.alloc(), &bytes[..len], wanted);
         }
     }
 }
 
 #[test]
-fn repeats_are_seen_behind_many(rt: HostRuntime) -> std::result::Result<(), Fail> {
+fn repeats_are_seen_after_many(rt: HostRuntime) -> std::result::Result<(), Fail> {
     let mut bytes = Vec::new(rt.alloc());
     for code in (1..71u8).rev() {
         bytes.extend_from_slice(&[code, 0x11, 0, 0, 0])?;
@@ -260,10 +279,10 @@ fn attributes_are_compared(rt: HostRuntime) {
     let name = AttributeSpecification::new(DW_AT_name, DW_FORM_string, None);
     let first = AttributeSpecification::new(DW_AT_name, DW_FORM_implicit_const, Some(1));
     let second = AttributeSpecification::new(DW_AT_name, DW_FORM_implicit_const, Some(2));
-    let copies = [name, first, second];
-    same(&rt, copies, [name, first, second], "copies");
     let found = [name == first, first == second, second == name];
     same(&rt, found, [false; 3], "others");
+    let again = AttributeSpecification::new(DW_AT_name, DW_FORM_implicit_const, Some(1));
+    same(&rt, first == again, true, "made twice");
 }
 
 // Bytes, an offset, and the whole table there.

@@ -26,7 +26,7 @@ pub(super) const CLOSED_TABLE: Table = (&[], true);
 // A table without declarations that the section's end follows.
 pub(super) const NO_TABLE: Table = (&[], false);
 
-// A declaration with one attribute and children, a code of value 0, and a byte behind it.
+// A declaration with one attribute and children, a code of value 0, and a byte after it.
 pub(super) const UNIT: &[u8] = b"\x01\x11\x01\x03\x08\0\0\0\xff";
 
 pub(super) const UNIT_TABLE: Table = (&[(1, (DW_TAG_compile_unit, true, &[NAME]))], true);

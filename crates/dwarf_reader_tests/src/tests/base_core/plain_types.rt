@@ -29,20 +29,27 @@ fn are_plain<T: Debug + Copy + Eq + Drop>(rt: &impl Abort, values: &[T]) {
     }
 }
 
-// The same, and each has the hash of its copy.
-fn are_hashed<T: Debug + Copy + Eq + Hash + Drop>(rt: &impl Abort, values: &[T]) {
-    are_plain(rt, values);
-    for value in values {
-        let copy = *value;
-        same(rt, hash_of(&copy), hash_of(value), value);
+// Each value has the hash of what it is made of, and is no other.
+fn are_hashed<T: Debug + Copy + Eq + Hash + Drop, W: Copy + Hash>(
+    rt: &impl Abort,
+    values: &[(T, W)],
+) {
+    for (place, (value, made_of)) in values.iter().enumerate() {
+        same(rt, hash_of(value), hash_of(made_of), value);
+        for (other_place, (other, _)) in values.iter().enumerate() {
+            same(rt, *value == *other, place == other_place, value);
+        }
     }
 }
 
-// The same, and each is less than those behind it.
-fn are_rising<T: Debug + Copy + Ord + Hash + Drop>(rt: &impl Abort, values: &[T]) {
+// The same, and each is less than those after it.
+fn are_rising<T: Debug + Copy + Ord + Hash + Drop, W: Copy + Hash>(
+    rt: &impl Abort,
+    values: &[(T, W)],
+) {
     are_hashed(rt, values);
-    for (place, value) in values.iter().enumerate() {
-        for (other_place, other) in values.iter().enumerate() {
+    for (place, (value, _)) in values.iter().enumerate() {
+        for (other_place, (other, _)) in values.iter().enumerate() {
             let order = place.cmp(&other_place);
             same(rt, value.cmp(other), order, value);
             same(rt, value.partial_cmp(other), Some(order), value);
@@ -87,41 +94,84 @@ fn encoding(address_size: u8, format: Format, version: u16) -> Encoding {
 }
 
 #[test]
-fn equal_values_have_one_hash(rt: HostRuntime) {
-    are_hashed(&rt, &[DebugAbbrevOffset(1u8), DebugAbbrevOffset(2)]);
-    are_hashed(&rt, &[LocationListsOffset(1u8), LocationListsOffset(2)]);
-    are_hashed(&rt, &[DebugMacinfoOffset(1u8), DebugMacinfoOffset(2)]);
-    are_hashed(&rt, &[DebugMacroOffset(1u8), DebugMacroOffset(2)]);
-    are_hashed(&rt, &[DebugNamesOffset(1u8), DebugNamesOffset(2)]);
-    are_hashed(&rt, &[RawRangeListsOffset(1u8), RawRangeListsOffset(2)]);
-    are_hashed(&rt, &[RangeListsOffset(1u8), RangeListsOffset(2)]);
-    are_hashed(&rt, &[DebugFrameOffset(1u8), DebugFrameOffset(2)]);
-    are_hashed(&rt, &[EhFrameOffset(1u8), EhFrameOffset(2)]);
-    let signatures = [DebugTypeSignature(1u64), DebugTypeSignature(1 << 63)];
-    are_hashed(&rt, &signatures);
-    are_hashed(&rt, &[DwoId(1u64), DwoId(1 << 63)]);
-    are_hashed(&rt, &[Dwarf32, Dwarf64]);
-    let (first, other) = (encoding(8, Dwarf32, 5), encoding(4, Dwarf32, 5));
-    are_hashed(&rt, &[first, other, encoding(8, Dwarf32, 4)]);
+fn values_have_the_hashes_of_their_fields(rt: HostRuntime) {
+    are_hashed(
+        &rt,
+        &[(DebugAbbrevOffset(1u8), 1u8), (DebugAbbrevOffset(2), 2)],
+    );
+    are_hashed(
+        &rt,
+        &[(LocationListsOffset(1u8), 1u8), (LocationListsOffset(2), 2)],
+    );
+    are_hashed(
+        &rt,
+        &[(DebugMacinfoOffset(1u8), 1u8), (DebugMacinfoOffset(2), 2)],
+    );
+    are_hashed(
+        &rt,
+        &[(DebugMacroOffset(1u8), 1u8), (DebugMacroOffset(2), 2)],
+    );
+    are_hashed(
+        &rt,
+        &[(DebugNamesOffset(1u8), 1u8), (DebugNamesOffset(2), 2)],
+    );
+    are_hashed(
+        &rt,
+        &[(RawRangeListsOffset(1u8), 1u8), (RawRangeListsOffset(2), 2)],
+    );
+    are_hashed(
+        &rt,
+        &[(RangeListsOffset(1u8), 1u8), (RangeListsOffset(2), 2)],
+    );
+    are_hashed(
+        &rt,
+        &[(DebugFrameOffset(1u8), 1u8), (DebugFrameOffset(2), 2)],
+    );
+    are_hashed(&rt, &[(EhFrameOffset(1u8), 1u8), (EhFrameOffset(2), 2)]);
+    are_hashed(
+        &rt,
+        &[
+            (DebugTypeSignature(1), 1u64),
+            (DebugTypeSignature(1 << 63), 1 << 63),
+        ],
+    );
+    are_hashed(&rt, &[(DwoId(1), 1u64), (DwoId(1 << 63), 1 << 63)]);
+    are_hashed(&rt, &[(Dwarf32, 4isize), (Dwarf64, 8)]);
+    let (first, other) = (encoding(8, Dwarf32, 5), encoding(4, Dwarf64, 5));
+    let fields = [(first, (8u8, Dwarf32, 5u16)), (other, (4, Dwarf64, 5))];
+    are_hashed(&rt, &fields);
     let (first, mut second) = (LineEncoding::default(), LineEncoding::default());
     second.line_base = -4;
-    are_hashed(&rt, &[first, second]);
-    are_hashed(&rt, &[RunTimeEndian::Little, RunTimeEndian::Big]);
-    are_hashed(&rt, &[LittleEndian]);
-    are_hashed(&rt, &[BigEndian]);
+    let fields = [
+        (first, (1u8, 1u8, true, -5i8, 14u8)),
+        (second, (1, 1, true, -4, 14)),
+    ];
+    are_hashed(&rt, &fields);
+    are_hashed(
+        &rt,
+        &[(RunTimeEndian::Little, 0isize), (RunTimeEndian::Big, 1)],
+    );
+    are_hashed(&rt, &[(LittleEndian, ())]);
+    are_hashed(&rt, &[(BigEndian, ())]);
 }
 
 #[test]
 fn offsets_and_sections_are_ordered(rt: HostRuntime) {
-    are_rising(&rt, &[DebugInfoOffset(1u8), DebugInfoOffset(2)]);
-    are_rising(&rt, &[DebugTypesOffset(1u8), DebugTypesOffset(2)]);
-    are_rising(&rt, &[UnitSectionOffset(1u8), UnitSectionOffset(2)]);
-    are_rising(&rt, &[UnitOffset(1u8), UnitOffset(2)]);
-    are_rising(&rt, &[Register(1u16), Register(2)]);
+    are_rising(&rt, &[(DebugInfoOffset(1u8), 1u8), (DebugInfoOffset(2), 2)]);
+    are_rising(
+        &rt,
+        &[(DebugTypesOffset(1u8), 1u8), (DebugTypesOffset(2), 2)],
+    );
+    are_rising(
+        &rt,
+        &[(UnitSectionOffset(1u8), 1u8), (UnitSectionOffset(2), 2)],
+    );
+    are_rising(&rt, &[(UnitOffset(1u8), 1u8), (UnitOffset(2), 2)]);
+    are_rising(&rt, &[(Register(1), 1u16), (Register(2), 2)]);
     let sections = [
-        SectionId::DebugAbbrev,
-        SectionId::DebugStr,
-        SectionId::DebugTypes,
+        (SectionId::DebugAbbrev, 0isize),
+        (SectionId::DebugStr, 21),
+        (SectionId::DebugTypes, 24),
     ];
     are_rising(&rt, &sections);
 }

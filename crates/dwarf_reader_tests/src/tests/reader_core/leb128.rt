@@ -133,7 +133,7 @@ fn numbers_are_written(rt: HostRuntime) {
     }
 }
 
-// What was written, with zero bytes behind it.
+// What was written, with zero bytes after it.
 fn padded(written: &Leb128) -> [u8; 1024] {
     let (mut buffer, bytes) = ([0; 1024], written.bytes());
     buffer[..bytes.len()].copy_from_slice(bytes);

@@ -9,6 +9,7 @@ use dwarf_base_core::{Error, Format, Result, RunTimeEndian};
 use dwarf_reader_core::{EndianSlice, Reader};
 use std::alloc::Global;
 use std::process::Abort;
+use std::test::Fail;
 
 const TEN: &[u8; 10] = &[0, 1, 2, 3, 4, 5, 6, 7, 8, 9];
 
@@ -219,6 +220,14 @@ fn slices_are_equal_by_bytes_and_order(rt: HostRuntime) {
     let none: EndianSlice<'_, RunTimeEndian> = EndianSlice::default();
     let is_empty = (none == little(&[]), none.offset_id().0);
     same(&rt, is_empty, (true, 0), "by default");
+}
+
+#[test]
+fn slices_have_their_derived_text(rt: HostRuntime) -> std::result::Result<(), Fail> {
+    let text = format!(in rt.alloc(); "{:?}", little(&[1, 255]))?;
+    let wanted = "EndianSlice { slice: [1, 255], endian: Little, end: 2 }";
+    same(&rt, text.as_str(), wanted, "two bytes");
+    Ok(())
 }
 
 // Bytes, their text, and their lossy text.
