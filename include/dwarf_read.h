@@ -1,9 +1,10 @@
 /*
  * The lowest layer of DWARF reading, proved, for C, C++ and Rust: LEB128 numbers, strings, lookups by
- * an index, sets of addresses and of string offsets, abbreviation tables, names of constants, and texts
- * of errors. The section numbers are those of DWARF 5.
+ * an index, sets of addresses and of string offsets, abbreviation tables, sizes of forms, names of
+ * constants, and texts of errors. The section numbers are those of DWARF 5.
  *
- * The headers need C99 or C++11, or a later standard.
+ * The headers need C99 or C++11, or a later standard. The library is for Linux on x86-64, on processors of
+ * level x86-64-v2 and above.
  *
  * Link libdwarf_read.a, which `tools/install` installs. It contains all calls, and the three functions
  * of dwarf_read_heap.c that they allocate memory with. A program that defines all three is linked with
@@ -46,7 +47,7 @@
 #define DWARF_READ_VERSION_PATCH 0
 #define DWARF_READ_VERSION "0.2.0"
 
-/* Enough places for every name and every text of an error, with a zero byte behind it. */
+/* Enough places for every name and every text of an error, with a zero byte after it. */
 #define DWARF_TEXT_ROOM 64
 
 #ifdef __cplusplus
@@ -79,7 +80,8 @@ enum {
 
     DWARF_NO_ROOM = 100, /* fewer places than items */
     DWARF_NO_NAME = 101, /* no constant has the value, or no error the number and the value */
-    DWARF_END = 102      /* there is nothing to read at the section's end */
+    DWARF_END = 102,     /* there is nothing to read at the section's end */
+    DWARF_NO_SIZE = 103  /* the form doesn't determine how many bytes a value has */
 };
 
 /* The error of a call. */
@@ -137,7 +139,7 @@ uint32_t dwarf_address(const uint8_t *section, size_t len, bool is_big, uint8_t 
  * SETS OF ADDRESSES (7.27) AND OF STRING OFFSETS (7.26).
  *
  * DWARF 4 has no headers of sets. The split units of its GNU extension (-gsplit-dwarf) have their
- * addresses in .debug_addr, and their string offsets in .debug_str_offsets.dwo, one behind the other. Don't
+ * addresses in .debug_addr, and their string offsets in .debug_str_offsets.dwo, in order. Don't
  * call dwarf_address_set or dwarf_str_offset_set there, since they take entries for a header.
  *
  *  - Call dwarf_address with the unit's address size. Its `base` is the value of DW_AT_GNU_addr_base in the
@@ -161,7 +163,7 @@ struct dwarf_set {
    offset is the section's end.
 
    To read an address of the set, call dwarf_address with `entry_size` as its size and `first_entry` as
-   its base, and pass `next` as the length of the section. Then nothing behind the set is read. The call
+   its base, and pass `next` as the length of the section. Then nothing after the set is read. The call
    returns DWARF_OK for each index below `entry_count`, and DWARF_UNEXPECTED_EOF for an address that the
    set's end cuts.
 
@@ -169,8 +171,8 @@ struct dwarf_set {
     - DWARF_UNEXPECTED_EOF at 0 if the offset is past the end, and at the offset if fewer than four bytes
       follow it;
     - DWARF_UNKNOWN_RESERVED_LENGTH if those four are 0xfffffff0 to 0xfffffffe;
-    - DWARF_UNEXPECTED_EOF behind the four bytes if they are 0xffffffff and fewer than eight follow;
-    - DWARF_UNEXPECTED_EOF behind the length if fewer bytes follow, or if the set has fewer than two bytes;
+    - DWARF_UNEXPECTED_EOF after the four bytes if they are 0xffffffff and fewer than eight follow;
+    - DWARF_UNEXPECTED_EOF after the length if fewer bytes follow, or if the set has fewer than two bytes;
     - DWARF_UNKNOWN_VERSION if the version isn't 5;
     - DWARF_UNEXPECTED_EOF at the address size if the set ends before it;
     - DWARF_UNSUPPORTED_ADDRESS_SIZE if the address size isn't 1, 2, 4 or 8;
@@ -183,11 +185,11 @@ uint32_t dwarf_address_set(const uint8_t *section, size_t len, bool is_big, size
    if the offset is the section's end.
 
    To read a string offset of the set, call dwarf_str_offset with `first_entry` as its base, and with
-   `is_64` set if `word_size` is 8. Pass `next` as the length of the section. Then nothing behind the set
+   `is_64` set if `word_size` is 8. Pass `next` as the length of the section. Then nothing after the set
    is read. The call returns DWARF_OK for each index below `entry_count`, and DWARF_UNEXPECTED_EOF for a
    string offset that the set's end cuts.
 
-   The errors are those of dwarf_address_set up to the version, and DWARF_UNEXPECTED_EOF behind the version
+   The errors are those of dwarf_address_set up to the version, and DWARF_UNEXPECTED_EOF after the version
    if fewer than two bytes of padding follow in the set. */
 uint32_t dwarf_str_offset_set(const uint8_t *section, size_t len, bool is_big, size_t offset,
                               struct dwarf_set *set, struct dwarf_fault *fault);
@@ -195,8 +197,11 @@ uint32_t dwarf_str_offset_set(const uint8_t *section, size_t len, bool is_big, s
 /*
  * ABBREVIATION TABLES (7.5.3).
  *
- * These two calls allocate memory for the table, and free it before they return. They return
+ * These four calls allocate memory for the table, and free it before they return. They return
  * DWARF_OUT_OF_MEMORY if an allocation fails. They may not be called in a signal handler.
+ *
+ * Each call parses the whole table. So read into places that are kept from table to table, and let them grow
+ * when a call returns DWARF_NO_ROOM: it has then measured the table already.
  */
 
 /* How large a table is. */
@@ -234,13 +239,23 @@ uint32_t dwarf_table_measure(const uint8_t *section, size_t len, size_t offset,
                              struct dwarf_measure *measure, struct dwarf_fault *fault);
 
 /* Reads the table at an offset of .debug_abbrev: its abbreviations in the order of their codes, and the
-   attributes of all of them in the same order. The places behind them are not changed. Returns
+   attributes of all of them in the same order. The places after them are not changed. Returns
    DWARF_NO_ROOM if there are fewer places for either; then only `measure` is written. The errors are those
    of dwarf_table_measure. */
 uint32_t dwarf_table_read(const uint8_t *section, size_t len, size_t offset,
                           struct dwarf_abbreviation *abbreviations, size_t abbreviation_room,
                           struct dwarf_attribute *attributes, size_t attribute_room,
                           struct dwarf_measure *measure, struct dwarf_fault *fault);
+
+/* The same calls for a section that still grows, and for checking what a producer wrote: the section's end
+   closes no table. A table that only that end closes, also one at `len`, is the error
+   DWARF_UNTERMINATED_ABBREVIATIONS at `len`. All other results are those of the calls above. */
+uint32_t dwarf_table_measure_strict(const uint8_t *section, size_t len, size_t offset,
+                                    struct dwarf_measure *measure, struct dwarf_fault *fault);
+uint32_t dwarf_table_read_strict(const uint8_t *section, size_t len, size_t offset,
+                                 struct dwarf_abbreviation *abbreviations, size_t abbreviation_room,
+                                 struct dwarf_attribute *attributes, size_t attribute_room,
+                                 struct dwarf_measure *measure, struct dwarf_fault *fault);
 
 /* Finds the abbreviation with a code among those of a table, which are in the order of their codes as
    dwarf_table_read writes them. Returns null if there is none. */
@@ -264,11 +279,20 @@ dwarf_table_find(const struct dwarf_abbreviation *abbreviations, size_t count, u
 }
 
 /*
+ * SIZES OF FORMS (7.5.6).
+ */
+
+/* Tells how many bytes a value of a form has in a unit of this version, with addresses of `address_size`
+   bytes, and in the 64-bit format if `is_64` is set. Returns DWARF_NO_SIZE, and writes nothing, if the form
+   doesn't determine the size, as DW_FORM_string, or if no form has this number. */
+uint32_t dwarf_form_size(uint16_t form, uint16_t version, uint8_t address_size, bool is_64, size_t *size);
+
+/*
  * NAMES AND TEXTS.
  *
  * dwarf_constants.h has the numbers by these names, such as DW_TAG_label.
  *
- * Each call writes a name, such as DW_TAG_label, or a text, without a zero byte behind it. `len` is how
+ * Each call writes a name, such as DW_TAG_label, or a text, without a zero byte after it. `len` is how
  * many bytes it has. The call returns DWARF_OK; DWARF_NO_ROOM if there are fewer places, and then only
  * `len` is written; or DWARF_NO_NAME if there is no name or text, and then nothing is written.
  */
@@ -276,6 +300,47 @@ dwarf_table_find(const struct dwarf_abbreviation *abbreviations, size_t count, u
 uint32_t dwarf_tag_name(uint16_t tag, char *name, size_t room, size_t *len);
 uint32_t dwarf_attribute_name(uint16_t attribute, char *name, size_t room, size_t *len);
 uint32_t dwarf_form_name(uint16_t form, char *name, size_t room, size_t *len);
+
+/* The families of constants. tools/constants lists them. */
+enum {
+    DWARF_FAMILY_TAG = 1,                    /* Tags: what kind of thing an entry describes */
+    DWARF_FAMILY_AT = 2,                     /* Attributes: what a value of an entry is about */
+    DWARF_FAMILY_FORM = 3,                   /* Forms: how the value of an attribute is encoded */
+    DWARF_FAMILY_IDX = 4,                    /* Index attributes: what a value in .debug_names is about */
+    DWARF_FAMILY_LANG = 5,                   /* Source languages */
+    DWARF_FAMILY_LNCT = 6,                   /* Content types: what is kept of a file in a line number program */
+    DWARF_FAMILY_ACCESS = 7,                 /* Accessibility of members */
+    DWARF_FAMILY_ADDR = 8,                   /* Address classes */
+    DWARF_FAMILY_ATE = 9,                    /* Encodings of base types */
+    DWARF_FAMILY_CC = 10,                    /* Calling conventions */
+    DWARF_FAMILY_CFA = 11,                   /* Instructions of call frames */
+    DWARF_FAMILY_CHILDREN = 12,              /* Whether an entry has children */
+    DWARF_FAMILY_DEFAULTED = 13,             /* Defaulted member functions */
+    DWARF_FAMILY_DS = 14,                    /* Signs of decimal numbers */
+    DWARF_FAMILY_DSC = 15,                   /* Lists of discriminant values */
+    DWARF_FAMILY_EH_PE = 16,                 /* Encodings of the pointers of .eh_frame */
+    DWARF_FAMILY_END = 17,                   /* Byte orders of data */
+    DWARF_FAMILY_ID = 18,                    /* Case of identifiers */
+    DWARF_FAMILY_INL = 19,                   /* Inlined subroutines */
+    DWARF_FAMILY_LLE = 20,                   /* Entries of location lists */
+    DWARF_FAMILY_LNE = 21,                   /* Extended opcodes of a line number program */
+    DWARF_FAMILY_LNS = 22,                   /* Standard opcodes of a line number program */
+    DWARF_FAMILY_MACINFO = 23,               /* Entries of .debug_macinfo */
+    DWARF_FAMILY_MACRO = 24,                 /* Entries of .debug_macro */
+    DWARF_FAMILY_OP = 25,                    /* Operations of an expression */
+    DWARF_FAMILY_ORD = 26,                   /* Order of the elements of an array */
+    DWARF_FAMILY_RLE = 27,                   /* Entries of range lists */
+    DWARF_FAMILY_SECT = 28,                  /* Sections of a package file */
+    DWARF_FAMILY_SECT_V2 = 29,               /* Sections of a package file before DWARF 5 */
+    DWARF_FAMILY_UT = 30,                    /* Unit types */
+    DWARF_FAMILY_VIRTUALITY = 31,            /* Virtual functions and base classes */
+    DWARF_FAMILY_VIS = 32,                   /* Visibility of declarations */
+    DWARF_FAMILY_GDB_INDEX_SYMBOL_KIND = 33  /* Kinds of symbols in .gdb_index */
+};
+
+/* Writes the name of a constant by its family and its value, such as DW_LANG_Rust. There is no name, either,
+   for a number that no family has. */
+uint32_t dwarf_constant_name(uint32_t family, uint64_t value, char *name, size_t room, size_t *len);
 
 /* Writes the text of an error. The call allocates memory, and frees it before it returns. It returns
    DWARF_OUT_OF_MEMORY if an allocation fails; then nothing is written. It may not be called in a signal
@@ -285,12 +350,12 @@ uint32_t dwarf_fault_text(const struct dwarf_fault *fault, char *text, size_t ro
 /*
  * NAMES AND TEXTS AS STRINGS OF C.
  *
- * Each of these four functions writes a name or a text with a zero byte behind it, and returns the
+ * Each of these five functions writes a name or a text with a zero byte after it, and returns the
  * pointer to it. It returns null and writes nothing if the call above returns another status than
  * DWARF_OK, or if there is no place for the zero byte.
  */
 
-/* Puts the zero byte behind what a call wrote, if that left a place for it. */
+/* Puts the zero byte after what a call wrote, if that left a place for it. */
 static inline const char *dwarf_string_ended(uint32_t status, char *text, size_t room, size_t len) {
     if (status != DWARF_OK || len >= room) {
         return NULL;
@@ -314,6 +379,12 @@ static inline const char *dwarf_attribute_string(uint16_t attribute, char *name,
 static inline const char *dwarf_form_string(uint16_t form, char *name, size_t room) {
     size_t len = 0;
     uint32_t status = dwarf_form_name(form, name, room - (room != 0), &len);
+    return dwarf_string_ended(status, name, room, len);
+}
+
+static inline const char *dwarf_constant_string(uint32_t family, uint64_t value, char *name, size_t room) {
+    size_t len = 0;
+    uint32_t status = dwarf_constant_name(family, value, name, room - (room != 0), &len);
     return dwarf_string_ended(status, name, room, len);
 }
 

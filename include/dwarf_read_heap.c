@@ -12,7 +12,8 @@
 extern "C" {
 #endif
 
-/* Whether the allocation succeeded, and the block. The pointer is never null. */
+/* Whether the allocation succeeded, and the block. The pointer is never null, since the proofs assume so. If
+   the allocation failed, it may point to any byte, which the library neither reads nor writes. */
 struct tried {
     bool is_block;
     void *block;

@@ -28,8 +28,9 @@ static bool is_reported(struct dwarf_fault fault, uint32_t status, uint64_t valu
     return is_error ? is_fault(fault, status, value) : is_fault(fault, 7, 7);
 }
 
-/* Bytes; what reading the number returns and writes, and the value of the error. The first three are unsigned. */
+/* Whether a number is signed, and its bytes; what reading it returns and writes, and the value of the error. */
 static const struct {
+    bool is_signed;
     const char *bytes;
     size_t len;
     uint32_t status;
@@ -37,11 +38,14 @@ static const struct {
     size_t number_len;
     uint64_t error;
 } numbers[] = {
-    {"\xb9\x64\x01", 3, DWARF_OK, 12857, 2, 0},
-    {"\x80\x80\x80\x80\x80\x80\x80\x80\x80\x02", 10, DWARF_BAD_UNSIGNED_LEB128, 7, 7, 0},
-    {"\x80\x80", 2, DWARF_UNEXPECTED_EOF, 7, 7, 2},
-    {"\xff\x7e", 2, DWARF_OK, -129, 2, 0},
-    {"\x80\x80\x80\x80\x80\x80\x80\x80\x80\x01", 10, DWARF_BAD_SIGNED_LEB128, 7, 7, 0},
+    {false, "\xb9\x64\x01", 3, DWARF_OK, 12857, 2, 0},
+    {false, "\x80\x80\x80\x80\x80\x80\x80\x80\x80\x01", 10, DWARF_OK, INT64_MIN, 10, 0},
+    {false, "\x80\x80\x80\x80\x80\x80\x80\x80\x80\x02", 10, DWARF_BAD_UNSIGNED_LEB128, 7, 7, 0},
+    {false, "\x80\x80\x80\x80\x80\x80\x80\x80\x80", 9, DWARF_UNEXPECTED_EOF, 7, 7, 9},
+    {false, "\x80\x80", 2, DWARF_UNEXPECTED_EOF, 7, 7, 2},
+    {true, "\xff\x7e", 2, DWARF_OK, -129, 2, 0},
+    {true, "\x80", 1, DWARF_UNEXPECTED_EOF, 7, 7, 1},
+    {true, "\x80\x80\x80\x80\x80\x80\x80\x80\x80\x01", 10, DWARF_BAD_SIGNED_LEB128, 7, 7, 0},
 };
 
 static void check_numbers(void) {
@@ -51,10 +55,10 @@ static void check_numbers(void) {
         uint64_t value = 7;
         int64_t signed_value = 7;
         size_t len = 7;
-        uint32_t status = i < 3 ? dwarf_uleb128(bytes, numbers[i].len, &value, &len, &fault)
-                                : dwarf_sleb128(bytes, numbers[i].len, &signed_value, &len, &fault);
+        uint32_t status = numbers[i].is_signed ? dwarf_sleb128(bytes, numbers[i].len, &signed_value, &len, &fault)
+                                               : dwarf_uleb128(bytes, numbers[i].len, &value, &len, &fault);
         check(status == numbers[i].status && len == numbers[i].number_len, "a number");
-        check((i < 3 ? (int64_t)value : signed_value) == numbers[i].value, "its value");
+        check((numbers[i].is_signed ? signed_value : (int64_t)value) == numbers[i].value, "its value");
         check(is_reported(fault, status, numbers[i].error), "its error");
     }
     uint8_t bytes[4] = {7, 7, 7, 7};
@@ -80,6 +84,65 @@ static void check_names(void) {
     check(status == DWARF_NO_NAME && len == 14, "a tag without a name");
     status = dwarf_tag_name(0x11, name, room, &len);
     check(status == DWARF_NO_ROOM && len == 19 && strcmp(name, "DW_FORM_string") == 0, "a long name");
+}
+
+/* A family, a value and a room; what the call for the name returns, the length and the name. In the last rows the low
+   bytes of the value have a name, or the number is that of no family. */
+static const struct {
+    uint32_t family;
+    uint64_t value;
+    size_t room;
+    uint32_t status;
+    size_t len;
+    const char *name;
+} constants[] = {
+    {DWARF_FAMILY_TAG, 0x0a, 63, DWARF_OK, 12, "DW_TAG_label"},
+    {DWARF_FAMILY_LANG, 0x1c, 12, DWARF_OK, 12, "DW_LANG_Rust"},
+    {DWARF_FAMILY_ADDR, 0, 63, DWARF_OK, 12, "DW_ADDR_none"},
+    {DWARF_FAMILY_SECT_V2, 2, 63, DWARF_OK, 16, "DW_SECT_V2_TYPES"},
+    {DWARF_FAMILY_GDB_INDEX_SYMBOL_KIND, 1, 63, DWARF_OK, 26, "GDB_INDEX_SYMBOL_KIND_TYPE"},
+    {DWARF_FAMILY_SECT, 1, 11, DWARF_NO_ROOM, 12, ""},
+    {DWARF_FAMILY_ACCESS, 0x101, 63, DWARF_NO_NAME, 7, ""},
+    {DWARF_FAMILY_TAG, 0x1000a, 63, DWARF_NO_NAME, 7, ""},
+    {DWARF_FAMILY_SECT, (UINT64_C(1) << 32) + 1, 63, DWARF_NO_NAME, 7, ""},
+    {DWARF_FAMILY_ADDR, UINT64_MAX, 63, DWARF_NO_NAME, 7, ""},
+    {0, 1, 63, DWARF_NO_NAME, 7, ""},
+    {DWARF_FAMILY_GDB_INDEX_SYMBOL_KIND + 1, 1, 63, DWARF_NO_NAME, 7, ""},
+    {UINT32_MAX, 1, 63, DWARF_NO_NAME, 7, ""},
+};
+
+static void check_constants(void) {
+    for (size_t i = 0; i < sizeof constants / sizeof *constants; i++) {
+        char name[64] = "";
+        size_t len = 7;
+        uint32_t status = dwarf_constant_name(constants[i].family, constants[i].value, name, constants[i].room, &len);
+        check(status == constants[i].status && len == constants[i].len, "a constant");
+        check(strcmp(name, constants[i].name) == 0, "its name");
+    }
+}
+
+/* A form, a version, an address size and a format; what the call for the size returns and writes. */
+static const struct {
+    uint16_t form, version;
+    uint8_t address_size;
+    bool is_64;
+    uint32_t status;
+    size_t size;
+} sizes[] = {
+    {0x01, 5, 8, false, DWARF_OK, 8},        {0x01, 5, 0, false, DWARF_OK, 0},
+    {0x0e, 5, 8, false, DWARF_OK, 4},        {0x0e, 5, 8, true, DWARF_OK, 8},
+    {0x10, 2, 2, true, DWARF_OK, 2},         {0x10, 3, 2, true, DWARF_OK, 8},
+    {0x1e, 5, 8, false, DWARF_OK, 16},       {0x21, 5, 8, false, DWARF_OK, 0},
+    {0x08, 5, 8, false, DWARF_NO_SIZE, 7},   {0xffff, 5, 8, false, DWARF_NO_SIZE, 7},
+};
+
+static void check_sizes(void) {
+    for (size_t i = 0; i < sizeof sizes / sizeof *sizes; i++) {
+        size_t size = 7;
+        uint32_t status =
+            dwarf_form_size(sizes[i].form, sizes[i].version, sizes[i].address_size, sizes[i].is_64, &size);
+        check(status == sizes[i].status && size == sizes[i].size, "the size of a form");
+    }
 }
 
 static void check_no_bytes(void) {
@@ -187,6 +250,7 @@ static const struct {
     {{DWARF_UNSUPPORTED_OFFSET_SIZE, 3}, 63, DWARF_OK, 26, "unsupported offset size: 3"},
     {{DWARF_UNSUPPORTED_OFFSET_SIZE, 256}, 63, DWARF_NO_NAME, 7, ""},
     {{DWARF_UNKNOWN_RESERVED_LENGTH, 0xfffffff0}, 32, DWARF_NO_ROOM, 35, ""},
+    {{0, 0}, 63, DWARF_NO_NAME, 7, ""},
     {{20, 0}, 63, DWARF_NO_NAME, 7, ""},
     {{UINT32_MAX, 0}, 63, DWARF_NO_NAME, 7, ""},
 };
@@ -204,19 +268,30 @@ static void check_texts(void) {
 /* A subprogram with a constant name, and then a unit with a string and a language. */
 static const uint8_t table[] = {2, 0x2e, 0, 3, 0x21, 0x56, 0, 0, 1, 0x11, 1, 3, 8, 0x13, 5, 0, 0, 0};
 
-/* Offsets, what measuring the table there returns and writes, and the value of the error. */
-static const struct {
-    size_t offset;
+/* Offsets and lengths, what measuring the table there returns and writes, and the value of the error: by the call that
+   takes the section's end for the table's, and by the strict one. */
+static const struct measure_row {
+    size_t offset, len;
     uint32_t status;
     struct dwarf_measure measure;
     uint64_t error;
 } measures[] = {
-    {0, DWARF_OK, {2, 3, 18, 1}, 0},
-    {17, DWARF_OK, {0, 0, 18, 1}, 0},
-    {18, DWARF_OK, {0, 0, 18, 0}, 0},
-    {19, DWARF_UNEXPECTED_EOF, {7, 7, 7, 7}, 0},
-    {SIZE_MAX, DWARF_UNEXPECTED_EOF, {7, 7, 7, 7}, 0},
-    {3, DWARF_INVALID_ABBREVIATION_CHILDREN, {7, 7, 7, 7}, 0x56},
+    {0, 18, DWARF_OK, {2, 3, 18, 1}, 0},
+    {0, 17, DWARF_OK, {2, 3, 17, 0}, 0},
+    {17, 18, DWARF_OK, {0, 0, 18, 1}, 0},
+    {18, 18, DWARF_OK, {0, 0, 18, 0}, 0},
+    {19, 18, DWARF_UNEXPECTED_EOF, {7, 7, 7, 7}, 0},
+    {SIZE_MAX, 18, DWARF_UNEXPECTED_EOF, {7, 7, 7, 7}, 0},
+    {1, 18, DWARF_ABBREVIATION_TAG_ZERO, {7, 7, 7, 7}, 0},
+    {3, 18, DWARF_INVALID_ABBREVIATION_CHILDREN, {7, 7, 7, 7}, 0x56},
+}, strict_measures[] = {
+    {0, 18, DWARF_OK, {2, 3, 18, 1}, 0},
+    {0, 17, DWARF_UNTERMINATED_ABBREVIATIONS, {7, 7, 7, 7}, 17},
+    {0, 16, DWARF_UNEXPECTED_EOF, {7, 7, 7, 7}, 16},
+    {17, 18, DWARF_OK, {0, 0, 18, 1}, 0},
+    {18, 18, DWARF_UNTERMINATED_ABBREVIATIONS, {7, 7, 7, 7}, 18},
+    {19, 18, DWARF_UNEXPECTED_EOF, {7, 7, 7, 7}, 0},
+    {3, 18, DWARF_INVALID_ABBREVIATION_CHILDREN, {7, 7, 7, 7}, 0x56},
 };
 
 static bool is_measure(struct dwarf_measure it, struct dwarf_measure wanted) {
@@ -233,18 +308,25 @@ static bool is_attribute(struct dwarf_attribute it, struct dwarf_attribute wante
     return it.name == wanted.name && it.form == wanted.form && it.implicit_const == wanted.implicit_const;
 }
 
-static void check_measures(void) {
-    for (size_t i = 0; i < sizeof measures / sizeof *measures; i++) {
+typedef uint32_t measure_call(const uint8_t *section, size_t len, size_t offset, struct dwarf_measure *measure,
+                              struct dwarf_fault *fault);
+
+static void check_measures(measure_call *call, const struct measure_row *rows, size_t count) {
+    for (size_t i = 0; i < count; i++) {
         struct dwarf_measure measure = {7, 7, 7, 7};
         struct dwarf_fault fault = {7, 7};
-        uint32_t status = dwarf_table_measure(table, sizeof table, measures[i].offset, &measure, &fault);
-        check(status == measures[i].status && is_reported(fault, status, measures[i].error), "a measure");
-        check(is_measure(measure, measures[i].measure), "its numbers");
+        uint32_t status = call(table, rows[i].len, rows[i].offset, &measure, &fault);
+        check(status == rows[i].status && is_reported(fault, status, rows[i].error), "a measure");
+        check(is_measure(measure, rows[i].measure), "its numbers");
     }
 }
 
+typedef uint32_t read_call(const uint8_t *section, size_t len, size_t offset, struct dwarf_abbreviation *abbreviations,
+                           size_t abbreviation_room, struct dwarf_attribute *attributes, size_t attribute_room,
+                           struct dwarf_measure *measure, struct dwarf_fault *fault);
+
 /* There are too few places for attributes at first, and then more than are needed. */
-static void check_tables(void) {
+static void check_tables(read_call *call) {
     static const struct dwarf_abbreviation wanted[] = {{1, 0x11, 1, 0, 2}, {2, 0x2e, 0, 2, 1}, {7, 7, 7, 7, 7}};
     static const struct dwarf_attribute its_wanted[] = {{3, 8, 0}, {0x13, 5, 0}, {3, 0x21, -42}, {7, 7, 7}};
     static const struct dwarf_measure whole = {2, 3, 18, 1};
@@ -252,10 +334,10 @@ static void check_tables(void) {
     struct dwarf_attribute its[] = {{7, 7, 7}, {7, 7, 7}, {7, 7, 7}, {7, 7, 7}};
     struct dwarf_measure measure = {7, 7, 7, 7};
     struct dwarf_fault fault = {7, 7};
-    uint32_t status = dwarf_table_read(table, sizeof table, 0, ours, 3, its, 2, &measure, &fault);
+    uint32_t status = call(table, sizeof table, 0, ours, 3, its, 2, &measure, &fault);
     check(status == DWARF_NO_ROOM && is_measure(measure, whole) && is_fault(fault, 7, 7), "few places");
     check(is_abbreviation(ours[0], wanted[2]) && is_attribute(its[0], its_wanted[3]), "places without room");
-    status = dwarf_table_read(table, sizeof table, 0, ours, 3, its, 4, &measure, &fault);
+    status = call(table, sizeof table, 0, ours, 3, its, 4, &measure, &fault);
     check(status == DWARF_OK && is_measure(measure, whole) && is_fault(fault, 7, 7), "a table");
     for (size_t i = 0; i < 3; i++) {
         check(is_abbreviation(ours[i], wanted[i]), "an abbreviation");
@@ -263,8 +345,18 @@ static void check_tables(void) {
     for (size_t i = 0; i < 4; i++) {
         check(is_attribute(its[i], its_wanted[i]), "an attribute");
     }
+}
+
+/* An empty section is a table that nothing closes. */
+static void check_empty_tables(void) {
+    static const struct dwarf_measure empty = {0, 0, 0, 0}, unchanged = {7, 7, 7, 7};
+    struct dwarf_measure measure = {7, 7, 7, 7};
+    struct dwarf_fault fault = {7, 7};
+    uint32_t status = dwarf_table_read_strict(NULL, 0, 0, NULL, 0, NULL, 0, &measure, &fault);
+    check(status == DWARF_UNTERMINATED_ABBREVIATIONS && is_fault(fault, 19, 0), "an unclosed table");
+    check(is_measure(measure, unchanged), "its measure");
     status = dwarf_table_read(NULL, 0, 0, NULL, 0, NULL, 0, &measure, &fault);
-    check(status == DWARF_OK && measure.abbreviations == 0 && measure.closed_by_null == 0, "an empty table");
+    check(status == DWARF_OK && is_measure(measure, empty), "an empty table");
 }
 
 /* Strings, string offsets and addresses. */
@@ -282,12 +374,18 @@ static void check_lookups(void) {
 }
 
 static void check_offsets(void) {
-    static const uint8_t section[64] = {0};
+    static const uint8_t section[64] = {0}, strings[] = {'o', 'n', 'e', 0, 't', 'w', 'o', 0, 0};
     struct dwarf_fault fault = {7, 7};
     size_t offset = 7;
     uint64_t address = 7;
-    uint32_t status = dwarf_string(section, sizeof section, SIZE_MAX, &offset, &fault);
+    uint32_t status = dwarf_string(strings, sizeof strings, 9, &offset, &fault);
+    check(status == DWARF_UNEXPECTED_EOF && is_fault(fault, 1, 9), "a string at the end");
+    status = dwarf_string(strings, sizeof strings, 10, &offset, &fault);
     check(status == DWARF_UNEXPECTED_EOF && is_fault(fault, 1, 0), "a string past the end");
+    status = dwarf_string(section, sizeof section, SIZE_MAX, &offset, &fault);
+    check(status == DWARF_UNEXPECTED_EOF && is_fault(fault, 1, 0), "a string far past the end");
+    status = dwarf_str_offset(section, sizeof section, false, true, 65, 0, &offset, &fault);
+    check(status == DWARF_UNEXPECTED_EOF && is_fault(fault, 1, 0), "a base past the end");
     status = dwarf_str_offset(section, sizeof section, false, false, 8, 14, &offset, &fault);
     check(status == DWARF_UNEXPECTED_EOF && is_fault(fault, 1, 64), "an offset past the end");
     status = dwarf_str_offset(section, sizeof section, false, true, 8, SIZE_MAX, &offset, &fault);
@@ -302,6 +400,8 @@ static void check_offsets(void) {
 int main(void) {
     check_numbers();
     check_names();
+    check_constants();
+    check_sizes();
     check_no_bytes();
     check_sets(dwarf_address_set);
     check_sets(dwarf_str_offset_set);
@@ -309,8 +409,11 @@ int main(void) {
     check_worked_sets(dwarf_str_offset_set, offset_sets, sizeof offset_sets / sizeof *offset_sets);
     check_no_room();
     check_texts();
-    check_measures();
-    check_tables();
+    check_measures(dwarf_table_measure, measures, sizeof measures / sizeof *measures);
+    check_measures(dwarf_table_measure_strict, strict_measures, sizeof strict_measures / sizeof *strict_measures);
+    check_tables(dwarf_table_read);
+    check_tables(dwarf_table_read_strict);
+    check_empty_tables();
     check_lookups();
     check_offsets();
     return failures;

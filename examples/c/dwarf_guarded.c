@@ -1,10 +1,10 @@
 /*
- * Calls the library on every cut of the files that are named, with a page without access beside each buffer
- * that is passed, beside each output, and beside each block that the library allocates.
+ * Calls the library on every cut of the files that are named, with a page without access next to each buffer
+ * that is passed, to each output, and to each block that the library allocates.
  *
  *     dwarf_guarded FILE..
  *
- * All of this is done twice: with that page right before the first byte, and right behind the last one. The
+ * All of this is done twice: with that page right before the first byte, and right after the last one. The
  * section itself may only be read. So a call that touches a byte outside ends with a signal, and the program
  * names the call. On the other side of an output the bytes are compared with what they were. The status is 0
  * if no byte outside was touched.
@@ -54,7 +54,7 @@ static void on_signal(int number) {
     _exit(1);
 }
 
-/* Makes pages for so many bytes. Returns false if that fails. */
+/* Makes pages for this many bytes. Returns false if that fails. */
 static bool make(struct guarded *it, size_t len) {
     size_t size = len == 0 ? (size_t)PAGE : (len + PAGE - 1) / PAGE * PAGE;
     uint8_t *all = (uint8_t *)mmap(NULL, size + 2 * PAGE, PROT_NONE, MAP_PRIVATE | MAP_ANONYMOUS, -1, 0);
@@ -91,9 +91,10 @@ struct tried rattle_realloc(void *block, size_t kept, size_t size, size_t align)
 void rattle_dealloc(void *block);
 
 struct tried rattle_alloc(size_t size, size_t align) {
+    static char nothing; /* dwarf_read_heap.c says why no pointer may be null. */
     size_t at = 0;
     if (failing != 0 && --failing == 0) {
-        struct tried none = {false, NULL};
+        struct tried none = {false, &nothing};
         return none;
     }
     while (at < BLOCKS && blocks[at].pages != NULL) {
@@ -102,7 +103,7 @@ struct tried rattle_alloc(size_t size, size_t align) {
     if (at == BLOCKS || !make(&blocks[at], size)) {
         die("no memory for a block");
     }
-    /* A block at the end is aligned, so up to `align - 1` bytes may be behind it. */
+    /* A block at the end is aligned, so up to `align - 1` bytes may be after it. */
     struct tried found = {true, give(&blocks[at], (size + align - 1) / align * align)};
     memset(found.block, FILLING, size);
     return found;
@@ -133,7 +134,7 @@ struct tried rattle_realloc(void *block, size_t kept, size_t size, size_t align)
 #endif
 
 /*
- * Before and behind a call.
+ * Before and after a call.
  */
 
 /* Begins a call. */
@@ -143,7 +144,7 @@ static void begin(const char *name) {
     calls++;
 }
 
-/* Returns the next output of the call, of so many bytes. */
+/* Returns the next output of the call, of this many bytes. */
 static void *output(size_t len) {
     struct guarded *it = &outputs[used++];
     uint8_t *given = (uint8_t *)give(it, len);
@@ -152,7 +153,7 @@ static void *output(size_t len) {
     return given;
 }
 
-/* Ends a call: the bytes beside its outputs have to be unchanged, and all blocks have to be freed. */
+/* Ends a call: the bytes around its outputs have to be unchanged, and all blocks have to be freed. */
 static void end(void) {
     for (size_t at = 0; at < used; at++) {
         const struct guarded *it = &outputs[at];
@@ -233,14 +234,30 @@ static void call_sets(const uint8_t *bytes, size_t len, size_t offset, bool is_b
     end();
 }
 
-/* Reads a table into so many places, and searches it for each code that it may have. */
-static void call_table_read(const uint8_t *bytes, size_t len, size_t offset, size_t room, size_t attribute_room) {
-    begin("dwarf_table_read");
+/* A call that measures a table and one that reads it, with their names. */
+struct table_calls {
+    const char *measure_name, *read_name;
+    uint32_t (*measure)(const uint8_t *section, size_t len, size_t offset, struct dwarf_measure *measure,
+                        struct dwarf_fault *fault);
+    uint32_t (*read)(const uint8_t *section, size_t len, size_t offset, struct dwarf_abbreviation *abbreviations,
+                     size_t abbreviation_room, struct dwarf_attribute *attributes, size_t attribute_room,
+                     struct dwarf_measure *measure, struct dwarf_fault *fault);
+};
+
+static const struct table_calls
+    usual = {"dwarf_table_measure", "dwarf_table_read", dwarf_table_measure, dwarf_table_read},
+    strict = {"dwarf_table_measure_strict", "dwarf_table_read_strict", dwarf_table_measure_strict,
+              dwarf_table_read_strict};
+
+/* Reads a table into this many places, and searches it for each code that it may have. */
+static void call_table_read(const struct table_calls *calling, const uint8_t *bytes, size_t len, size_t offset,
+                            size_t room, size_t attribute_room) {
+    begin(calling->read_name);
     struct dwarf_measure *measure = (struct dwarf_measure *)output(sizeof *measure);
     struct dwarf_abbreviation *abbreviations = (struct dwarf_abbreviation *)output(room * sizeof *abbreviations);
     struct dwarf_attribute *attributes = (struct dwarf_attribute *)output(attribute_room * sizeof *attributes);
-    uint32_t status = dwarf_table_read(bytes, len, offset, abbreviations, room, attributes, attribute_room, measure,
-                                       fault());
+    uint32_t status = calling->read(bytes, len, offset, abbreviations, room, attributes, attribute_room, measure,
+                                    fault());
     end();
     if (status != DWARF_OK) {
         return;
@@ -259,40 +276,41 @@ static void call_table_read(const uint8_t *bytes, size_t len, size_t offset, siz
     }
 }
 
-static void call_tables(const uint8_t *bytes, size_t len, size_t offset) {
-    begin("dwarf_table_measure");
+static void call_tables(const struct table_calls *calling, const uint8_t *bytes, size_t len, size_t offset) {
+    begin(calling->measure_name);
     struct dwarf_measure *measure = (struct dwarf_measure *)output(sizeof *measure);
-    uint32_t status = dwarf_table_measure(bytes, len, offset, measure, fault());
+    uint32_t status = calling->measure(bytes, len, offset, measure, fault());
     end();
     size_t count = status == DWARF_OK ? measure->abbreviations : 1;
     size_t attributes = status == DWARF_OK ? measure->attributes : 1;
-    call_table_read(bytes, len, offset, count, attributes);
-    call_table_read(bytes, len, offset, count + 1, attributes + 1);
-    call_table_read(bytes, len, offset, count - (count != 0), attributes);
-    call_table_read(bytes, len, offset, count, attributes - (attributes != 0));
+    call_table_read(calling, bytes, len, offset, count, attributes);
+    call_table_read(calling, bytes, len, offset, count + 1, attributes + 1);
+    call_table_read(calling, bytes, len, offset, count - (count != 0), attributes);
+    call_table_read(calling, bytes, len, offset, count, attributes - (attributes != 0));
 }
 
 /*
  * The calls that allocate memory.
  */
 
-typedef uint32_t allocating_call(const uint8_t *bytes, size_t len);
+typedef uint32_t allocating_call(const struct table_calls *calling, const uint8_t *bytes, size_t len);
 
-static uint32_t measure_table(const uint8_t *bytes, size_t len) {
+static uint32_t measure_table(const struct table_calls *calling, const uint8_t *bytes, size_t len) {
     struct dwarf_measure *measure = (struct dwarf_measure *)output(sizeof *measure);
-    return dwarf_table_measure(bytes, len, 0, measure, fault());
+    return calling->measure(bytes, len, 0, measure, fault());
 }
 
-static uint32_t read_table(const uint8_t *bytes, size_t len) {
+static uint32_t read_table(const struct table_calls *calling, const uint8_t *bytes, size_t len) {
     struct dwarf_measure *measure = (struct dwarf_measure *)output(sizeof *measure);
     /* An abbreviation has at least five bytes, and an attribute two. */
     size_t room = len / 5, more = len / 2;
     struct dwarf_abbreviation *abbreviations = (struct dwarf_abbreviation *)output(room * sizeof *abbreviations);
     struct dwarf_attribute *attributes = (struct dwarf_attribute *)output(more * sizeof *attributes);
-    return dwarf_table_read(bytes, len, 0, abbreviations, room, attributes, more, measure, fault());
+    return calling->read(bytes, len, 0, abbreviations, room, attributes, more, measure, fault());
 }
 
-static uint32_t write_text(const uint8_t *bytes, size_t len) {
+static uint32_t write_text(const struct table_calls *calling, const uint8_t *bytes, size_t len) {
+    (void)calling;
     struct dwarf_fault *it = fault();
     it->kind = DWARF_UNKNOWN_VERSION;
     it->value = len == 0 ? 0 : bytes[0];
@@ -300,15 +318,16 @@ static uint32_t write_text(const uint8_t *bytes, size_t len) {
 }
 
 /* Makes a call, and makes it again with its first allocation failing, then its second, and so on. */
-static void call_failing(allocating_call *allocating, const char *name, const uint8_t *bytes, size_t len) {
+static void call_failing(allocating_call *allocating, const struct table_calls *calling, const char *name,
+                         const uint8_t *bytes, size_t len) {
     begin(name);
-    uint32_t whole = allocating(bytes, len), status;
+    uint32_t whole = allocating(calling, bytes, len), status;
     end();
     size_t number = 0;
     do {
         failing = ++number;
         begin(name);
-        status = allocating(bytes, len);
+        status = allocating(calling, bytes, len);
         end();
         if (status != whole && (failing != 0 || status != DWARF_OUT_OF_MEMORY)) {
             die("it has another status if an allocation fails");
@@ -333,12 +352,15 @@ static void call_on_cuts(const uint8_t *bytes, size_t len) {
                 call_lookups(given, cut, offset, is_big == 1);
                 call_sets(given, cut, offset, is_big == 1);
             }
-            call_tables(given, cut, offset);
+            call_tables(&usual, given, cut, offset);
+            call_tables(&strict, given, cut, offset);
         }
     }
-    call_failing(measure_table, "dwarf_table_measure without memory", section.given, len);
-    call_failing(read_table, "dwarf_table_read without memory", section.given, len);
-    call_failing(write_text, "dwarf_fault_text without memory", section.given, len);
+    call_failing(measure_table, &usual, "dwarf_table_measure without memory", section.given, len);
+    call_failing(read_table, &usual, "dwarf_table_read without memory", section.given, len);
+    call_failing(measure_table, &strict, "dwarf_table_measure_strict without memory", section.given, len);
+    call_failing(read_table, &strict, "dwarf_table_read_strict without memory", section.given, len);
+    call_failing(write_text, NULL, "dwarf_fault_text without memory", section.given, len);
 }
 
 /*
@@ -348,7 +370,7 @@ static void call_on_cuts(const uint8_t *bytes, size_t len) {
 typedef uint32_t name_call(uint16_t value, char *name, size_t room, size_t *len);
 typedef const char *string_call(uint16_t value, char *name, size_t room);
 
-/* A string has to be the name with a zero byte behind it, or null if there is no place for that byte. */
+/* A string has to be the name with a zero byte after it, or null if there is no place for that byte. */
 static void check_string(const char *string, const char *places, size_t room, size_t len) {
     if ((string != NULL) != (len < room) || (string != NULL && (string != places || strlen(string) != len))) {
         die("it isn't the name");
@@ -377,6 +399,32 @@ static void call_names(name_call *name, string_call *string, const char *what) {
             char *places = (char *)output(room);
             check_string(string((uint16_t)value, places, room), places, room, all);
             end();
+        }
+    }
+}
+
+/* The family whose names are called for. */
+static uint32_t family;
+
+static uint32_t constant_name(uint16_t value, char *name, size_t room, size_t *len) {
+    return dwarf_constant_name(family, value, name, room, len);
+}
+
+static const char *constant_string(uint16_t value, char *name, size_t room) {
+    return dwarf_constant_string(family, value, name, room);
+}
+
+static void call_sizes(void) {
+    static const uint16_t versions[] = {0, 2, 5};
+    for (uint32_t form = 0; form <= UINT16_MAX; form++) {
+        for (size_t i = 0; i < 2 * sizeof versions / sizeof *versions; i++) {
+            begin("dwarf_form_size");
+            size_t *size = (size_t *)output(sizeof *size);
+            uint32_t status = dwarf_form_size((uint16_t)form, versions[i / 2], UINT8_MAX, i % 2 == 1, size);
+            end();
+            if (status != DWARF_NO_SIZE && (status != DWARF_OK || *size > UINT8_MAX)) {
+                die("it has no size of a form");
+            }
         }
     }
 }
@@ -452,6 +500,10 @@ int main(int argc, char **argv) {
         call_names(dwarf_tag_name, dwarf_tag_string, "a name of a tag");
         call_names(dwarf_attribute_name, dwarf_attribute_string, "a name of an attribute");
         call_names(dwarf_form_name, dwarf_form_string, "a name of a form");
+        for (family = 0; family <= DWARF_FAMILY_GDB_INDEX_SYMBOL_KIND + 1; family++) {
+            call_names(constant_name, constant_string, "a name of a constant");
+        }
+        call_sizes();
         call_texts();
         call_writers();
     }

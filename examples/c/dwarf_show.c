@@ -136,7 +136,7 @@ static uint32_t read_set(const struct set_section *section, size_t offset, struc
     return dwarf_str_offset_set(bytes.items, bytes.len, section->is_big, offset, set, fault);
 }
 
-/* Reads the entry at an index of a set. No byte behind the set's end is read. */
+/* Reads the entry at an index of a set. No byte after the set's end is read. */
 static uint32_t read_entry(const struct set_section *section, const struct dwarf_set *set,
                            size_t index, uint64_t *entry, struct dwarf_fault *fault) {
     const uint8_t *items = section->bytes.items;

@@ -1,25 +1,23 @@
 -- Names that the proofs of this crate cite from elsewhere, passed on from one place.
-pub use Rattle.std.proofs.Common.{◌≡◌, ◌≢◌, Bool, true, ℕ, ◌+◌, ◌-◌, ◌<◌, ◌≤◌, ◌^◌, List, [], ◌∷◌, length, drop}
+pub use Rattle.std.proofs.Common.{◌≡◌, ◌≢◌, Bool, true, ℕ, ◌+◌, ◌-◌, ◌/◌, ◌<◌, ◌≤◌, ◌^◌, List, [], ◌∷◌, length, drop}
 pub use Rattle.std.proofs.Common.{Result, Ok, Err, subst, arith, ◌⊎◌, inl, inr, length-drop, take, suc, ◌++◌, refl}
 pub use Rattle.std.proofs.Common.{sym, ap, ◌∙◌, sum_by, false, map, length-append, rules}
 pub use Rattle.std.proofs.lemmas.Grind.{common_steps}
 pub use Rattle.std.proofs.lemmas.Result.{err_from_is_err_and}
 pub use Rattle.std.specs.FinMap.{entries, len, values, len-entries}
-pub use Rattle.dwarf_read_core.proofs.sets.SetBytes.{set-joined}
-pub use Rattle.dwarf_read_core.proofs.sets.Sets.{set-spans}
 pub use Rattle.dwarf_read_core.specs.Faults.{IsTooShort, CloneRanOutOfMemory, eof}
 pub use Rattle.dwarf_read_core.specs.Grammar.{Declaration, ByCode}
 pub use Rattle.dwarf_read_core.specs.Input.{Input, after}
 pub use Rattle.dwarf_read_core.specs.Leb128.{Kind, RejectsNumber}
-pub use Rattle.dwarf_read_core.specs.Sets.{HasSize, Headers, Set, RepresentsSets, addresses_of, string_offsets_of}
-pub use Rattle.dwarf_read_core.specs.Sets.{address_header-size, string_offsets_header-size}
-unfoldable pub use Rattle.dwarf_read_core.specs.Sets.{address_header, set, string_offsets_header}
-unfoldable pub use Rattle.dwarf_read_core.specs.Strings.{StringAt, string_at}
+pub use Rattle.dwarf_read_core.specs.Headers.{AddressHeaderAt, StringOffsetsHeaderAt}
+pub use Rattle.dwarf_read_core.specs.Sets.{Headers, Set, RepresentsSets, addresses_of, string_offsets_of}
+pub use Rattle.dwarf_read_core.proofs.Headers.{address_header, string_offsets_header}
+pub use Rattle.dwarf_read_core.specs.Strings.{HoldsString, StringAt}
 pub use Rattle.dwarf_read_core.specs.declared.Error.{Error}
 pub use Rattle.dwarf_fault.specs.Fault.{fault_of, kind_of}
 pub use Rattle.dwarf_fault.specs.declared.DwarfFault.{DwarfFault}
 pub use Rattle.dwarf_read_c.specs.Fault.{Rejects, IsKnown}
 pub use Rattle.dwarf_read_c.specs.Numbers.{LacksNumber, cut, bad}
 pub use Rattle.dwarf_read_c.specs.Sections.{section_of, part_of}
-pub use Rattle.dwarf_read_c.specs.Sets.{HasSet, LacksSet, TellsSet, set_at, set_from, outside, faulty}
+pub use Rattle.dwarf_read_c.specs.Sets.{LacksSet, TellsSet, sets_from, set_from, outside, faulty}
 pub use Rattle.dwarf_read_c.specs.Tables.{abbreviation_of, laid_from, attribute_of, attributes_in}

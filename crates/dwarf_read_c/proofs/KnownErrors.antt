@@ -1,62 +1,81 @@
 -- The errors that a call for C can return have numbers of their own.
-use Rattle.dwarf_read_core.specs.Answer.{Answers, IsFirstError}
-use Rattle.dwarf_read_core.specs.Entries.{string_offset}
-use Rattle.dwarf_read_core.specs.InitialLength.{initial_length, long_length}
-use Rattle.dwarf_read_core.specs.Layout.{Layout}
-use Rattle.dwarf_read_core.specs.Words.{Slot, WordAt, AddressAt, to_slot, word, address}
-use Rattle.dwarf_read_core.proofs.LayoutErrors.{Names, At_error_has, error_has, number_names, byte_names, when_names, check_names}
-use Rattle.dwarf_read_c.proofs.Common.{ℕ, List, Err, arith, Error, eof, Input, Kind, address_header, set, string_offsets_header, StringAt, string_at, IsKnown, LacksNumber, LacksSet, set_at, outside, faulty}
+use Rattle.dwarf_read_core.specs.declared.Error.TheVariants.{OutOfMemory}
+use Rattle.dwarf_read_core.specs.Answer.{Answers, AnswersStrictly, IsFirstError, IsTableError}
+use Rattle.dwarf_read_core.proofs.tables.TableErrors.{table_error}
+use Rattle.dwarf_read_core.specs.Headers.{AddressHeaderAt, HasNoVersion, Header, StringOffsetsHeaderAt}
+use Rattle.dwarf_read_core.specs.InitialLength.{HasNoLength}
+use Rattle.dwarf_read_core.specs.Sets.{set_cut, set_headless, set_unmeasured}
+use Rattle.dwarf_read_core.specs.Strings.{string_past_end, string_unended}
+use Rattle.dwarf_read_core.specs.Words.{Slot, HasNoPlace, no_base, no_distance, no_place, WordAt, word_unplaced, word_cut, word_too_great, AddressAt, address_unplaced, address_unsized, address_cut}
+use Rattle.dwarf_read_c.proofs.Common.{◌≡◌, ◌≢◌, ℕ, List, Err, arith, Error, eof, Input, Kind, StringAt, DwarfFault, Rejects, fault_of, kind_of, IsKnown, LacksNumber, LacksSet, outside, faulty}
 
 -- the error of bytes that begin with no number has a number of its own
 pub known_number : {k : Kind} {bytes : List ℕ} {e : Error} → LacksNumber k bytes e → IsKnown e
 known_number lacks = grind arith
 
--- ---- layouts
+-- ---- lookups
 
 -- the error for missing bytes has a number of its own
 known_end : (position : ℕ) → IsKnown (eof position)
 known_end position = omega arith
 
--- the errors that a layout contains, by its parts
-ruleset names = (number_names, byte_names, when_names, check_names)
-
 -- the error of a lookup of a string has a number of its own
 pub known_string : (section : Input) (offset : ℕ) (e : Error) → StringAt section offset (Err e) → IsKnown e
-unfolding StringAt string_at
-known_string section offset e is = At_error_has IsKnown known_end (string_at offset) (tt, λ _. tt) section is
+known_string section offset e (string_past_end past) = omega arith
+known_string section offset e (string_unended within none) = omega arith
+
+-- the error for a slot without a place has a number of its own
+known_place : {greatest : ℕ} {section : Input} {s : Slot} {e : Error} → HasNoPlace greatest section s e → IsKnown e
+known_place (no_base past) = omega arith
+known_place (no_distance based over) = omega arith
+known_place (no_place based counted past) = omega arith
 
 -- the error of a lookup of a word has a number of its own
 pub known_word : (greatest : ℕ) (s : Slot) (section : Input) (e : Error) → WordAt greatest section s (Err e) → IsKnown e
-unfolding word to_slot string_offset
-known_word greatest s section e is =
-    At_error_has IsKnown known_end (word greatest s) (search (arith, names) depth 20) section is
+known_word greatest s section e (word_unplaced lacks) = known_place lacks
+known_word greatest s section e (word_cut placed cut) = omega arith
+known_word greatest s section e (word_too_great x placed held over) = omega arith
 
 -- the error of a lookup of an address has a number of its own
 pub known_address : (greatest : ℕ) (s : Slot) (section : Input) (e : Error) → AddressAt greatest section s (Err e)
     → IsKnown e
-unfolding address to_slot
-known_address greatest s section e is =
-    At_error_has IsKnown known_end (address greatest s) (search (arith, names) depth 20) section is
+known_address greatest s section e (address_unplaced lacks) = known_place lacks
+known_address greatest s section e (address_unsized placed other) = omega arith
+known_address greatest s section e (address_cut placed size cut) = omega arith
+
+-- ---- sets
+
+-- the error of bytes without an initial length has a number of its own
+known_length : {greatest : ℕ} {old new : Input} {e : Error} → HasNoLength greatest old e new → IsKnown e
+known_length lacks = grind arith
 
 -- the error in place of a set has a number of its own, if each error of the header has
-known_set : {H : Type 0} {header : Layout H} {section : Input} {offset : ℕ} {e : Error} → Names IsKnown header
-    → LacksSet header section offset e → IsKnown e
-unfolding set initial_length long_length
+known_set : {H : Type 0} {header : Header H} {section : Input} {offset : ℕ} {e : Error}
+    → ((unit : Input) (e : Error) → header unit (Err e) → IsKnown e) → LacksSet header section offset e → IsKnown e
 known_set law (outside past) = omega arith
-known_set {header = header} {offset = offset} law (faulty e some fails) =
-    error_has IsKnown known_end (set_at header offset) (search (arith, names) depth 20) _ fails
+known_set law (faulty e some (set_unmeasured none)) = known_length none
+known_set law (faulty e some (set_cut measured short)) = omega arith
+known_set law (faulty e some (set_headless measured enough none)) = law _ e none
+
+-- the error in place of version 5 has a number of its own
+known_version : {unit : Input} {e : Error} → HasNoVersion unit e → IsKnown e
+known_version lacks = grind arith
 
 -- the error in place of a set of addresses has a number of its own
 pub known_address_set :
-    {section : Input} {offset : ℕ} {e : Error} → LacksSet address_header section offset e → IsKnown e
-unfolding address_header
-known_address_set lacks = known_set (search (arith, names) depth 20) lacks
+    {section : Input} {offset : ℕ} {e : Error} → LacksSet AddressHeaderAt section offset e → IsKnown e
+known_address_set lacks = known_set known lacks
+  where
+    known : (unit : Input) (e : Error) → AddressHeaderAt unit (Err e) → IsKnown e
+    known unit e none = grind (arith, known_version)
 
 -- the error in place of a set of string offsets has a number of its own
 pub known_str_offset_set :
-    {section : Input} {offset : ℕ} {e : Error} → LacksSet string_offsets_header section offset e → IsKnown e
-unfolding string_offsets_header
-known_str_offset_set lacks = known_set (search (arith, names) depth 20) lacks
+    {section : Input} {offset : ℕ} {e : Error} → LacksSet StringOffsetsHeaderAt section offset e → IsKnown e
+known_str_offset_set lacks = known_set known lacks
+  where
+    known : (unit : Input) (e : Error) → StringOffsetsHeaderAt unit (Err e) → IsKnown e
+    known unit e none = grind (arith, known_version)
 
 -- ---- tables
 
@@ -67,3 +86,25 @@ known_first_error error = grind arith
 -- the error that a call returns in place of a table has a number of its own, also `OutOfMemory`
 pub known_table : (section : Input) (offset : ℕ) (e : Error) → Answers (Err e) section offset → IsKnown e
 known_table section offset e answers = grind (arith, known_first_error)
+
+-- an error that a table can have isn't `OutOfMemory`, nor has its number
+table_error_kind : {e : Error} → IsTableError e → kind_of e ≢ 18
+table_error_kind is same = grind arith
+
+-- the error that a call returns in place of a table has another number than `OutOfMemory`, unless it is that
+pub table_kind : (section : Input) (offset : ℕ) (e : Error) → Answers (Err e) section offset → e ≢ OutOfMemory
+    → kind_of e ≢ kind_of OutOfMemory
+table_kind section offset e answers other =
+    table_error_kind (table_error section offset e (answers other))
+
+-- the error that a strict call returns in place of a table has a number of its own
+known_strict_table : (section : Input) (offset : ℕ) (e : Error) → AnswersStrictly (Err e) section offset → IsKnown e
+known_strict_table section offset e answers = grind (arith, known_first_error)
+
+-- a strict call that writes the error of its reading rejects the bytes
+pub strictly_rejected : {section : Input} {offset : ℕ} {e : Error} {status : ℕ} {fault : DwarfFault}
+    → AnswersStrictly (Err e) section offset → status ≡ kind_of e → fault ≡ fault_of e
+    → Rejects (λ e. AnswersStrictly (Err e) section offset) status fault
+strictly_rejected {section} {offset} {e} is numbered reported =
+    let known = known_strict_table section offset e is in
+    record { error = e; is = is; known = known; numbered = numbered; reported = reported }

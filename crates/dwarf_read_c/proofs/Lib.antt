@@ -4,3 +4,4 @@ pub mod StringLemmas
 pub mod TableLemmas
 pub mod SetLemmas
 pub mod KnownErrors
+pub mod FamilyLemmas

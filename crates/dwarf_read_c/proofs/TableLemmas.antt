@@ -1,4 +1,4 @@
--- Declarations that are written one after the other.
+-- Consecutive declarations, as they are written.
 use Rattle.std.proofs.Common.{set}
 use Rattle.std.proofs.lemmas.List.{length-map}
 use Rattle.std.proofs.lemmas.List.Sums.{sum_by-cons}
@@ -18,7 +18,7 @@ pub length-laid_from : (first : ℕ) (ds : List Declaration) → length (laid_fr
 length-laid_from first [] = refl
 length-laid_from first (d ∷ ds) = ap suc (length-laid_from (first + length d.attributes) ds)
 
--- one more declaration is one more abbreviation, whose attributes begin behind the others
+-- one more declaration is one more abbreviation, whose attributes begin after the others
 pub laid_next : (first : ℕ) (ds : List Declaration) (d : Declaration)
     → laid_from first (ds ++ d ∷ []) ≡ laid_from first ds ++ abbreviation_of (first + attributes_count ds) d ∷ []
 laid_next first [] d = grind arith
@@ -27,11 +27,11 @@ laid_next first (x ∷ ds) d =
     ≡ first + attributes_count (x ∷ ds) = rw sum_by-cons (omega arith) in
     rw (laid_next (first + length x.attributes) ds d, counted)
 
--- the abbreviation of the next declaration is written behind those so far
+-- the abbreviation of the next declaration is written after those so far
 pub laid_set : (ds : List Declaration) (d : Declaration) (places : List DwarfAbbreviation) (index first : ℕ)
     → take index places ≡ laid_from 0 ds → index < length places → first ≡ attributes_count ds
     → take (index + 1) (set places index (abbreviation_of first d)) ≡ laid_from 0 (ds ++ d ∷ [])
 laid_set ds d places index first placed within counted = grind (arith, common_steps, laid_next)
 
--- how abbreviations are written one after the other
+-- how consecutive abbreviations are written
 pub ruleset table_steps = (common_steps, length-values, length-laid_from)

@@ -4,4 +4,6 @@ pub mod Room
 pub mod Sections
 pub mod Tables
 pub mod Names
+pub mod Families
+pub mod Forms
 pub mod Sets

@@ -2,7 +2,7 @@
 use Rattle.std.specs.Prelude.{◌≡◌, ℕ, ◌<◌, ◌≤◌, List, ◌++◌, length, drop}
 use Rattle.dwarf_read_c.specs.declared.status.TheConstants.{DWARF_OK, DWARF_NO_ROOM}
 
--- the items are at the front, and the places behind them are unchanged
+-- the items are at the front, and the places after them are unchanged
 pub record Fills {A : Type 0} (items old new : List A) : Type 0 where
   pub room : length items ≤ length old
   pub is : new ≡ items ++ drop (length items) old

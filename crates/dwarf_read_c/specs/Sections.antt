@@ -6,7 +6,7 @@ use Rattle.dwarf_read_core.specs.Input.{Input}
 abbrev pub section_of : List ℕ → Bool → Input
 section_of bytes is_big = record { bytes = bytes; position = 0; is_big = is_big }
 
--- a part of a section: so many bytes from an offset on
+-- a part of a section: the given number of bytes from an offset on
 abbrev pub part_of : Input → ℕ → ℕ → Input
 part_of section offset len = record section {
   bytes = take len (drop offset section.bytes);

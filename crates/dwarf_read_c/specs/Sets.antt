@@ -1,31 +1,24 @@
 -- A set of addresses or of string offsets at an offset of a section, as C sees it.
-use Rattle.std.specs.Prelude.{◌≡◌, ℕ, ◌+◌, ◌-◌, ◌/◌, ◌<◌, ◌≤◌, ◌^◌, length, Ok, Err}
+use Rattle.std.specs.Prelude.{◌≡◌, ℕ, ◌+◌, ◌-◌, ◌/◌, ◌<◌, ◌≤◌, ◌^◌, true, List, Result, length, count_by, is_ok}
 use Rattle.dwarf_read_core.specs.declared.Error.{Error}
 use Rattle.dwarf_read_core.specs.declared.Format.{Format}
-use Rattle.dwarf_read_core.specs.Entries.{Entries}
+use Rattle.dwarf_read_core.specs.Entries.{AreNumbers, Entries}
 use Rattle.dwarf_read_core.specs.Faults.{end_fault}
 use Rattle.dwarf_read_core.specs.Format.{initial_length_size, word_size}
+use Rattle.dwarf_read_core.specs.Headers.{Header}
 use Rattle.dwarf_read_core.specs.Input.{Input, after}
-use Rattle.dwarf_read_core.specs.Layout.{Layout, read}
-use Rattle.dwarf_read_core.specs.Sets.{Set, set}
+use Rattle.dwarf_read_core.specs.Sets.{HasNoSet, HasSet, Headers, Set, set_size}
 use Rattle.dwarf_read_c.specs.declared.sets.DwarfSet.{DwarfSet}
 
--- the layout of a set at an offset, with offsets of 64 bits
-abbrev pub set_at : {H : Type 0} → Layout H → ℕ → Layout (Set H)
-set_at header offset = set header (2 ^ 64 - 1) offset
-
--- a set begins at an offset, and the next one may begin where it ends
-pub record HasSet {H : Type 0} (header : Layout H) (section : Input) (offset next : ℕ) (s : Set H) : Type 0 where
-  pub within : offset ≤ length section.bytes
-  pub behind : Input
-  pub reads : read (set_at header offset) (after offset section) ≡ Ok (s, behind)
-  pub ends : next + length behind.bytes ≡ length section.bytes
+-- the sets of a section from an offset on
+abbrev pub sets_from : ℕ → Input → Headers
+sets_from offset section = record { offset = offset; rest = after offset section }
 
 -- no set is at the offset: it is past the end, or the bytes from there on don't begin with a set
-pub data LacksSet {H : Type 0} (header : Layout H) (section : Input) (offset : ℕ) : Error → Type 0 where
+pub data LacksSet {H : Type 0} (header : Header H) (section : Input) (offset : ℕ) : Error → Type 0 where
   outside : length section.bytes < offset → LacksSet header section offset (end_fault section)
   faulty : (e : Error) → offset < length section.bytes
-      → read (set_at header offset) (after offset section) ≡ Err e → LacksSet header section offset e
+      → HasNoSet header (2 ^ 64 - 1) (after offset section) e → LacksSet header section offset e
 
 -- a set as C sees it, with its entries and where the next set may begin. Only whole entries are counted
 abbrev pub shown : {H : Type 0} → Set H → Entries → ℕ → DwarfSet
@@ -38,12 +31,16 @@ shown s entries next = record {
   entry_size = entries.width;
 }
 
--- what is written for C describes a set that begins at an offset, and its entries
-pub record TellsSet {H : Type 0} (header : Layout H) (entries_of : Set H → Entries) (section : Input) (offset : ℕ)
+-- what is written for C describes a set that begins at an offset, and its entries: the next set may begin where it ends,
+-- and as many entries are counted as are numbers
+pub record TellsSet {H : Type 0} (header : Header H) (entries_of : Set H → Entries) (section : Input) (offset : ℕ)
     (reported : DwarfSet) : Type 0 where
   pub s : Set H
-  pub has : HasSet header section offset reported.next s
-  pub is : reported ≡ shown s (entries_of s) reported.next
+  pub within : offset ≤ length section.bytes
+  pub has : HasSet header (2 ^ 64 - 1) (sets_from offset section) s
+  pub is : reported ≡ shown s (entries_of s) (offset + set_size s)
+  pub counted : (items : List (Result ℕ Error)) → AreNumbers (λ x. true) (entries_of s) items
+      → reported.entry_count ≡ count_by is_ok items
 
 -- a set whose header has four bytes, by its offset, format, length and size of entries
 abbrev pub set_from : ℕ → Format → ℕ → ℕ → DwarfSet

@@ -50,7 +50,7 @@ laid_from first (d ∷ ds) = abbreviation_of first d ∷ laid_from (first + leng
 abbrev pub abbreviations_of : Table → List DwarfAbbreviation
 abbreviations_of t = laid_from 0 (values t.by_code)
 
--- the attributes of declarations, one after the other
+-- the attributes of consecutive declarations
 abbrev pub attributes_in : List Declaration → List DwarfAttribute
 attributes_in ds = flat_map (λ d. map attribute_of d.attributes) ds
 

@@ -8,11 +8,15 @@
 
 #![tactic(auto)]
 
+mod families;
+pub mod forms;
+pub mod laws;
 pub mod names;
 pub mod numbers;
 pub mod room;
 pub mod sections;
 pub mod sets;
 pub mod status;
+pub mod strict;
 pub mod tables;
 pub mod texts;

@@ -5,7 +5,8 @@ ghost use Rattle.dwarf_read_core.specs.Faults.{IsTooShort};
 ghost use Rattle.dwarf_read_core.specs.Format.{initial_length_size};
 ghost use Rattle.dwarf_read_core.specs.Input.{Takes};
 ghost use Rattle.dwarf_read_core.specs.Slice.{input_of};
-ghost use Rattle.dwarf_read_core.specs.Sets.{address_header, addresses_of, string_offsets_header, string_offsets_of};
+ghost use Rattle.dwarf_read_core.specs.Headers.{AddressHeaderAt, StringOffsetsHeaderAt};
+ghost use Rattle.dwarf_read_core.specs.Sets.{addresses_of, string_offsets_of};
 ghost use Rattle.dwarf_read_c.specs.Fault.{Rejects};
 ghost use Rattle.dwarf_read_c.specs.Sections.{section_of};
 ghost use Rattle.dwarf_read_c.specs.Sets.{LacksSet, TellsSet, set_from};
@@ -50,8 +51,8 @@ pub struct DwarfSet {
 /// - 1 (`UnexpectedEof`) at 0 if `offset` is past the end;
 /// - 1 at `offset` if fewer than four bytes follow;
 /// - 9 (`UnknownReservedLength`) if those four are 0xfffffff0 to 0xfffffffe;
-/// - 1 behind them if they are 0xffffffff and fewer than eight bytes follow;
-/// - 1 behind the length if fewer bytes follow, or if the set has fewer than two bytes;
+/// - 1 after them if they are 0xffffffff and fewer than eight bytes follow;
+/// - 1 after the length if fewer bytes follow, or if the set has fewer than two bytes;
 /// - 11 (`UnknownVersion`) if the version isn't 5;
 /// - 1 at the address size if the set ends before it;
 /// - 12 (`UnsupportedAddressSize`) if the address size isn't 1, 2, 4 or 8;
@@ -67,10 +68,10 @@ pub extern "C" fn dwarf_address_set(
     fault: &mut DwarfFault,
 ) -> u32
     ensures found { let s = section_of section.now is_big in
-        result ≡ DWARF_OK → TellsSet address_header addresses_of s offset set.new }
+        result ≡ DWARF_OK → TellsSet AddressHeaderAt addresses_of s offset set.new }
     ensures end { result ≡ DWARF_END → (offset ≡ length section.now) × (fault.new ≡ fault.old) }
     ensures rejected { let s = section_of section.now is_big in result ≢ DWARF_OK
-        → result ≢ DWARF_END → Rejects (LacksSet address_header s offset) result fault.new }
+        → result ≢ DWARF_END → Rejects (LacksSet AddressHeaderAt s offset) result fault.new }
     ensures no_set { result ≢ DWARF_OK → set.new ≡ set.old }
     ensures no_fault { result ≡ DWARF_OK → fault.new ≡ fault.old }
 {
@@ -93,7 +94,7 @@ pub extern "C" fn dwarf_address_set(
 ///
 /// # Errors
 ///
-/// Those of [`dwarf_address_set`] up to the version, and 1 (`UnexpectedEof`) behind the version if
+/// Those of [`dwarf_address_set`] up to the version, and 1 (`UnexpectedEof`) after the version if
 /// fewer than two bytes of padding follow in the set.
 #[unsafe(no_mangle)]
 #[tactic(auto, using(crate::proofs::KnownErrors::known_str_offset_set))]
@@ -105,10 +106,10 @@ pub extern "C" fn dwarf_str_offset_set(
     fault: &mut DwarfFault,
 ) -> u32
     ensures found { let s = section_of section.now is_big in
-        result ≡ DWARF_OK → TellsSet string_offsets_header string_offsets_of s offset set.new }
+        result ≡ DWARF_OK → TellsSet StringOffsetsHeaderAt string_offsets_of s offset set.new }
     ensures end { result ≡ DWARF_END → (offset ≡ length section.now) × (fault.new ≡ fault.old) }
     ensures rejected { let s = section_of section.now is_big in result ≢ DWARF_OK
-        → result ≢ DWARF_END → Rejects (LacksSet string_offsets_header s offset) result fault.new }
+        → result ≢ DWARF_END → Rejects (LacksSet StringOffsetsHeaderAt s offset) result fault.new }
     ensures no_set { result ≢ DWARF_OK → set.new ≡ set.old }
     ensures no_fault { result ≡ DWARF_OK → fault.new ≡ fault.old }
 {
@@ -126,9 +127,9 @@ pub extern "C" fn dwarf_str_offset_set(
 #[tactic(auto, using(crate::proofs::SetLemmas::set_outside))]
 fn address_set_at(section: &[u8], is_big: bool, offset: usize) -> Result<Option<DwarfSet>, Error>
     ensures found { let s = section_of section.now is_big in
-        IfOk result (λ found. IfSome found (TellsSet address_header addresses_of s offset)) }
+        IfOk result (λ found. IfSome found (TellsSet AddressHeaderAt addresses_of s offset)) }
     ensures end { IfOk result (λ found. IfNone found (offset ≡ length section.now)) }
-    ensures err { IfErr result (LacksSet address_header (section_of section.now is_big) offset) }
+    ensures err { IfErr result (LacksSet AddressHeaderAt (section_of section.now is_big) offset) }
 {
     let addresses = DebugAddr::from(bytes_from(section, is_big, offset)?);
     match addresses.headers()?.next()? {
@@ -144,10 +145,10 @@ fn address_set_at(section: &[u8], is_big: bool, offset: usize) -> Result<Option<
 #[tactic(auto, using(crate::proofs::SetLemmas::set_outside))]
 fn str_offset_set_at(section: &[u8], is_big: bool, offset: usize) -> Result<Option<DwarfSet>, Error>
     ensures found { let s = section_of section.now is_big in IfOk result
-        (λ found. IfSome found (TellsSet string_offsets_header string_offsets_of s offset)) }
+        (λ found. IfSome found (TellsSet StringOffsetsHeaderAt string_offsets_of s offset)) }
     ensures end { IfOk result (λ found. IfNone found (offset ≡ length section.now)) }
     ensures err { IfErr result
-        (LacksSet string_offsets_header (section_of section.now is_big) offset) }
+        (LacksSet StringOffsetsHeaderAt (section_of section.now is_big) offset) }
 {
     let offsets = DebugStrOffsets::from(bytes_from(section, is_big, offset)?);
     match offsets.headers()?.next()? {

@@ -15,3 +15,6 @@ pub const DWARF_NO_NAME: u32 = 101;
 
 /// The offset is the end of the section, so there is nothing to read. Nothing was written.
 pub const DWARF_END: u32 = 102;
+
+/// The form doesn't determine how many bytes a value has. Nothing was written.
+pub const DWARF_NO_SIZE: u32 = 103;

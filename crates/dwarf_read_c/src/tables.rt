@@ -1,8 +1,9 @@
 //! Abbreviation tables (DWARF 5, 7.5.3).
 
-ghost use Rattle.std.specs.Prelude.{◌≡◌, ◌≢◌, ◌≤◌, ◌<◌, ◌^◌, false, Ok, Err, length, map, IfOk, IfErr};
+ghost use Rattle.std.specs.Prelude.{◌≡◌, ◌≢◌, ◌≤◌, ◌<◌, ◌^◌, false, Ok, Err, length, map, IfOk, IfErr, IsErrOf};
 ghost use Rattle.std.specs.FinMap as finite;
-ghost use Rattle.dwarf_read_core.specs.Answer.{Answer, Answers, TableEndsAt};
+ghost use Rattle.dwarf_read_core.specs.Answer.{Answer, Answers, TableEndsAt, TakesNoMemory};
+ghost use Rattle.dwarf_fault.specs.Fault.{kind_of};
 ghost use Rattle.dwarf_read_core.specs.Grammar.{Table, attribute_count};
 ghost use Rattle.dwarf_read_c.specs.Fault.{Rejects};
 ghost use Rattle.dwarf_read_c.specs.Room.{Fills};
@@ -24,7 +25,7 @@ pub struct DwarfMeasure {
     pub abbreviations: usize,
     /// How many attributes they have together.
     pub attributes: usize,
-    /// The offset behind the code of value 0 that closes the table, or the section's length.
+    /// The offset after the code of value 0 that closes the table, or the section's length.
     pub end: usize,
     /// 1 if a code of value 0 closes the table, and 0 if the section's end does.
     pub closed_by_null: u8,
@@ -34,7 +35,7 @@ pub struct DwarfMeasure {
 #[repr(C)]
 #[derive(Clone, Copy)]
 pub struct DwarfAbbreviation {
-    /// The code by which entries refer to it. It is not 0.
+    /// Its code, which entries refer to. It is not 0.
     pub code: u64,
     /// The tag of the entries.
     pub tag: u16,
@@ -73,7 +74,7 @@ pub struct DwarfAttribute {
 ///
 /// 18 (`OutOfMemory`) if memory for the table runs out.
 #[unsafe(no_mangle)]
-#[tactic(auto, using(crate::proofs::KnownErrors::known_table))]
+#[tactic(auto, using(crate::proofs::KnownErrors::known_table, crate::proofs::KnownErrors::table_kind))]
 pub extern "C" fn dwarf_table_measure(
     mem: Global,
     section: &[u8],
@@ -85,6 +86,9 @@ pub extern "C" fn dwarf_table_measure(
         → (t : Table) × Answer s offset (Ok t) × Measures measure.new s offset t }
     ensures rejected { let s = section_of section.now false in result ≢ DWARF_OK
         → Rejects (λ e. Answers (Err e) s offset) result fault.new }
+    // A table without declarations needs no memory.
+    ensures memory { TakesNoMemory (section_of section.now false) offset
+        → result ≢ kind_of Error.OutOfMemory }
     ensures no_measure { result ≢ DWARF_OK → measure.new ≡ measure.old }
     ensures no_fault { result ≡ DWARF_OK → fault.new ≡ fault.old }
 {
@@ -99,7 +103,7 @@ pub extern "C" fn dwarf_table_measure(
 
 /// Reads the table at `offset` of `.debug_abbrev`: its abbreviations in the order of their codes,
 /// and the attributes of all of them in the same order. `measure` is what [`dwarf_table_measure`]
-/// writes. The call doesn't change the places behind them.
+/// writes. The call doesn't change the places after them.
 ///
 /// If there are fewer places than abbreviations or attributes, only `measure` is written, and the
 /// call returns `DWARF_NO_ROOM`.
@@ -108,7 +112,7 @@ pub extern "C" fn dwarf_table_measure(
 ///
 /// Those of [`dwarf_table_measure`].
 #[unsafe(no_mangle)]
-#[tactic(auto, using(crate::proofs::KnownErrors::known_table))]
+#[tactic(auto, using(crate::proofs::KnownErrors::known_table, crate::proofs::KnownErrors::table_kind))]
 pub extern "C" fn dwarf_table_read(
     mem: Global,
     section: &[u8],
@@ -129,6 +133,8 @@ pub extern "C" fn dwarf_table_read(
     ensures rejected { let s = section_of section.now false in
         result ≢ DWARF_OK → result ≢ DWARF_NO_ROOM
         → Rejects (λ e. Answers (Err e) s offset) result fault.new × (measure.new ≡ measure.old) }
+    ensures memory { TakesNoMemory (section_of section.now false) offset
+        → result ≢ kind_of Error.OutOfMemory }
     ensures no_items { result ≢ DWARF_OK
         → (abbreviations.new ≡ abbreviations.old) × (attributes.new ≡ attributes.old) }
     ensures no_fault { result ≡ DWARF_OK → fault.new ≡ fault.old }
@@ -147,10 +153,16 @@ pub extern "C" fn dwarf_table_read(
 }
 
 // Returns the table at an offset, and where it ends. Its attributes can be counted in a `usize`.
-fn table_at(mem: Global, section: &[u8], offset: usize) -> Result<(Abbreviations, usize), Error>
+pub(crate) fn table_at(
+    mem: Global,
+    section: &[u8],
+    offset: usize,
+) -> Result<(Abbreviations, usize), Error>
     ensures answer { let s = section_of section.now false in
         IfOk result (λ r. Answer s offset (Ok r.0) × TableEndsAt s offset r.0 r.1) }
     ensures err { IfErr result (λ e. Answers (Err e) (section_of section.now false) offset) }
+    ensures memory { TakesNoMemory (section_of section.now false) offset
+        → IsErrOf result Error.OutOfMemory → ⊥ }
     ensures counted { IfOk result (λ r. attribute_count r.0.by_code < 2 ^ 64) }
 {
     let section = DebugAbbrev::new(section, LittleEndian);
@@ -159,7 +171,7 @@ fn table_at(mem: Global, section: &[u8], offset: usize) -> Result<(Abbreviations
 }
 
 // Returns how large the table is, and that it ends there.
-fn measure_of(table: &Abbreviations, end: usize) -> DwarfMeasure
+pub(crate) fn measure_of(table: &Abbreviations, end: usize) -> DwarfMeasure
     requires { attribute_count table.now.by_code < 2 ^ 64 }
     ensures { result ≡ measure_of table.now end }
 {
@@ -177,7 +189,7 @@ fn measure_of(table: &Abbreviations, end: usize) -> DwarfMeasure
 
 // Writes the abbreviations, in the order of their codes, to the front of the places.
 #[tactic(auto, using(crate::proofs::TableLemmas::table_steps))]
-fn fill_abbreviations(table: &Abbreviations, places: &mut [DwarfAbbreviation])
+pub(crate) fn fill_abbreviations(table: &Abbreviations, places: &mut [DwarfAbbreviation])
     requires room { finite.len table.now.by_code ≤ length places.old }
     requires counted { attribute_count table.now.by_code < 2 ^ 64 }
     ensures { Fills (abbreviations_of table.now) places.old places.new }
@@ -199,7 +211,7 @@ fn fill_abbreviations(table: &Abbreviations, places: &mut [DwarfAbbreviation])
 
 // Writes the attributes of all abbreviations, in the order of their codes, to the front of the
 // places.
-fn fill_attributes(table: &Abbreviations, places: &mut [DwarfAttribute])
+pub(crate) fn fill_attributes(table: &Abbreviations, places: &mut [DwarfAttribute])
     requires { attribute_count table.now.by_code ≤ length places.old }
     ensures { Fills (attributes_of table.now) places.old places.new }
 {

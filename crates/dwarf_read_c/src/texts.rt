@@ -12,7 +12,7 @@ use dwarf_read_core::{DwChildren, Error, ReaderOffsetId};
 use std::alloc::Global;
 
 /// Writes the text of an error, such as `unexpected end of input`, to the front of `text`, without
-/// a zero byte behind it. `len` is how many bytes the text has. If `text` has no room for them,
+/// a zero byte after it. `len` is how many bytes the text has. If `text` has no room for them,
 /// only `len` is written, and the call returns `DWARF_NO_ROOM`. It returns `DWARF_NO_NAME` if no
 /// error has this number and value, such as 20, or 14 with a value above 255, and
 /// `DWARF_OUT_OF_MEMORY` if memory for the text runs out. Then nothing is written.
@@ -70,7 +70,7 @@ fn error_of(fault: &DwarfFault) -> Option<Error>
     }
 }
 
-fn byte_of(value: u64) -> Option<u8>
+pub(crate) fn byte_of(value: u64) -> Option<u8>
     ensures { result ≡ (if nat_lt value (2 ^ 8) then Some value else None) }
 {
     u8::try_from(value).ok()

@@ -15,8 +15,8 @@ use std::process::ExitCode;
 
 type Result<T> = std::result::Result<T, Box<dyn Error>>;
 
-fn named(name: Option<String>, kind: &str, value: u16) -> String {
-    name.unwrap_or_else(|| format!("Unknown {kind}: {value}"))
+fn named(name: Option<&str>, kind: &str, value: u16) -> String {
+    name.map_or_else(|| format!("Unknown {kind}: {value}"), str::to_owned)
 }
 
 fn attribute_line(attribute: &Attribute) -> String {

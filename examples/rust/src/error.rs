@@ -1,6 +1,6 @@
 //! Errors: a number and a value of the library, as a Rust type.
 
-use crate::{sys, text};
+use crate::sys;
 use std::fmt;
 
 /// The result of a call.
@@ -46,9 +46,12 @@ pub enum ErrorKind {
     UnsupportedRegister,
     /// Memory ran out.
     OutOfMemory,
-    /// Only the section's end closes a table. No call here returns this.
+    /// Only the section's end closes a table. The value is the position.
     UnterminatedAbbreviations,
 }
+
+// No text of an error has more bytes.
+const TEXT_ROOM: usize = 64;
 
 // In the order of their numbers, from 1.
 const KINDS: [ErrorKind; 19] = [
@@ -111,20 +114,25 @@ impl fmt::Debug for Error {
 
 impl fmt::Display for Error {
     fn fmt(&self, f: &mut fmt::Formatter<'_>) -> fmt::Result {
-        // SAFETY: `text` passes places that nothing else refers to.
-        let text = text(|at, room, len| unsafe { sys::dwarf_fault_text(&self.0, at, room, len) });
+        let (mut text, mut len) = ([0; TEXT_ROOM], 0);
+        // SAFETY: see `sys`.
+        let status =
+            unsafe { sys::dwarf_fault_text(&self.0, text.as_mut_ptr(), TEXT_ROOM, &mut len) };
         // There is a text for each error, unless memory runs out.
-        f.write_str(text.as_deref().unwrap_or("out of memory"))
+        match std::str::from_utf8(&text[..len]) {
+            Ok(text) if status == sys::OK => f.write_str(text),
+            _ => f.write_str("out of memory"),
+        }
     }
 }
 
 impl std::error::Error for Error {}
 
-/// Makes a call. Its status is one of these two, which is returned, or the number of an error.
+/// Makes a call, and returns its status, unless that is the number of an error.
 pub(crate) fn check(call: impl FnOnce(&mut sys::Fault) -> u32) -> Result<u32> {
     let mut fault = sys::Fault::default();
     match call(&mut fault) {
-        status @ (sys::OK | sys::END) => Ok(status),
+        status @ (sys::OK | sys::NO_ROOM..) => Ok(status),
         _ => Err(Error(fault)),
     }
 }

@@ -1,22 +1,24 @@
 //! The lowest layer of DWARF reading, proved: abbreviation tables, strings, string offsets,
-//! addresses and LEB128 numbers, the names of tags, attributes and forms, and the texts of errors.
+//! addresses and LEB128 numbers, the sizes of forms, the named constants, and the texts of errors.
 //!
 //! The library below is a port of that layer of gimli to Rattle, which is Rust with contracts: each
 //! of its functions is proved against its contract, on every input. This crate passes slices and
 //! returns `Result`. It has no state, and each call may be made from any number of threads.
 //!
 //! ```
-//! use dwarf_read::{Table, attribute_name, form_name, tag_name};
+//! use dwarf_read::constants::{DW_AT_name, DW_TAG_compile_unit};
+//! use dwarf_read::{Table, form_name, tag_name};
 //!
 //! # fn main() -> Result<(), dwarf_read::Error> {
 //! let section = [1, 0x11, 1, 3, 8, 0, 0, 0];
 //! let table = Table::read(&section, 0)?;
 //! let unit = table.get(1).unwrap();
-//! assert_eq!(tag_name(unit.tag()).as_deref(), Some("DW_TAG_compile_unit"));
+//! assert_eq!(unit.tag(), DW_TAG_compile_unit);
+//! assert_eq!(tag_name(unit.tag()), Some("DW_TAG_compile_unit"));
 //! assert!(unit.has_children());
 //! let attribute = unit.attributes()[0];
-//! assert_eq!(attribute_name(attribute.name()).as_deref(), Some("DW_AT_name"));
-//! assert_eq!(form_name(attribute.form()).as_deref(), Some("DW_FORM_string"));
+//! assert_eq!(attribute.name(), DW_AT_name);
+//! assert_eq!(form_name(attribute.form()), Some("DW_FORM_string"));
 //! # Ok(())
 //! # }
 //! ```
@@ -28,6 +30,7 @@
 //! Linux on processors from x86-64-v2 on. `cargo check` and `cargo doc` need no library.
 #![warn(missing_docs)]
 
+pub mod constants;
 mod error;
 #[cfg(has_heap)]
 mod heap;
@@ -35,10 +38,11 @@ mod sets;
 mod sys;
 mod table;
 
+use constants::Family;
 use error::check;
 pub use error::{Error, ErrorKind, Result};
 pub use sets::{Entries, Set, Sets, address_sets, str_offset_sets};
-pub use table::{Abbreviation, Abbreviations, Attribute, Table};
+pub use table::{Abbreviation, Abbreviations, Attribute, Table, Tables, tables};
 
 /// The order of the bytes of a number.
 #[derive(Debug, Clone, Copy, PartialEq, Eq, Hash)]
@@ -152,27 +156,36 @@ pub fn address(
     Ok(address)
 }
 
-/// Returns the name of a tag, if it has one.
-pub fn tag_name(tag: u16) -> Option<String> {
-    // SAFETY: `text` passes places that nothing else refers to.
-    text(|at, room, len| unsafe { sys::dwarf_tag_name(tag, at, room, len) })
+/// Returns how many bytes a value of a form has in a unit of this version, with addresses of
+/// `address_size` bytes, and in the 64-bit format if `is_64` is set. `None` if the form doesn't
+/// determine it, or if no form has this number.
+///
+/// ```
+/// use dwarf_read::constants::{DW_FORM_ref_addr, DW_FORM_udata};
+/// use dwarf_read::form_size;
+///
+/// assert_eq!(form_size(DW_FORM_ref_addr, 2, 8, false), Some(8));
+/// assert_eq!(form_size(DW_FORM_ref_addr, 5, 8, false), Some(4));
+/// assert_eq!(form_size(DW_FORM_udata, 5, 8, false), None);
+/// ```
+pub fn form_size(form: u16, version: u16, address_size: u8, is_64: bool) -> Option<usize> {
+    let mut size = 0;
+    // SAFETY: see `sys`.
+    let status = unsafe { sys::dwarf_form_size(form, version, address_size, is_64, &mut size) };
+    (status == sys::OK).then_some(size)
+}
+
+/// Returns the name of a tag, if it has one. [`Family::name`] returns that of any constant.
+pub fn tag_name(tag: u16) -> Option<&'static str> {
+    Family::Tag.name(tag.into())
 }
 
 /// Returns the name of an attribute, if it has one.
-pub fn attribute_name(name: u16) -> Option<String> {
-    // SAFETY: `text` passes places that nothing else refers to.
-    text(|at, room, len| unsafe { sys::dwarf_attribute_name(name, at, room, len) })
+pub fn attribute_name(name: u16) -> Option<&'static str> {
+    Family::At.name(name.into())
 }
 
 /// Returns the name of a form, if it has one.
-pub fn form_name(form: u16) -> Option<String> {
-    // SAFETY: `text` passes places that nothing else refers to.
-    text(|at, room, len| unsafe { sys::dwarf_form_name(form, at, room, len) })
-}
-
-// The name or text that a call writes, if there is one. None has more than 64 bytes.
-fn text(call: impl FnOnce(*mut u8, usize, &mut usize) -> u32) -> Option<String> {
-    let (mut bytes, mut len) = ([0; 64], 0);
-    let status = call(bytes.as_mut_ptr(), bytes.len(), &mut len);
-    (status == sys::OK).then(|| String::from_utf8_lossy(&bytes[..len]).into_owned())
+pub fn form_name(form: u16) -> Option<&'static str> {
+    Family::Form.name(form.into())
 }

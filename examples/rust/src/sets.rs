@@ -68,7 +68,7 @@ impl<'s> Sets<'s> {
             check(|fault| unsafe { call(bytes, len, is_big, offset, &mut header, fault) })?;
         let Sets { order, kind, .. } = *self;
         Ok((status == sys::OK).then(|| {
-            // Nothing behind the set is read.
+            // Nothing after the set is read.
             let section = &self.section[..header.next];
             Set { section, order, kind, offset, header }
         }))

@@ -1,13 +1,13 @@
 //! The declarations of `include/dwarf_read.h`, which says what each call does.
 //!
 //! A call is safe if what a caller promises there holds. This is so for each call of this crate: a
-//! slice is valid for as many items as its length says, all bytes of an output are initialized, and
+//! slice is valid for as many items as its length says, and a vector for as many as its capacity;
 //! an output overlaps nothing, since it is borrowed mutably for the call.
-
-use crate::table::Attribute;
+//!
+//! `build.rs` compares the structs with those of the header.
 
 pub const OK: u32 = 0;
-pub const END: u32 = 102;
+pub const NO_ROOM: u32 = 100;
 
 /// The error of a call.
 #[repr(C)]
@@ -50,6 +50,28 @@ pub struct Abbreviation {
     pub attribute_count: usize,
 }
 
+/// An attribute of an abbreviation.
+#[repr(C)]
+#[derive(Debug, Default, Clone, Copy, PartialEq, Eq, Hash)]
+pub struct Attribute {
+    pub name: u16,
+    pub form: u16,
+    pub implicit_const: i64,
+}
+
+/// One of the two calls that read a table.
+pub type TableRead = unsafe extern "C" fn(
+    section: *const u8,
+    len: usize,
+    offset: usize,
+    abbreviations: *mut Abbreviation,
+    abbreviation_room: usize,
+    attributes: *mut Attribute,
+    attribute_room: usize,
+    measure: &mut Measure,
+    fault: &mut Fault,
+) -> u32;
+
 unsafe extern "C" {
     pub fn dwarf_uleb128(
         bytes: *const u8, len: usize, value: &mut u64, number_len: &mut usize, fault: &mut Fault,
@@ -76,17 +98,22 @@ unsafe extern "C" {
         section: *const u8, len: usize, is_big: bool, offset: usize, set: &mut Set,
         fault: &mut Fault,
     ) -> u32;
-    pub fn dwarf_table_measure(
-        section: *const u8, len: usize, offset: usize, measure: &mut Measure, fault: &mut Fault,
-    ) -> u32;
     pub fn dwarf_table_read(
         section: *const u8, len: usize, offset: usize, abbreviations: *mut Abbreviation,
         abbreviation_room: usize, attributes: *mut Attribute, attribute_room: usize,
         measure: &mut Measure, fault: &mut Fault,
     ) -> u32;
-    pub fn dwarf_tag_name(tag: u16, name: *mut u8, room: usize, len: &mut usize) -> u32;
-    pub fn dwarf_attribute_name(attribute: u16, name: *mut u8, room: usize, len: &mut usize)
-    -> u32;
-    pub fn dwarf_form_name(form: u16, name: *mut u8, room: usize, len: &mut usize) -> u32;
+    pub fn dwarf_table_read_strict(
+        section: *const u8, len: usize, offset: usize, abbreviations: *mut Abbreviation,
+        abbreviation_room: usize, attributes: *mut Attribute, attribute_room: usize,
+        measure: &mut Measure, fault: &mut Fault,
+    ) -> u32;
+    pub fn dwarf_form_size(
+        form: u16, version: u16, address_size: u8, is_64: bool, size: &mut usize,
+    ) -> u32;
+    #[cfg(test)]
+    pub fn dwarf_constant_name(
+        family: u32, value: u64, name: *mut u8, room: usize, len: &mut usize,
+    ) -> u32;
     pub fn dwarf_fault_text(fault: &Fault, text: *mut u8, room: usize, len: &mut usize) -> u32;
 }

@@ -1,12 +1,14 @@
 //! Abbreviation tables.
 
+use crate::constants::DW_FORM_implicit_const;
 use crate::error::{Error, Result, check};
 use crate::sys;
 use std::iter::FusedIterator;
 use std::slice;
 
-/// The form whose value is in the table itself.
-const IMPLICIT_CONST: u16 = 0x21;
+// Places for a table that is read alone: few tables are larger. One that is takes a second call.
+const FIRST_ROWS: usize = 512;
+const FIRST_ATTRIBUTES: usize = 4096;
 
 /// An abbreviation table of `.debug_abbrev`.
 ///
@@ -24,22 +26,28 @@ const IMPLICIT_CONST: u16 = 0x21;
 /// # Ok(())
 /// # }
 /// ```
-#[derive(Debug, Clone, PartialEq, Eq)]
+#[derive(Debug, Default, Clone, PartialEq, Eq)]
 pub struct Table {
     // In the order of their codes.
     rows: Vec<sys::Abbreviation>,
     // The attributes of all abbreviations, in the same order.
     attributes: Vec<Attribute>,
+    offset: usize,
     end: usize,
     is_closed_by_null: bool,
 }
 
-// Returns so many items of zeros, or an error if memory runs out.
-fn zeros<T: Clone + Default>(count: usize) -> Result<Vec<T>> {
-    let mut items = Vec::new();
-    items.try_reserve_exact(count).map_err(|_| Error::OUT_OF_MEMORY)?;
-    items.resize(count, T::default());
-    Ok(items)
+// Makes places for that many items, unless there are enough.
+fn reserve<T>(items: &mut Vec<T>, count: usize) -> Result<()> {
+    items.try_reserve(count.saturating_sub(items.len())).map_err(|_| Error::OUT_OF_MEMORY)
+}
+
+// Returns a copy with places for these items alone.
+fn copied<T: Copy>(items: &[T]) -> Result<Vec<T>> {
+    let mut copy = Vec::new();
+    copy.try_reserve_exact(items.len()).map_err(|_| Error::OUT_OF_MEMORY)?;
+    copy.extend_from_slice(items);
+    Ok(copy)
 }
 
 impl Table {
@@ -58,31 +66,75 @@ impl Table {
     ///
     /// `OutOfMemory` if memory runs out.
     pub fn read(section: &[u8], offset: usize) -> Result<Table> {
+        Table::read_by(sys::dwarf_table_read, section, offset)
+    }
+
+    /// Reads the table at an offset of `.debug_abbrev`, which a code of value 0 has to close. It is
+    /// meant for a section that still grows, and for checking what a producer wrote.
+    ///
+    /// # Errors
+    ///
+    /// `UnterminatedAbbreviations` at the section's end if only that end closes the table, also if
+    /// the offset is that end, and all errors of [`read`](Table::read).
+    ///
+    /// ```
+    /// use dwarf_read::{ErrorKind, Table};
+    ///
+    /// let section = [1, 0x11, 0, 0, 0];
+    /// assert!(!Table::read(&section, 0)?.is_closed_by_null());
+    /// let error = Table::read_strict(&section, 0).unwrap_err();
+    /// assert_eq!((error.kind(), error.value()), (ErrorKind::UnterminatedAbbreviations, 5));
+    /// # Ok::<(), dwarf_read::Error>(())
+    /// ```
+    pub fn read_strict(section: &[u8], offset: usize) -> Result<Table> {
+        Table::read_by(sys::dwarf_table_read_strict, section, offset)
+    }
+
+    /// Reads the table at an offset of `.debug_abbrev` in place of this one, into its memory. This
+    /// saves allocations, and for a large table a second parse, if many tables are read.
+    ///
+    /// # Errors
+    ///
+    /// Those of [`read`](Table::read). This table is then unchanged.
+    pub fn read_again(&mut self, section: &[u8], offset: usize) -> Result<()> {
+        self.fill(sys::dwarf_table_read, section, offset)
+    }
+
+    fn read_by(call: sys::TableRead, section: &[u8], offset: usize) -> Result<Table> {
+        let (mut table, left) = (Table::default(), section.len().saturating_sub(offset));
+        // An abbreviation has at least five bytes, and an attribute two.
+        reserve(&mut table.rows, FIRST_ROWS.min(left / 5))?;
+        reserve(&mut table.attributes, FIRST_ATTRIBUTES.min(left / 2))?;
+        table.fill(call, section, offset)?;
+        table.rows.shrink_to_fit();
+        table.attributes.shrink_to_fit();
+        Ok(table)
+    }
+
+    fn fill(&mut self, call: sys::TableRead, section: &[u8], offset: usize) -> Result<()> {
         let (bytes, len, mut measure) = (section.as_ptr(), section.len(), sys::Measure::default());
-        // SAFETY: see `crate::sys`.
-        check(|fault| unsafe {
-            sys::dwarf_table_measure(bytes, len, offset, &mut measure, fault)
-        })?;
-        let mut rows: Vec<sys::Abbreviation> = zeros(measure.abbreviations)?;
-        let mut attributes: Vec<Attribute> = zeros(measure.attributes)?;
-        let (first, room) = (rows.as_mut_ptr(), rows.len());
-        let (list, places) = (attributes.as_mut_ptr(), attributes.len());
-        // SAFETY: see `crate::sys`. There is room, since the section is the one that was measured.
-        check(|fault| unsafe {
-            sys::dwarf_table_read(
-                bytes,
-                len,
-                offset,
-                first,
-                room,
-                list,
-                places,
-                &mut measure,
-                fault,
-            )
-        })?;
-        let is_closed_by_null = measure.closed_by_null == 1;
-        Ok(Table { rows, attributes, end: measure.end, is_closed_by_null })
+        loop {
+            let (rows, row_room) = (self.rows.as_mut_ptr(), self.rows.capacity());
+            let (list, list_room) = (self.attributes.as_mut_ptr(), self.attributes.capacity());
+            // SAFETY: see `crate::sys`. An `Attribute` is what the call writes.
+            let status = check(|fault| unsafe {
+                let list = list.cast();
+                call(bytes, len, offset, rows, row_room, list, list_room, &mut measure, fault)
+            })?;
+            if status == sys::OK {
+                break;
+            }
+            reserve(&mut self.rows, measure.abbreviations)?;
+            reserve(&mut self.attributes, measure.attributes)?;
+        }
+        // SAFETY: the call has written that many items to each.
+        unsafe {
+            self.rows.set_len(measure.abbreviations);
+            self.attributes.set_len(measure.attributes);
+        }
+        (self.offset, self.end) = (offset, measure.end);
+        self.is_closed_by_null = measure.closed_by_null == 1;
+        Ok(())
     }
 
     /// Returns the abbreviation with a code.
@@ -111,7 +163,12 @@ impl Table {
         self.rows.is_empty()
     }
 
-    /// Returns the offset in the section behind the code of value 0 that closes the table, or the
+    /// Returns the offset in the section at which the table was read.
+    pub fn offset(&self) -> usize {
+        self.offset
+    }
+
+    /// Returns the offset in the section after the code of value 0 that closes the table, or the
     /// section's length. Another table may begin there.
     pub fn end(&self) -> usize {
         self.end
@@ -138,6 +195,51 @@ impl<'t> IntoIterator for &'t Table {
         self.iter()
     }
 }
+
+/// Returns the tables of a whole `.debug_abbrev`, each of which begins at the end of the one before.
+///
+/// ```
+/// let section = [1, 0x11, 0, 0, 0, 0, 0, 1, 0x2e, 0, 0, 0];
+/// for table in dwarf_read::tables(&section) {
+///     let table = table?;
+///     println!("{} abbreviations at {}", table.len(), table.offset());
+/// }
+/// # Ok::<(), dwarf_read::Error>(())
+/// ```
+pub fn tables(section: &[u8]) -> Tables<'_> {
+    Tables { section, offset: Some(0), room: Table::default() }
+}
+
+/// The tables of a section, in the order of their offsets. If there is an error, it is the last
+/// item.
+#[derive(Debug, Clone)]
+pub struct Tables<'s> {
+    section: &'s [u8],
+    // Where the next table begins, unless there was an error.
+    offset: Option<usize>,
+    // The last table, whose memory has room for the largest so far.
+    room: Table,
+}
+
+impl Tables<'_> {
+    fn at(&mut self, offset: usize) -> Result<Table> {
+        self.room.read_again(self.section, offset)?;
+        let (rows, attributes) = (copied(&self.room.rows)?, copied(&self.room.attributes)?);
+        self.offset = Some(self.room.end);
+        Ok(Table { rows, attributes, ..self.room })
+    }
+}
+
+impl Iterator for Tables<'_> {
+    type Item = Result<Table>;
+
+    fn next(&mut self) -> Option<Result<Table>> {
+        let offset = self.offset.take().filter(|it| *it < self.section.len())?;
+        Some(self.at(offset))
+    }
+}
+
+impl FusedIterator for Tables<'_> {}
 
 /// The abbreviations of a table, in the order of their codes.
 #[derive(Debug, Clone)]
@@ -198,28 +300,24 @@ impl<'t> Abbreviation<'t> {
 }
 
 /// An attribute of an abbreviation.
-#[repr(C)]
-#[derive(Debug, Default, Clone, Copy, PartialEq, Eq)]
-pub struct Attribute {
-    name: u16,
-    form: u16,
-    implicit_const: i64,
-}
+#[repr(transparent)]
+#[derive(Debug, Clone, Copy, PartialEq, Eq)]
+pub struct Attribute(sys::Attribute);
 
 impl Attribute {
     /// Returns the attribute's name as a number, which [`attribute_name`](crate::attribute_name)
     /// converts to text.
     pub fn name(&self) -> u16 {
-        self.name
+        self.0.name
     }
 
     /// Returns the form of the values, whose name [`form_name`](crate::form_name) returns.
     pub fn form(&self) -> u16 {
-        self.form
+        self.0.form
     }
 
     /// Returns the attribute's value, if that is in the table itself.
     pub fn implicit_const(&self) -> Option<i64> {
-        (self.form == IMPLICIT_CONST).then_some(self.implicit_const)
+        (self.0.form == DW_FORM_implicit_const).then_some(self.0.implicit_const)
     }
 }

@@ -1,4 +1,4 @@
-use Rattle.dwarf_read_c.proofs.Common.{string_offsets_header, string_offsets_header-size, string_offsets_of, arith, err_from_is_err_and, refl, section_of}
+use Rattle.dwarf_read_c.proofs.Common.{string_offsets_header, StringOffsetsHeaderAt, string_offsets_of, arith, err_from_is_err_and, refl, section_of}
 use Rattle.dwarf_read_c.proofs.SetLemmas.{FoundSet, set_after_the_last, set_found, set_lacked, set_reported}
 use Rattle.dwarf_read_c.proofs.sets.str_offset_set_at.Goals as goal
 
@@ -9,8 +9,8 @@ returns-in_err-header-clause-err c =
 
 pub set_from-requires : goal.set_from-requires
 set_from-requires c =
-    let found : FoundSet string_offsets_header (section_of c.args.section.now c.args.is_big) c.args.offset _ =
-    set_found string_offsets_header-size (grind arith) (rw c.in-Some.is at c.in_ok-header.ensures.first) in
+    let found : FoundSet StringOffsetsHeaderAt (section_of c.args.section.now c.args.is_big) c.args.offset _ =
+    set_found string_offsets_header (grind arith) (rw c.in-Some.is at c.in_ok-header.ensures.first) in
     rw (c.format-format.ensures, c.length-length.ensures) (record {
       within = omega (arith, found.within, c.well_formed);
       header = found.four;
@@ -20,10 +20,10 @@ set_from-requires c =
 pub returns-in-Some-clause-found : goal.returns-in-Some-clause-found
 returns-in-Some-clause-found c =
     let first = rw c.in-Some.is at c.in_ok-header.ensures.first in
-    set_reported string_offsets_of _ refl (set_found string_offsets_header-size (grind arith) first)
+    set_reported string_offsets_of _ (grind arith) refl (set_found string_offsets_header (grind arith) first)
     (rw (c.word_size.ensures, c.format-format.ensures, c.length-length.ensures) at c.set_from.ensures)
 
 pub returns-in-None-clause-end : goal.returns-in-None-clause-end
 returns-in-None-clause-end c =
-    set_after_the_last string_offsets_header c.args.section.now c.args.is_big (grind arith) (grind arith)
+    set_after_the_last StringOffsetsHeaderAt c.args.section.now c.args.is_big (grind arith) (grind arith)
     (rw c.in-None.is at c.in_ok-header.ensures.first).0

@@ -2,7 +2,7 @@ use Rattle.dwarf_read_c.proofs.Common.{◌≡◌, ◌++◌, drop, length, map, t
 use Rattle.dwarf_read_c.proofs.TableLemmas.{attributes_count}
 use Rattle.dwarf_read_c.proofs.tables.fill_abbreviations.Given as goal
 
--- the abbreviations so far are at the front of the places, and the places behind them are unchanged
+-- the abbreviations so far are at the front of the places, and the places after them are unchanged
 abbrev pub invariant-loop-abbreviation : goal.invariant-loop-abbreviation
 invariant-loop-abbreviation l = record {
   split : map (λ a. a.now) l.yielded ++ l.abbreviation-iterator ≡ values l.table.by_code;

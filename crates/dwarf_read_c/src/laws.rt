@@ -1,0 +1,28 @@
+//! Laws of the definitions that the contracts cite: each function has one as its contract, and does
+//! nothing.
+
+ghost use Rattle.std.specs.Prelude.{◌≡◌, ℕ, true, false, Ok};
+ghost use Rattle.dwarf_read_core.specs.Answer.{Answer};
+ghost use Rattle.dwarf_read_core.specs.Format.{word_size};
+ghost use Rattle.dwarf_read_core.specs.Grammar.{Table};
+ghost use Rattle.dwarf_read_core.specs.Input.{Input};
+ghost use Rattle.dwarf_read_core.specs.Once.{HasOne};
+ghost use Rattle.dwarf_read_core.specs.declared.Format.TheVariants.{Dwarf32, Dwarf64};
+ghost use Rattle.dwarf_read_c.specs.Sections.{offset_size};
+ghost use Rattle.dwarf_read_c.specs.Tables.{Measures};
+
+use dwarf_read_core::laws::exactly_one_end;
+
+/// The table at an offset has exactly one measure.
+pub fn exactly_one_measure()
+    ensures { (section : Input) (offset : ℕ) (t : Table) → Answer section offset (Ok t)
+        → HasOne (λ measure. Measures measure section offset t) }
+{
+    exactly_one_end();
+}
+
+/// A string offset has as many bytes as a word of its format.
+pub fn string_offsets_are_words()
+    ensures short { offset_size false ≡ word_size Dwarf32 }
+    ensures long { offset_size true ≡ word_size Dwarf64 }
+{}
