@@ -1,18 +1,21 @@
-"""What `tools/dwarf_elf` lists of the debug sections of a file, by the programs dwarf_list and dwarf_list_many."""
+"""What `dwarf_elf` lists of the debug sections of a file, by the programs dwarf_list and dwarf_list_many."""
+from __future__ import annotations
+
 import functools
 import pathlib
 import re
-import shutil
 import subprocess
 import sys
-import tempfile
+import typing
 
-from debug_file import Unlisted
+from debug_elf import Body, Unlisted
+from debug_file import DebugFile, Section, Unit
+from debug_output import Text
 
 ROOT = pathlib.Path(__file__).resolve().parent.parent
-# After so many errors in a section the rest of it isn't listed, since each takes a process.
+# After this many errors in a section the rest of it isn't listed, since each takes a process.
 ERRORS = 1000
-# What is told of a program that ended with a status and said nothing.
+# What is reported of a program that ended with a status and said nothing.
 ENDED = "the program ended with status {}"
 SECTIONS = {
     "abbrev": "debug_abbrev",
@@ -21,22 +24,23 @@ SECTIONS = {
     "addr": "debug_addr",
     "str-offsets": "debug_str_offsets",
 }
+# The bytes of the longest header of a set, and the sizes that an address may have.
+SET_HEADER_BYTES, ADDRESS_SIZES = 16, (1, 2, 4, 8)
+# Strings and abbreviations are read by these many bytes at a time.
+STRING_BYTES, WINDOW_BYTES = 1 << 8, 1 << 12
+# DW_FORM_implicit_const, the form whose value is in the table.
+IMPLICIT_CONST = 0x21
+# How a program begins the line of an error.
+BEGINNING = re.compile(r"error(?: at 0x[0-9a-f]+)?: ")
 
 
-def put(text):
-    sys.stdout.buffer.write(text.encode())
-
-
-def run(words, source, change=None):
-    """Runs a program with a file as its standard input, and passes its output on. A function may change each line.
-    Returns the exit status, and the errors as one line."""
-    with open(source, "rb") as file, tempfile.TemporaryFile() as errors:
+def run(words: list, source: str, take: typing.Callable) -> tuple[int, str]:
+    """Runs a program with a file as its standard input. A function takes the output. Returns the exit status, and the
+    errors as one line."""
+    with open(source, "rb") as file, open(f"{source}.errors", "w+b") as errors:
         with subprocess.Popen(words, stdin=file, stdout=subprocess.PIPE, stderr=errors) as child:
             try:
-                if change:
-                    sys.stdout.buffer.writelines(map(change, child.stdout))
-                else:
-                    shutil.copyfileobj(child.stdout, sys.stdout.buffer, 1 << 16)
+                take(child.stdout)
             except BaseException:
                 child.kill()
                 raise
@@ -47,40 +51,81 @@ def run(words, source, change=None):
     return status, "; ".join(said) or (ENDED.format(child.returncode) if status else "")
 
 
+@functools.lru_cache(maxsize=None)
+def program(name: str) -> str:
+    """Where a program is. Installed, it is in PREFIX/bin, and this file is PREFIX/share/dwarf-read/debug_listing.py. In
+    the repository the launcher knows it, and may have to build it."""
+    if not (ROOT / "dwarf_list").is_file():
+        return str(ROOT.parent / "bin" / name)
+    option = ["--many"] if name == "dwarf_list_many" else []
+    ran = subprocess.run([ROOT / "dwarf_list", *option, "--path"], stdout=subprocess.PIPE, text=True, check=False)
+    if ran.returncode:
+        sys.exit(ran.returncode)
+    return ran.stdout.rstrip("\n")
+
+
+class Span(typing.NamedTuple):
+    """Where a set is, and whether its header looks well formed. Only the program knows whether it is."""
+
+    start: int
+    end: int
+    looks_good: bool
+
+
+class SetStrings:
+    """The strings of a section, by their offsets."""
+
+    def __init__(self, section: Section, body: Body):
+        self.section, self.body = section, body
+        self.missing: set[int] = set()
+
+    def at(self, offset: int) -> bytes | None:
+        """The string at an offset. If there is none, the offset is kept as one that is missing."""
+        for low, chunk in self.body.chunks(offset, size=STRING_BYTES):
+            end = chunk.find(b"\0")
+            if end >= 0:
+                return self.body[offset : low + end]
+        self.missing.add(offset)
+        return None
+
+
+def sections_of(file: DebugFile, command: str) -> list[Section]:
+    """The sections that a command lists."""
+    return file.sections if command == "sections" else file.named(SECTIONS[command])
+
+
+def lack_of(command: str) -> str:
+    """What is said of a file without such sections."""
+    is_any = command == "sections"
+    return "the file has no debug sections" if is_any else f"there is no section .{SECTIONS[command]}"
+
+
 class Listing:
     """The listing of a file by a command. The programs read each section from a file in a folder."""
 
-    def __init__(self, file, command, report, folder):
-        self.file, self.command, self.report = file, command, report
-        self.kind = command.replace("line-", "")
-        self.order = "le" if file.order == "little" else "be"
+    def __init__(self, file: DebugFile, command: str, report: typing.Any, output: Text, folder: str):
+        self.file, self.command, self.report, self.output = file, command, report, output
+        self.kind, self.order = command.replace("line-", ""), "le" if file.order == "little" else "be"
         self.path, self.offsets = f"{folder}/section", f"{folder}/offsets"
-        self.sections, self.errors = file.named(SECTIONS[command]), 0
+        self.errors, self.strings = 0, typing.cast(typing.Optional[SetStrings], None)
 
-    @functools.cache
-    def program(self, *option):
-        """Where dwarf_list is, or by `--many` dwarf_list_many. The launcher is asked once, and may have to build it."""
-        if not (ROOT / "dwarf_list").is_file():
-            # This file is installed, as PREFIX/share/dwarf-read/debug_listing.py.
-            return ROOT.parent / "bin" / ("dwarf_list_many" if option else "dwarf_list")
-        ran = subprocess.run([ROOT / "dwarf_list", *option, "--path"], stdout=subprocess.PIPE, text=True)
-        if ran.returncode:
-            sys.exit(ran.returncode)
-        program = ran.stdout.rstrip("\n")
-        if program.endswith(".unproved"):
-            self.report.say("the programs are unproved; ./dwarf_list --prove builds proved ones", 0)
-        return program
+    def program(self, name: str) -> str:
+        found = program(name)
+        if found.endswith(".unproved"):
+            self.report.note("the programs are unproved; ./dwarf_list --prove builds proved ones", "")
+        return found
 
-    def list(self, offset):
+    def list_all(self, offset: int | None, has_strings: bool) -> None:
         """Lists what is at an offset of each section, or everything."""
-        if not self.sections:
-            raise Unlisted(f"there is no section .{SECTIONS[self.command]}")
+        sections = sections_of(self.file, self.command)
+        if self.command == "sections":
+            self.list_sizes(sections)
+            return
         tables = self.file.tables() if self.command == "abbrev" and offset is None else {}
-        for section in self.sections:
+        for section in sections:
             with self.file.telling(section):
                 body = self.file.body(section)
-                if len(self.sections) > 1:
-                    put(f"{section}:\n")
+                self.output.section(section, len(sections) == 1)
                 if offset is not None:
                     self.list_one(section, body, offset)
                 elif self.command == "abbrev":
@@ -88,18 +133,34 @@ class Listing:
                 elif self.kind == "str":
                     self.list_strings(section, body)
                 else:
-                    self.list_sets(section, body)
+                    self.list_sets(section, body, has_strings)
 
-    def keep(self, body, at=0, end=None, before=b""):
-        """Writes bytes of a section into the file that the programs read, a part at a time."""
+    def list_sizes(self, sections: list[Section]) -> None:
+        """Lists the names and sizes of the sections, and reports those that can't be read."""
+        for section in sections:
+            try:
+                size = len(self.file.body(section))
+            except Unlisted as error:
+                self.report.say(f"{section} {error}", section=section)
+                size = self.file.stated_size(section)
+            self.output.size(section, size)
+
+    def keep(self, body: Body, parts: typing.Iterable[tuple[int, int]] | None = None, before: bytes = b"") -> None:
+        """Writes bytes of a section into the file that the programs read: those of some parts, or all."""
         with open(self.path, "wb") as file:
             file.write(before)
-            file.writelines(chunk for _, chunk in body.chunks(at, end))
+            for start, end in [(0, len(body))] if parts is None else parts:
+                file.writelines(chunk for _, chunk in body.chunks(start, end))
 
-    def parts(self, section, body):
-        """The contributions that a package's index has to a section, and what is between them, which is told. Of a file
-        that is no package it is the whole section."""
-        if not self.file.package or not section.family[1]:
+    def tell(self, what: str, section: Section, offset: int | None, error: str, status: int) -> None:
+        """Reports an error that a program found at an offset."""
+        text = BEGINNING.sub("", error, count=1)
+        self.report.say(f"{what}: {error}", status, section=section, offset=offset, error=text)
+
+    def parts(self, section: Section, body: Body) -> list[tuple[int, int]]:
+        """The contributions that a package's index has to a section, and the parts between them, which are reported. Of
+        a file that is no package it is the whole section."""
+        if self.file.package is None or not section.family[1]:
             return [(0, len(body))]
         parts, end = [], 0
         for start, size in [*self.file.package.contributions(section.base), (len(body), 0)]:
@@ -114,57 +175,78 @@ class Listing:
 
     # Tables and strings.
 
-    def many(self, offsets, *option, change=None):
+    def many(self, offsets: typing.Iterable[int], options: list[str], take: typing.Callable) -> tuple[int, str]:
         """Lists what is at each of these offsets. Returns the exit status and the error."""
         with open(self.offsets, "w", encoding="ascii") as file:
             file.writelines(f"{it}\n" for it in offsets)
-        return run([self.program("--many"), *option, self.kind, self.path], self.offsets, change)
+        return run([self.program("dwarf_list_many"), *options, self.kind, self.path], self.offsets, take)
 
-    def list_strings(self, section, body):
+    def list_strings(self, section: Section, body: Body) -> None:
         """Lists all strings of a section. Only the last can have an error, since a zero byte ends each other one."""
         self.keep(body)
-        status, error = self.many(strings(body))
+        take = lambda output: self.output.strings(output, places_of_strings(body))
+        status, error = self.many((start for start, _ in places_of_strings(body)), [], take)
         if status:
-            self.report.say(f"{section}: {error}", status)
+            found = re.match("error at 0x([0-9a-f]+)", error)
+            offset = int(found[1], 16) if found else None
+            self.tell(str(section), section, offset, error, status)
 
-    def list_one(self, section, body, offset):
+    def list_one(self, section: Section, body: Body, offset: int) -> None:
         self.keep(body)
-        status, error = run([self.program(), self.kind, str(offset)], self.path)
+        show = self.output.table if self.command == "abbrev" else self.output.string
+        words = [self.program("dwarf_list"), self.kind, str(offset)]
+        status, error = run(words, self.path, lambda output: show(output, offset))
         if status:
-            self.report.say(f"{section} at 0x{offset:x}: {error}", status)
+            self.tell(f"{section} at 0x{offset:x}", section, offset, error, status)
 
-    def list_tables(self, section, body, units):
-        """Lists the tables of a section, whose offsets come with the first unit that names each."""
+    def list_tables(self, section: Section, body: Body, units: dict[int, Unit]) -> None:
+        """Lists the tables of a section, whose offsets come with the first unit that names each. Without such offsets
+        the tables are those that follow each other."""
         for offset in sorted(units):
             if offset > len(body):
                 end = f"past the end of {section} (0x{len(body):x} bytes)"
                 self.report.say(f"{units[offset]} names the table at 0x{offset:x}, {end}")
-        if not units:
-            self.report.say(f"no unit names a table of {section}")
-        self.parts(section, body)
+        offsets = sorted(it for it in units if it <= len(body))
+        if units:
+            self.parts(section, body)
+        else:
+            self.report.note(f"no unit names a table of {section}, so the tables are listed in turn, from 0x0 on")
+            offsets = self.walk(section, body)
         self.keep(body)
-        inside = sorted(it for it in units if it <= len(body))
-        status, error = self.many(inside, "--keep-going", change=lambda line: self.without_error(section, line))
-        # The errors at offsets are told already.
+        self.errors = 0
+        on_error = lambda *error: self.take_error(section, *error)
+        status, error = self.many(offsets, ["--keep-going"], lambda output: self.output.tables(output, on_error))
+        # The errors at offsets are reported already.
         if status and not (self.errors and error == ENDED.format(1)):
-            self.report.say(f"{section}: {error}", status)
+            self.report.say(f"{section}: {error}", status, section=section)
 
-    def without_error(self, section, line):
-        """A line of the tables. If it tells of an error at an offset, that is told, and nothing is left of the line."""
-        found = re.match(rb"(error at 0x[0-9a-f]+), status (\d): (.*)", line)
-        if not found:
-            return line
-        self.report.say(f"{section}: {found[1].decode()}: {found[3].decode()}", int(found[2]))
+    def take_error(self, section: Section, offset: int, status: int, error: str) -> None:
+        """Reports an error at an offset, which the program writes among the tables."""
         self.errors += 1
-        return b""
+        self.tell(f"{section}: error at 0x{offset:x}", section, offset, error, status)
+
+    def walk(self, section: Section, body: Body) -> list[int]:
+        """Where the tables of a section begin, if each begins where the one before ends."""
+        found, at = [], 0
+        try:
+            while at < len(body):
+                zeros = self.file.zeros(section, body, at)
+                if not zeros:
+                    found.append(at)
+                at = at + zeros if zeros else end_of_table(body, at)
+        except Unlisted as error:
+            self.report.say(f"the table at 0x{at:x} of {section} {error}, and what follows isn't listed")
+        return found
 
     # Sets.
 
-    def list_sets(self, section, body):
-        """Lists the sets of a section, one by one if they aren't all well formed."""
+    def list_sets(self, section: Section, body: Body, has_strings: bool) -> None:
+        """Lists the sets of a section, in turn if they aren't all well formed."""
+        self.strings = self.strings_of(section) if has_strings else None
         units = self.file.units(section.family)
         is_old = [it.version < 5 for it in units]
         if not (units and all(is_old)) and self.is_listed(body):
+            self.tell_missing(section)
             return
         for start, end in self.parts(section, body):
             own = self.file.users(section, start, units)
@@ -172,18 +254,49 @@ class Listing:
                 self.list_without_header(section, body, start, end, own)
             elif own or not any(is_old):
                 self.list_with_headers(section, body, start, end, own)
+        self.tell_missing(section)
 
-    def is_listed(self, body):
+    def strings_of(self, section: Section) -> SetStrings | None:
+        """The strings of a section of string offsets. None, and a report, if they can't be read."""
+        found = [it for it in self.file.named("debug_str") if it.family == section.family]
+        try:
+            if not found:
+                raise Unlisted(f"has no section .debug_str{section.family[1]} beside it with its strings")
+            return SetStrings(found[0], self.file.body(found[0]))
+        except Unlisted as error:
+            self.report.say(f"{found[0] if found else section} {error}", section=section)
+            return None
+
+    def tell_missing(self, section: Section) -> None:
+        """Reports offsets of a section at which there is no string."""
+        missing = sorted(self.strings.missing) if self.strings else []
+        if self.strings and missing:
+            where = f"at {len(missing)} of its offsets, the first of them 0x{missing[0]:x}"
+            self.report.say(f"{section}: {self.strings.section} has no string {where}", section=section)
+
+    def run_sets(self, title: typing.Callable[[bytes], bytes] | None = None) -> tuple[int, str]:
+        """Lists the sets of the file that is kept. A function may change the line that begins each set."""
+
+        def take(output: typing.BinaryIO) -> None:
+            lines: typing.Iterable[bytes] = output
+            if title:
+                lines = (title(it) if it.startswith(b"set ") else it for it in output)
+            self.output.sets(lines, self.strings)
+
+        return run([self.program("dwarf_list"), self.command, self.order], self.path, take)
+
+    def is_listed(self, body: Body) -> bool:
         """Whether all sets of a section are listed, by one process. If there is an error, none is."""
         try:
             self.keep(body)
         except Unlisted:
             return False
-        return not run([self.program(), self.command, self.order], self.path)[0]
+        return not self.run_sets()[0]
 
-    def list_with_headers(self, section, body, at, end, units):
-        """Lists the sets in a part of a section. Those that follow each other are listed together."""
-        is_mixed, groups, self.errors = any(it.version < 5 for it in units), [[]], 0
+    def list_with_headers(self, section: Section, body: Body, at: int, end: int, units: list[Unit]) -> None:
+        """Lists the sets in a part of a section. Those that look well formed are listed together."""
+        is_mixed, self.errors = any(it.version < 5 for it in units), 0
+        sets: list[Span] = []
         while at < end:
             found = self.next_set(section, body, at, end, {it.address_size for it in units}) if is_mixed else at
             if found > at:
@@ -192,41 +305,57 @@ class Listing:
             try:
                 found += self.file.zeros(section, body, found) if found < end else 0
                 if found > at:
-                    groups.append([])
                     at = found
                     continue
-                length, _, begin = self.file.initial_length(body, at)
+                span = self.span(body, at, end)
             except Unlisted as error:
                 name = f"the set at 0x{found:x} of {section}"
                 self.report.say(f"{name} {error}, and what follows isn't read up to 0x{end:x}")
                 break
-            groups[-1].append((at, min(begin + length, end)))
-            at = begin + length
-        for sets in groups:
-            self.list_together(section, body, sets)
+            sets.append(span)
+            at = span.end
+        self.list_together(section, body, [it for it in sets if it.looks_good])
+        for it in sets:
+            if not it.looks_good:
+                self.list_together(section, body, [it])
 
-    def list_together(self, section, body, sets):
-        """Lists sets that follow each other by one process. If one of them has an error, it prints nothing, and each
-        half is listed by itself."""
+    def span(self, body: Body, at: int, end: int) -> Span:
+        """Where the set at an offset is, and whether its header looks well formed. The part ends at another offset."""
+        row = body[at : at + SET_HEADER_BYTES]
+        length, word, begin = self.file.initial_length(row, 0)
+        version, size = int.from_bytes(row[begin : begin + 2], self.file.order), word
+        is_known = version == 5
+        if self.command == "addr":
+            size = row[begin + 2] if begin + 2 < len(row) else 0
+            is_known = is_known and size in ADDRESS_SIZES and row[begin + 3 : begin + 4] == b"\0"
+        stop = at + begin + length
+        is_whole = stop <= end and length >= 4 and size and (length - 4) % size == 0
+        return Span(at, min(stop, end), bool(is_known and is_whole))
+
+    def list_together(self, section: Section, body: Body, sets: list[Span]) -> None:
+        """Lists sets by one process. If one of them has an error, it prints nothing, and each half is listed by
+        itself."""
         if not sets or self.errors == ERRORS:
             return
-        at, end = sets[0][0], sets[-1][1]
+        starts = iter([it.start for it in sets])
+        # The program counts from the first of these sets.
+        title = lambda line: b"set %d%s" % (next(starts), line[line.index(b":") :])
         try:
-            self.keep(body, at, end)
-            moved = lambda line: re.sub(rb"^set (\d+)", lambda it: b"set %d" % (at + int(it[1])), line)
-            status, error = run([self.program(), self.command, self.order], self.path, moved)
+            self.keep(body, joined(sets))
+            status, error = self.run_sets(title)
         except Unlisted as fault:
             status, error = 1, f"{fault}, and isn't listed"
         if status and len(sets) > 1:
             self.list_together(section, body, sets[: len(sets) // 2])
             self.list_together(section, body, sets[len(sets) // 2 :])
         elif status:
-            self.report.say(f"the set at 0x{at:x} of {section}: {error}", status)
+            at = sets[0].start
+            self.tell(f"the set at 0x{at:x} of {section}", section, at, error, status)
             self.errors += 1
             if self.errors == ERRORS:
                 self.report.say(f"{section}: after {ERRORS} errors the rest isn't listed")
 
-    def next_set(self, section, body, at, end, sizes):
+    def next_set(self, section: Section, body: Body, at: int, end: int, sizes: set[int]) -> int:
         """Where the next set with a header begins if others have none, or the end. A header that has the units' address
         size doesn't look like addresses. One of string offsets looks like others if its version is that of a string."""
         version = (5).to_bytes(2, self.file.order)
@@ -245,7 +374,7 @@ class Listing:
                         return place
         return end
 
-    def is_set(self, body, at, fields, end, size):
+    def is_set(self, body: Body, at: int, fields: int, end: int, size: int) -> bool:
         """Whether a length is that of a set, whose fields are at another offset."""
         try:
             length, word, begin = self.file.initial_length(body, at)
@@ -253,19 +382,19 @@ class Listing:
             return False
         return begin == fields and 4 <= length <= end - begin and (length - 4) % (size or word) == 0
 
-    def list_without_header(self, section, body, start, end, units):
+    def list_without_header(self, section: Section, body: Body, start: int, end: int, units: list[Unit]) -> None:
         """Lists a set of DWARF 4, which has no header. It is a whole section, or in a package a contribution."""
         is_addr = self.command == "addr"
         sizes = sorted({it.address_size if is_addr else it.word for it in units})
         what = "address size" if is_addr else "format"
         names = " and ".join(str(it) if is_addr else f"{8 * it}-bit" for it in sizes)
-        if len(sizes) > 1 or sizes[0] not in (1, 2, 4, 8):
+        if len(sizes) > 1 or sizes[0] not in ADDRESS_SIZES:
             self.report.say(f"{section} has no headers, and isn't listed: the units' {what} is {names}")
             return
-        self.report.say(f"{section} has no headers, as in DWARF 4, and is listed by the units' {what}, {names}", 0)
+        self.report.note(f"{section} has no headers, as in DWARF 4, and is listed by the units' {what}, {names}")
         self.list_entries(section, body, start, end, sizes[0])
 
-    def list_entries(self, section, body, start, end, size):
+    def list_entries(self, section: Section, body: Body, start: int, end: int, size: int) -> None:
         """Lists entries without a header. The program gets one before them, and its line is replaced."""
         many, rest = max(0, end - start) // size * size, max(0, end - start) % size
         if rest:
@@ -278,34 +407,80 @@ class Listing:
             self.report.say(f"{section}: the set at 0x{start:x} is too long for the 32-bit format, and isn't listed")
             return
         length = (len(fields) + many).to_bytes(width, self.file.order)
-        self.keep(body, start, start + many, b"\xff\xff\xff\xff" * (width == 8) + length + fields)
+        self.keep(body, [(start, start + many)], b"\xff\xff\xff\xff" * (width == 8) + length + fields)
         last = f"address size {size}" if is_addr else f"{8 * size}-bit"
-        line = f"set {start}: no header, {many} bytes, {last}\n".encode()
-        change = lambda it: line if it.startswith(b"set ") else it
-        status, error = run([self.program(), self.command, self.order], self.path, change)
+        title = f"set 0x{start:x}: no header, {many} bytes, {last}\n".encode()
+        status, error = self.run_sets(lambda line: title)
         if status:
-            self.report.say(f"{section}: the set at 0x{start:x}: {error}", status)
+            self.tell(f"{section}: the set at 0x{start:x}", section, start, error, status)
 
 
-def strings(body):
-    """Where the strings of a section begin."""
-    if len(body):
-        yield 0
+# Where strings, tables and sets are.
+
+
+def places_of_strings(body: Body) -> typing.Iterator[tuple[int, int]]:
+    """Where the strings of a section begin, and where they end: at their zero bytes, or at the section's end."""
+    start = 0
     for low, chunk in body.chunks():
         for it in re.finditer(rb"\0", chunk):
-            if low + it.end() < len(body):
-                yield low + it.end()
+            end = low + it.start()
+            yield start, end
+            start = end + 1
+    if start < len(body):
+        yield start, len(body)
 
 
-def list_sections(file, report):
-    """Lists the names and sizes of the sections, and tells of those that can't be read."""
-    if not file.sections:
-        raise Unlisted("the file has no debug sections")
-    for section in file.sections:
-        try:
-            size = len(file.body(section))
-        except Unlisted as error:
-            report.say(f"{section} {error}")
-            # What can't be inflated is listed with the size that its header has.
-            size = section.found.data_size if section.found.compressed else 0
-        put(f"{section.name:28} {size:10}\n")
+class Cursor:
+    """A place in a section, which is read byte by byte. At the end of the section an EOFError is raised."""
+
+    def __init__(self, body: Body, at: int):
+        self.body, self.at, self.window, self.start = body, at, b"", at
+
+    def byte(self) -> int:
+        if self.at - self.start == len(self.window):
+            self.start = self.at
+            self.window = self.body[self.at : self.at + WINDOW_BYTES]
+            if not self.window:
+                raise EOFError
+        self.at += 1
+        return self.window[self.at - 1 - self.start]
+
+    def number(self) -> int:
+        """The value of an unsigned LEB128 number. A signed one is passed over too, and has another value."""
+        value, shift = 0, 0
+        while True:
+            byte = self.byte()
+            value |= (byte & 0x7F) << shift
+            shift += 7
+            if byte < 0x80:
+                return value
+
+
+def end_of_table(body: Body, at: int) -> int:
+    """Where the table ends that begins at an offset: after the code 0, or at the section's end."""
+    cursor = Cursor(body, at)
+    try:
+        while cursor.number():
+            if not cursor.number() or cursor.byte() > 1:
+                raise Unlisted("is malformed")
+            name, form = 1, 1
+            while name and form:
+                name, form = cursor.number(), cursor.number()
+                if form == IMPLICIT_CONST:
+                    cursor.number()
+            if name or form:
+                raise Unlisted("is malformed")
+    except EOFError:
+        return len(body)
+    return cursor.at
+
+
+def joined(sets: list[Span]) -> typing.Iterator[tuple[int, int]]:
+    """The parts of a section that have these sets."""
+    start, end = sets[0].start, sets[0].start
+    for it in sets:
+        if it.start != end:
+            yield start, end
+            start = it.start
+        end = it.end
+    yield start, end

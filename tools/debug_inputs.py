@@ -1,0 +1,224 @@
+"""The files that a command line names: ELF files, standard input, and members of archives. Of a stripped file, the one
+with its debug information.
+"""
+from __future__ import annotations
+
+import functools
+import io
+import os
+import re
+import sys
+import typing
+import zlib
+from dataclasses import dataclass
+
+from debug_elf import MAGIC, Body, ElfFile, Unlisted, Unopened
+
+STANDARD_INPUT = "-"
+ARCHIVE, THIN_ARCHIVE = b"!<arch>\n", b"!<thin>\n"
+# The header of an archive's member: its name, and after fields that aren't needed here its size.
+MEMBER_BYTES, MEMBER = 60, re.compile(rb"(.{16}).{32}([0-9]+) *`\n", re.S)
+# What a file is that isn't an ELF file, by its first bytes.
+KINDS = (
+    (b"MZ", "a PE file"),
+    (b"\xfe\xed\xfa\xce", "a Mach-O file"),
+    (b"\xfe\xed\xfa\xcf", "a Mach-O file"),
+    (b"\xce\xfa\xed\xfe", "a Mach-O file"),
+    (b"\xcf\xfa\xed\xfe", "a Mach-O file"),
+    (b"\xca\xfe\xba\xbe\0\0\0", "a universal Mach-O file"),
+    (b"\0asm", "a WebAssembly module"),
+    (b"BC\xc0\xde", "LLVM bitcode"),
+    (b"\xde\xc0\x17\x0b", "LLVM bitcode"),
+    (b"\x1f\x8b", "compressed by gzip"),
+    (b"\xfd7zXZ\0", "compressed by xz"),
+    (b"\x28\xb5\x2f\xfd", "compressed by zstd"),
+    (b"BZh", "compressed by bzip2"),
+    (b"PK\x03\x04", "a zip file"),
+    (b"#!", "a script"),
+)
+# The machines of COFF objects: x86, x86-64, ARM, AArch64. Such a file has no magic number of its own.
+COFF_MACHINES = (0x14C, 0x8664, 0x1C4, 0xAA64)
+DEBUG_FOLDER = "/usr/lib/debug"
+BUILD_ID = 3
+
+
+def plain(name: bytes) -> str:
+    """A name that a file has, with escapes for what can't be printed."""
+    text = name.decode(errors="backslashreplace")
+    return "".join(it if it.isprintable() else it.encode("unicode_escape").decode() for it in text)
+
+
+def kind_of(start: bytes) -> str:
+    """What a file is that begins with these bytes and is no ELF file, or an empty text if that isn't known."""
+    if not start:
+        return "an empty one"
+    for mark, kind in KINDS:
+        if start.startswith(mark):
+            return kind
+    # A COFF object has no optional header.
+    if int.from_bytes(start[:2], "little") in COFF_MACHINES and start[16:18] == b"\0\0":
+        return "a COFF object"
+    return ""
+
+
+def title(path: str) -> str:
+    """What a file is called in messages."""
+    return "standard input" if path == STANDARD_INPUT else path
+
+
+def opened(path: str) -> Body:
+    """The bytes of a file. A file that has no places, such as a pipe, is read whole."""
+    try:
+        file = sys.stdin.buffer if path == STANDARD_INPUT else open(path, "rb")
+        if file.seekable():
+            return Body(file, 0, file.seek(0, io.SEEK_END))
+        whole = file.read()
+    except OSError as error:
+        raise Unopened(error.strerror) from error
+    return Body(io.BytesIO(whole), 0, len(whole))
+
+
+@dataclass
+class Input:
+    """A file, or a member of an archive, which is opened by a function. The path is that of the file."""
+
+    name: str
+    path: str
+    is_member: bool
+    opened: typing.Callable[[], Body]
+
+
+class Archive:
+    """An archive that `ar` has written. A thin one has only the names of its members' files."""
+
+    def __init__(self, path: str, whole: Body):
+        self.path, self.whole = path, whole
+        self.is_thin, self.names = whole[:8] == THIN_ARCHIVE, b""
+
+    def members(self) -> typing.Iterator[tuple[str, Body | None]]:
+        """The members with their names. A member of a thin archive has no bytes here."""
+        at = len(ARCHIVE)
+        while at < len(self.whole):
+            found = MEMBER.fullmatch(self.whole[at : at + MEMBER_BYTES])
+            if not found:
+                raise Unlisted(f"the archive has no member's header at 0x{at:x}, and what follows isn't read")
+            field, size = found[1].rstrip(b" "), int(found[2])
+            begin = at + MEMBER_BYTES
+            if field == b"//":
+                self.names = self.whole[begin : begin + size]
+            is_index = field in (b"/", b"//", b"/SYM64/") or field.startswith(b"__.SYMDEF")
+            is_inside = is_index or not self.is_thin
+            if not is_index:
+                name, skipped = self.name(field, begin)
+                body = self.whole.part(begin + skipped, size - skipped) if is_inside else None
+                yield plain(name), body
+            at = begin + (size + size % 2 if is_inside else 0)
+
+    def name(self, field: bytes, begin: int) -> tuple[bytes, int]:
+        """The name of a member, and how many bytes of its content are the name."""
+        if field.startswith(b"#1/") and field[3:].isdigit():
+            size = int(field[3:])
+            return self.whole[begin : begin + size].rstrip(b"\0"), size
+        if field.startswith(b"/") and field[1:].isdigit():
+            # A long name is in the table of names, where a newline ends it.
+            return self.names[int(field[1:]) :].partition(b"\n")[0].removesuffix(b"/"), 0
+        return field.removesuffix(b"/"), 0
+
+    def opened(self, name: str, body: Body | None) -> Body:
+        """The bytes of a member."""
+        return opened(os.path.join(os.path.dirname(self.path), name)) if body is None else body
+
+
+def inputs(path: str) -> typing.Iterator[Input]:
+    """What an argument names: a file, all members of an archive, or the members with the name in parentheses."""
+    found = re.fullmatch(r"(.+)\((.+)\)", path, re.S)
+    wanted = None
+    if found and not os.path.lexists(path):
+        path, wanted = found[1], found[2]
+    whole = opened(path)
+    if whole[:8] not in (ARCHIVE, THIN_ARCHIVE):
+        if wanted:
+            raise Unlisted("this is no archive, so it has no members")
+        yield Input(title(path), path, False, lambda: whole)
+        return
+    archive, count = Archive(path, whole), 0
+    for name, body in archive.members():
+        if wanted in (None, name):
+            count += 1
+            yield Input(f"{path}({name})", path, True, functools.partial(archive.opened, name, body))
+    if not count:
+        raise Unlisted(f"the archive has no member {wanted}" if wanted else "the archive has no members")
+
+
+def expect_elf(whole: Body) -> None:
+    """Raises an exception that says what a file is, unless it is an ELF file."""
+    start = whole[:20]
+    if not start.startswith(MAGIC):
+        kind = kind_of(start)
+        raise Unlisted(f"this isn't an ELF file{', but ' + kind if kind else ''}")
+
+
+@dataclass
+class DebugLink:
+    """What a stripped file says of the one with its debug information: its name and checksum, its build-id, or both."""
+
+    name: str = ""
+    checksum: int = 0
+    build_id: str = ""
+
+    def __str__(self) -> str:
+        return " or ".join(it for it in (self.name, self.by_build_id()) if it)
+
+    def by_build_id(self) -> str:
+        """Where the file is by its build-id."""
+        name = f"{self.build_id[:2]}/{self.build_id[2:]}.debug"
+        return f"{DEBUG_FOLDER}/.build-id/{name}" if self.build_id else ""
+
+    def places(self, path: str) -> list[tuple[str, bool]]:
+        """Where the file may be, and whether its checksum is compared there."""
+        folder = os.path.dirname(os.path.realpath(path))
+        beside = (folder, f"{folder}/.debug", f"{DEBUG_FOLDER}{folder}") if self.name else ()
+        by_name = [(f"{it}/{self.name}", True) for it in beside]
+        return [(self.by_build_id(), False)] * bool(self.build_id) + by_name
+
+    def looked_for(self, path: str) -> str:
+        """The places where the file may be, in words."""
+        return ", ".join(place for place, _ in self.places(path))
+
+    def find(self, path: str, say: typing.Callable) -> str:
+        """Where the file is, or nothing."""
+        for place, is_checked in self.places(path):
+            if not os.path.isfile(place):
+                continue
+            if not is_checked or checksum(opened(place)) == self.checksum:
+                return place
+            say(f"{place} isn't the file with the debug information, since its checksum differs")
+        return ""
+
+
+def checksum(body: Body) -> int:
+    """The checksum of a file, as the section .gnu_debuglink has it."""
+    found = 0
+    for _, chunk in body.chunks():
+        found = zlib.crc32(chunk, found)
+    return found
+
+
+def link_of(file: ElfFile) -> DebugLink | None:
+    """What a file says of the file with its debug information, if it does."""
+    found = DebugLink()
+    for header in file.headers:
+        body = file.whole.part(header.start, min(header.size, 1 << 12))
+        if header.kind == "SHT_NOBITS":
+            continue
+        if header.name == ".gnu_debuglink":
+            data = body[:]
+            name = data.partition(b"\0")[0]
+            place = len(name) // 4 * 4 + 4
+            found.name, found.checksum = plain(name), int.from_bytes(data[place : place + 4], file.order)
+        elif header.name == ".note.gnu.build-id":
+            data = body[:]
+            sizes = [int.from_bytes(data[it : it + 4], file.order) for it in (0, 4, 8)]
+            if sizes[0] == 4 and sizes[2] == BUILD_ID and data[12:16] == b"GNU\0":
+                found.build_id = data[16 : 16 + sizes[1]].hex()
+    return found if found.name or found.build_id else None
