@@ -5,6 +5,8 @@ import signal
 import subprocess
 import sys
 import threading
+from collections.abc import Callable, Sequence
+from typing import Any, Optional
 
 import kit
 
@@ -12,59 +14,78 @@ import kit
 class Checks:
     """A run of checks of a script, in a scratch folder. It tells of all checks, or of those that fail."""
 
-    def __init__(self, name, work, tells_all=True):
+    def __init__(self, name: str, work: str, tells_all: bool = True) -> None:
         self.name, self.work, self.passed, self.failed, self.skipped = name, work, 0, 0, 0
         self.tells_all, self.lock = tells_all, threading.Lock()
 
-    def tell(self, well, what):
+    def tell(self, well: object, what: str) -> bool:
         """Counts a check, and prints a line that says whether it passed."""
         with self.lock:
             self.passed, self.failed = self.passed + bool(well), self.failed + (not well)
             if self.tells_all or not well:
                 print(f"{self.name}: {what}: {'ok' if well else 'FAILED'}", flush=True)
-        return well
+        return bool(well)
 
-    def skip(self, what, why):
+    def skip(self, what: str, why: str) -> None:
         with self.lock:
             self.skipped += 1
             print(f"{self.name}: {what}: skipped, since {why}", flush=True)
 
-    def has(self, what, *tools):
+    def has(self, what: str, *tools: str) -> bool:
         """Whether all these tools are there. The first that isn't is told."""
         lacking = [it for it in tools if not shutil.which(it)]
         if lacking:
             self.skip(what, f"there is no {lacking[0]}")
         return not lacking
 
-    def run(self, what, words, **how):
+    def run(self, what: str, words: Sequence[str], **how: Any) -> bool:
         """A check that a command ends with status 0. What it says is shown where it doesn't."""
-        ran = kit.run(words, **{"cwd": self.work, **how})
+        how.setdefault("cwd", self.work)
+        ran = kit.run(words, **how)
         if ran.returncode:
             print(ran.stdout.strip()[-4000:])
         return self.tell(ran.returncode == 0, what)
 
-    def output(self, words, section, **how):
+    def output(self, words: Sequence[str], section: str, **how: Any) -> tuple[bytes, int]:
         """What a program writes of a section, which is a file of the scratch folder, and its status."""
         with open(f"{self.work}/{section}", "rb") as given:
             how = {"stdin": given, "stdout": subprocess.PIPE, "stderr": subprocess.STDOUT, **how}
             ran = subprocess.run(words, **how, check=False)
         return ran.stdout, ran.returncode
 
-    def end(self):
-        """Prints the counts, and returns the exit status."""
+    def end(self, wanted: int = 1) -> int:
+        """Prints the counts, and returns the exit status. If fewer checks were made than there are, the others count as
+        skipped if something was skipped, and as failed otherwise."""
+        lacking = max(0, wanted - self.passed - self.failed - self.skipped)
+        if lacking and self.skipped:
+            self.skipped += lacking
+        elif lacking:
+            self.failed += lacking
+            print(f"{self.name}: {lacking} of {wanted} checks weren't made: FAILED")
         print(f"{self.passed} passed, {self.failed} failed, {self.skipped} skipped")
-        return 1 if self.failed or not self.passed + self.skipped else 0
+        return 1 if self.failed else 0
 
 
-def usage(text, words, why=""):
+def usage(text: Optional[str], words: Sequence[str], why: str = "") -> int:
     """Prints what a script does, as was asked for or since its command line is wrong. Returns the exit status."""
     is_help = words in (["-h"], ["--help"])
-    print(text.strip() if is_help else f"{why}\n\n{text}".strip(), file=sys.stdout if is_help else sys.stderr)
+    said = text or ""
+    print(said.strip() if is_help else f"{why}\n\n{said}".strip(), file=sys.stdout if is_help else sys.stderr)
     return 0 if is_help else 2
 
 
-def run(main):
-    """Runs a script, and ends with its exit status. If it is interrupted, its scratch folder goes first."""
+def end_by_pipe() -> None:
+    """Ends this run by SIGPIPE, as that of `cat` ends if whoever reads its output has enough of it."""
+    signal.signal(signal.SIGPIPE, signal.SIG_DFL)
+    os.kill(os.getpid(), signal.SIGPIPE)
+
+
+def run(main: Callable[[list[str]], int], count: Optional[int] = None) -> None:
+    """Runs a script, and ends with its exit status. If it is interrupted, its scratch folder goes first. With the word
+    `--checks` a script prints this count of the checks that it makes, and makes none."""
+    if count is not None and sys.argv[1:] == ["--checks"]:
+        print(count)
+        sys.exit()
     for it in (signal.SIGINT, signal.SIGTERM, signal.SIGHUP):
         signal.signal(it, lambda number, _: sys.exit(128 + number))
     try:
@@ -72,7 +93,5 @@ def run(main):
         if sys.stdout:
             sys.stdout.flush()
     except BrokenPipeError:
-        # Whoever reads the output has enough of it. What is still to be written would fail again.
-        os.dup2(os.open(os.devnull, os.O_WRONLY), sys.stdout.fileno())
-        status = 1
+        end_by_pipe()
     sys.exit(status)

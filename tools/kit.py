@@ -1,8 +1,4 @@
-"""The crates of this repository, and the kit's prover: what the scripts share.
-
-`rt` proves the libraries below a crate again, unless it has built them itself for that. The scripts that
-follow `rt ci` run the prover over the libraries that it leaves.
-"""
+"""The crates of this repository, and the kit's commands: what the scripts share."""
 import contextlib
 import functools
 import glob
@@ -15,39 +11,42 @@ import signal
 import subprocess
 import sys
 import threading
+from collections.abc import Callable, Iterable, Iterator, Sequence
 from concurrent.futures import ThreadPoolExecutor, as_completed
+from typing import Any, Optional, Union
 
 ROOT = os.path.dirname(os.path.dirname(os.path.realpath(__file__)))
 PARTS = ("src", "specs", "proofs")
-# The kits that these scripts were written for. They have one logic, and prove the same.
-KITS = ("rattle-kit-13b logic dac8208d650f15bf", "rattle-kit-13f logic dac8208d650f15bf")
-# Where the gate's proofs keep what they have checked of each crate, if the gate runs.
-KEPT = os.environ.get("GATE_KEPT")
+# The kit that these scripts were written for.
+KIT = "rattle-kit-13f logic dac8208d650f15bf"
+# A command that has ended, with all that it wrote.
+Finished = subprocess.CompletedProcess
 # The commands that run, and whether no more may begin.
-RUNNING, IS_STOPPED = set(), threading.Event()
+RUNNING: set[subprocess.Popen] = set()
+IS_STOPPED = threading.Event()
 TEST = re.compile(r"^ *#\[test\]", re.M)
 FN = re.compile(r"^ *(?:pub(?:\([^)]*\))? )?(?:const )?(?:unsafe )?(?:extern \"C\" )?fn (\w+)", re.M)
 
 
-def text_of(path):
+def text_of(path: str) -> str:
     with open(path, encoding="utf-8", errors="replace") as file:
         return file.read()
 
 
-def put(path, content):
+def put(path: str, content: Union[str, bytes]) -> None:
     """Writes a text or bytes to a file, in a folder that is made if there is none."""
     os.makedirs(os.path.dirname(path), exist_ok=True)
     with open(path, "wb") as file:
         file.write(content if isinstance(content, bytes) else content.encode())
 
 
-def run(words, each=None, **how):
+def run(words: Sequence[str], each: Optional[Callable[[str], object]] = None, **how: Any) -> Finished:
     """Runs a command without input, in a session of its own, and returns the finished process with what it wrote to
     both outputs. `each` is called with each line as it is read. If this run ends early, so does the command."""
     how = {"stdin": subprocess.DEVNULL, "stdout": subprocess.PIPE, "stderr": subprocess.STDOUT, **how}
     if IS_STOPPED.is_set():
         raise InterruptedError
-    said = []
+    said: list[str] = []
     with subprocess.Popen(words, text=True, errors="replace", start_new_session=True, **how) as child:
         RUNNING.add(child)
         try:
@@ -62,13 +61,13 @@ def run(words, each=None, **how):
     return subprocess.CompletedProcess(words, child.returncode, "".join(said))
 
 
-def end(child):
+def end(child: subprocess.Popen) -> None:
     if child.poll() is None:
         with contextlib.suppress(ProcessLookupError):
             os.killpg(child.pid, signal.SIGTERM)
 
 
-def side_by_side(lanes, calls):
+def side_by_side(lanes: int, calls: Iterable[Sequence[Any]]) -> Iterator[Any]:
     """Makes these calls, each a function and its arguments, so many at a time, and yields what each returns. If one
     fails or this run is interrupted, what `run` has begun ends first, since the pool waits for it."""
     with ThreadPoolExecutor(lanes) as pool:
@@ -83,7 +82,7 @@ def side_by_side(lanes, calls):
             raise
 
 
-def of_path(command):
+def of_path(command: str) -> str:
     """Where a command of the kit is. If it isn't on PATH, a line says so, and the run ends with status 2."""
     found = shutil.which(command)
     if not found:
@@ -94,29 +93,21 @@ def of_path(command):
 
 
 @functools.cache
-def load_rt():
+def load_rt() -> Any:
     """The kit's command `rt`, as a module."""
     loader = importlib.machinery.SourceFileLoader("rt", of_path("rt"))
-    made = importlib.util.module_from_spec(importlib.util.spec_from_loader("rt", loader))
+    spec = importlib.util.spec_from_loader("rt", loader)
+    assert spec
+    made = importlib.util.module_from_spec(spec)
     sys.modules["rt"] = made
     loader.exec_module(made)
     return made
 
 
 @functools.cache
-def version():
+def version() -> str:
     """What the kit here says that it is."""
     return run([of_path("rt"), "version"], stderr=subprocess.DEVNULL).stdout.strip()
-
-
-def is_known():
-    """Whether the kit here is one that these scripts were written for."""
-    return version() in KITS
-
-
-def unproved():
-    """The words that run sources unproved, in a crate's folder: `rt try`, or the same without the check beside it."""
-    return [sys.executable, f"{ROOT}/tools/unproved.py"] if is_known() else ["rt", "try"]
 
 
 # The lines of crates.txt: a crate, lowest first, and the libraries that it names.
@@ -124,70 +115,47 @@ ROWS = re.findall(r"^(\w+)(?: staticlib)?:(.*?)(?:#.*)?$", text_of(f"{ROOT}/crat
 CRATES = {name: libraries.split() for name, libraries in ROWS}
 
 
-def below(crate):
+def below(crate: str) -> list[str]:
     """The crates of this repository below a crate, lowest first."""
-    found = []
+    found: list[str] = []
     for library in CRATES[crate]:
         if library in CRATES:
             found += [it for it in [*below(library), library] if it not in found]
     return found
 
 
-def sources(crate, of_tests=None):
-    """The texts of a crate's source files, each behind its path: all of them, or those of its tests or the others."""
+def sources(crate: str, of_tests: Optional[bool] = None) -> Iterator[tuple[str, str]]:
+    """The texts of a crate's source files, each after its path: all of them, or those of its tests or the others."""
     for path in sorted(glob.glob(f"{ROOT}/crates/{crate}/src/**/*.rt", recursive=True)):
         name = os.path.relpath(path, ROOT)
         if of_tests in (None, bool(re.search(r"/tests(\.rt|/)", name))):
             yield name, text_of(path)
 
 
-def tests_in(crate):
+def tests_in(crate: str) -> int:
     """How many tests the sources of a crate have."""
     return sum(len(TEST.findall(text)) for _, text in sources(crate))
 
 
-def worked_cases():
+def worked_cases() -> int:
     """How many worked cases of dwarf_list there are (`tools/cases`)."""
     texts = map(text_of, glob.glob(f"{ROOT}/crates/dwarf_list/cases/*.md"))
     return sum(len(re.findall(r"^\$ dwarf_list\b", it, re.M)) for it in texts)
 
 
-def lanes(memory, others=0):
-    """How many commands that take so much memory the machine has processors and room for, at least one. The second
-    number is what all of them take together beside that."""
+def script_tests(pattern: str = "test_*.py") -> int:
+    """How many tests the scripts have in files of this pattern."""
+    return sum(len(re.findall(r"^    def test_", text_of(it), re.M)) for it in glob.glob(f"{ROOT}/tools/{pattern}"))
+
+
+def lanes(memory: int) -> int:
+    """How many commands that take this much memory the machine has processors and room for, at least one."""
     processors = len(os.sched_getaffinity(0))
-    free = int(re.search(r"MemAvailable:\s+(\d+) kB", text_of("/proc/meminfo"))[1]) * 1024
-    return max(1, min(processors, (free - others) // memory))
+    free = int(re.findall(r"MemAvailable:\s+(\d+) kB", text_of("/proc/meminfo"))[0]) * 1024
+    return max(1, min(processors, free // memory))
 
 
-def programs(crate):
+def programs(crate: str) -> tuple[str, str]:
     """Where the proved program of a crate is once it is built, and the unproved one that ./dwarf_list keeps."""
     proved = f"{ROOT}/crates/{crate}/out/{crate}"
     return proved, f"{proved}.unproved"
-
-
-def newest(crate):
-    """The time of the newest source of a crate and of those below it."""
-    roots = [f"{ROOT}/crates/{it}/{part}" for it in [*below(crate), crate] for part in PARTS]
-    files = [f"{at}/{name}" for root in roots for at, _, names in os.walk(root) for name in names]
-    return max(os.path.getmtime(file) for file in [f"{ROOT}/crates.txt", *files])
-
-
-def is_fresh(product, crate):
-    """Whether a file is there, and none of the sources of a crate and of those below it is newer."""
-    try:
-        return os.path.getmtime(product) >= newest(crate)
-    except OSError:
-        return False
-
-
-def build_libraries(crates):
-    """Proves and builds the libraries below these crates, unless they are built and no source is newer.
-    Returns what the first one that fails says, or None."""
-    for it in CRATES:
-        folder = f"{ROOT}/crates/{it}"
-        if any(it in below(crate) for crate in crates) and not is_fresh(f"{folder}/out/rlib/{it}.rlib/format", it):
-            ran = run([of_path("rt"), "lib"], cwd=folder)
-            if ran.returncode:
-                return f"{it} is not proved:\n{ran.stdout.strip()[-2000:]}"
-    return None

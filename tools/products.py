@@ -1,0 +1,141 @@
+"""What is built of the sources: programs, programs of tests and static libraries.
+
+Each is kept outside the checkout, in ${XDG_CACHE_HOME:-~/.cache}, under a checksum of its sources and of the kit. So
+it is current as long as they are, whatever the times of files say, and another checkout finds it too. A copy is in the
+folder `out` of its crate. Beside that, a file whose name ends in `.sums` has the checksums of the copy and of its
+sources as `sha256sum` prints them, so that a shell can see at once whether the copy is current.
+"""
+import contextlib
+import fcntl
+import filecmp
+import hashlib
+import os
+import re
+import shutil
+import sys
+import tempfile
+from collections.abc import Callable, Iterator, Sequence
+from typing import Optional
+
+import kit
+
+# How many products are kept. Those that nothing took for the longest time go first.
+MOST_KEPT = 40
+
+
+def cache() -> str:
+    """The folder in which products are kept."""
+    above = os.environ.get("XDG_CACHE_HOME") or os.path.expanduser("~/.cache")
+    return f"{above}/dwarf_read_core"
+
+
+def sum_of(path: str) -> str:
+    with open(path, "rb") as file:
+        return hashlib.sha256(file.read()).hexdigest()
+
+
+def sums(crate: str, root: str = kit.ROOT) -> str:
+    """The checksums of all that a product of a crate is made from: its sources, and those of the crates below it."""
+    parts = [f"crates/{it}/{part}" for it in [*kit.below(crate), crate] for part in kit.PARTS]
+    walked = [(at, name) for part in parts for at, _, names in os.walk(f"{root}/{part}") for name in names]
+    paths = ["crates.txt", *sorted(os.path.relpath(f"{at}/{name}", root) for at, name in walked)]
+    return "".join(f"{sum_of(f'{root}/{it}')}  {it}\n" for it in paths)
+
+
+def place_of_copy(path: str, of_sources: str) -> str:
+    """Where a product of these sources is kept."""
+    version = kit.version() if shutil.which("rt") else kit.KIT
+    key = hashlib.sha256(f"{version}\n{of_sources}".encode()).hexdigest()
+    return f"{cache()}/{os.path.basename(path)}-{key[:32]}"
+
+
+def copy(source: str, target: str) -> None:
+    """Copies a file. Whoever reads the target meanwhile finds the old file or the new one, whole."""
+    os.makedirs(os.path.dirname(target), exist_ok=True)
+    handle, made = tempfile.mkstemp(prefix="new-", dir=os.path.dirname(target))
+    os.close(handle)
+    try:
+        shutil.copyfile(source, made)
+        shutil.copymode(source, made)
+        os.replace(made, target)
+    finally:
+        with contextlib.suppress(OSError):
+            os.remove(made)
+
+
+def take(kept: str, path: str, of_sources: str) -> str:
+    """Puts a kept product into its place. Returns where it is: where it is kept, if the checkout can't be written."""
+    try:
+        if not os.path.isfile(path) or not filecmp.cmp(kept, path, shallow=False):
+            copy(kept, path)
+        kit.put(f"{path}.sums", f"{sum_of(path)}  {os.path.relpath(path, kit.ROOT)}\n{of_sources}")
+        return path
+    except OSError:
+        return kept
+
+
+def put(made: str, path: str, of_sources: str) -> str:
+    """Keeps a product that was just made, and puts it into its place. Returns where it is."""
+    kept = place_of_copy(path, of_sources)
+    copy(made, kept)
+    forget_oldest()
+    return take(kept, path, of_sources)
+
+
+def find(path: str, crate: str) -> Optional[str]:
+    """Where the current product of a crate is, or None."""
+    of_sources = sums(crate)
+    kept = place_of_copy(path, of_sources)
+    if not os.path.isfile(kept):
+        return None
+    with contextlib.suppress(OSError):
+        # What is taken isn't the oldest.
+        os.utime(kept)
+    return take(kept, path, of_sources)
+
+
+def forget_oldest() -> None:
+    """Removes the kept products that nothing took for the longest time."""
+    with contextlib.suppress(OSError):
+        there = sorted(os.scandir(cache()), key=lambda it: it.stat().st_mtime)
+        for it in there[:-MOST_KEPT]:
+            os.remove(it.path)
+
+
+@contextlib.contextmanager
+def in_turn(crate: str) -> Iterator[None]:
+    """Waits while another command makes products of a crate in this checkout. It can take what that has made."""
+    handle = os.open(f"{kit.ROOT}/crates/{crate}", os.O_RDONLY)
+    try:
+        with contextlib.suppress(OSError):
+            fcntl.flock(handle, fcntl.LOCK_EX)
+        yield
+    finally:
+        os.close(handle)
+
+
+@contextlib.contextmanager
+def proved(crates: Sequence[str], tell: Callable[[str], object]) -> Iterator[Optional[str]]:
+    """A copy of the sources of these crates and of those below them, in which the kit's `rt ci` has passed. It proves
+    what it hasn't kept of an earlier run on this machine, and leaves the libraries and programs in the copy.
+
+    `rt ci` doesn't run in the checkout, since it gives that the libraries back that its own checks have left. Each line
+    that it says of itself goes to `tell`. If a crate isn't proved, there is no copy, but None."""
+
+    def see(line: str) -> None:
+        if line.startswith("rt: "):
+            tell(line[4:].rstrip())
+
+    needed = [it for it in kit.CRATES if it in crates or any(it in kit.below(above) for above in crates)]
+    with tempfile.TemporaryDirectory(prefix="proved-") as folder:
+        for it in needed:
+            # Wrong bodies say nothing of a product.
+            ignored = shutil.ignore_patterns("out", "must-fail")
+            shutil.copytree(f"{kit.ROOT}/crates/{it}", f"{folder}/crates/{it}", ignore=ignored)
+        lines = kit.text_of(f"{kit.ROOT}/crates.txt").splitlines(True)
+        kit.put(f"{folder}/crates.txt", "".join(it for it in lines if re.split(r"\W", it)[0] in needed))
+        shutil.copyfile(f"{kit.ROOT}/HANDLES", f"{folder}/HANDLES")
+        ran = kit.run([kit.of_path("rt"), "ci"], see, cwd=folder)
+        if ran.returncode:
+            print("".join(ran.stdout.splitlines(True)[-20:]), end="", file=sys.stderr)
+        yield None if ran.returncode else folder

@@ -1,0 +1,69 @@
+"""Tests of how the gate judges what its steps say."""
+import contextlib
+import importlib.machinery
+import importlib.util
+import io
+import os
+import sys
+import unittest
+
+sys.dont_write_bytecode = True
+sys.path.insert(0, os.path.dirname(os.path.realpath(__file__)))
+import kit
+
+
+def load(name):
+    """A script of this folder, as a module."""
+    loader = importlib.machinery.SourceFileLoader(name, f"{kit.ROOT}/tools/{name}")
+    made = importlib.util.module_from_spec(importlib.util.spec_from_loader(name, loader))
+    loader.exec_module(made)
+    return made
+
+
+gate = load("gate")
+PROVED = "".join(f"rt: {it} proved\n" for it in kit.CRATES)
+REFUSED = "rt: must-fail a/b.edit: refused, as it must be: src/lib.rt:1:1: error\n"
+RAN = "test result: ok. 2 passed; 0 failed\ntest result: ok. 3 passed; 0 failed\n"
+
+
+class Judging(unittest.TestCase):
+    """Each row is what a step said, its status, how many checks it has to make, and the counts of the gate."""
+
+    ROWS = [
+        ("3 passed, 0 failed\n", 0, 3, (3, 0, 0)),
+        ("a line\n2 passed, 0 failed, 1 skipped\n", 0, 3, (2, 0, 1)),
+        ("2 passed, 1 failed\n", 1, 3, (2, 1, 0)),
+        ("2 passed, 0 failed\n", 0, 3, (2, 1, 0)),
+        ("3 passed, 0 failed\n", 1, 3, (3, 1, 0)),
+        ("2 passed, 1 failed\n", 0, 3, (2, 2, 0)),
+        ("3 passed, 0 failed\nand more\n", 0, 3, (0, 1, 0)),
+        ("", 0, 0, (0, 1, 0)),
+    ]
+
+    def test_steps(self):
+        for said, status, wanted, counts in self.ROWS:
+            now = gate.Gate("")
+            with contextlib.redirect_stdout(io.StringIO()):
+                now.judge("a step", said, status, wanted)
+            self.assertEqual((now.passed, now.failed, now.skipped), counts, said)
+
+    def test_proofs(self):
+        kept = PROVED.replace(f"rt: {[*kit.CRATES][0]} proved", f"rt: {[*kit.CRATES][0]} is kept: an earlier run")
+        by_name = REFUSED.replace("be: ", "be (only because a proof file names what the edit took away): ")
+        rows = [
+            (PROVED + REFUSED + RAN, 0),
+            (kept + REFUSED + RAN, 0),
+            (PROVED.partition("\n")[2] + REFUSED + RAN, 1),
+            (PROVED + by_name + RAN, 1),
+            (PROVED + RAN, 1),
+            (PROVED + REFUSED, 1),
+        ]
+        for said, failed in rows:
+            now = gate.Gate("")
+            with contextlib.redirect_stdout(io.StringIO()):
+                gate.judge_proofs(now, said, ["a/b.edit"], 5)
+            self.assertEqual(now.failed, failed, said)
+
+
+if __name__ == "__main__":
+    unittest.main()
