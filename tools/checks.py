@@ -15,18 +15,25 @@ class Checks:
     """A run of checks of a script, in a scratch folder. It tells of all checks, or of those that fail."""
 
     def __init__(self, name: str, work: str, tells_all: bool = True) -> None:
-        self.name, self.work, self.passed, self.failed, self.skipped = name, work, 0, 0, 0
-        self.tells_all, self.lock = tells_all, threading.Lock()
+        self.name = name
+        self.work = work
+        self.tells_all = tells_all
+        self.lock = threading.Lock()
+        self.passed = 0
+        self.failed = 0
+        self.skipped = 0
 
     def tell(self, well: object, what: str) -> bool:
         """Counts a check, and prints a line that says whether it passed."""
         with self.lock:
-            self.passed, self.failed = self.passed + bool(well), self.failed + (not well)
+            self.passed += bool(well)
+            self.failed += not well
             if self.tells_all or not well:
                 print(f"{self.name}: {what}: {'ok' if well else 'FAILED'}", flush=True)
         return bool(well)
 
     def skip(self, what: str, why: str) -> None:
+        """Counts a check that can't be made here, and prints a line that says why."""
         with self.lock:
             self.skipped += 1
             print(f"{self.name}: {what}: skipped, since {why}", flush=True)
@@ -68,10 +75,12 @@ class Checks:
 
 def usage(text: Optional[str], words: Sequence[str], why: str = "") -> int:
     """Prints what a script does, as was asked for or since its command line is wrong. Returns the exit status."""
-    is_help = words in (["-h"], ["--help"])
-    said = text or ""
-    print(said.strip() if is_help else f"{why}\n\n{said}".strip(), file=sys.stdout if is_help else sys.stderr)
-    return 0 if is_help else 2
+    said = (text or "").strip()
+    if words in (["-h"], ["--help"]):
+        print(said)
+        return 0
+    print(f"{why}\n\n{said}".strip(), file=sys.stderr)
+    return 2
 
 
 def end_by_pipe() -> None:

@@ -10,11 +10,17 @@ from dataclasses import dataclass
 
 from elftools.elf.structs import ELFStructs
 
+if typing.TYPE_CHECKING:
+    from debug_file import Section
+    from debug_relocations import Relocations
+
 MAGIC = b"\x7fELF"
-# Two numbers of the format: the section of the names has a number too large for its field, and a section is compressed.
-XINDEX, COMPRESSED = 0xFFFF, 0x800
+# What stands for the number of the section of the names if that is too large, and the flag of a compressed section.
+XINDEX = 0xFFFF
+COMPRESSED = 0x800
 # At most this many bytes of a section's name are read, and at a time these many bytes of a section.
-NAME_BYTES, CHUNK = 1 << 12, 1 << 20
+NAME_BYTES = 1 << 12
+CHUNK = 1 << 20
 
 
 class Unlisted(Exception):
@@ -29,11 +35,25 @@ class Unopened(Unlisted):
     status = 3
 
 
+# What finds the tables of relocations of some bytes. Most have none.
+Tables = typing.Callable[[], "typing.Sequence[Relocations]"]
+
+
+class Say(typing.Protocol):
+    """What tells that a part of a file can't be read."""
+
+    def __call__(self, text: str, *, section: Section | None = None) -> object:
+        """Tells it in these words, maybe of a section."""
+
+
 class Body:
     """Bytes of a file, such as those of a section. The parts that are requested are read, with their relocations."""
 
-    def __init__(self, file: typing.BinaryIO, start: int, size: int, tables: typing.Callable = tuple):
-        self.file, self.start, self.size, self.tables = file, start, size, tables
+    def __init__(self, file: typing.BinaryIO, start: int, size: int, tables: Tables = tuple):
+        self.file = file
+        self.start = start
+        self.size = size
+        self.tables = tables
 
     def __len__(self) -> int:
         return self.size
@@ -61,7 +81,7 @@ class Body:
             error.filename = getattr(self.file, "name", None)
             raise
 
-    def part(self, at: int, size: int, tables: typing.Callable = tuple) -> Body:
+    def part(self, at: int, size: int, tables: Tables = tuple) -> Body:
         """At most this many bytes from an offset on: those that are there."""
         there = min(size, max(0, self.size - at))
         return Body(self.file, self.start + at, there, tables)
@@ -94,8 +114,9 @@ class Header:
 class ElfFile:
     """An ELF file. What is wrong with a part of it is told by a function, and the rest is read."""
 
-    def __init__(self, whole: Body, say: typing.Callable):
-        self.whole, self.say = whole, say
+    def __init__(self, whole: Body, say: Say):
+        self.whole = whole
+        self.say = say
         mark = whole[:6]
         if len(mark) < 6 or mark[4] not in (1, 2) or mark[5] not in (1, 2):
             raise Unlisted(f"the ELF file has an unknown class or byte order: its first bytes are {mark.hex(' ')}")
@@ -104,14 +125,15 @@ class ElfFile:
         self.structs = ELFStructs(little_endian=mark[5] == 1, elfclass=self.bits)
         self.structs.create_basic_structs()
         self.header = self.parsed(self.structs.Elf_Ehdr, 0, "the header of the file")
-        self.kind, system = self.header["e_type"], self.header["e_ident"]["EI_OSABI"]
+        self.kind = self.header["e_type"]
+        system = self.header["e_ident"]["EI_OSABI"]
         self.structs.create_advanced_structs(self.kind, self.header["e_machine"], system)
         # The library has no name for each number.
         self.machine = int.from_bytes(whole[18:20], self.order)
         self.headers = list(self.read_headers())
 
-    def parsed(self, layout, at: int, what: str):
-        """What is at a place of the file, by one of the library's layouts."""
+    def parsed(self, layout: typing.Any, at: int, what: str) -> typing.Any:
+        """What is at a place of the file, by one of the library's layouts, which have no types."""
         row = self.whole[at : at + layout.sizeof()]
         if len(row) < layout.sizeof():
             raise Unlisted(f"{what}, at 0x{at:x}, is past the end of the file")

@@ -18,10 +18,11 @@ import typing
 import zlib
 from dataclasses import dataclass
 
-from debug_elf import Body, ElfFile, Header, Unlisted
+from debug_elf import Body, ElfFile, Header, Say, Unlisted
 from debug_relocations import Relocations
 
-INFLATED_BYTES, INFLATED_TIMES = 1 << 28, 64
+INFLATED_BYTES = 1 << 28
+INFLATED_TIMES = 64
 # A section's name: of early debug information that an object keeps for link-time optimization, compressed
 # by the linkers before SHF_COMPRESSED, and for the other half of a split object.
 NAME = re.compile(r"(\.gnu\.debuglto_)?\.(z?)(debug\w*)(\.dwo)?")
@@ -29,7 +30,12 @@ UNITS = ("debug_info", "debug_types")
 INDEXES = ("debug_cu_index", "debug_tu_index")
 # The columns of the index of a package: DW_SECT_INFO, DW_SECT_TYPES, DW_SECT_ABBREV, DW_SECT_STR_OFFSETS.
 COLUMNS = {1: "debug_info", 2: "debug_types", 3: "debug_abbrev", 6: "debug_str_offsets"}
-TABLES_OF_RELOCATIONS, CREL = ("SHT_REL", "SHT_RELA", 0x40000014), 0x40000014
+CREL = 0x40000014
+TABLES_OF_RELOCATIONS = ("SHT_REL", "SHT_RELA", CREL)
+# A row of such an index: the offset and the size of each contribution, by its section.
+Row = dict[str, tuple[int, int]]
+# What inflates at most a number of bytes. It returns them, and whether the compressed bytes end there.
+Inflate = typing.Callable[[bytes, int], tuple[bytes, bool]]
 
 
 def by_zlib(raw: bytes, limit: int) -> tuple[bytes, bool]:
@@ -53,7 +59,7 @@ def by_zstd(raw: bytes, limit: int) -> tuple[bytes, bool]:
 
 
 # By the numbers of the ELF specification.
-INFLATE = {1: by_zlib, 2: by_zstd}
+INFLATE: dict[int, Inflate] = {1: by_zlib, 2: by_zstd}
 
 
 @dataclass(eq=False)
@@ -87,17 +93,16 @@ class Unit:
 
 
 class Package:
-    """The rows of the indexes of a package, by the section of units that they are for and where their units begin. A
-    row has the offset and the size of each contribution, by its section."""
+    """The rows of the indexes of a package, by the section of units that they are for and where their units begin."""
 
-    def __init__(self):
-        self.rows: dict[str, dict[int, dict[str, tuple[int, int]]]] = {base: {} for base in UNITS}
+    def __init__(self) -> None:
+        self.rows: dict[str, dict[int, Row]] = {base: {} for base in UNITS}
         self.starts: dict[str, list[int]] = {}
 
     def has_rows(self) -> bool:
         return any(self.rows.values())
 
-    def add(self, row: dict[str, tuple[int, int]], is_new: bool) -> None:
+    def add(self, row: Row, is_new: bool) -> None:
         # DWARF 5 has no section of types, and the column's number is reserved.
         for base in UNITS[: 1 if is_new else 2]:
             if base in row:
@@ -106,7 +111,7 @@ class Package:
     def sort(self) -> None:
         self.starts = {base: sorted(rows) for base, rows in self.rows.items()}
 
-    def row(self, unit: Unit) -> dict[str, tuple[int, int]]:
+    def row(self, unit: Unit) -> Row:
         """The row of a unit. It is empty if the indexes have none."""
         base = unit.section.base
         at = bisect.bisect(self.starts[base], unit.offset)
@@ -121,7 +126,7 @@ class Package:
 class DebugFile(ElfFile):
     """An ELF file with its debug sections, in the order of their headers."""
 
-    def __init__(self, whole: Body, say: typing.Callable):
+    def __init__(self, whole: Body, say: Say):
         super().__init__(whole, say)
         self.mark = "<" if self.order == "little" else ">"
         self.sections: list[Section] = []
@@ -171,14 +176,18 @@ class DebugFile(ElfFile):
             raise Unlisted("has no bytes in this file (SHT_NOBITS)")
         if header.size and header.start >= len(self.whole):
             raise Unlisted(f"begins at 0x{header.start:x}, past the end of the file")
-        raw, tables = self.part(header, section), functools.partial(self.relocations_of, section)
+        raw = self.part(header, section)
+        tables = functools.partial(self.relocations_of, section)
         if self.is_old_compressed(header, raw):
-            size, inflate, packed = int.from_bytes(raw[4:12], "big"), by_zlib, raw[12:]
+            size = int.from_bytes(raw[4:12], "big")
+            inflate: Inflate = by_zlib
+            packed = raw[12:]
         elif header.is_compressed:
             kind, size, begin = self.compression(raw)
             if kind not in INFLATE:
                 raise Unlisted(f"can't be inflated: its compression type {kind} is unknown")
-            inflate, packed = INFLATE[kind], raw[begin:]
+            inflate = INFLATE[kind]
+            packed = raw[begin:]
         else:
             return raw.part(0, len(raw), tables)
         whole = self.inflated(section, packed, size, inflate)
@@ -231,7 +240,7 @@ class DebugFile(ElfFile):
             tables.append(Relocations(self, body, symbols, header.kind == "SHT_RELA"))
         return tables
 
-    def inflated(self, section: Section, raw: bytes, size: int, inflate: typing.Callable) -> bytes:
+    def inflated(self, section: Section, raw: bytes, size: int, inflate: Inflate) -> bytes:
         """The bytes that are compressed, of which there are to be this many."""
         limit = max(INFLATED_BYTES, INFLATED_TIMES * len(raw))
         if size > limit:
@@ -247,8 +256,9 @@ class DebugFile(ElfFile):
             why = str(error).rpartition(": ")[2] or "its bytes aren't compressed so"
             raise Unlisted(f"can't be inflated: {why}") from error
         if len(body) != size or not is_whole:
-            more = "more" if len(body) > size else "other bytes" if len(body) == size else f"{len(body)}"
-            self.say(f"{section} is to inflate to {size} bytes, and inflates to {more}")
+            found = "other bytes" if len(body) == size else f"{len(body)}"
+            found = "more" if len(body) > size else found
+            self.say(f"{section} is to inflate to {size} bytes, and inflates to {found}")
         return body[:size]
 
     # Units.
@@ -264,15 +274,16 @@ class DebugFile(ElfFile):
 
     def zeros(self, section: Section, body: Body, at: int) -> int:
         """How many bytes of value 0 are at an offset, in fours, as padding is. They are told."""
+        # Most places have none.
+        if body[at : at + 4] != bytes(4):
+            return 0
         found = 0
-        # (most places have none, and are told by the first four)
-        for _, chunk in body.chunks(at) if body[at : at + 4] == bytes(4) else ():
+        for _, chunk in body.chunks(at):
             many = (len(chunk) - len(chunk.lstrip(b"\0"))) // 4 * 4
             found += many
             if many < len(chunk):
                 break
-        if found:
-            self.say(f"the {found} bytes at 0x{at:x} of {section} are zero, and passed over")
+        self.say(f"the {found} bytes at 0x{at:x} of {section} are zero, and passed over")
         return found
 
     def units(self, family: tuple[str, str]) -> list[Unit]:
@@ -286,7 +297,8 @@ class DebugFile(ElfFile):
 
     def walk(self, section: Section, body: Body) -> list[Unit]:
         """The units of a section, each of which begins where the one before ends."""
-        found, at = [], 0
+        found = []
+        at = 0
         while at < len(body):
             unit = Unit(section, at)
             try:
@@ -370,7 +382,8 @@ class DebugFile(ElfFile):
 
     def indexed(self) -> Package | None:
         """The indexes of a package, or None if the file is none."""
-        found, package = self.named(*INDEXES), Package()
+        package = Package()
+        found = self.named(*INDEXES)
         for section in found:
             with self.telling(section):
                 self.read_index(self.body(section)[:], package)

@@ -17,7 +17,8 @@ from debug_elf import MAGIC, Body, ElfFile, Unlisted, Unopened
 STANDARD_INPUT = "-"
 ARCHIVE, THIN_ARCHIVE = b"!<arch>\n", b"!<thin>\n"
 # The header of an archive's member: its name, and after fields that aren't needed here its size.
-MEMBER_BYTES, MEMBER = 60, re.compile(rb"(.{16}).{32}([0-9]+) *`\n", re.S)
+MEMBER_BYTES = 60
+MEMBER = re.compile(rb"(.{16}).{32}([0-9]+) *`\n", re.S)
 # What a file is that isn't an ELF file, by its first bytes.
 KINDS = (
     (b"MZ", "a PE file"),
@@ -92,8 +93,10 @@ class Archive:
     """An archive that `ar` has written. A thin one has only the names of its members' files."""
 
     def __init__(self, path: str, whole: Body):
-        self.path, self.whole = path, whole
-        self.is_thin, self.names = whole[:8] == THIN_ARCHIVE, b""
+        self.path = path
+        self.whole = whole
+        self.is_thin = whole[:8] == THIN_ARCHIVE
+        self.names = b""
 
     def members(self) -> typing.Iterator[tuple[str, Body | None]]:
         """The members with their names. A member of a thin archive has no bytes here."""
@@ -102,7 +105,8 @@ class Archive:
             found = MEMBER.fullmatch(self.whole[at : at + MEMBER_BYTES])
             if not found:
                 raise Unlisted(f"the archive has no member's header at 0x{at:x}, and what follows isn't read")
-            field, size = found[1].rstrip(b" "), int(found[2])
+            field = found[1].rstrip(b" ")
+            size = int(found[2])
             begin = at + MEMBER_BYTES
             if field == b"//":
                 self.names = self.whole[begin : begin + size]
@@ -141,7 +145,8 @@ def inputs(path: str) -> typing.Iterator[Input]:
             raise Unlisted("this is no archive, so it has no members")
         yield Input(title(path), path, False, lambda: whole)
         return
-    archive, count = Archive(path, whole), 0
+    archive = Archive(path, whole)
+    count = 0
     for name, body in archive.members():
         if wanted in (None, name):
             count += 1
@@ -177,15 +182,17 @@ class DebugLink:
     def places(self, path: str) -> list[tuple[str, bool]]:
         """Where the file may be, and whether its checksum is compared there."""
         folder = os.path.dirname(os.path.realpath(path))
-        beside = (folder, f"{folder}/.debug", f"{DEBUG_FOLDER}{folder}") if self.name else ()
-        by_name = [(f"{it}/{self.name}", True) for it in beside]
-        return [(self.by_build_id(), False)] * bool(self.build_id) + by_name
+        found = [(self.by_build_id(), False)] if self.build_id else []
+        if self.name:
+            beside = (folder, f"{folder}/.debug", f"{DEBUG_FOLDER}{folder}")
+            found += [(f"{it}/{self.name}", True) for it in beside]
+        return found
 
     def looked_for(self, path: str) -> str:
         """The places where the file may be, in words."""
         return ", ".join(place for place, _ in self.places(path))
 
-    def find(self, path: str, say: typing.Callable) -> str:
+    def find(self, path: str, say: typing.Callable[[str], object]) -> str:
         """Where the file is, or nothing."""
         for place, is_checked in self.places(path):
             if not os.path.isfile(place):
@@ -215,7 +222,8 @@ def link_of(file: ElfFile) -> DebugLink | None:
             data = body[:]
             name = data.partition(b"\0")[0]
             place = len(name) // 4 * 4 + 4
-            found.name, found.checksum = plain(name), int.from_bytes(data[place : place + 4], file.order)
+            found.name = plain(name)
+            found.checksum = int.from_bytes(data[place : place + 4], file.order)
         elif header.name == ".note.gnu.build-id":
             data = body[:]
             sizes = [int.from_bytes(data[it : it + 4], file.order) for it in (0, 4, 8)]

@@ -10,7 +10,7 @@ import typing
 
 from debug_elf import Body, Unlisted
 from debug_file import DebugFile, Section, Unit
-from debug_output import Text
+from debug_output import Report, Text
 
 ROOT = pathlib.Path(__file__).resolve().parent.parent
 # After this many errors in a section the rest of it isn't listed, since each takes a process.
@@ -25,20 +25,25 @@ SECTIONS = {
     "str-offsets": "debug_str_offsets",
 }
 # The bytes of the longest header of a set, and the sizes that an address may have.
-SET_HEADER_BYTES, ADDRESS_SIZES = 16, (1, 2, 4, 8)
+SET_HEADER_BYTES = 16
+ADDRESS_SIZES = (1, 2, 4, 8)
 # Strings and abbreviations are read by these many bytes at a time.
-STRING_BYTES, WINDOW_BYTES = 1 << 8, 1 << 12
+STRING_BYTES = 1 << 8
+WINDOW_BYTES = 1 << 12
 # DW_FORM_implicit_const, the form whose value is in the table.
 IMPLICIT_CONST = 0x21
 # How a program begins the line of an error.
 BEGINNING = re.compile(r"error(?: at 0x[0-9a-f]+)?: ")
+# What takes the output of a program.
+Take = typing.Callable[[typing.IO[bytes]], None]
 
 
-def run(words: list, source: str, take: typing.Callable) -> tuple[int, str]:
+def run(words: list[str], source: str, take: Take) -> tuple[int, str]:
     """Runs a program with a file as its standard input. A function takes the output. Returns the exit status, and the
     errors as one line."""
     with open(source, "rb") as file, open(f"{source}.errors", "w+b") as errors:
         with subprocess.Popen(words, stdin=file, stdout=subprocess.PIPE, stderr=errors) as child:
+            assert child.stdout
             try:
                 take(child.stdout)
             except BaseException:
@@ -76,7 +81,8 @@ class SetStrings:
     """The strings of a section, by their offsets."""
 
     def __init__(self, section: Section, body: Body):
-        self.section, self.body = section, body
+        self.section = section
+        self.body = body
         self.missing: set[int] = set()
 
     def at(self, offset: int) -> bytes | None:
@@ -103,11 +109,18 @@ def lack_of(command: str) -> str:
 class Listing:
     """The listing of a file by a command. The programs read each section from a file in a folder."""
 
-    def __init__(self, file: DebugFile, command: str, report: typing.Any, output: Text, folder: str):
-        self.file, self.command, self.report, self.output = file, command, report, output
-        self.kind, self.order = command.replace("line-", ""), "le" if file.order == "little" else "be"
-        self.path, self.offsets = f"{folder}/section", f"{folder}/offsets"
-        self.errors, self.strings = 0, typing.cast(typing.Optional[SetStrings], None)
+    def __init__(self, file: DebugFile, command: str, report: Report, output: Text, folder: str):
+        self.file = file
+        self.command = command
+        self.report = report
+        self.output = output
+        # What the programs call the command and the byte order.
+        self.kind = command.replace("line-", "")
+        self.order = "le" if file.order == "little" else "be"
+        self.path = f"{folder}/section"
+        self.offsets = f"{folder}/offsets"
+        self.errors = 0
+        self.strings: SetStrings | None = None
 
     def program(self, name: str) -> str:
         found = program(name)
@@ -147,9 +160,11 @@ class Listing:
 
     def keep(self, body: Body, parts: typing.Iterable[tuple[int, int]] | None = None, before: bytes = b"") -> None:
         """Writes bytes of a section into the file that the programs read: those of some parts, or all."""
+        if parts is None:
+            parts = [(0, len(body))]
         with open(self.path, "wb") as file:
             file.write(before)
-            for start, end in [(0, len(body))] if parts is None else parts:
+            for start, end in parts:
                 file.writelines(chunk for _, chunk in body.chunks(start, end))
 
     def tell(self, what: str, section: Section, offset: int | None, error: str, status: int) -> None:
@@ -162,7 +177,8 @@ class Listing:
         a file that is no package it is the whole section."""
         if self.file.package is None or not section.family[1]:
             return [(0, len(body))]
-        parts, end = [], 0
+        parts = []
+        end = 0
         for start, size in [*self.file.package.contributions(section.base), (len(body), 0)]:
             if start > end:
                 self.report.say(f"{section}: no row of the index has the bytes from 0x{end:x} to 0x{start:x}")
@@ -175,7 +191,7 @@ class Listing:
 
     # Tables and strings.
 
-    def many(self, offsets: typing.Iterable[int], options: list[str], take: typing.Callable) -> tuple[int, str]:
+    def many(self, offsets: typing.Iterable[int], options: list[str], take: Take) -> tuple[int, str]:
         """Lists what is at each of these offsets. Returns the exit status and the error."""
         with open(self.offsets, "w", encoding="ascii") as file:
             file.writelines(f"{it}\n" for it in offsets)
@@ -184,14 +200,16 @@ class Listing:
     def list_strings(self, section: Section, body: Body) -> None:
         """Lists all strings of a section. Only the last can have an error, since a zero byte ends each other one."""
         self.keep(body)
+        offsets = (start for start, _ in places_of_strings(body))
         take = lambda output: self.output.strings(output, places_of_strings(body))
-        status, error = self.many((start for start, _ in places_of_strings(body)), [], take)
+        status, error = self.many(offsets, [], take)
         if status:
             found = re.match("error at 0x([0-9a-f]+)", error)
             offset = int(found[1], 16) if found else None
             self.tell(str(section), section, offset, error, status)
 
     def list_one(self, section: Section, body: Body, offset: int) -> None:
+        """Lists the table or the string at an offset of a section."""
         self.keep(body)
         show = self.output.table if self.command == "abbrev" else self.output.string
         words = [self.program("dwarf_list"), self.kind, str(offset)]
@@ -227,13 +245,16 @@ class Listing:
 
     def walk(self, section: Section, body: Body) -> list[int]:
         """Where the tables of a section begin, if each begins where the one before ends."""
-        found, at = [], 0
+        found = []
+        at = 0
         try:
             while at < len(body):
                 zeros = self.file.zeros(section, body, at)
-                if not zeros:
+                if zeros:
+                    at += zeros
+                else:
                     found.append(at)
-                at = at + zeros if zeros else end_of_table(body, at)
+                    at = end_of_table(body, at)
         except Unlisted as error:
             self.report.say(f"the table at 0x{at:x} of {section} {error}, and what follows isn't listed")
         return found
@@ -277,7 +298,7 @@ class Listing:
     def run_sets(self, title: typing.Callable[[bytes], bytes] | None = None) -> tuple[int, str]:
         """Lists the sets of the file that is kept. A function may change the line that begins each set."""
 
-        def take(output: typing.BinaryIO) -> None:
+        def take(output: typing.IO[bytes]) -> None:
             lines: typing.Iterable[bytes] = output
             if title:
                 lines = (title(it) if it.startswith(b"set ") else it for it in output)
@@ -295,15 +316,19 @@ class Listing:
 
     def list_with_headers(self, section: Section, body: Body, at: int, end: int, units: list[Unit]) -> None:
         """Lists the sets in a part of a section. Those that look well formed are listed together."""
-        is_mixed, self.errors = any(it.version < 5 for it in units), 0
+        is_mixed = any(it.version < 5 for it in units)
+        self.errors = 0
         sets: list[Span] = []
         while at < end:
-            found = self.next_set(section, body, at, end, {it.address_size for it in units}) if is_mixed else at
+            found = at
+            if is_mixed:
+                found = self.next_set(section, body, at, end, {it.address_size for it in units})
             if found > at:
                 why = "since a unit of DWARF 4 may have them, as a set without a header"
                 self.report.say(f"{section}: the bytes from 0x{at:x} to 0x{found:x} aren't listed, {why}")
             try:
-                found += self.file.zeros(section, body, found) if found < end else 0
+                if found < end:
+                    found += self.file.zeros(section, body, found)
                 if found > at:
                     at = found
                     continue
@@ -323,8 +348,9 @@ class Listing:
         """Where the set at an offset is, and whether its header looks well formed. The part ends at another offset."""
         row = body[at : at + SET_HEADER_BYTES]
         length, word, begin = self.file.initial_length(row, 0)
-        version, size = int.from_bytes(row[begin : begin + 2], self.file.order), word
+        version = int.from_bytes(row[begin : begin + 2], self.file.order)
         is_known = version == 5
+        size = word
         if self.command == "addr":
             size = row[begin + 2] if begin + 2 < len(row) else 0
             is_known = is_known and size in ADDRESS_SIZES and row[begin + 3 : begin + 4] == b"\0"
@@ -359,8 +385,9 @@ class Listing:
         """Where the next set with a header begins if others have none, or the end. A header that has the units' address
         size doesn't look like addresses. One of string offsets looks like others if its version is that of a string."""
         version = (5).to_bytes(2, self.file.order)
-        forms = [version + bytes([it, 0]) for it in (sizes if self.command == "addr" else [0])]
+        forms = [version + bytes([it, 0]) for it in sizes]
         if self.command == "str-offsets":
+            forms = [version + bytes(2)]
             place = int.from_bytes(forms[0], self.file.order)
             strings = [it for it in self.file.named("debug_str") if it.family == section.family]
             if any(self.file.body(it)[place - 1 : place] == b"\0" for it in strings):
@@ -396,7 +423,8 @@ class Listing:
 
     def list_entries(self, section: Section, body: Body, start: int, end: int, size: int) -> None:
         """Lists entries without a header. The program gets one before them, and its line is replaced."""
-        many, rest = max(0, end - start) // size * size, max(0, end - start) % size
+        rest = max(0, end - start) % size
+        many = max(0, end - start) - rest
         if rest:
             self.report.say(f"{section}: the last {rest} bytes of the set at 0x{start:x} are no whole entry")
         is_addr = self.command == "addr"
@@ -406,8 +434,9 @@ class Listing:
         if width == 4 and many >= 0xFFFFFF00:
             self.report.say(f"{section}: the set at 0x{start:x} is too long for the 32-bit format, and isn't listed")
             return
+        mark = b"\xff\xff\xff\xff" if width == 8 else b""
         length = (len(fields) + many).to_bytes(width, self.file.order)
-        self.keep(body, [(start, start + many)], b"\xff\xff\xff\xff" * (width == 8) + length + fields)
+        self.keep(body, [(start, start + many)], mark + length + fields)
         last = f"address size {size}" if is_addr else f"{8 * size}-bit"
         title = f"set 0x{start:x}: no header, {many} bytes, {last}\n".encode()
         status, error = self.run_sets(lambda line: title)
@@ -434,7 +463,11 @@ class Cursor:
     """A place in a section, which is read byte by byte. At the end of the section an EOFError is raised."""
 
     def __init__(self, body: Body, at: int):
-        self.body, self.at, self.window, self.start = body, at, b"", at
+        self.body = body
+        self.at = at
+        # The bytes that were read last, and where they begin.
+        self.window = b""
+        self.start = at
 
     def byte(self) -> int:
         if self.at - self.start == len(self.window):
@@ -447,7 +480,8 @@ class Cursor:
 
     def number(self) -> int:
         """The value of an unsigned LEB128 number. A signed one is passed over too, and has another value."""
-        value, shift = 0, 0
+        value = 0
+        shift = 0
         while True:
             byte = self.byte()
             value |= (byte & 0x7F) << shift
@@ -477,7 +511,8 @@ def end_of_table(body: Body, at: int) -> int:
 
 def joined(sets: list[Span]) -> typing.Iterator[tuple[int, int]]:
     """The parts of a section that have these sets."""
-    start, end = sets[0].start, sets[0].start
+    start = sets[0].start
+    end = start
     for it in sets:
         if it.start != end:
             yield start, end

@@ -1,13 +1,17 @@
-"""How `dwarf_elf` prints what the programs list: as they print it, or by `--json` as objects, one on each line."""
+"""How `dwarf_elf` prints what the programs list: as they print it, or by `--json` as objects, one on each line. And how
+it reports errors.
+"""
 from __future__ import annotations
 
 import json
+import os
 import re
 import shutil
 import sys
 import typing
 
 if typing.TYPE_CHECKING:
+    from debug_elf import Unlisted
     from debug_file import Section
 
 # The lines of the programs.
@@ -23,6 +27,14 @@ SET = re.compile(
 Lines = typing.Iterable[bytes]
 # What is called with an error at an offset: the offset, the status, and the text.
 OnError = typing.Callable[[int, int, str], None]
+
+
+def tell(text: str) -> None:
+    """Prints a line on standard error. One that can't be written stops nothing."""
+    try:
+        os.write(2, os.fsencode(f"{text}\n"))
+    except OSError:
+        pass
 
 
 def put(text: str) -> None:
@@ -55,11 +67,11 @@ class Text:
     def table(self, lines: Lines, offset: int) -> None:
         sys.stdout.buffer.writelines(lines)
 
-    def strings(self, output: typing.BinaryIO, places: typing.Iterable[tuple[int, int]]) -> None:
+    def strings(self, output: typing.IO[bytes], places: typing.Iterable[tuple[int, int]]) -> None:
         """Prints the strings at these places, each from its first byte to the zero byte after it."""
         shutil.copyfileobj(output, sys.stdout.buffer, 1 << 16)
 
-    def string(self, output: typing.BinaryIO, offset: int) -> None:
+    def string(self, output: typing.IO[bytes], offset: int) -> None:
         shutil.copyfileobj(output, sys.stdout.buffer, 1 << 16)
 
     def sets(self, lines: Lines, strings: Strings | None) -> None:
@@ -85,8 +97,9 @@ class Strings(typing.Protocol):
 class Json(Text):
     """The listing as objects. Each has the names of its file and section, and its offset or its error."""
 
-    def __init__(self):
-        self.name, self.listed = "", None
+    def __init__(self) -> None:
+        self.name = ""
+        self.listed: Section | None = None
 
     def file(self, name: str, is_alone: bool) -> None:
         self.name = name
@@ -94,10 +107,11 @@ class Json(Text):
     def section(self, section: Section, is_alone: bool) -> None:
         self.listed = section
 
-    def put(self, **fields) -> None:
+    def put(self, **fields: object) -> None:
+        """Prints an object of the section that is listed."""
         self.put_of(self.listed, **fields)
 
-    def put_of(self, section: Section | None, **fields) -> None:
+    def put_of(self, section: Section | None, **fields: object) -> None:
         place = {"section": section.name, "section_index": section.number} if section else {}
         put(json.dumps({"file": self.name, **place, **fields}) + "\n")
 
@@ -105,15 +119,18 @@ class Json(Text):
         self.put_of(section, size=size)
 
     def tables(self, lines: Lines, on_error: OnError) -> None:
-        offset, table = None, []
+        offset: int | None = None
+        table: list[bytes] = []
         for line in lines:
-            title, error = TABLE.match(line), ERROR.match(line)
+            title = TABLE.match(line)
+            error = ERROR.match(line)
             if not title and not error:
                 table.append(line)
                 continue
             if offset is not None:
                 self.table(table, offset)
-            offset, table = int(title[1], 16) if title else None, []
+            offset = int(title[1], 16) if title else None
+            table = []
             if error:
                 on_error(int(error[1], 16), int(error[2]), error[3].decode())
         if offset is not None:
@@ -123,11 +140,12 @@ class Json(Text):
         found: list[dict[str, typing.Any]] = []
         attributes: list[dict[str, typing.Any]] = []
         for line in map(bytes.decode, lines):
-            declaration, attribute = DECLARATION.match(line), ATTRIBUTE.match(line)
+            declaration = DECLARATION.match(line)
+            attribute = ATTRIBUTE.match(line)
             if declaration:
                 attributes = []
-                code, tag, children = int(declaration[1]), declaration[2], declaration[3] == "yes"
-                found.append({"code": code, "tag": tag, "children": children, "attributes": attributes})
+                fields = {"code": int(declaration[1]), "tag": declaration[2], "children": declaration[3] == "yes"}
+                found.append({**fields, "attributes": attributes})
             elif attribute:
                 row: dict[str, typing.Any] = {"name": attribute[1], "form": attribute[2]}
                 if attribute[3]:
@@ -135,7 +153,7 @@ class Json(Text):
                 attributes.append(row)
         self.put(offset=offset, abbreviations=found)
 
-    def strings(self, output: typing.BinaryIO, places: typing.Iterable[tuple[int, int]]) -> None:
+    def strings(self, output: typing.IO[bytes], places: typing.Iterable[tuple[int, int]]) -> None:
         for start, end in places:
             title = b"0x%x: " % start
             row = output.read(len(title) + end - start + 1)
@@ -143,7 +161,7 @@ class Json(Text):
             if row.endswith(b"\n"):
                 self.put(offset=start, **text_fields(row[len(title) : -1]))
 
-    def string(self, output: typing.BinaryIO, offset: int) -> None:
+    def string(self, output: typing.IO[bytes], offset: int) -> None:
         text = output.read()
         if text:
             self.put(offset=offset, **text_fields(text[:-1]))
@@ -157,16 +175,19 @@ class Json(Text):
                 entries.append(int(line, 0))
                 continue
             self.set(fields, entries, strings)
-            fields, entries = {it: int(number, 0) for it, number in found.groupdict().items() if number}, []
+            fields = {it: int(number, 0) for it, number in found.groupdict().items() if number}
+            entries = []
         self.set(fields, entries, strings)
 
-    def set(self, fields: dict, entries: list[int], strings: Strings | None) -> None:
+    def set(self, fields: dict[str, int], entries: list[int], strings: Strings | None) -> None:
+        """Prints the set with these fields in its title, if there is one."""
         if not fields:
             return
         if "address_size" in fields:
             self.put(**fields, addresses=entries)
         elif strings:
-            self.put(**fields, strings=[{"offset": it, **text_fields(strings.at(it))} for it in entries])
+            rows: list[dict[str, object]] = [{"offset": it, **text_fields(strings.at(it))} for it in entries]
+            self.put(**fields, strings=rows)
         else:
             self.put(**fields, offsets=entries)
 
@@ -183,3 +204,47 @@ def text_fields(text: bytes | None) -> dict[str, str | None]:
         return {"string": text.decode()}
     except UnicodeDecodeError:
         return {"bytes": text.hex()}
+
+
+class Report:
+    """Reports on standard error, each line once, and keeps the exit status."""
+
+    def __init__(self, output: Text):
+        self.output = output
+        self.status = 0
+        self.reported: set[str] = set()
+        # What is before each line, such as the name of a file.
+        self.before = ""
+
+    def say(
+        self,
+        text: object,
+        status: int = 1,
+        section: Section | None = None,
+        offset: int | None = None,
+        error: str = "",
+    ) -> None:
+        """Reports an error, maybe of a section or at an offset of one. Its own text may be shorter than the line."""
+        self.status = max(self.status, status)
+        line = f"{self.before}{text}"
+        if line not in self.reported:
+            self.output.error(error or str(text), section, offset)
+            self.tell(line)
+
+    def say_of(self, name: str, error: Unlisted) -> None:
+        """Reports why a whole file can't be read."""
+        before = self.before
+        self.before = f"{name}: "
+        self.say(error, error.status)
+        self.before = before
+
+    def note(self, text: str, before: str | None = None) -> None:
+        """Reports something that is no error. The name of the file is before it if several are listed."""
+        line = (self.before if before is None else before) + text
+        if line not in self.reported:
+            self.tell(line)
+
+    def tell(self, line: str) -> None:
+        self.reported.add(line)
+        sys.stdout.flush()
+        tell(f"dwarf_elf: {line}")

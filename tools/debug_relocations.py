@@ -69,8 +69,11 @@ class Relocations:
     headers of units. So only their places are in memory."""
 
     def __init__(self, elf: ElfFile, body: Body, symbols: Body, has_addends: bool):
-        self.machine, self.order, self.is_long = elf.machine, elf.order, elf.bits == 64
-        self.body, self.symbols = body, symbols
+        self.machine = elf.machine
+        self.order = elf.order
+        self.is_long = elf.bits == 64
+        self.body = body
+        self.symbols = symbols
         tables = [(sign, it.get(self.machine, {})) for sign, it in TABLES]
         self.sizes = {kind: (size, sign) for sign, it in tables for kind, size in it.items()}
         mark = "<" if elf.order == "little" else ">"
@@ -80,9 +83,10 @@ class Relocations:
         self.symbol_row = struct.Struct(mark + ("6xHQ8x" if self.is_long else "4xI6xH"))
 
     @functools.cached_property
-    def places(self) -> tuple[array.array, typing.Sequence[int]]:
+    def places(self) -> tuple[array.array[int], typing.Sequence[int]]:
         """The places in rising order, and the numbers of their rows."""
-        places, size = array.array("Q"), self.row.size
+        places = array.array("Q")
+        size = self.row.size
         for low in range(0, len(self.body), size << 12):
             part = self.body[low : low + (size << 12)]
             places.extend(row[0] for row in self.row.iter_unpack(part[: len(part) // size * size]))

@@ -20,9 +20,9 @@ PARTS = ("src", "specs", "proofs")
 # The kit that these scripts were written for.
 KIT = "rattle-kit-13f logic dac8208d650f15bf"
 # A command that has ended, with all that it wrote.
-Finished = subprocess.CompletedProcess
+Finished = subprocess.CompletedProcess[str]
 # The commands that run, and whether no more may begin.
-RUNNING: set[subprocess.Popen] = set()
+RUNNING: set[subprocess.Popen[str]] = set()
 IS_STOPPED = threading.Event()
 TEST = re.compile(r"^ *#\[test\]", re.M)
 FN = re.compile(r"^ *(?:pub(?:\([^)]*\))? )?(?:const )?(?:unsafe )?(?:extern \"C\" )?fn (\w+)", re.M)
@@ -61,7 +61,8 @@ def run(words: Sequence[str], each: Optional[Callable[[str], object]] = None, **
     return subprocess.CompletedProcess(words, child.returncode, "".join(said))
 
 
-def end(child: subprocess.Popen) -> None:
+def end(child: subprocess.Popen[str]) -> None:
+    """Ends a command that still runs, and what it has begun."""
     if child.poll() is None:
         with contextlib.suppress(ProcessLookupError):
             os.killpg(child.pid, signal.SIGTERM)
@@ -92,16 +93,21 @@ def of_path(command: str) -> str:
     return os.path.realpath(found)
 
 
-@functools.cache
-def load_rt() -> Any:
-    """The kit's command `rt`, as a module."""
-    loader = importlib.machinery.SourceFileLoader("rt", of_path("rt"))
-    spec = importlib.util.spec_from_loader("rt", loader)
+def load(name: str, path: str) -> Any:
+    """A command that is written in Python, as a module of this name."""
+    loader = importlib.machinery.SourceFileLoader(name, path)
+    spec = importlib.util.spec_from_loader(name, loader)
     assert spec
     made = importlib.util.module_from_spec(spec)
-    sys.modules["rt"] = made
+    sys.modules[name] = made
     loader.exec_module(made)
     return made
+
+
+@functools.cache
+def load_rt() -> Any:
+    """The kit's command `rt`, as a module. No script replaces a part of it."""
+    return load("rt", of_path("rt"))
 
 
 @functools.cache

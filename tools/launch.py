@@ -62,7 +62,7 @@ def current(name: str) -> Optional[str]:
 def last_built(name: str) -> Optional[str]:
     """The program of a crate that was built last, or None."""
     there = [it for it in kit.programs(name) if os.path.isfile(it)]
-    return max(there, key=lambda it: os.path.getmtime(it), default=None)
+    return max(there, key=os.path.getmtime) if there else None
 
 
 def find(name: str) -> str:
@@ -79,10 +79,11 @@ def find(name: str) -> str:
     ran = kit.run([sys.executable, f"{kit.ROOT}/tools/unproved.py", "--build", name], stderr=None)
     if ran.returncode:
         sys.exit(FAILED)
-    return str(ran.stdout).strip()
+    return ran.stdout.strip()
 
 
 def run(name: str, words: list[str]) -> None:
+    """Prints where the program of a crate is, or becomes that program."""
     program = find(name)
     if words == ["--path"]:
         put(program)
@@ -122,12 +123,12 @@ def prove() -> None:
 
 def state(name: str) -> str:
     """Whether the program of a crate that would be run is proved."""
-    is_current = current(name)
-    program = is_current or last_built(name)
+    found = current(name)
+    program = found or last_built(name)
     if not program:
         return "not built yet"
-    is_proved = "unproved" if ".unproved" in os.path.basename(program) else "proved"
-    return is_proved if is_current else f"{is_proved}, and built from other sources"
+    said = "unproved" if ".unproved" in os.path.basename(program) else "proved"
+    return said if found else f"{said}, and built from other sources"
 
 
 def tell_versions() -> None:

@@ -1,7 +1,7 @@
-"""What is built of the sources: programs, programs of tests and static libraries.
+"""Keeps what is built of the sources, so that it isn't built again: programs, programs of tests and static libraries.
 
-Each is kept outside the checkout, in ${XDG_CACHE_HOME:-~/.cache}, under a checksum of its sources and of the kit. So
-it is current as long as they are, whatever the times of files say, and another checkout finds it too. A copy is in the
+Each is kept outside the checkout, in ${XDG_CACHE_HOME:-~/.cache}, under a checksum of its sources and of the kit. So it
+is current as long as they are, whatever the times of files say, and another checkout finds it too. A copy is in the
 folder `out` of its crate. Beside that, a file whose name ends in `.sums` has the checksums of the copy and of its
 sources as `sha256sum` prints them, so that a shell can see at once whether the copy is current.
 """

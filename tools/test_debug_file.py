@@ -3,12 +3,15 @@
 
 pyelftools is needed, as for `dwarf_elf`. The whole tool is compared with other programs by `tools/compare-elf`.
 """
+from __future__ import annotations
+
 import io
 import json
 import os
 import struct
 import sys
 import tempfile
+import typing
 import unittest
 from unittest import mock
 
@@ -21,22 +24,28 @@ from debug_inputs import DebugLink, inputs, kind_of, link_of
 from debug_listing import Span, end_of_table, joined, places_of_strings
 from debug_output import Json
 
-PROGBITS, SYMTAB, RELA, REL, NOTE = 1, 2, 4, 9, 7
+# Types of sections.
+PROGBITS, SYMTAB, STRTAB, RELA, NOTE = 1, 2, 3, 4, 7
+# A section: its name, its type, its bytes, and the fields link and info.
+Section = tuple[str, int, bytes, int, int]
+# A row of a package's index: the offset and the size in each column.
+Row = tuple[tuple[int, int], ...]
 
 
-def body(data):
+def body(data: bytes) -> Body:
     return Body(io.BytesIO(data), 0, len(data))
 
 
-def elf(sections, machine=62, bits=64, order="little", kind=1):
-    """An ELF file with these sections: the name, the type, the bytes, and the fields link and info of each."""
-    mark, is_long = "<" if order == "little" else ">", bits == 64
-    names, headers, data = b"\0", [], b""
+def elf(sections: list[Section], machine: int = 62, bits: int = 64, order: str = "little", kind: int = 1) -> bytes:
+    """An ELF file with these sections."""
+    is_long = bits == 64
+    mark = "<" if order == "little" else ">"
     base = 64 if is_long else 52
-    for name, type_, content, link, info in [*sections, (".shstrtab", 3, None, 0, 0)]:
-        at = len(names)
-        names += name.encode() + b"\0"
-        content = names if content is None else content
+    names = b"\0" + b"".join(it[0].encode() + b"\0" for it in sections) + b".shstrtab\0"
+    headers = []
+    data = b""
+    for name, type_, content, link, info in [*sections, (".shstrtab", STRTAB, names, 0, 0)]:
+        at = names.index(b"\0" + name.encode() + b"\0") + 1
         fields = at, type_, 0, 0, base + len(data), len(content), link, info, 1, 0
         headers.append(struct.pack(f"{mark}2I4Q2I2Q" if is_long else f"{mark}10I", *fields))
         data += content
@@ -49,13 +58,13 @@ def elf(sections, machine=62, bits=64, order="little", kind=1):
     return header + data + first + b"".join(headers)
 
 
-def read(data):
+def read(data: bytes) -> tuple[DebugFile, list[str]]:
     """A file, and what is told of it."""
-    told = []
+    told: list[str] = []
     return DebugFile(body(data), lambda text, **_: told.append(str(text))), told
 
 
-def with_relocation(machine, bits, order, kind, stored=0):
+def with_relocation(machine: int, bits: int, order: str, kind: int, stored: int = 0) -> bytes:
     """An object whose unit has a relocation for the place of its table: a symbol of value 0x20, and the addend 0x10."""
     mark = "<" if order == "little" else ">"
     unit = struct.pack(f"{mark}IHBBI", 8, 5, 1, 8, stored)
@@ -95,14 +104,14 @@ class Relocations(unittest.TestCase):
         (0x9026, 64, "little", 1, False),  # Alpha
     )
 
-    def test_places_of_tables(self):
+    def test_places_of_tables(self) -> None:
         for machine, bits, order, kind, is_added in self.ROWS:
             with self.subTest(machine=machine, kind=kind):
                 file, told = read(with_relocation(machine, bits, order, kind, stored=3))
                 tables = file.tables()[file.named("debug_abbrev")[0]]
                 self.assertEqual((sorted(tables), told), ([0x33 if is_added else 0x30], []))
 
-    def test_those_that_are_unknown(self):
+    def test_those_that_are_unknown(self) -> None:
         rows = (0x1234, 10, "relocations of the machine 4660, which aren't known"), (62, 77, "at 0x8 of type 77, which")
         for machine, kind, said in rows:
             with self.subTest(machine=machine):
@@ -111,8 +120,8 @@ class Relocations(unittest.TestCase):
                 self.assertEqual([said in it for it in told], [True])
 
 
-def index(rows, version=5, columns=(1, 3, 6)):
-    """The index of a package: for each row the offset and the size in each column."""
+def index(rows: typing.Sequence[Row], version: int = 5, columns: tuple[int, ...] = (1, 3, 6)) -> bytes:
+    """The index of a package."""
     start = struct.pack("<HHIII", version, 0, len(columns), len(rows), 0)
     offsets = b"".join(struct.pack(f"<{len(columns)}I", *(it[0] for it in row)) for row in rows)
     sizes = b"".join(struct.pack(f"<{len(columns)}I", *(it[1] for it in row)) for row in rows)
@@ -122,7 +131,7 @@ def index(rows, version=5, columns=(1, 3, 6)):
 class Packages(unittest.TestCase):
     UNITS = struct.pack("<IHBBI", 8, 5, 1, 8, 2) * 2
 
-    def package(self, data):
+    def package(self, data: bytes) -> tuple[DebugFile, list[str]]:
         sections = [
             (".debug_info.dwo", PROGBITS, self.UNITS, 0, 0),
             (".debug_abbrev.dwo", PROGBITS, bytes(0x80), 0, 0),
@@ -131,13 +140,15 @@ class Packages(unittest.TestCase):
         ]
         return read(elf(sections, kind=0))
 
-    def test_rows(self):
-        file, told = self.package(index([((0, 12), (0, 0x30), (0, 0x10)), ((12, 12), (0x30, 0x50), (0x10, 0x30))]))
+    def test_rows(self) -> None:
+        rows = [((0, 12), (0, 0x30), (0, 0x10)), ((12, 12), (0x30, 0x50), (0x10, 0x30))]
+        file, told = self.package(index(rows))
+        assert file.package
         self.assertEqual(sorted(file.tables()[file.named("debug_abbrev")[0]]), [2, 0x32])
         self.assertEqual(file.package.contributions("debug_str_offsets"), [(0, 0x10), (0x10, 0x30)])
         self.assertEqual(told, [])
 
-    def test_broken_ones(self):
+    def test_broken_ones(self) -> None:
         row = ((0, 12), (0, 1), (0, 0x10))
         rows = (
             (index([row], version=9), "has the unknown version 9"),
@@ -157,7 +168,7 @@ class Headers(unittest.TestCase):
     GOOD = elf([(".debug_str", PROGBITS, b"one\0", 0, 0)])
     HEADERS = struct.unpack_from("<Q", GOOD, 40)[0]
 
-    def test_that_a_good_file_is_read(self):
+    def test_that_a_good_file_is_read(self) -> None:
         for bits in (32, 64):
             for order in ("little", "big"):
                 file, told = read(elf([(".debug_str", PROGBITS, b"one\0", 0, 0)], 62, bits, order))
@@ -174,7 +185,7 @@ class Headers(unittest.TestCase):
         (HEADERS + 2 * 64 + 24, "<Q", 1 << 50, "the names of the sections, at 0x4000000000000, are past the end"),
     )
 
-    def test_what_is_wrong_with_a_file(self):
+    def test_what_is_wrong_with_a_file(self) -> None:
         for at, form, number, said in self.WHOLE:
             data = bytearray(self.GOOD)
             struct.pack_into(form, data, at, number)
@@ -191,7 +202,7 @@ class Headers(unittest.TestCase):
         (32, "<Q", 1 << 50, "section 1 .debug_str is cut by the end of the file"),
     )
 
-    def test_what_is_wrong_with_a_section(self):
+    def test_what_is_wrong_with_a_section(self) -> None:
         for at, form, number, said in self.ONE:
             data = bytearray(self.GOOD)
             struct.pack_into(form, data, self.HEADERS + 64 + at, number)
@@ -203,25 +214,27 @@ class Headers(unittest.TestCase):
                 self.assertEqual([said in it for it in told], [True], told)
 
 
-def member(name, data):
+def member(name: str, data: bytes) -> bytes:
+    """A member of an archive."""
     return name.ljust(16).encode() + b" " * 32 + f"{len(data):<10}`\n".encode() + data + b"\n" * (len(data) % 2)
 
 
 class Inputs(unittest.TestCase):
-    def setUp(self):
+    def setUp(self) -> None:
         self.folder = tempfile.TemporaryDirectory()
         self.addCleanup(self.folder.cleanup)
 
-    def path(self, name, data):
+    def path(self, name: str, data: bytes) -> str:
+        """Writes a file, and returns where it is."""
         path = f"{self.folder.name}/{name}"
         with open(path, "wb") as file:
             file.write(data)
         return path
 
-    def listed(self, word):
+    def listed(self, word: str) -> list[tuple[str, bytes]]:
         return [(it.name.rpartition("/")[2], it.opened()[:]) for it in inputs(word)]
 
-    def test_members(self):
+    def test_members(self) -> None:
         parts = (
             member("/", b"index"),
             member("//", b"a_name_that_is_too_long.o/\nb.o/\n"),
@@ -236,12 +249,12 @@ class Inputs(unittest.TestCase):
         path = self.path("bsd.a", b"!<arch>\n" + member("#1/8", b"long.o\0\0" + b"one"))
         self.assertEqual(self.listed(path), [("bsd.a(long.o)", b"one")])
 
-    def test_members_of_a_thin_archive(self):
+    def test_members_of_a_thin_archive(self) -> None:
         self.path("b.o", b"two")
         path = self.path("thin.a", b"!<thin>\n" + member("//", b"b.o/\n") + member("/0", b"two")[:60])
         self.assertEqual(self.listed(path), [("thin.a(b.o)", b"two")])
 
-    def test_what_is_wrong_with_an_archive(self):
+    def test_what_is_wrong_with_an_archive(self) -> None:
         path = self.path("all.a", b"!<arch>\n" + member("x.o/", b"one") + b"hello")
         rows = (
             (path, "no member's header at 0x48"),
@@ -253,7 +266,7 @@ class Inputs(unittest.TestCase):
                 self.listed(word)
             self.assertIn(said, str(error.exception))
 
-    def test_kinds(self):
+    def test_kinds(self) -> None:
         rows = (
             (b"", "an empty one"),
             (b"#!/bin/sh\n", "a script"),
@@ -262,7 +275,7 @@ class Inputs(unittest.TestCase):
         )
         self.assertEqual([kind_of(it) for it, _ in rows], [kind for _, kind in rows])
 
-    def test_the_file_with_debug_information(self):
+    def test_the_file_with_debug_information(self) -> None:
         # Zero bytes follow the name up to a multiple of four.
         link = (".gnu_debuglink", PROGBITS, b"ab.debug\0\0\0\0" + struct.pack("<I", 0x12345678), 0, 0)
         note = (".note.gnu.build-id", NOTE, struct.pack("<III", 4, 2, 3) + b"GNU\0\xab\xcd", 0, 0)
@@ -272,17 +285,17 @@ class Inputs(unittest.TestCase):
         # The checksum of these nine bytes is the one by which implementations are checked.
         found = DebugLink("a.debug", 0xCBF43926).find(f"{self.folder.name}/a", print)
         self.assertEqual(os.path.realpath(place), found)
-        told: list = []
+        told: list[str] = []
         self.assertEqual(DebugLink("a.debug", 1).find(f"{self.folder.name}/a", told.append), "")
         self.assertEqual(len(told), 1)
 
 
 class Places(unittest.TestCase):
-    def test_strings(self):
-        rows: tuple = (b"", []), (b"a\0\0bc", [(0, 1), (2, 2), (3, 5)])
-        self.assertEqual([list(places_of_strings(body(it))) for it, _ in rows], [wanted for _, wanted in rows])
+    def test_strings(self) -> None:
+        self.assertEqual(list(places_of_strings(body(b""))), [])
+        self.assertEqual(list(places_of_strings(body(b"a\0\0bc"))), [(0, 1), (2, 2), (3, 5)])
 
-    def test_the_end_of_a_table(self):
+    def test_the_end_of_a_table(self) -> None:
         one = bytes.fromhex("01 11 01 03 08 13 21 ff 7f 00 00")
         rows = (one + b"\0\1", 12), (one, 11), (one[:5], 5), (b"\0\0", 1), (b"\x81\1" + one[1:] + b"\0", 13)
         for data, wanted in rows:
@@ -292,21 +305,21 @@ class Places(unittest.TestCase):
             with self.subTest(data=data), self.assertRaises(Unlisted):
                 end_of_table(body(data), 0)
 
-    def test_sets_that_follow_each_other(self):
+    def test_sets_that_follow_each_other(self) -> None:
         sets = [Span(0, 4, True), Span(4, 8, True), Span(12, 16, True)]
         self.assertEqual(list(joined(sets)), [(0, 8), (12, 16)])
 
 
 class Objects(unittest.TestCase):
-    def printed(self, name, *words):
-        """The objects that a call prints, without the name of the file, and the errors that it reports."""
-        output, errors, text = Json(), [], io.BytesIO()
+    def printed(self, call: typing.Callable[[Json], None]) -> list[typing.Any]:
+        """The objects that a call prints, without the name of the file."""
+        text = io.BytesIO()
         with mock.patch.object(sys, "stdout", mock.Mock(buffer=text)):
-            getattr(output, name)(*words, *([lambda *it: errors.append(it)] if name == "tables" else []))
+            call(Json())
         found = [json.loads(it) for it in text.getvalue().splitlines()]
-        return [{name: it for name, it in one.items() if name != "file"} for one in found], errors
+        return [{name: it for name, it in one.items() if name != "file"} for one in found]
 
-    def test_tables(self):
+    def test_tables(self) -> None:
         lines = (
             b"table 0x10:\n",
             b"1 Unknown DwTag: 4660 no\n",
@@ -321,15 +334,17 @@ class Objects(unittest.TestCase):
         ]
         one = {"code": 1, "tag": "Unknown DwTag: 4660", "children": False, "attributes": attributes}
         wanted = [{"offset": 16, "abbreviations": [one]}, {"offset": 48, "abbreviations": []}]
-        self.assertEqual(self.printed("tables", lines), (wanted, [(32, 1, "invalid abbreviation tag: zero")]))
+        errors: list[typing.Any] = []
+        self.assertEqual(self.printed(lambda it: it.tables(lines, lambda *error: errors.append(error))), wanted)
+        self.assertEqual(errors, [(32, 1, "invalid abbreviation tag: zero")])
 
-    def test_strings(self):
+    def test_strings(self) -> None:
         # A newline in a string ends none, a byte that isn't UTF-8 is printed as a number, and the last has an error.
         wanted = [{"offset": 0, "string": "a\n0x2: b"}, {"offset": 9, "bytes": "e9"}]
         text = io.BytesIO(b"0x0: a\n0x2: b\n0x9: \xe9\n")
-        self.assertEqual(self.printed("strings", text, [(0, 8), (9, 10), (11, 12)])[0], wanted)
+        self.assertEqual(self.printed(lambda it: it.strings(text, [(0, 8), (9, 10), (11, 12)])), wanted)
 
-    def test_sets(self):
+    def test_sets(self) -> None:
         lines = (
             b"set 0: length 12, 32-bit, address size 8\n",
             b"  0xfffffffffffffffe\n",
@@ -341,7 +356,7 @@ class Objects(unittest.TestCase):
             {"offset": 0, "length": 12, "format": 32, "address_size": 8, "addresses": [0xFFFFFFFFFFFFFFFE]},
             {"offset": 16, "size": 8, "format": 32, "offsets": [7, 0]},
         ]
-        self.assertEqual(self.printed("sets", lines, None)[0], wanted)
+        self.assertEqual(self.printed(lambda it: it.sets(lines, None)), wanted)
 
 
 if __name__ == "__main__":

@@ -1,7 +1,5 @@
-"""Tests of how the gate judges what its steps say."""
+"""Tests of how the gate and `tools/tests` judge what their steps say."""
 import contextlib
-import importlib.machinery
-import importlib.util
 import io
 import os
 import sys
@@ -11,16 +9,8 @@ sys.dont_write_bytecode = True
 sys.path.insert(0, os.path.dirname(os.path.realpath(__file__)))
 import kit
 
-
-def load(name):
-    """A script of this folder, as a module."""
-    loader = importlib.machinery.SourceFileLoader(name, f"{kit.ROOT}/tools/{name}")
-    made = importlib.util.module_from_spec(importlib.util.spec_from_loader(name, loader))
-    loader.exec_module(made)
-    return made
-
-
-gate = load("gate")
+gate = kit.load("gate", f"{kit.ROOT}/tools/gate")
+tests = kit.load("tests", f"{kit.ROOT}/tools/tests")
 PROVED = "".join(f"rt: {it} proved\n" for it in kit.CRATES)
 REFUSED = "rt: must-fail a/b.edit: refused, as it must be: src/lib.rt:1:1: error\n"
 RAN = "test result: ok. 2 passed; 0 failed\ntest result: ok. 3 passed; 0 failed\n"
@@ -40,14 +30,25 @@ class Judging(unittest.TestCase):
         ("", 0, 0, (0, 1, 0)),
     ]
 
-    def test_steps(self):
+    def test_steps(self) -> None:
         for said, status, wanted, counts in self.ROWS:
             now = gate.Gate("")
             with contextlib.redirect_stdout(io.StringIO()):
                 now.judge("a step", said, status, wanted)
             self.assertEqual((now.passed, now.failed, now.skipped), counts, said)
 
-    def test_proofs(self):
+    def test_counts(self) -> None:
+        rows = [
+            ("1 passed, 9 failed\ntest result: FAILED. 3 passed; 1 failed\n", (3, 1)),
+            ("Ran 26 tests in 0.1s\n\nOK\n", (26, 0)),
+            ("Ran 26 tests in 0.1s\n\nFAILED (failures=1)\n", (0, 0)),
+            ("Success: no issues found in 32 source files\n", (1, 0)),
+            ("Found 1 error in 1 file (checked 32 source files)\n", (0, 0)),
+        ]
+        for said, counts in rows:
+            self.assertEqual(tests.counts(said), counts, said)
+
+    def test_proofs(self) -> None:
         kept = PROVED.replace(f"rt: {[*kit.CRATES][0]} proved", f"rt: {[*kit.CRATES][0]} is kept: an earlier run")
         by_name = REFUSED.replace("be: ", "be (only because a proof file names what the edit took away): ")
         rows = [

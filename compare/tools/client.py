@@ -1,8 +1,9 @@
-"""A program that nobody here wrote, reading by the library: gimli 0.27 itself, in a scratch copy whose tables, strings,
+"""Tries the library below a program that nobody here wrote: gimli 0.27 itself, in a scratch copy whose tables, strings,
 lookups and LEB128 numbers come from the library's calls.
 
 No text of gimli's is here: a body is found by the name of its function, and what takes its place is in `client/`.
 """
+import argparse
 import filecmp
 import glob
 import os
@@ -10,6 +11,7 @@ import re
 import shutil
 import subprocess
 import tempfile
+from collections.abc import Sequence
 
 import checks
 from common import DEBIAN, INCLUDE, OUT, PACKAGE, Failed, Missing, files_by_default, link_libraries, must, need, put
@@ -99,7 +101,7 @@ RESULT = re.compile(r"^test result: \w+\. (\d+) passed; (\d+) failed", re.M)
 PLANTED = [("tag", "dumps"), ("string", "dumps"), ("number", "tests")]
 
 
-def source(name):
+def source(name: str) -> str:
     """The folder of a package that Debian installs for cargo."""
     found = sorted(glob.glob(f"{DEBIAN}/{name}-[0-9]*"))
     if not found:
@@ -107,19 +109,20 @@ def source(name):
     return found[-1]
 
 
-def with_body(text, behind, function, body):
+def with_body(text: str, behind: str, function: str, body: str) -> str:
     """A text in which a function has another body."""
     at = text.find("{", text.find(function, text.find(behind)))
     if behind not in text or function not in text[text.find(behind) :]:
         raise Failed(f"gimli has no `{function}` behind `{behind}`, so this version can't be patched")
-    end, depth = at + 1, 1
+    end = at + 1
+    depth = 1
     while depth:
         depth += (text[end] == "{") - (text[end] == "}")
         end += 1
     return f"{text[:at]}{{ {body} }}{text[end:]}"
 
 
-def patched(name, text):
+def patched(name: str, text: str) -> str:
     """A source file of gimli's that reads by the library."""
     if name == "lib.rs":
         modules = MODULE.format("calls") + MODULE.format("library")
@@ -130,14 +133,15 @@ def patched(name, text):
     return text
 
 
-def write(text, path):
+def write(text: str, path: str) -> None:
+    """Writes a file, unless it is there already."""
     with tempfile.NamedTemporaryFile("w", encoding="utf-8") as file:
         file.write(text)
         file.flush()
         put(file.name, path)
 
 
-def copy(gimli, folder, is_patched):
+def copy(gimli: str, folder: str, is_patched: bool) -> None:
     """Makes a copy of gimli, with the program that dumps."""
     for part in ("src", "tests", "fixtures"):
         for at, _, names in os.walk(f"{gimli}/{part}"):
@@ -162,11 +166,12 @@ def copy(gimli, folder, is_patched):
             put(f"{PACKAGE}/src/{name}", f"{folder}/src/{name}")
 
 
-def tests(folder, planted=""):
+def tests(folder: str, planted: str = "") -> list[tuple[int, int]]:
     """How many of gimli's own tests pass and fail in a copy: of each kind, and what was printed."""
     words = ["cargo", "test", "--quiet", "--offline", "--no-fail-fast"]
-    # With an error planted the tests of its modules are enough.
-    words += ["--lib"] if planted else []
+    if planted:
+        # The tests of its modules are enough.
+        words.append("--lib")
     said, status = run(words, cwd=folder, env={**os.environ, "COMPARE_PLANTED": planted})
     found = [(int(passed), int(failed)) for passed, failed in RESULT.findall(said)]
     if not found or status and not sum(failed for _, failed in found):
@@ -174,29 +179,38 @@ def tests(folder, planted=""):
     return found
 
 
-def dump(copy_folder, sections, order, to, planted=""):
+def dump(copy_folder: str, sections: str, order: str, to: str, planted: str = "") -> str:
     """Writes the dump of a copy, and returns what it counted."""
     words = [f"{copy_folder}/target/release/examples/dump", sections, order]
     with open(to, "wb") as file:
-        how = {"stdout": file, "stderr": subprocess.PIPE, "env": {**os.environ, "COMPARE_PLANTED": planted}}
-        ran = subprocess.run(words, stdin=subprocess.DEVNULL, text=True, errors="replace", check=False, **how)
+        ran = subprocess.run(
+            words,
+            stdin=subprocess.DEVNULL,
+            stdout=file,
+            stderr=subprocess.PIPE,
+            env={**os.environ, "COMPARE_PLANTED": planted},
+            text=True,
+            errors="replace",
+            check=False,
+        )
     if ran.returncode:
         return f"status {ran.returncode}: {ran.stderr.strip()[-200:]}"
     return ran.stderr.strip()
 
 
-def first_difference(one, other):
+def first_difference(one: str, other: str) -> str:
     """The first line in which two files differ, and both."""
-    how = {"encoding": "utf-8", "errors": "replace"}
-    with open(one, **how) as left, open(other, **how) as right:
-        for number, (a, b) in enumerate(zip(left, right), 1):
-            if a != b:
-                return f"line {number}, gimli: {a.strip()}\n  by the library: {b.strip()}"
+    with open(one, encoding="utf-8", errors="replace") as left:
+        with open(other, encoding="utf-8", errors="replace") as right:
+            for number, (a, b) in enumerate(zip(left, right), 1):
+                if a != b:
+                    return f"line {number}, gimli: {a.strip()}\n  by the library: {b.strip()}"
     return "one is the front of the other"
 
 
-def compare_dumps(now, files, folders, work):
+def compare_dumps(now: checks.Checks, files: Sequence[str], folders: Sequence[str], work: str) -> set[str]:
     """Compares the dumps of each file, and returns which planted errors they show."""
+    gimli, library, planted = f"{work}/gimli", f"{work}/library", f"{work}/planted"
     shown = set()
     for i, path in enumerate(files):
         sections = f"{work}/{i}"
@@ -204,22 +218,22 @@ def compare_dumps(now, files, folders, work):
         if not names:
             raise Failed(f"{path} has no debug sections, so there is nothing to dump")
         order = "be" if is_big else "le"
-        texts = [f"{work}/gimli", f"{work}/library", f"{work}/planted"]
-        said = [dump(folder, sections, order, text) for folder, text in zip(folders, texts)]
-        is_equal = said[0] == said[1] and filecmp.cmp(*texts[:2], shallow=False)
-        now.tell(is_equal, f"dump of {path}: {said[1]}")
+        wanted = dump(folders[0], sections, order, gimli)
+        said = dump(folders[1], sections, order, library)
+        is_equal = said == wanted and filecmp.cmp(gimli, library, shallow=False)
+        now.tell(is_equal, f"dump of {path}: {said}")
         if not is_equal:
-            print(f"  gimli: {said[0]}\n  {first_difference(*texts[:2])}")
+            print(f"  gimli: {wanted}\n  {first_difference(gimli, library)}")
         for what, where in PLANTED:
             if where == "dumps" and what not in shown:
-                dump(folders[1], sections, order, texts[2], what)
-                if not filecmp.cmp(texts[0], texts[2], shallow=False):
+                dump(folders[1], sections, order, planted, what)
+                if not filecmp.cmp(gimli, planted, shallow=False):
                     shown.add(what)
         shutil.rmtree(sections)
     return shown
 
 
-def client(given):
+def client(given: argparse.Namespace) -> int:
     """Runs gimli's tests and the dumps by the library, and returns the exit status."""
     need("cargo", "cargo")
     need("gcc", "gcc")
@@ -246,5 +260,7 @@ def client(given):
         shown.add("number")
     for what, where in PLANTED:
         seen = f"{failures} tests fail" if where == "tests" else "a dump differs"
-        now.tell(what in shown, f"planted {what}: {seen if what in shown else f'the {where} do not show it'}")
+        if what not in shown:
+            seen = f"the {where} do not show it"
+        now.tell(what in shown, f"planted {what}: {seen}")
     return now.end()

@@ -6,11 +6,14 @@ import re
 import shutil
 import subprocess
 import sys
+from collections.abc import Sequence
+from typing import Any, Optional
 
 import kit
 import products
 
-PACKAGE, OUT = f"{kit.ROOT}/compare", f"{kit.ROOT}/compare/out"
+PACKAGE = f"{kit.ROOT}/compare"
+OUT = f"{PACKAGE}/out"
 INCLUDE = f"{kit.ROOT}/include"
 LIBRARIES = ("dwarf_read_c", "dwarf_compare")
 DEBIAN = "/usr/share/cargo/registry"
@@ -29,29 +32,31 @@ class Failed(Exception):
     """Why a step can't be done."""
 
 
-def say(text):
+def say(text: object) -> None:
     print(f"compare: {text}", file=sys.stderr, flush=True)
 
 
-def run(words, **how):
+def run(words: Sequence[str], **how: Any) -> tuple[str, int]:
     """Runs a command, and returns what it prints and its status."""
     ran = kit.run(words, **how)
     return ran.stdout.strip(), ran.returncode
 
 
-def must(words, what, **how):
+def must(words: Sequence[str], what: str, **how: Any) -> str:
+    """Runs a command, and returns what it prints. If it fails, it is told what couldn't be done."""
     said, status = run(words, **how)
     if status:
         raise Failed(f"{what}:\n{said[-2000:]}")
     return said
 
 
-def need(tool, package):
+def need(tool: str, package: str) -> None:
+    """Ends the command if a tool isn't installed, which a package of Debian's has."""
     if not shutil.which(tool):
         raise Missing(f"there is no {tool}: `apt-get install {package}` installs it")
 
 
-def check_files(paths):
+def check_files(paths: Sequence[str]) -> None:
     """Says which of these files can't be read, before anything is built for them."""
     for path in paths:
         try:
@@ -63,14 +68,14 @@ def check_files(paths):
             raise Failed(f"{path} is no ELF file")
 
 
-def put(source, target):
+def put(source: str, target: str) -> None:
     """Copies a file, unless it is there already: its date decides what cargo builds again."""
     if not os.path.isfile(target) or not filecmp.cmp(source, target, shallow=False):
         os.makedirs(os.path.dirname(target), exist_ok=True)
         shutil.copyfile(source, target)
 
 
-def put_in_front(count):
+def put_in_front(count: int) -> None:
     """Makes the library that is linked in front of the others: so many bytes of code, which nothing calls."""
     source = f"{OUT}/in_front_{count}.s"
     # The R keeps a linker from leaving the section out.
@@ -79,9 +84,11 @@ def put_in_front(count):
     put(make_library(source), f"{OUT}/lib/libin_front.a")
 
 
-def make_library(source):
+def make_library(source: str) -> str:
     """Makes a static library of a source in assembler or C, and returns where it is."""
-    made, it = f"{OUT}/{os.path.splitext(os.path.basename(source))[0]}.a", f"{OUT}/object.o"
+    name = os.path.splitext(os.path.basename(source))[0]
+    made = f"{OUT}/{name}.a"
+    it = f"{OUT}/object.o"
     must([os.environ.get("CC", "cc"), "-O2", "-fPIC", "-c", source, "-o", it], f"{source} isn't compiled")
     with contextlib.suppress(OSError):
         os.unlink(made)
@@ -89,7 +96,7 @@ def make_library(source):
     return made
 
 
-def link_libraries():
+def link_libraries() -> None:
     """Puts both static libraries, and the functions by which they request memory, into one folder."""
     for crate in LIBRARIES:
         path = f"{kit.ROOT}/crates/{crate}/out/lib{crate}.a"
@@ -102,12 +109,13 @@ def link_libraries():
     put(make_library(f"{INCLUDE}/dwarf_read_heap.c"), f"{OUT}/lib/libdwarf_read_heap.a")
 
 
-def copy_package(folder, is_locked):
+def copy_package(folder: str, is_locked: bool) -> None:
     """Copies the package to where its lock file and what cargo builds may be. A lock file that is there already stays,
     since cargo has added gimli's checksum to it, unless the package's own is newer."""
     for name in ("Cargo.toml", "build.rs"):
         put(f"{PACKAGE}/{name}", f"{folder}/{name}")
-    own, there = f"{PACKAGE}/Cargo.lock", f"{folder}/Cargo.lock"
+    own = f"{PACKAGE}/Cargo.lock"
+    there = f"{folder}/Cargo.lock"
     if is_locked and (not os.path.isfile(there) or os.path.getmtime(there) < os.path.getmtime(own)):
         put(own, there)
     for at, _, names in os.walk(f"{PACKAGE}/src"):
@@ -115,15 +123,17 @@ def copy_package(folder, is_locked):
             put(f"{at}/{name}", f"{folder}/{os.path.relpath(at, PACKAGE)}/{name}")
 
 
-def why_not_fetched(folder):
+def why_not_fetched(folder: str) -> Optional[str]:
     """Why cargo can't fetch what the package needs, or None if it can."""
     said, status = run(["timeout", str(FETCH_SECONDS), "cargo", "fetch", "--quiet"], cwd=folder)
     if status == 124:
         return f"it didn't come within {FETCH_SECONDS} seconds"
-    return (said or f"status {status}").splitlines()[-1].strip() if status else None
+    if status == 0:
+        return None
+    return (said or f"status {status}").splitlines()[-1].strip()
 
 
-def sources_of_gimli(is_debian):
+def sources_of_gimli(is_debian: bool) -> tuple[str, list[str]]:
     """Where gimli is taken from: a folder of the package for it, and words for cargo."""
     if not is_debian:
         copy_package(f"{OUT}/crates-io", True)
@@ -138,7 +148,7 @@ def sources_of_gimli(is_debian):
     return f"{OUT}/debian", ["--offline", *(word for it in replaced for word in ("--config", it))]
 
 
-def build(is_debian, in_front=0):
+def build(is_debian: bool, in_front: int = 0) -> str:
     """Builds the program that compares, and returns where it is. So many bytes of code are in front of the library."""
     need("cargo", "cargo")
     need(os.environ.get("CC", "cc"), "gcc")
@@ -154,28 +164,30 @@ def build(is_debian, in_front=0):
     return f"{folder}/target/release/compare"
 
 
-def files_by_default(program):
+def files_by_default(program: str) -> list[str]:
     """The debug file of the C library, if it is installed, and a program."""
     libc = debug_file_of_libc()
     if not libc:
         say("the debug file of the C library is left out: `apt-get install libc6-dbg` installs it")
-    return [*([libc] if libc else []), program]
+    return [libc, program] if libc else [program]
 
 
-def debug_file_of_libc():
+def debug_file_of_libc() -> Optional[str]:
     """The debug file of the C library of this Python, or None."""
     found = re.search(r"/\S*/libc\.so\.6$|/\S*/libc-[\d.]+\.so$", kit.text_of("/proc/self/maps"), re.M)
     if not found or not shutil.which("readelf"):
         return None
     build_id = re.search(r"Build ID: (\w\w)(\w+)", run(["readelf", "-n", found[0]])[0])
-    path = build_id and f"/usr/lib/debug/.build-id/{build_id[1]}/{build_id[2]}.debug"
-    return path if path and os.path.isfile(path) else None
+    if not build_id:
+        return None
+    path = f"/usr/lib/debug/.build-id/{build_id[1]}/{build_id[2]}.debug"
+    return path if os.path.isfile(path) else None
 
 
-def decompressed(path, whole):
+def decompressed(path: str, whole: str) -> str:
     """Copies an ELF file with its debug sections inflated, and returns the tool that reads such files."""
     said = "there is no objcopy"
-    # (GNU's objcopy reads the machine's own files alone)
+    # GNU's objcopy reads the machine's own files alone.
     for tool in ("objcopy", "llvm-objcopy"):
         if shutil.which(tool):
             said, status = run([tool, "--decompress-debug-sections", path, whole])
@@ -184,11 +196,12 @@ def decompressed(path, whole):
     raise Failed(f"{path} can't be read as an ELF file: {' '.join(said.split())}")
 
 
-def put_sections(path, folder, wanted=()):
+def put_sections(path: str, folder: str, wanted: Sequence[str] = ()) -> tuple[list[str], bool]:
     """Puts the sections of an ELF file with these names, or all of debug information, into a new folder, inflated.
     Returns the names of those that are there, and whether the file has the highest byte first."""
     os.mkdir(folder)
-    whole, copy = f"{folder}/whole", f"{folder}/copy"
+    whole = f"{folder}/whole"
+    copy = f"{folder}/copy"
     tool = decompressed(path, whole)
     with open(whole, "rb") as file:
         content = file.read()
@@ -198,12 +211,14 @@ def put_sections(path, folder, wanted=()):
     for it in (whole, copy):
         if os.path.isfile(it):
             os.unlink(it)
-    return [it for it in names if os.path.isfile(f"{folder}/{it}")], content[5:6] == b"\x02"
+    is_big = content[5:6] == b"\x02"
+    return [it for it in names if os.path.isfile(f"{folder}/{it}")], is_big
 
 
-def sections(path, folder):
+def sections(path: str, folder: str) -> list[str]:
     """The words for the program about the sections of an ELF file, whose bytes are put into the folder."""
-    words, (names, is_big) = [], put_sections(path, folder, SECTIONS)
+    names, is_big = put_sections(path, folder, SECTIONS)
+    words = []
     for name in names:
         if os.path.getsize(f"{folder}/{name}"):
             kind = f"{name}, big" if is_big and name in BY_ORDER else name

@@ -1,30 +1,38 @@
-"""Reads tables of 10^2 to 10^7 declarations on either side: tables of time, touched pages and instructions."""
+"""Measures how time, touched pages and instructions grow with tables of 10^2 to 10^7 declarations, on either side."""
+import argparse
+from collections.abc import Callable, Sequence
+
 from common import build, must, need
 from measure import counted, what_ran
 
 COUNTS = [10**power for power in range(2, 8)]
 KINDS = {"rising": "that rise from 1", "falling": "that fall", "gaps": "with gaps"}
+# What makes a cell, by the program, the words for the kind of table, and the number of declarations.
+Cell = Callable[[str, list[str], int], str]
 
 
-def timed(program, words, _count):
+def timed(program: str, words: list[str], _count: int) -> str:
     """The nanoseconds of a declaration: gimli's, the library's, and their ratio."""
     gimli, here = must([program, "--time", *words], "growth isn't measured").split("\t")[2:4]
     return f"{float(gimli):.0f}, {float(here):.0f} ({float(here) / float(gimli):.2f})"
 
 
-def touched(program, words, count):
+def touched(program: str, words: list[str], count: int) -> str:
     """The bytes of pages that the reading of a table touches first, of a declaration."""
-    sides = ([program, "--touched", side, *words] for side in ("gimli", "here"))
-    return ", ".join(f"{int(must(it, 'growth is not measured')) / count:.0f}" for it in sides)
+    cells = []
+    for side in ("gimli", "here"):
+        total = must([program, "--touched", side, *words], "growth is not measured")
+        cells.append(f"{int(total) / count:.0f}")
+    return ", ".join(cells)
 
 
-def instructions(program, words, _count):
+def instructions(program: str, words: list[str], _count: int) -> str:
     """The instructions of a declaration: gimli's, the library's, and their ratio."""
     [(_, gimli, here)] = counted(program, words)
     return f"{gimli:,.0f}, {here:,.0f} ({here / gimli:.2f})"
 
 
-def print_table(what, counts, program, cell):
+def print_table(what: str, counts: Sequence[int], program: str, cell: Cell) -> None:
     """Prints a table, whose cells a function makes. A cell has gimli's number and the library's."""
     heads = ["declarations", *(f"{words}: {what}" for words in KINDS.values())]
     print(f"\n| {' | '.join(heads)} |\n{'|---' * len(heads)}|", flush=True)
@@ -33,7 +41,8 @@ def print_table(what, counts, program, cell):
         print(f"| {count:,} | {' | '.join(cells)} |", flush=True)
 
 
-def growth(given):
+def growth(given: argparse.Namespace) -> int:
+    """Prints the tables of `growth`."""
     need("valgrind", "valgrind")
     program = build(given.debian)
     print(f"gimli {must([program, '--gimli'], 'the program is another one')}; {what_ran()}")

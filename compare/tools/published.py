@@ -1,4 +1,5 @@
-"""Compares the named constants with the tables of elfutils and LLVM."""
+"""Compares the named constants with the tables that elfutils and LLVM publish."""
+import argparse
 import glob
 import re
 
@@ -13,12 +14,16 @@ ENUMERATOR = re.compile(r"^\s*(?:#\s*define\s+)?(DW_\w+)(?:\s*=\s*|[ \t]+)(\w+)\
 HANDLED = re.compile(r"^HANDLE_(DW_[A-Z_]+?)(?:_PRED)?\((\w+),\s*(\w+)", re.M)
 
 
-def of_enumerators(text):
+# The names of a table, each with its value as a text.
+Rows = list[tuple[str, str]]
+
+
+def of_enumerators(text: str) -> Rows:
     """The names of a header in C, and their values as texts."""
     return ENUMERATOR.findall(COMMENT.sub("", text))
 
 
-def of_macros(text):
+def of_macros(text: str) -> Rows:
     """The same of LLVM's list."""
     return [(f"{family}_{name}", value) for family, value, name in HANDLED.findall(COMMENT.sub("", text))]
 
@@ -29,19 +34,27 @@ TABLES = (
 )
 
 
-def values(rows):
+def number(text: str) -> int:
+    """A number as C has it."""
+    digits = text.rstrip("uUlL")
+    return int(digits, 8 if re.match(r"0\d", digits) else 0)
+
+
+def values(rows: Rows) -> dict[str, set[int]]:
     """The values of each name. One may be another name that is defined before it."""
-    found = {}
+    found: dict[str, set[int]] = {}
     for name, value in rows:
-        digits = value.rstrip("uUlL")
-        own = {int(digits, 8 if re.match(r"0\d", digits) else 0)} if value[0].isdigit() else found.get(value, set())
+        own = {number(value)} if value[0].isdigit() else found.get(value, set())
         found.setdefault(name, set()).update(own)
     return found
 
 
-def constants(_given):
+def constants(_given: argparse.Namespace) -> int:
+    """Compares all tables that are here, and returns the exit status."""
     header = values(of_enumerators(kit.text_of(f"{kit.ROOT}/include/dwarf_constants.h")))
-    unseen, compared, differ = set(header), 0, 0
+    unseen = set(header)
+    compared = 0
+    differ = 0
     for producer, place, package, read in TABLES:
         # The newest, if there are several.
         files = sorted(glob.glob(place), key=lambda it: [int(part) for part in re.findall(r"\d+", it)])
@@ -55,7 +68,11 @@ def constants(_given):
             print(f"{producer}: {name} is {sorted(header[name])} here, and {sorted(there[name])} there")
         alone = f"{len(header.keys() - both)} only here, {len(there.keys() - both)} only there"
         print(f"{producer}: {len(both) - len(other)} names equal, {len(other)} differ, {alone}")
-        unseen, compared, differ = unseen - both, compared + 1, differ + len(other)
+        unseen -= both
+        compared += 1
+        differ += len(other)
     skipped = len(TABLES) - compared
     print(f"{len(header)} constants, {len(unseen)} in no table; {compared} tables compared, {skipped} skipped")
-    return 2 if not compared else 1 if differ else 0
+    if not compared:
+        return 2
+    return 1 if differ else 0
