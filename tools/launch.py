@@ -112,11 +112,14 @@ def prove() -> None:
     if left:
         needed = f"the first time {PROOF_MINUTES} minutes of processor time and 4 GB of disk"
         say(f"proving {' and '.join(left)}, and the libraries below: {needed}")
+        before = {it: products.sums(it) for it in left}
         with products.proved(left, lambda line: say(f"{in_words(time.time() - started)}: {line}")) as copy:
             if not copy:
                 stop("the programs aren't built")
             for it in left:
-                products.put(f"{copy}/crates/{it}/out/{it}", kit.programs(it)[0], products.sums(it, copy))
+                if products.sums(it) != before[it]:
+                    stop("the sources changed meanwhile: run this again")
+                products.put(f"{copy}/crates/{it}/out/{it}", kit.programs(it)[0], before[it])
     for it in PROGRAMS:
         say(f"{'built' if it in left else 'built already'}: {products.find(kit.programs(it)[0], it)}")
 

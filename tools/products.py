@@ -34,12 +34,14 @@ def sum_of(path: str) -> str:
         return hashlib.sha256(file.read()).hexdigest()
 
 
-def sums(crate: str, root: str = kit.ROOT) -> str:
-    """The checksums of all that a product of a crate is made from: its sources, and those of the crates below it."""
+def sums(crate: str) -> str:
+    """The checksums of all that a product of a crate is made from: its sources, and those of the crates below it.
+
+    They are those of the checkout: a copy in which `rt ci` proves has fewer lines of crates.txt."""
     parts = [f"crates/{it}/{part}" for it in [*kit.below(crate), crate] for part in kit.PARTS]
-    walked = [(at, name) for part in parts for at, _, names in os.walk(f"{root}/{part}") for name in names]
-    paths = ["crates.txt", *sorted(os.path.relpath(f"{at}/{name}", root) for at, name in walked)]
-    return "".join(f"{sum_of(f'{root}/{it}')}  {it}\n" for it in paths)
+    walked = [(at, name) for part in parts for at, _, names in os.walk(f"{kit.ROOT}/{part}") for name in names]
+    paths = ["crates.txt", *sorted(os.path.relpath(f"{at}/{name}", kit.ROOT) for at, name in walked)]
+    return "".join(f"{sum_of(f'{kit.ROOT}/{it}')}  {it}\n" for it in paths)
 
 
 def place_of_copy(path: str, of_sources: str) -> str:
