@@ -63,7 +63,7 @@ pub use Rattle.dwarf_read_core.specs.Items.{ComesFirst, least_taken}
 pub use Rattle.dwarf_read_core.specs.Lookups.{AnswersBy, StaysBy}
 pub use Rattle.dwarf_read_core.specs.Reading.{◌>>=◌, ReturnsUnlessOutOfMemory, and_others, declaration_of, number_from, specification_of}
 pub use Rattle.dwarf_read_core.specs.Reading.{close_of, and_declared}
-unfoldable pub use Rattle.dwarf_read_core.specs.Reading.{attributes_in, declared_at, tag_at, declaration_at, table_in}
+unfoldable pub use Rattle.dwarf_read_core.specs.Reading.{attributes_in, declared_at, tag_at, coded_at, declaration_at, table_in}
 unfoldable pub use Rattle.dwarf_read_core.specs.Reading.{specification_at, value_at, number_at, attributes_at}
 unfoldable pub use Rattle.dwarf_read_core.specs.Reading.{children_at, encoding_at, table_at}
 pub use Rattle.dwarf_read_core.specs.Sections.{debug_abbrev_reader}

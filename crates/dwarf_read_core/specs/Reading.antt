@@ -92,12 +92,15 @@ declared_at end code bytes = do
   attributes ← attributes_in end children.1
   Ok (declaration_of code tag.0 children.0 attributes.0, attributes.1)
 
+-- a declaration, or None if a code of value 0 is in its place
+unfoldable pub coded_at : ℕ → List ℕ → Result (Option Declaration × List ℕ) Error
+coded_at end bytes =
+    number_at unsigned64 end bytes >>= λ code. if code.0 == 0 then Ok (None, code.1) else
+    (declared_at end code.0 code.1 >>= λ d. Ok (Some d.0, d.1))
+
 -- a declaration, or None if the table ends there
 unfoldable pub declaration_at : ℕ → List ℕ → Result (Option Declaration × List ℕ) Error
-declaration_at end bytes =
-    if length bytes == 0 then Ok (None, bytes) else
-    (number_at unsigned64 end bytes >>= λ code. if code.0 == 0 then Ok (None, code.1) else
-    (declared_at end code.0 code.1 >>= λ d. Ok (Some d.0, d.1)))
+declaration_at end bytes = if length bytes == 0 then Ok (None, bytes) else coded_at end bytes
 
 abbrev pub close_of : List ℕ → Close
 close_of bytes = if length bytes == 0 then by_end else by_null

@@ -1,5 +1,5 @@
 -- What contracts see of an abbreviation and its parts.
-use Rattle.std.specs.Prelude.{◌≡◌, ◌≢◌, ◌<◌, ◌≤◌, ℕ, suc, ℤ, pos, Bool, true, false, List, [], ◌∷◌, ◌++◌, length, take, Some, None, unwrap_or, if◌then◌else◌, ◌==◌, refl}
+use Rattle.std.specs.Prelude.{◌≡◌, ◌≢◌, ◌<◌, ◌≤◌, ℕ, suc, ℤ, pos, Bool, true, false, List, [], ◌∷◌, ◌++◌, length, Some, None, unwrap_or, if◌then◌else◌, ◌==◌, refl}
 use Rattle.std.specs.BTreeMap.{is_at}
 use Rattle.std.specs.FinMap.{from_entries}
 use Rattle.std.specs.Map.{lookup}
@@ -43,11 +43,6 @@ pub fields_again : (a : Inside) → IsCanonical a → specification_fields (spec
 fields_again a h =
     ap (λ (v : ℤ). record { name = a.name; form = a.form; implicit_const_value = v })
     (value_again a.form.0 a.implicit_const_value h)
-
--- the attributes that are collected: those of the second list, or if that is empty, the first n of the first list
-abbrev pub collected : ℕ → List Specification → List Specification → List Specification
-collected n scratch [] = take n scratch
-collected n scratch (s ∷ overflow) = s ∷ overflow
 
 abbrev pub abbreviation_view : abbreviation.Inside → Declaration
 abbreviation_view a =

@@ -2,7 +2,6 @@
 use Rattle.dwarf_read_core.proofs.Common.{◌≡◌, ℕ, zero, suc, ◌+◌, ◌<◌, List, [], ◌∷◌, ◌++◌, length, take, ◌≢◌, Option, Some, None, Result, Ok, Err, refl, sym, ap, ◌∙◌, append_assoc, arith, append-nil, Error, Specification, Declaration, Sequence, IsSpecification, IsNull, IsFront, HasError, ◌>>=◌, specification_at, and_others, attributes_at, attributes_in, declaration_of, HasOutcome, returned, outcome-bind, common_steps}
 use Rattle.std.specs.Prelude.{slice_set}
 use Rattle.std.proofs.lemmas.List.{take_more_set}
-use Rattle.dwarf_read_core.specs.Views.{collected}
 use Rattle.dwarf_read_core.proofs.tables.ReadingSpecifications.{SomeFound, specification_behind, specification_again, null_again, found_shorter, specification_shorter}
 
 -- the bytes of items, with those of one more after them, are the bytes of all of them
@@ -174,16 +173,8 @@ pub collected_push : (overflow scratch : List Specification) (n : ℕ) (s : Spec
 collected_push overflow scratch n s short =
     rw (take_more_set scratch n s short) (sym (append_assoc overflow (take n scratch) (s ∷ [])))
 
--- if the second list isn't empty, all that are collected are in it
-pub collected_overflow : (n : ℕ) (scratch overflow rest : List Specification) → overflow ≢ []
-    → collected n scratch (overflow ++ rest) ≡ overflow ++ rest
-collected_overflow n scratch [] rest some = absurd (some refl)
-collected_overflow n scratch (s ∷ ss) rest some = refl
-
--- if the second list is empty, all that are collected are in the first one
-pub collected_scratch : (n : ℕ) (scratch overflow : List Specification) → overflow ≡ []
-    → collected n scratch overflow ≡ overflow ++ take n scratch
-collected_scratch n scratch overflow none = rw none refl
+-- how the attributes that are collected change with one more
+pub ruleset collected_steps = (collected_push, append-nil)
 
 -- how the attributes so far change with the next specification
 pub ruleset attribute_steps = (front-goes_on, front-ends, front-fails, front-begins, specification_shorter)

@@ -1,5 +1,5 @@
 -- What the grammar has at the front is read, and so is each of its errors.
-use Rattle.dwarf_read_core.proofs.Common.{common_steps, ◌≡◌, ◌≢◌, ℕ, ◌<◌, Bool, eqb, List, [], ◌∷◌, ◌++◌, Option, Some, None, Result, Ok, Err, refl, sym, ap, ◌∙◌, append_assoc, arith, ne_eqb, append-nil, nil_from_length, Error, AttributeNameZero, AttributeFormZero, Kind, unsigned64, unsigned16, overflow_error, IsNumber, eof, Declaration, implicit_const, children_byte, IsCode, IsHead, IsFront, IsDeclaration, IsBeginning, before_code, before_tag, before_name, before_form, before_value, HasError, number_cut, number_bad, children_cut, tag_zero, children_bad, name_zero, form_zero, ◌>>=◌, number_at, value_at, specification_at, attributes_in, tag_at, children_at, declaration_of, declared_at, declaration_at}
+use Rattle.dwarf_read_core.proofs.Common.{common_steps, ◌≡◌, ◌≢◌, ℕ, ◌<◌, Bool, eqb, List, [], ◌∷◌, ◌++◌, Option, Some, None, Result, Ok, Err, refl, sym, ap, ◌∙◌, append_assoc, arith, ne_eqb, append-nil, nil_from_length, Error, AttributeNameZero, AttributeFormZero, Kind, unsigned64, unsigned16, overflow_error, IsNumber, eof, Declaration, implicit_const, children_byte, IsCode, IsHead, IsFront, IsDeclaration, IsBeginning, before_code, before_tag, before_name, before_form, before_value, HasError, number_cut, number_bad, children_cut, tag_zero, children_bad, name_zero, form_zero, ◌>>=◌, number_at, value_at, specification_at, attributes_in, tag_at, children_at, declaration_of, declared_at, coded_at, declaration_at}
 use Rattle.dwarf_read_core.proofs.tables.ReadingNumbers.{encoding-begins, positive-nonzero, number_at-string, number_at-cut, number_at-bad}
 use Rattle.dwarf_read_core.proofs.tables.ReadingAttributes.{with_front, AttributesRead, attributes_fail, attributes_again, attributes_end}
 
@@ -27,7 +27,7 @@ after_attributes code tag children read =
 -- a declaration that begins with a code above 0 is read as that code and what follows it
 code_again : (end : ℕ) (front rest : List ℕ) (code : ℕ) → IsCode front code
     → declaration_at end (front ++ rest) ≡ found (declared_at end code rest)
-unfolding declaration_at
+unfolding declaration_at coded_at
 code_again end front rest code is =
     let some = encoding-begins front rest is.is_code.encoding in
     rw (some, number_at-string unsigned64 end front rest code is.is_code, positive-nonzero code is.nonzero) refl
@@ -73,7 +73,7 @@ declaration_again end bytes rest d is =
 -- a code of value 0 is read as the end of the table, and the rest remains
 pub zero_again : (end : ℕ) (bytes rest : List ℕ) → IsNumber unsigned64 bytes 0
     → declaration_at end (bytes ++ rest) ≡ Ok (None, rest)
-unfolding declaration_at
+unfolding declaration_at coded_at
 zero_again end bytes rest is =
     rw (encoding-begins bytes rest is.encoding, number_at-string unsigned64 end bytes rest 0 is) refl
 
@@ -92,7 +92,7 @@ front_fails end front bytes d e is q = front_again end front bytes d is ∙ rw (
 -- a declaration fails with the error of a number after its beginning, unless there are no bytes
 stops : {k : Kind} {front : List ℕ} (end : ℕ) (bytes : List ℕ) (e : Error) → IsBeginning front k
     → front ++ bytes ≢ [] → number_at k end bytes ≡ Err e → declaration_at end (front ++ bytes) ≡ Err e
-unfolding declaration_at declared_at tag_at specification_at value_at
+unfolding declaration_at coded_at declared_at tag_at specification_at value_at
 stops end bytes e before_code some q = grind (arith, common_steps, eqb, ne_eqb, nil_from_length)
 stops end bytes e (before_tag front code is) some q = rw (code_again end front bytes code is, q) refl
 stops end bytes e (before_name front d is) some q = front_fails end front bytes d e is (rw q refl)

@@ -1,5 +1,5 @@
 -- A declaration that is read, or its error, is what the grammar says.
-use Rattle.dwarf_read_core.proofs.Common.{common_steps, ◌≡◌, ◌≢◌, ℕ, ◌<◌, Bool, true, false, eqb, List, [], ◌∷◌, ◌++◌, length, Option, Some, None, Ok, refl, sym, ap, subst, append_assoc, arith, eqb-true, eqb-false, length-append, append-nil, nil_from_length, AbbreviationTagZero, InvalidAbbreviationChildren, unsigned64, unsigned16, IsNumber, eof, Declaration, children_byte, IsCode, IsHead, IsFront, IsDeclaration, before_code, before_tag, HasError, children_cut, tag_zero, children_bad, tag_at, children_at, declaration_of, declared_at, declaration_at, HasOutcome, returned, failed, outcome-bind, outcome-cond, outcome-map, outcome-ok}
+use Rattle.dwarf_read_core.proofs.Common.{common_steps, ◌≡◌, ◌≢◌, ℕ, ◌<◌, Bool, true, false, eqb, List, [], ◌∷◌, ◌++◌, length, Option, Some, None, Ok, refl, sym, ap, subst, append_assoc, arith, eqb-true, eqb-false, length-append, append-nil, nil_from_length, AbbreviationTagZero, InvalidAbbreviationChildren, unsigned64, unsigned16, IsNumber, eof, Declaration, children_byte, IsCode, IsHead, IsFront, IsDeclaration, before_code, before_tag, HasError, children_cut, tag_zero, children_bad, tag_at, children_at, declaration_of, declared_at, coded_at, declaration_at, HasOutcome, returned, failed, outcome-bind, outcome-cond, outcome-map, outcome-ok}
 use Rattle.dwarf_read_core.proofs.tables.ReadingNumbers.{encoding-nonempty, number-positive, Found}
 use Rattle.dwarf_read_core.proofs.tables.ReadingSpecifications.{number_behind}
 use Rattle.dwarf_read_core.proofs.tables.ReadingAttributes.{attributes_behind}
@@ -87,7 +87,7 @@ EntryFound bytes (Some d) rest = DeclarationFound bytes d rest
 pub declaration_outcome : (end : ℕ) (bytes : List ℕ)
     → HasOutcome (λ (x : Option Declaration × List ℕ). EntryFound bytes x.0 x.1)
     (λ e. (bytes ≢ []) × HasError end bytes e) (declaration_at end bytes)
-unfolding declaration_at
+unfolding declaration_at coded_at
 declaration_outcome end bytes =
     outcome-cond (eqb (length bytes) 0)
     (λ t. let none : bytes ≡ [] = nil_from_length bytes (eqb-true (length bytes) 0 t) in

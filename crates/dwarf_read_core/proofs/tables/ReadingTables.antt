@@ -1,8 +1,7 @@
 -- How a table changes with the next entry that its parser reads.
-use Rattle.dwarf_read_core.proofs.Common.{common_steps, ◌≡◌, ℕ, zero, suc, ◌<◌, true, false, cond, List, [], length, Option, Some, None, Result, Ok, Err, refl, ap, arith, ne_eqb, insert, contains_key, nil_from_length, Error, DuplicateAbbreviationCode, Declaration, ByCode, Table, closed, ◌>>=◌, declaration_at, close_of, and_declared, ◌↔◌, IsTrue, Bool, table_at, table_in}
-use Rattle.std.proofs.Common.{not}
-use Rattle.dwarf_read_core.specs.Grammar.{close_from}
+use Rattle.dwarf_read_core.proofs.Common.{common_steps, ◌≡◌, ℕ, zero, suc, ◌<◌, true, false, cond, List, [], length, Option, Some, None, Result, Ok, Err, refl, ap, arith, ne_eqb, insert, contains_key, nil_from_length, Error, DuplicateAbbreviationCode, Declaration, ByCode, Table, closed, ◌>>=◌, declaration_at, close_of, and_declared, ◌≢◌, by_null, by_end, coded_at, table_at, table_in}
 use Rattle.dwarf_read_core.proofs.tables.ReadingIsSound.{declaration_shorter}
+use Rattle.dwarf_read_core.proofs.tables.ReadingIsComplete.{end_again}
 
 -- what reading a table returns
 abbrev pub TableRead : Type 0
@@ -34,24 +33,30 @@ pub table_fails : (end : ℕ) (t : ByCode) (bytes : List ℕ) (e : Error) → de
 unfolding table_in table_at
 table_fails end t bytes e q = grind arith
 
+-- if bytes remain, reading a declaration or the end of the table is reading a code and what follows it
+pub declaration-coded : (end : ℕ) (bytes : List ℕ) → bytes ≢ [] → declaration_at end bytes ≡ coded_at end bytes
+unfolding declaration_at
+declaration-coded end bytes some = rw (ne_eqb (length bytes) 0 (λ h. some (nil_from_length bytes h))) refl
+
 -- reading a table ends if no declaration is next: the end closes it if no bytes remain, or else a code of value 0
 pub table_ends : (end : ℕ) (t : ByCode) (bytes rest : List ℕ) → declaration_at end bytes ≡ Ok (None, rest)
     → table_in end t bytes ≡ Ok (closed t (close_of bytes))
 unfolding table_in table_at
 table_ends end t bytes rest q = grind arith
 
--- what closes a table, by a test for the end of the bytes
-pub close_by_test : (bytes : List ℕ) (is_end : Bool) → (IsTrue is_end ↔ (bytes ≡ []))
-    → close_from (not is_end) ≡ close_of bytes
-close_by_test bytes true test = grind (arith, common_steps)
-close_by_test bytes false test = grind (arith, common_steps, ne_eqb, nil_from_length)
+-- a code of value 0 closes a table if bytes remain
+pub closed-by_null : (bytes : List ℕ) → bytes ≢ [] → by_null ≡ close_of bytes
+closed-by_null bytes some = rw (ne_eqb (length bytes) 0 (λ h. some (nil_from_length bytes h))) refl
 
--- reading a table ends if no declaration is next, closed as a test for the end of the bytes says
-pub table_ends_by : (end : ℕ) (t : ByCode) (bytes rest : List ℕ) (is_end : Bool)
-    → declaration_at end bytes ≡ Ok (None, rest) → (IsTrue is_end ↔ (bytes ≡ []))
-    → table_in end t bytes ≡ Ok (closed t (close_from (not is_end)))
-table_ends_by end t bytes rest is_end q test =
-    rw (close_by_test bytes is_end test) (table_ends end t bytes rest q)
+-- reading a table ends with a code of value 0 if bytes remain and no declaration is next
+pub table_ends_by_null : (end : ℕ) (t : ByCode) (bytes rest : List ℕ) → bytes ≢ []
+    → declaration_at end bytes ≡ Ok (None, rest) → table_in end t bytes ≡ Ok (closed t by_null)
+table_ends_by_null end t bytes rest some q = rw (closed-by_null bytes some) (table_ends end t bytes rest q)
+
+-- reading a table ends if no bytes remain
+pub table_ends_by_end : (end : ℕ) (t : ByCode) (bytes : List ℕ) → bytes ≡ []
+    → table_in end t bytes ≡ Ok (closed t by_end)
+table_ends_by_end end t bytes none = rw none (table_ends end t [] [] (end_again end))
 
 -- reading a table fails with `DuplicateAbbreviationCode` if the table has the code of the next declaration
 pub table_repeats : (end : ℕ) (t : ByCode) (bytes : List ℕ) (d : Declaration) (rest : List ℕ)
@@ -68,4 +73,4 @@ unfolding table_in table_at
 table_goes_on end t bytes d rest q fresh = grind (arith, declaration_shorter, table_enough)
 
 -- how a table changes with the next entry
-pub ruleset table_steps = (table_fails, table_ends, table_ends_by, table_repeats, table_goes_on, declaration_shorter)
+pub ruleset table_steps = (table_fails, table_ends_by_null, table_ends_by_end, table_repeats, table_goes_on, declaration_shorter)

@@ -1,12 +1,10 @@
 -- A whole table that is read, or its first error, is what the grammar says, and conversely.
-use Rattle.dwarf_read_core.proofs.Common.{◌≡◌, ◌↔◌, ℕ, zero, suc, ◌<◌, ◌≤◌, Bool, IsTrue, false, List, [], ◌∷◌, ◌++◌, length, Option, Some, None, Ok, Err, refl, sym, ap, subst, ◌∙◌, append_assoc, arith, append-nil, length-append, empty, insert, contains_key, Error, DuplicateAbbreviationCode, Declaration, Sequence, IsDeclaration, AreDistinct, AreDeclarations, ByCode, Table, closed, by_code_of, IsTable, IsTableBefore, closed_by_null, closed_by_end, IsFirstError, in_declaration, repeated, close_of, and_declared, table_at, table_in, HasOutcome, returned, failed, outcome-bind, outcome-cond, outcome-map, outcome-ok, declaration_at}
-use Rattle.std.proofs.Common.{not}
-use Rattle.dwarf_read_core.specs.Grammar.{close_from}
+use Rattle.dwarf_read_core.proofs.Common.{◌≡◌, ◌≢◌, ℕ, zero, suc, ◌<◌, ◌≤◌, false, List, [], ◌∷◌, ◌++◌, length, Option, Some, None, Ok, Err, refl, sym, ap, subst, ◌∙◌, append_assoc, arith, append-nil, length-append, empty, insert, contains_key, Error, DuplicateAbbreviationCode, Declaration, Sequence, IsDeclaration, AreDistinct, AreDeclarations, ByCode, Table, closed, by_code_of, IsTable, IsTableBefore, closed_by_null, closed_by_end, IsFirstError, in_declaration, repeated, close_of, by_null, by_end, and_declared, table_at, table_in, HasOutcome, returned, failed, outcome-bind, outcome-cond, outcome-map, outcome-ok, declaration_at}
 use Rattle.dwarf_read_core.proofs.tables.ReadingNumbers.{encoding-begins}
 use Rattle.dwarf_read_core.proofs.tables.ReadingAttributes.{Sequence-push}
 use Rattle.dwarf_read_core.proofs.tables.ReadingIsSound.{DeclarationFound, EndFound, at_end, at_zero, EntryFound, declaration_outcome, declaration_found_shorter}
 use Rattle.dwarf_read_core.proofs.tables.ReadingIsComplete.{declaration_again, zero_again, end_again, error_again}
-use Rattle.dwarf_read_core.proofs.tables.ReadingTables.{close_by_test, table_fails, table_ends, table_repeats, table_goes_on}
+use Rattle.dwarf_read_core.proofs.tables.ReadingTables.{closed-by_null, table_fails, table_ends, table_repeats, table_goes_on}
 use Rattle.dwarf_read_core.proofs.tables.CodesOnce.{fresh_code, repeated_code, declared_from_key, fresh_from_key, table_push, distinct_push, distinct_front}
 
 -- ---- what is read is in the grammar
@@ -68,13 +66,16 @@ pub begins_with_read : {whole bytes rest : List ℕ} {t : ByCode} (end : ℕ) (d
 begins_with_read {bytes = bytes} end d b read fresh =
     begins_with_more d b (outcome-ok (declaration_outcome end bytes) (Some d, _) read) fresh
 
--- if no declaration is read after some declarations, these are a table, by a test for the end of the bytes
-pub begins_and_closes : {whole bytes rest : List ℕ} {t : ByCode} (end : ℕ) (is_end : Bool) → BeginsWith whole t bytes
-    → declaration_at end bytes ≡ Ok (None, rest) → (IsTrue is_end ↔ (bytes ≡ []))
-    → IsTableBefore whole (closed t (close_from (not is_end))) rest
-begins_and_closes {bytes = bytes} end is_end b read test =
-    rw (close_by_test bytes is_end test)
-    (begins_and_ends b (outcome-ok (declaration_outcome end bytes) (None, _) read))
+-- if bytes remain and no declaration is read after some declarations, these are a table that a code of value 0 closes
+pub begins_before_null : {whole bytes rest : List ℕ} {t : ByCode} (end : ℕ) → BeginsWith whole t bytes → bytes ≢ []
+    → declaration_at end bytes ≡ Ok (None, rest) → IsTableBefore whole (closed t by_null) rest
+begins_before_null {bytes = bytes} end b some read =
+    rw (closed-by_null bytes some) (begins_and_ends b (outcome-ok (declaration_outcome end bytes) (None, _) read))
+
+-- if no bytes remain after some declarations, these are a table that the end closes
+pub begins_before_end : {whole bytes : List ℕ} {t : ByCode} → BeginsWith whole t bytes → bytes ≡ []
+    → IsTableBefore whole (closed t by_end) bytes
+begins_before_end b none = rw none (begins_and_ends (rw none at b) at_end)
 
 -- what is read after some declarations is the table that all bytes begin with, or their first error
 pub table_behind : (n end : ℕ) (bytes whole : List ℕ) (t : ByCode) → BeginsWith whole t bytes → length bytes < n

@@ -1,8 +1,7 @@
 //! Numbers as keys of ordered maps.
 
-ghost use Rattle.std.specs.Prelude.{◌≡◌, ◌≤◌, nat_eq, Some};
+ghost use Rattle.std.specs.Prelude.{◌≡◌, ◌≤◌};
 ghost use Rattle.std.proofs.Common.{rules};
-ghost use Rattle.std.specs.Cmp.Rules.{comparing};
 ghost use Rattle.std.specs.Ordering.{nat_cmp};
 
 use std::cmp::Ordering;
@@ -13,7 +12,7 @@ use std::marker::Model;
 ///
 /// `BTreeMap` scans a node while the searched key is greater. So `cmp` tests that first, and
 /// inlines nothing else. The comparison of plain numbers tests their equality first.
-#[derive(Clone, Copy)]
+#[derive(Clone, Copy, PartialEq, Eq, PartialOrd)]
 pub(crate) struct Key(pub u64);
 
 impl Model for Key {
@@ -33,30 +32,6 @@ impl Model for Key {
 impl fmt::Debug for Key {
     fn fmt<W: fmt::Write>(&self, f: &mut fmt::Formatter<W>) -> fmt::Result {
         fmt::Debug::fmt(&self.0, f)
-    }
-}
-
-impl PartialEq for Key {
-    ghost eq = { nat_eq };
-
-    ghost laws = { Prim.search (comparing, rules) };
-
-    fn eq(&self, other: &Key) -> bool {
-        self.0 == other.0
-    }
-}
-
-impl Eq for Key {
-    ghost laws = { Prim.search rules };
-}
-
-impl PartialOrd for Key {
-    ghost partial_cmp = { λ a b. Some (nat_cmp a b) };
-
-    ghost laws = { Prim.search (comparing, rules) };
-
-    fn partial_cmp(&self, other: &Key) -> Option<Ordering> {
-        Some(self.cmp(other))
     }
 }
 

@@ -4,10 +4,9 @@ ghost use Rattle.std.specs.Prelude.{◌≡◌, ◌==◌, ◌≤◌, ◌<◌, ℕ
 ghost use Rattle.std.specs.Cmp.{partial_equiv_from_equiv};
 ghost use Rattle.dwarf_reader_core.specs.Input.{end_of};
 ghost use Rattle.dwarf_read_core.specs.Equality.{HasValueByForm, same_declaration, same_declaration_equiv};
-ghost use Rattle.dwarf_read_core.specs.Reading.{ReturnsUnlessOutOfMemory, tag_at, children_at, attributes_in, declared_at, declaration_at};
-ghost use Rattle.dwarf_read_core.specs.Views.{collected};
+ghost use Rattle.dwarf_read_core.specs.Reading.{ReturnsUnlessOutOfMemory, tag_at, children_at, attributes_in, declared_at, coded_at};
 
-use super::attribute::{AttributeSpecification, Attributes, Collector, SCRATCH_LEN, spill};
+use super::attribute::{AttributeSpecification, Attributes, Collector};
 use dwarf_base_core::{Error, Result};
 use dwarf_code_core::children::{DW_CHILDREN_no, DW_CHILDREN_yes, DwChildren};
 use dwarf_const_core::tag::DwTag;
@@ -170,34 +169,20 @@ impl Abbreviation {
         }
     }
 
-    // Reads the attributes of a declaration into the parts of a `Collector`, and returns its `len`.
+    // Reads the attributes of a declaration.
     #[tactic(auto, using(crate::proofs::tables::ReadingAttributes::attribute_steps))]
-    fn parse_attributes<R: Reader>(
-        input: &mut R,
-        scratch: &mut [AttributeSpecification; SCRATCH_LEN],
-        overflow: &mut Vec<AttributeSpecification>,
-    ) -> Result<usize>
-        ensures fits { IfOk result (λ len. len ≤ 16) }
+    fn parse_attributes<R: Reader>(input: &mut R, collector: &mut Collector) -> Result<()>
         ensures read { ReturnsUnlessOutOfMemory
-            (λ len. (collected len scratch.new overflow.new.items, (R.view input.new).bytes)) result
+            (λ _. (collector.new, (R.view input.new).bytes)) result
             (attributes_in (end_of (R.view input.old)) (R.view input.old).bytes) }
         ensures same_end { OnOk result (end_of (R.view input.new) ≡ end_of (R.view input.old)) }
     {
-        overflow.clear();
-        let mut len = 0;
+        collector.clear();
         // The label names the loop in its proof.
         'attributes: while let Some(attribute) = AttributeSpecification::parse(input)? {
-            if len == SCRATCH_LEN {
-                spill(overflow, &scratch[..len])?;
-                len = 0;
-            }
-            scratch[len] = attribute;
-            len += 1;
+            collector.push(attribute)?;
         }
-        if !overflow.is_empty() {
-            spill(overflow, &scratch[..len])?;
-        }
-        Ok(len)
+        Ok(())
     }
 
     // Reads what follows the code of a declaration.
@@ -216,18 +201,13 @@ impl Abbreviation {
     {
         let tag = Self::parse_tag(input)?;
         let has_children = Self::parse_has_children(input)?;
-        collector.len = Self::parse_attributes(
-            input,
-            &mut collector.scratch,
-            &mut collector.overflow,
-        )?;
-        let attributes = Attributes::from_slice(mem, collector.as_slice())?;
+        Self::parse_attributes(input, collector)?;
+        let attributes = Attributes::from_slice(mem, collector.as_slice()?)?;
         Ok(Abbreviation::new(code, tag, has_children, attributes))
     }
 
-    // Reads a declaration. If a code of value 0 is in its place, or no bytes remain, the table
-    // ends.
-    #[tactic(auto, unfolding(crate::specs::Reading::declaration_at))]
+    // Reads a declaration, or `None` if a code of value 0 is in its place.
+    #[tactic(auto, using(crate::proofs::tables::ReadingNumbers::number_steps), unfolding(crate::specs::Reading::coded_at))]
     pub(super) fn parse<R: Reader>(
         mem: Global,
         input: &mut R,
@@ -235,16 +215,13 @@ impl Abbreviation {
     ) -> Result<Option<Abbreviation>>
         ensures coded { IfOk result (λ found. IfSome found (λ d. 0 < d.code)) }
         ensures ends { (rest : List ℕ)
-            → declaration_at (end_of (R.view input.old)) (R.view input.old).bytes ≡ Ok (None, rest)
+            → coded_at (end_of (R.view input.old)) (R.view input.old).bytes ≡ Ok (None, rest)
             → IsOk result }
         ensures read { ReturnsUnlessOutOfMemory
             (λ found. (found, (R.view input.new).bytes)) result
-            (declaration_at (end_of (R.view input.old)) (R.view input.old).bytes) }
+            (coded_at (end_of (R.view input.old)) (R.view input.old).bytes) }
         ensures same_end { OnOk result (end_of (R.view input.new) ≡ end_of (R.view input.old)) }
     {
-        if input.is_empty() {
-            return Ok(None);
-        }
         let code = input.read_uleb128()?;
         if code == 0 {
             return Ok(None);

@@ -1,6 +1,6 @@
 //! The attributes of abbreviations, the sizes of their forms, and where attributes are collected.
 
-ghost use Rattle.std.specs.Prelude.{◌≡◌, ◌↔◌, ◌++◌, [], IsSome, OnOk};
+ghost use Rattle.std.specs.Prelude.{◌≡◌, ◌↔◌, ◌∷◌, ◌++◌, [], IsSome, IfOk, OnOk};
 ghost use Rattle.dwarf_reader_core.specs.Input.{end_of};
 ghost use Rattle.dwarf_read_core.specs.Forms.{form_size};
 ghost use Rattle.dwarf_read_core.specs.Grammar.{implicit_const};
@@ -174,28 +174,26 @@ fn get_attribute_size(form: DwForm, encoding: Encoding) -> Option<u8>
 pub(super) type Attributes = SmallVec<AttributeSpecification, 5>;
 
 // How many attributes are collected without allocating. Few declarations have more.
-pub(super) const SCRATCH_LEN: usize = 16;
+const SCRATCH_LEN: usize = 16;
 
 // The attributes of a declaration while it is read.
 #[derive(Drop)]
 pub(super) struct Collector {
-    // They are the first `len` of `scratch`, unless there are too many: then `overflow` isn't empty
-    // and has all of them. So a table without a longer list allocates nothing for this.
-    pub(super) len: usize,
-    pub(super) scratch: [AttributeSpecification; SCRATCH_LEN],
-    pub(super) overflow: Vec<AttributeSpecification>,
+    // They are those in `overflow`, and then the first `len` of `scratch`.
+    overflow: Vec<AttributeSpecification>,
+    scratch: [AttributeSpecification; SCRATCH_LEN],
+    len: usize,
 }
 
 impl Model for Collector {
-    ghost use Rattle.std.specs.Prelude.{◌≤◌, List};
+    ghost use Rattle.std.specs.Prelude.{◌++◌, ◌≤◌, List, take};
     ghost use Rattle.dwarf_read_core.specs.Grammar.{Specification};
-    ghost use Rattle.dwarf_read_core.specs.Views.{collected};
 
     ghost Value = { List Specification };
 
-    ghost view = { λ s. collected s.len s.scratch s.overflow.items };
+    ghost view = { λ c. c.overflow.items ++ take c.len c.scratch };
 
-    ghost invariant = { λ s. s.len ≤ 16 };
+    ghost invariant = { λ c. c.len ≤ 16 };
 }
 
 impl Collector {
@@ -203,27 +201,56 @@ impl Collector {
         ensures { result ≡ [] }
     {
         Collector {
-            len: 0,
-            scratch: [AttributeSpecification::made_with(mem); SCRATCH_LEN],
             overflow: Vec::new(mem),
+            scratch: [AttributeSpecification::made_with(mem); SCRATCH_LEN],
+            len: 0,
         }
     }
 
-    pub(super) fn as_slice(&self) -> &[AttributeSpecification]
-        ensures value { result.now ≡ self.now }
+    pub(super) fn clear(&mut self)
+        ensures { self.new ≡ [] }
+    {
+        self.overflow.clear();
+        self.len = 0;
+    }
+
+    // It is inlined, so that `len` stays in a register.
+    #[inline(always)]
+    #[tactic(auto, using(crate::proofs::tables::ReadingAttributes::collected_steps))]
+    pub(super) fn push(
+        &mut self,
+        attribute: AttributeSpecification,
+    ) -> std::result::Result<(), AllocError>
+        ensures { OnOk result (self.new ≡ self.old ++ attribute ∷ []) }
+    {
+        if self.len == SCRATCH_LEN {
+            spill(&mut self.overflow, &self.scratch[..self.len])?;
+            self.scratch[0] = attribute;
+            self.len = 1;
+            return Ok(());
+        }
+        self.scratch[self.len] = attribute;
+        self.len += 1;
+        Ok(())
+    }
+
+    // Returns all attributes in one place.
+    pub(super) fn as_slice(&mut self) -> std::result::Result<&[AttributeSpecification], AllocError>
+        ensures { IfOk result (λ slice. slice.now ≡ self.old) }
     {
         if self.overflow.is_empty() {
-            &self.scratch[..self.len]
-        } else {
-            self.overflow.as_slice()
+            return Ok(&self.scratch[..self.len]);
         }
+        spill(&mut self.overflow, &self.scratch[..self.len])?;
+        self.len = 0;
+        Ok(self.overflow.as_slice())
     }
 }
 
 // Copies attributes after those in `overflow`. It is a call out of line, since few declarations
 // have so many attributes that one is made.
 #[inline(never)]
-pub(super) fn spill(
+fn spill(
     overflow: &mut Vec<AttributeSpecification>,
     scratch: &[AttributeSpecification],
 ) -> std::result::Result<(), AllocError>

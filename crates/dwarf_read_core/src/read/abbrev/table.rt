@@ -181,16 +181,14 @@ impl Abbreviations {
         // One serves the whole table; each declaration's attributes are collected in it.
         let mut collector = Collector::new(mem);
         // The label names the loop in its proof.
-        'declarations: loop {
-            let is_end = input.is_empty();
-            match Abbreviation::parse(mem, input, &mut collector)? {
-                Some(abbreviation) => abbreviations.insert(abbreviation)?,
-                None => {
-                    abbreviations.closed_by_null = !is_end;
-                    return Ok(abbreviations);
-                }
-            }
+        'declarations: while !input.is_empty() {
+            let Some(abbreviation) = Abbreviation::parse(mem, input, &mut collector)? else {
+                abbreviations.closed_by_null = true;
+                return Ok(abbreviations);
+            };
+            abbreviations.insert(abbreviation)?;
         }
+        Ok(abbreviations)
     }
 }
 

@@ -1,4 +1,4 @@
-use Rattle.dwarf_read_core.proofs.Common.{◌≡◌, ◌≤◌, ◌++◌, take, length, end_of, attributes_in}
+use Rattle.dwarf_read_core.proofs.Common.{◌≡◌, length, end_of, attributes_in}
 use Rattle.dwarf_read_core.proofs.tables.ReadingAttributes.{with_front}
 use Rattle.dwarf_read_core.proofs.read.abbrev.abbreviation.Abbreviation.parse_attributes.Given as goal
 
@@ -8,9 +8,8 @@ invariant-attributes g l =
     let view = g.R.Reader.view in
     let end = end_of (view l.initial.input) in
     record {
-      read : with_front (l.overflow.items ++ take l.len l.scratch) (attributes_in end (view l.input).bytes)
+      read : with_front l.collector (attributes_in end (view l.input).bytes)
           ≡ attributes_in end (view l.initial.input).bytes;
-      fits : l.len ≤ 16;
       same_end : end_of (view l.input) ≡ end;
     }
 

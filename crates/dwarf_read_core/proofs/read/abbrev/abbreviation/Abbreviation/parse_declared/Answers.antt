@@ -14,19 +14,19 @@ returns-in_err-has_children-clause-read g c =
     gives_err _ _ c.from_residual-in_err-has_children.ensures.1
     (λ memory. rw (tag.read, rw tag.same_end at (c.in_err-has_children.ensures.read memory)) refl)
 
-pub returns-in_err-collector-inside-clause-read : goal.returns-in_err-collector-inside-clause-read
+pub returns-in_err-parse_attributes-clause-read : goal.returns-in_err-parse_attributes-clause-read
 unfolding declared_at
-returns-in_err-collector-inside-clause-read g c =
+returns-in_err-parse_attributes-clause-read g c =
     let tag = c.in_ok-tag.ensures in
     let children = c.in_ok-has_children.ensures in
-    gives_err _ _ c.from_residual-in_err-collector-inside.ensures.1
+    gives_err _ _ c.from_residual-in_err-parse_attributes.ensures.1
     (λ memory. rw (
       tag.read,
       rw tag.same_end at children.read,
-      rw (children.same_end ∙ tag.same_end) at (c.in_err-collector-inside.ensures.read memory),
+      rw (children.same_end ∙ tag.same_end) at (c.in_err-parse_attributes.ensures.read memory),
     ) refl)
 
 pub new-requires : goal.new-requires
 new-requires g c =
-    rw (c.in_ok-attributes.ensures.ok, c.as_slice.ensures.value)
-    (attributes_valued _ _ _ _ c.in_ok-collector-inside.ensures.read)
+    rw (c.in_ok-attributes.ensures.ok, c.in_ok-as_slice.ensures)
+    (attributes_valued _ _ _ _ c.in_ok-parse_attributes.ensures.read)

@@ -1,38 +1,88 @@
-use Rattle.dwarf_read_core.proofs.Common.{arith, sym, ◌∙◌, gives_err}
-use Rattle.dwarf_read_core.proofs.tables.ReadingTables.{table_fails, table_repeats, table_steps}
-use Rattle.dwarf_read_core.proofs.tables.TablesAreRead.{begins_with_none, begins_with_read, begins_and_closes}
+use Rattle.dwarf_read_core.proofs.Common.{arith, rules, ◌≡◌, ◌≢◌, ℕ, List, [], true, false, Option, Some, None, Result, Ok, sym, ◌∙◌, gives_err, end_of, Error, Declaration}
+use Rattle.dwarf_read_core.proofs.tables.ReadingTables.{declaration-coded, table_fails, table_repeats, table_steps}
+use Rattle.dwarf_read_core.proofs.tables.TablesAreRead.{begins_with_none, begins_with_read, begins_before_null, begins_before_end}
 use Rattle.dwarf_read_core.proofs.read.abbrev.table.Abbreviations.parse.Goals as goal
+
+-- the end of a table and a declaration aren't both read
+not_both : {A : Type 0} {read : Result (Option Declaration × List ℕ) Error} {rest after : List ℕ} {d : Declaration}
+    → read ≡ Ok (None, rest) → read ≡ Ok (Some d, after) → A
+not_both {rest = rest} {after = after} {d = d} none some =
+    absurd (let q : Ok (None, rest) ≡ Ok (Some d, after) = sym none ∙ some in grind arith)
+
+pub returns-in_err-abbreviation-clause-ends : goal.returns-in_err-abbreviation-clause-ends
+returns-in_err-abbreviation-clause-ends g c =
+    let loop = c.declarations in
+    let some : (g.R.Reader.view loop.input).bytes ≢ [] = search rules in
+    let coded = declaration-coded (end_of (g.R.Reader.view loop.input)) _ some in
+    λ rest e. absurd (let q : false ≡ true = c.in_err-abbreviation.ensures.ends rest
+    (sym coded ∙ rw (loop.invariant.same_end, loop.invariant.first rest e) e) in cc)
 
 pub returns-in_err-abbreviation-clause-read : goal.returns-in_err-abbreviation-clause-read
 returns-in_err-abbreviation-clause-read g c =
     let loop = c.declarations in
+    let some : (g.R.Reader.view loop.input).bytes ≢ [] = search rules in
     gives_err _ _ c.from_residual.ensures.1
-    (λ memory. sym loop.invariant.read
-    ∙ table_fails _ _ _ _ (rw loop.invariant.same_end at (c.in_err-abbreviation.ensures.read memory)))
+    (λ memory. sym loop.invariant.read ∙ table_fails _ _ _ _ (declaration-coded _ _ some
+    ∙ rw loop.invariant.same_end at (c.in_err-abbreviation.ensures.read memory)))
 
-pub returns-in_err-insert-in-Some-clause-read : goal.returns-in_err-insert-in-Some-clause-read
-returns-in_err-insert-in-Some-clause-read g c =
+pub returns-in_err-insert-clause-ends : goal.returns-in_err-insert-clause-ends
+returns-in_err-insert-clause-ends g c =
     let loop = c.declarations in
-    gives_err _ _ c.from_residual-in_err-insert-in-Some.ensures.1 (λ memory.
-    let r = c.in_err-insert-in-Some.ensures.repeated memory in
-    rw r.1 (sym loop.invariant.read ∙ table_repeats _ _ _ c.in-Some.abbreviation _
-    (rw (loop.invariant.same_end, c.in-Some.is) at c.in_ok-abbreviation.ensures.read) r.0))
+    let some : (g.R.Reader.view loop.input).bytes ≢ [] = search rules in
+    let read = declaration-coded _ _ some
+    ∙ rw (loop.invariant.same_end, c.in-Some.is) at c.in_ok-abbreviation.ensures.read in
+    λ rest e. not_both e (rw (loop.invariant.first rest e) at read)
 
-pub returns-in-None-clause-read : goal.returns-in-None-clause-read
-returns-in-None-clause-read g c = grind (arith, table_steps)
-
-pub returns-in-None-clause-behind : goal.returns-in-None-clause-behind
-returns-in-None-clause-behind g c =
+pub returns-in_err-insert-clause-read : goal.returns-in_err-insert-clause-read
+returns-in_err-insert-clause-read g c =
     let loop = c.declarations in
-    let closes = begins_and_closes _ _ loop.invariant.begins
-    (rw (loop.invariant.same_end, c.in-None.is) at c.in_ok-abbreviation.ensures.read) c.is_empty-is_end.ensures in
+    let some : (g.R.Reader.view loop.input).bytes ≢ [] = search rules in
+    gives_err _ _ c.from_residual-in_err-insert.ensures.1 (λ memory.
+    let r = c.in_err-insert.ensures.repeated memory in
+    rw r.1 (sym loop.invariant.read ∙ table_repeats _ _ _ c.in-Some.abbreviation _ (declaration-coded _ _ some
+    ∙ rw (loop.invariant.same_end, c.in-Some.is) at c.in_ok-abbreviation.ensures.read) r.0))
+
+pub returns-in_default-clause-read : goal.returns-in_default-clause-read
+returns-in_default-clause-read g c =
+    let loop = c.declarations in
+    let some : (g.R.Reader.view loop.input).bytes ≢ [] = search rules in
+    let read = declaration-coded _ _ some
+    ∙ rw (loop.invariant.same_end, c.in_default.is) at c.in_ok-abbreviation.ensures.read in
+    grind (arith, table_steps)
+
+pub returns-in_default-clause-behind : goal.returns-in_default-clause-behind
+returns-in_default-clause-behind g c =
+    let loop = c.declarations in
+    let some : (g.R.Reader.view loop.input).bytes ≢ [] = search rules in
+    let closes = begins_before_null _ loop.invariant.begins some (declaration-coded _ _ some
+    ∙ rw (loop.invariant.same_end, c.in_default.is) at c.in_ok-abbreviation.ensures.read) in
+    grind arith
+
+pub returns-clause-read : goal.returns-clause-read
+returns-clause-read g c = grind (arith, table_steps)
+
+pub returns-clause-behind : goal.returns-clause-behind
+returns-clause-behind g c =
+    let loop = c.declarations in
+    let none : (g.R.Reader.view loop.input).bytes ≡ [] = search rules in
+    let closes = begins_before_end loop.invariant.begins none in
     grind arith
 
 pub declarations-init : goal.declarations-init
 declarations-init g c = grind (arith, begins_with_none)
 
 pub declarations-preserved : goal.declarations-preserved
-declarations-preserved g c = grind (arith, table_steps, begins_with_read)
+declarations-preserved g c =
+    let loop = c.declarations in
+    let some : (g.R.Reader.view loop.input).bytes ≢ [] = search rules in
+    let read = declaration-coded _ _ some
+    ∙ rw (loop.invariant.same_end, c.in-Some.is) at c.in_ok-abbreviation.ensures.read in
+    grind (arith, table_steps, begins_with_read)
 
 pub declarations-smaller : goal.declarations-smaller
-declarations-smaller g c = grind (arith, table_steps)
+declarations-smaller g c =
+    let loop = c.declarations in
+    let some : (g.R.Reader.view loop.input).bytes ≢ [] = search rules in
+    let read = declaration-coded _ _ some
+    ∙ rw (loop.invariant.same_end, c.in-Some.is) at c.in_ok-abbreviation.ensures.read in
+    grind (arith, table_steps)
