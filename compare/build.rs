@@ -11,8 +11,8 @@ mod layout;
 fn gimli_version() -> Option<String> {
     let folder = env::var("CARGO_MANIFEST_DIR").ok()?;
     let lock = fs::read_to_string(format!("{folder}/Cargo.lock")).ok()?;
-    let behind = lock.split("name = \"gimli\"\nversion = \"").nth(1)?;
-    Some(behind.split('"').next()?.to_string())
+    let after = lock.split("name = \"gimli\"\nversion = \"").nth(1)?;
+    Some(after.split('"').next()?.to_string())
 }
 
 fn main() {

@@ -208,7 +208,7 @@ uint32_t dwarf_str_offset_set(const uint8_t *section, size_t len, bool is_big, s
 struct dwarf_measure {
     size_t abbreviations;
     size_t attributes;      /* of all abbreviations together */
-    size_t end;             /* the offset behind the code that closes the table, or `len` */
+    size_t end;             /* the offset after the code that closes the table, or `len` */
     uint8_t closed_by_null; /* 1 if a code of value 0 closes the table, 0 if the section's end does */
 };
 

@@ -15,7 +15,7 @@ if typing.TYPE_CHECKING:
     from debug_relocations import Relocations
 
 MAGIC = b"\x7fELF"
-# What stands for the number of the section of the names if that is too large, and the flag of a compressed section.
+# What replaces the number of the section of the names if that is too large, and the flag of a compressed section.
 XINDEX = 0xFFFF
 COMPRESSED = 0x800
 # At most this many bytes of a section's name are read, and at a time these many bytes of a section.

@@ -282,7 +282,7 @@ class Inputs(unittest.TestCase):
         self.assertEqual(link_of(read(elf([link, note]))[0]), DebugLink("ab.debug", 0x12345678, "abcd"))
         self.assertIsNone(link_of(read(elf([]))[0]))
         place = self.path("a.debug", b"123456789")
-        # The checksum of these nine bytes is the one by which implementations are checked.
+        # Implementations are checked by the checksum of these nine bytes.
         found = DebugLink("a.debug", 0xCBF43926).find(f"{self.folder.name}/a", print)
         self.assertEqual(os.path.realpath(place), found)
         told: list[str] = []

@@ -109,11 +109,11 @@ def source(name: str) -> str:
     return found[-1]
 
 
-def with_body(text: str, behind: str, function: str, body: str) -> str:
+def with_body(text: str, after: str, function: str, body: str) -> str:
     """A text in which a function has another body."""
-    at = text.find("{", text.find(function, text.find(behind)))
-    if behind not in text or function not in text[text.find(behind) :]:
-        raise Failed(f"gimli has no `{function}` behind `{behind}`, so this version can't be patched")
+    at = text.find("{", text.find(function, text.find(after)))
+    if after not in text or function not in text[text.find(after) :]:
+        raise Failed(f"gimli has no `{function}` after `{after}`, so this version can't be patched")
     end = at + 1
     depth = 1
     while depth:
@@ -127,9 +127,9 @@ def patched(name: str, text: str) -> str:
     if name == "lib.rs":
         modules = MODULE.format("calls") + MODULE.format("library")
         return text.replace("pub mod leb128;", f"pub mod leb128;\n{modules}", 1)
-    for file, behind, function, body in BODIES:
+    for file, after, function, body in BODIES:
         if file == name:
-            text = with_body(text, behind, function, body)
+            text = with_body(text, after, function, body)
     return text
 
 

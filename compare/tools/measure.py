@@ -14,7 +14,7 @@ from common import Failed, build, must, need, run, sections
 # The C library copies a large block by one instruction that valgrind counts once a byte. With this setting it copies by
 # moves of 32 bytes, as it does small blocks.
 COUNTED_COPIES = {"GLIBC_TUNABLES": "glibc.cpu.x86_rep_movsb_threshold=1073741824"}
-# A processor runs the same code faster or slower by where it lies, so the library is timed behind so many bytes.
+# A processor runs the same code faster or slower by where it lies, so the library is timed after that many bytes.
 PLACES = (0, 16, 32, 48)
 
 
@@ -40,7 +40,7 @@ def timed(is_debian: bool, words: Sequence[str]) -> Iterator[str]:
 
 def counted(program: str, words: Sequence[str]) -> Iterator[tuple[str, float, float]]:
     """What a program counts by `--count`: names, and the instructions of one operation of gimli's and of the library.
-    They are in the parts that callgrind writes behind each counted call."""
+    They are in the parts that callgrind writes after each counted call."""
     found: dict[str, list[int]] = {"gimli_counted": [], "ours_counted": []}
     with tempfile.TemporaryDirectory(prefix="compare-") as work:
         flags = ["--tool=callgrind", f"--callgrind-out-file={work}/part"]
