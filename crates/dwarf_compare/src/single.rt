@@ -6,7 +6,7 @@ ghost use Rattle.dwarf_read_core.specs.Answer.{Answer, Answers};
 ghost use Rattle.dwarf_read_core.specs.Cache.{IsFaithful, answer_of};
 ghost use Rattle.dwarf_read_core.specs.Grammar.{Table};
 ghost use Rattle.dwarf_read_core.specs.Input.{Input};
-ghost use Rattle.dwarf_read_core.specs.Leb128.{unsigned16, LacksEncoding, ReadsNumber, RejectsNumber, TakesEncoding};
+ghost use Rattle.dwarf_read_core.specs.Leb128.{unsigned16, TakesNoEncoding, ReadsNumber, ReadsNoNumber, TakesEncoding};
 ghost use Rattle.dwarf_compare.specs.Fault.{Rejects};
 ghost use Rattle.dwarf_compare.specs.Sections.{section_of, tag_in};
 
@@ -34,7 +34,7 @@ pub extern "C" fn compare_short(
         × ReadsNumber unsigned16 (section_of bytes.now) value.new left
         × (rest.new ≡ length left.bytes) }
     ensures rejected { result ≢ 0 → Rejects (λ e. (left : Input)
-        × RejectsNumber unsigned16 (section_of bytes.now) e left
+        × ReadsNoNumber unsigned16 (section_of bytes.now) e left
         × (rest.new ≡ length left.bytes))
         result fault.new }
 {
@@ -56,7 +56,7 @@ pub extern "C" fn compare_skipped(bytes: &[u8], rest: &mut usize, fault: &mut Dw
     ensures read { result ≡ 0 → (left : Input)
         × TakesEncoding (section_of bytes.now) left × (rest.new ≡ length left.bytes) }
     ensures rejected { result ≢ 0 → Rejects (λ e. (left : Input)
-        × LacksEncoding (section_of bytes.now) e left × (rest.new ≡ length left.bytes))
+        × TakesNoEncoding (section_of bytes.now) e left × (rest.new ≡ length left.bytes))
         result fault.new }
 {
     let mut input = EndianSlice::new(bytes, LittleEndian);

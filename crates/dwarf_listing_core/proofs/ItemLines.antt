@@ -13,7 +13,7 @@ use Rattle.dwarf_read_core.specs.declared.RunTimeEndian.{RunTimeEndian}
 use Rattle.dwarf_read_core.specs.Endian.{is_big_at_run_time}
 use Rattle.dwarf_read_core.specs.Input.{Input}
 use Rattle.dwarf_read_core.specs.Items.{GivesFirst}
-use Rattle.dwarf_read_core.specs.Sets.{Headers, HeadersOf, remaining_by, seen_by}
+use Rattle.dwarf_read_core.specs.Sets.{Headers, HeadersOf, remaining_of, seen_by}
 
 -- ---- the loop over an iterator
 
@@ -44,8 +44,8 @@ module _ {I X A : Type 0} (Represents : I → List (Result A Error) → Type 0) 
   items_of_run (bad_text now next x e first h) memory =
       (Ok (view x) ∷ first.0.0, first.1 first.0.0 first.0.1, (Err e, h, refl))
   items_of_run (item now next x text rest first h others) memory =
-      let behind = items_of_run others (λ same. memory (ap (in_front text) same)) in
-      (Ok (view x) ∷ behind.0, first.1 behind.0 behind.1, (Ok text, h, (rest, behind.2, refl)))
+      let following = items_of_run others (λ same. memory (ap (in_front text) same)) in
+      (Ok (view x) ∷ following.0, first.1 following.0 following.1, (Ok text, h, (rest, following.2, refl)))
 
 module _ {endianity : Endianity RunTimeEndian} {debug : Debug RunTimeEndian} {default : Default RunTimeEndian}
     {eq : PartialEq RunTimeEndian} where
@@ -60,16 +60,16 @@ module _ {endianity : Endianity RunTimeEndian} {debug : Debug RunTimeEndian} {de
   -- the text of what an iterator over the sets of a section yields is that of these sets
   pub text_of_sets : {H : Type 0} (listing : SetListing H) (is_free : Bool)
       (now : HeadersOf (EndianSlice RunTimeEndian endianity debug default eq)) {start : Headers}
-      → remaining_by slice_input now ≡ start → (result : Result (Vec ℕ Global) Error)
-      → ReturnsText (ListsRun (GivesFirst (λ h. HasSets listing (remaining_by slice_input h)) (seen_by slice_input)
+      → remaining_of slice_input now ≡ start → (result : Result (Vec ℕ Global) Error)
+      → ReturnsText (ListsRun (GivesFirst (λ h. HasSets listing (remaining_of slice_input h)) (seen_by slice_input)
       is_free) (λ x. ListsSet listing (seen_by slice_input x)) now) result
       → ReturnsText (ListsSection listing start) result
   text_of_sets listing is_free now same (Ok text) run =
       subst (λ h. ListsSection listing h (Ok text.items)) same (items_of_run
-      (λ h. HasSets listing (remaining_by slice_input h)) (seen_by slice_input) (ListsSet listing) run (λ ran. cc))
+      (λ h. HasSets listing (remaining_of slice_input h)) (seen_by slice_input) (ListsSet listing) run (λ ran. cc))
   text_of_sets listing is_free now same (Err e) run = λ memory.
       subst (λ h. ListsSection listing h (Err e)) same (items_of_run
-      (λ h. HasSets listing (remaining_by slice_input h)) (seen_by slice_input) (ListsSet listing) (run memory)
+      (λ h. HasSets listing (remaining_of slice_input h)) (seen_by slice_input) (ListsSet listing) (run memory)
       (λ ran. memory cc))
 
 -- the line of a set and the lines that its entries append are those of the set

@@ -11,10 +11,10 @@ pub one_image : {A B : Type 0} {Is : A → Type 0} {Of : B → Type 0} (f : A �
 one_image f has to from = (f has.0, to has.0 has.1, λ other of. let h = from other of in h.2 ∙ ap f (has.2 h.0 h.1))
 
 -- there is exactly one thing after a value if there is exactly one value, and one thing after each value
-pub one_behind : {A B : Type 0} {Is : A → Type 0} {Of : A → B → Type 0} → HasOne Is → ((a : A) → Is a → HasOne (Of a))
+pub one_after : {A B : Type 0} {Is : A → Type 0} {Of : A → B → Type 0} → HasOne Is → ((a : A) → Is a → HasOne (Of a))
     → HasOne (λ (b : B). (a : A) × Is a × Of a b)
-one_behind has behind =
-    let one = behind has.0 has.1 in
+one_after has following =
+    let one = following has.0 has.1 in
     (one.0, (has.0, has.1, one.1), λ other h. one.2 other (rw (has.2 h.0 h.1) at h.2))
 
 -- a text or an error is joined in exactly one way if what is after it is listed in exactly one way

@@ -4,24 +4,24 @@ use Rattle.dwarf_read_core.specs.Headers.{AddressHeaderAt}
 use Rattle.dwarf_read_core.specs.Items.{AreItems, none, more, first_error}
 use Rattle.dwarf_read_core.specs.Sets.{HasSet}
 use Rattle.dwarf_read_core.proofs.sets.Entries.{size-positive}
-use Rattle.dwarf_listing_core.proofs.OneText.{one_behind, one_joined}
+use Rattle.dwarf_listing_core.proofs.OneText.{one_after, one_joined}
 
 -- items have exactly one text or error if each value has
 one_of_items : {S A : Type 0} (Lists : A → Result (List ℕ) Error → Type 0) {rest : S → Input}
-    {Is : S → Result A Error → Type 0} {behind : A → S → S} {old : S} {items : List (Result A Error)}
-    → ((old : S) (x : A) → Is old (Ok x) → HasOne (Lists x)) → AreItems rest Is behind old items
+    {Is : S → Result A Error → Type 0} {following : A → S → S} {old : S} {items : List (Result A Error)}
+    → ((old : S) (x : A) → Is old (Ok x) → HasOne (Lists x)) → AreItems rest Is following old items
     → HasOne (ListsItems Lists items)
 one_of_items Lists law (none empty) = (Ok [], refl, λ other h. h)
 one_of_items Lists law (first_error {e = e} some h) = (Err e, refl, λ other h. h)
 one_of_items Lists law (more {old = old} {x = x} some is others) =
-    one_behind (law old x is) (λ own lists. one_joined own (one_of_items Lists law others))
+    one_after (law old x is) (λ own lists. one_joined own (one_of_items Lists law others))
 
 -- lines have exactly one text or error
 one_of_lines : (line_of : ℕ → List ℕ) (items : List (Result ℕ Error)) → HasOne (ListsItems (ListsLine line_of) items)
 one_of_lines line_of [] = (Ok [], refl, λ other h. h)
 one_of_lines line_of (Err e ∷ items) = (Err e, refl, λ other h. h)
 one_of_lines line_of (Ok n ∷ items) =
-    one_behind (Ok (line_of n), refl, λ other is. is) (λ own lists. one_joined own (one_of_lines line_of items))
+    one_after (Ok (line_of n), refl, λ other is. is) (λ own lists. one_joined own (one_of_lines line_of items))
 
 -- a section has exactly one text or error if it has exactly one list of sets, and each set one list of entries
 pub one_section : {H : Type 0} (listing : SetListing H) (headers : Headers)
@@ -29,11 +29,11 @@ pub one_section : {H : Type 0} (listing : SetListing H) (headers : Headers)
     → HasOne (listing.represents (listing.entries s)))
     → HasOne (HasSets listing headers) → HasOne (ListsSection listing headers)
 one_section {H} listing headers entries sets =
-    one_behind sets (λ items are. one_of_items (ListsSet listing) one_set are)
+    one_after sets (λ items are. one_of_items (ListsSet listing) one_set are)
   where
     one_set : (old : Headers) (s : Set H) → HasSet listing.header (2 ^ 64 - 1) old s → HasOne (ListsSet listing s)
     one_set old s has =
-        one_joined (Ok (listing.header_line s)) (one_behind (entries old s has)
+        one_joined (Ok (listing.header_line s)) (one_after (entries old s has)
         (λ items are. one_of_lines listing.entry_line items))
 
 -- the address size of a set of addresses is above 0

@@ -27,13 +27,13 @@ pub fn parse_offsets(mem: Global, input: &[u8]) -> Result<Vec<u64>, ManyFault>
     let mut offsets = Vec::new(mem);
     let mut rest = input;
     while !rest.is_empty() {
-        let (line, behind) = split_line(rest);
+        let (line, following) = split_line(rest);
         let Some(offset) = parse_offset(line) else {
             let number = offsets.len() as u64 + 1;
             return Err(ManyFault::Line(number, Quote::new(line)));
         };
         offsets.push(offset)?;
-        rest = behind;
+        rest = following;
     }
     Ok(offsets)
 }

@@ -12,9 +12,9 @@ use std::{env, io};
 
 // The arguments after the program's own name, which may not be UTF-8.
 #[derive(Drop)]
-struct BehindName<'env, E: Env>(&'env E);
+struct AfterName<'env, E: Env>(&'env E);
 
-impl<E: Env> Env for BehindName<'_, E> {
+impl<E: Env> Env for AfterName<'_, E> {
     fn arg(&self, i: usize, buf: &mut [u8]) -> Result<usize, FillError> {
         self.0.arg(i.saturating_add(1), buf)
     }
@@ -37,7 +37,7 @@ pub fn command_line<E: Env>(mem: Global, env: &E) -> Result<Vec<String>, Fault>
     ensures err { IfErr result
         (λ fault. (fault ≡ Fault.Usage) ⊎ (fault ≡ Fault.Section Error.OutOfMemory)) }
 {
-    match env::args(&(BehindName(env), mem)) {
+    match env::args(&(AfterName(env), mem)) {
         Ok(words) => Ok(words.collect(mem)?),
         Err(error) => Err(fault_of(&error)),
     }

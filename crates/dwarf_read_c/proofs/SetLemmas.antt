@@ -21,8 +21,8 @@ pub record FoundSet {H : Type 0} (header : Header H) (section : Input) (offset :
   pub rest : length s.entries.bytes ≡ s.unit_length - 4
 
 -- the sets of the bytes from an offset on, as the code sees them
-abbrev pub sets_behind : ℕ → Input → Headers
-sets_behind offset section = record { offset = 0; rest = after offset section }
+abbrev pub sets_after : ℕ → Input → Headers
+sets_after offset section = record { offset = 0; rest = after offset section }
 
 -- no set is at an offset past the end, and the error is that of missing bytes
 pub set_outside : {H : Type 0} {header : Header H} {section : Input} {offset : ℕ} {e : Error} {new : Input}
@@ -35,7 +35,7 @@ some_left bytes offset some = grind (arith, common_steps)
 
 -- an offset from which on there is no item is the length of the section
 pub set_after_the_last : {H : Type 0} (header : Header H) (bytes : List ℕ) (is_big : Bool) {offset : ℕ} {old : Headers}
-    → offset ≤ length bytes → old ≡ sets_behind offset (section_of bytes is_big)
+    → offset ≤ length bytes → old ≡ sets_after offset (section_of bytes is_big)
     → RepresentsSets header (2 ^ 64 - 1) old [] → offset ≡ length bytes
 set_after_the_last header bytes is_big {offset} {old} within start ended =
     let empty = no_first-is (subst (λ (h : Headers). RepresentsSets header (2 ^ 64 - 1) h []) start ended) in
@@ -44,7 +44,7 @@ set_after_the_last header bytes is_big {offset} {old} within start ended =
 -- if the first item from an offset on is a set, the section has this set there
 pub set_found : {H : Type 0} {header : Header H} {bytes : List ℕ} {is_big : Bool} {offset : ℕ} {old new : Headers}
     {s : Set H}
-    → IsHeader 4 header → old ≡ sets_behind offset (section_of bytes is_big)
+    → IsHeader 4 header → old ≡ sets_after offset (section_of bytes is_big)
     → ComesFirst (RepresentsSets header (2 ^ 64 - 1)) old (Ok s) new
     → FoundSet header (section_of bytes is_big) offset s
 set_found {H} {header} {bytes} {is_big} {offset} {old} {new} {s} is_header start given =
@@ -52,7 +52,7 @@ set_found {H} {header} {bytes} {is_big} {offset} {old} {new} {s} is_header start
     let there = subst (λ (h : Headers). RepresentsSets header (2 ^ 64 - 1) h (Ok s ∷ given.0.0)) start
     (given.1 given.0.0 given.0.1) in
     let begins = first-is there in
-    let found : HasSet header (2 ^ 64 - 1) (sets_behind offset (section_of bytes is_big)) s = begins.1 in
+    let found : HasSet header (2 ^ 64 - 1) (sets_after offset (section_of bytes is_big)) s = begins.1 in
     let within = some_left bytes offset begins.0 in
     let whole = length-drop offset bytes in
     let part = is_header.sized _ _ _ found.said in
@@ -71,7 +71,7 @@ set_found {H} {header} {bytes} {is_big} {offset} {old} {new} {s} is_header start
 
 -- if the first item from an offset on is an error, the section has no set there, with this error
 pub set_lacked : {H P : Type 0} {header : Header H} {bytes : List ℕ} {is_big : Bool} {offset : ℕ} {old new : Headers}
-    {e : Error} → old ≡ sets_behind offset (section_of bytes is_big)
+    {e : Error} → old ≡ sets_after offset (section_of bytes is_big)
     → ComesFirst (RepresentsSets header (2 ^ 64 - 1)) old (Err e) new ⊎ (CloneRanOutOfMemory true e × P)
     → LacksSet header (section_of bytes is_big) offset e
 set_lacked {header = header} {bytes} {is_big} {offset} {old} {new} {e} start (inl given) =

@@ -37,21 +37,21 @@ pub use Rattle.dwarf_base_core.specs.declared.error.Error.TheVariants.{Attribute
 pub use Rattle.dwarf_base_core.specs.declared.error.Error.TheVariants.{InvalidAbbreviationChildren}
 pub use Rattle.dwarf_base_core.specs.declared.error.Error.TheVariants.{UnterminatedAbbreviations}
 pub use Rattle.dwarf_reader_core.specs.Appended.{followed_by, IsNotEof}
-pub use Rattle.dwarf_reader_core.specs.Faults.{IsTooShort, end_fault, is_number_size, HasNoByte, RejectsWord, CloneRanOutOfMemory}
-pub use Rattle.dwarf_reader_core.specs.Faults.{RejectsAddress, eof}
+pub use Rattle.dwarf_reader_core.specs.Faults.{IsTooShort, end_fault, is_number_size, HasNoByte, ReadsNoWord, CloneRanOutOfMemory}
+pub use Rattle.dwarf_reader_core.specs.Faults.{ReadsNoAddress, eof}
 pub use Rattle.dwarf_reader_core.specs.Input.{Input, first, Takes, after, TakesNumber, TakesString, end_of}
 pub use Rattle.dwarf_reader_core.specs.Leb128.{Kind, Number, IsEncoding, NoneIsLast, IsNumber, IsMalformed, unsigned64}
 pub use Rattle.dwarf_reader_core.specs.Leb128.{unsigned16, signed64, overflow_error, limit, value, is_in_range, HasNumber}
-pub use Rattle.dwarf_reader_core.specs.Leb128.{IsTruncated, ReadsNumber, RejectsNumber}
+pub use Rattle.dwarf_reader_core.specs.Leb128.{IsTruncated, ReadsNumber, ReadsNoNumber}
 pub use Rattle.dwarf_reader_core.specs.Once.{HasOne}
 pub use Rattle.dwarf_reader_core.proofs.Consuming.{rest-length, takes-both}
 pub use Rattle.dwarf_read_core.specs.Answer.{Answer, IsFinal, IsFirstError, HasError, number_cut, number_bad, children_cut}
 pub use Rattle.dwarf_read_core.specs.Answer.{tag_zero, children_bad, name_zero, form_zero, in_declaration, repeated}
 pub use Rattle.dwarf_read_core.specs.Answer.{outside, table, first_error, Answers, TakesNoMemory, IsBeginning, before_code}
 pub use Rattle.dwarf_read_core.specs.Answer.{before_tag, before_name, before_form, before_value, strictly}
-pub use Rattle.dwarf_read_core.specs.Answer.{StrictAnswer, AnswersStrictly, IsStrictlyFinal}
-pub use Rattle.dwarf_read_core.specs.Cache.{KeepsAnswers, occurrences, Cache, answer_of, kept_at}
-pub use Rattle.dwarf_read_core.specs.Cache.{shown_entries, is_final, StillKept, IsFaithful, HasFirstItem, KeepsNoOutOfMemory}
+pub use Rattle.dwarf_read_core.specs.Answer.{StrictAnswer, AnswersStrictly, IsStrictlyFinal, FitsIn}
+pub use Rattle.dwarf_read_core.specs.Cache.{KeepsAnswers, occurrences, Cache, answer_of}
+pub use Rattle.dwarf_read_core.specs.Cache.{shown_entries, StillKept, IsFaithful, HasFirstItem, KeepsNoOutOfMemory}
 pub use Rattle.dwarf_read_core.specs.Cache.{least_count}
 pub use Rattle.dwarf_read_core.specs.Entries.{Entries, RepresentsAddresses, RepresentsStringOffsets}
 pub use Rattle.dwarf_read_core.specs.Grammar.{Table, by_null, by_end, Declaration, closed, implicit_const}
@@ -60,9 +60,9 @@ pub use Rattle.dwarf_read_core.specs.Grammar.{by_code_of, Specification, Sequenc
 pub use Rattle.dwarf_read_core.specs.Grammar.{children_byte, IsCode, IsHead, IsDeclaration, IsImplicit, ByCode}
 pub use Rattle.dwarf_read_core.specs.Grammar.{attribute_count, AreDeclarations}
 pub use Rattle.dwarf_read_core.specs.Items.{ComesFirst, least_taken}
-pub use Rattle.dwarf_read_core.specs.Lookups.{AnswersBy, StaysBy}
+pub use Rattle.dwarf_read_core.specs.Lookups.{UnlessCloneRanOut, Stays}
 pub use Rattle.dwarf_read_core.specs.Reading.{◌>>=◌, ReturnsUnlessOutOfMemory, and_others, declaration_of, number_from, specification_of}
-pub use Rattle.dwarf_read_core.specs.Reading.{close_of, and_declared}
+pub use Rattle.dwarf_read_core.specs.Reading.{close_of, and_declared, is_final}
 unfoldable pub use Rattle.dwarf_read_core.specs.Reading.{attributes_in, declared_at, tag_at, coded_at, declaration_at, table_in}
 unfoldable pub use Rattle.dwarf_read_core.specs.Reading.{specification_at, value_at, number_at, attributes_at}
 unfoldable pub use Rattle.dwarf_read_core.specs.Reading.{children_at, encoding_at, table_at}

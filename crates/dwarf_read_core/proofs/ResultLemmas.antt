@@ -2,7 +2,7 @@
 use Rattle.std.proofs.Common.{arith, Bool, true, false, cond, refl, ◌≡◌, ◌≢◌, Result, Ok, Err, IsErrAnd}
 use Rattle.dwarf_base_core.specs.declared.error.Error.TheVariants.{OutOfMemory}
 use Rattle.dwarf_base_core.specs.declared.error.Error.{Error}
-use Rattle.dwarf_read_core.specs.Lookups.{AnswersBy}
+use Rattle.dwarf_read_core.specs.Lookups.{UnlessCloneRanOut}
 use Rattle.dwarf_read_core.specs.Reading.{◌>>=◌, ReturnsUnlessOutOfMemory}
 
 -- a result is a value with one property, or an error with another
@@ -41,5 +41,5 @@ gives_err view result h step = grind arith
 
 -- an error that `?` propagates is the result of the lookup
 pub result-propagated : {X A : Type 0} (Is : Result A Error → Type 0) (view : X → A) (clone_is_free : Bool) {e : Error}
-    (r : Result X Error) → IsErrAnd r (λ x. x ≡ e) → Is (Err e) → AnswersBy Is view clone_is_free r
+    (r : Result X Error) → IsErrAnd r (λ x. x ≡ e) → Is (Err e) → UnlessCloneRanOut Is view clone_is_free r
 result-propagated Is view clone_is_free r h is = grind arith

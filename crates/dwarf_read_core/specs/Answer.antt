@@ -1,12 +1,14 @@
 -- The one result that a section has at an offset: the table there, or the first error.
-use Rattle.std.specs.Prelude.{◌≡◌, ◌≢◌, ℕ, ◌+◌, ◌<◌, ◌≤◌, ◌⊎◌, List, [], ◌∷◌, ◌++◌, length, drop, Result, Ok, Err, ⊤, if◌then◌else◌}
+use Rattle.std.specs.Prelude.{◌≡◌, ◌≢◌, ℕ, ◌+◌, ◌*◌, ◌<◌, ◌≤◌, ◌⊎◌, Bool, true, List, [], ◌∷◌, ◌++◌, length, drop, Result, Ok, Err, IsErrOf, ⊤, if◌then◌else◌}
+use Rattle.std.specs.FinMap as finite
 use Rattle.dwarf_base_core.specs.declared.error.Error.{Error}
 use Rattle.dwarf_base_core.specs.declared.error.Error.TheVariants.{AbbreviationTagZero, InvalidAbbreviationChildren, AttributeNameZero, AttributeFormZero, DuplicateAbbreviationCode, OutOfMemory, UnterminatedAbbreviations}
 use Rattle.dwarf_reader_core.specs.Leb128.{Kind, unsigned64, unsigned16, signed64, overflow_error, IsNumber, IsTruncated, IsMalformed}
 use Rattle.dwarf_reader_core.specs.Faults.{eof, end_fault}
 use Rattle.dwarf_reader_core.specs.Input.{Input, end_of}
 use Rattle.dwarf_reader_core.specs.Appended.{IsNotEof}
-use Rattle.dwarf_read_core.specs.Grammar.{Declaration, implicit_const, Table, by_null, is_by_null, IsCode, IsHead, IsFront, IsDeclaration, Declares, AreDeclarations, IsTable, IsTableBefore}
+use Rattle.dwarf_read_core.specs.Grammar.{Declaration, implicit_const, Table, by_null, is_by_null, attribute_count, IsCode, IsHead, IsFront, IsDeclaration, Declares, AreDeclarations, IsTable, IsTableBefore}
+use Rattle.dwarf_read_core.specs.Lookups.{UnlessOutOfMemory}
 
 -- the beginning of a declaration, up to a number of this kind
 pub data IsBeginning : List ℕ → Kind → Type 0 where
@@ -72,8 +74,12 @@ TableEndsAt section offset t end =
 
 -- what a call returned is the section's result at the offset, unless memory ran out
 abbrev pub Answers : Result Table Error → Input → ℕ → Type 0
-Answers (Ok t) section offset = Answer section offset (Ok t)
-Answers (Err e) section offset = e ≢ OutOfMemory → Answer section offset (Err e)
+Answers result section offset = UnlessOutOfMemory (Answer section offset) (λ t. t) result
+
+-- the declarations fit into the bytes from an offset on: each has at least five bytes, and each attribute two more
+abbrev pub FitsIn : Input → ℕ → Table → Type 0
+FitsIn section offset t =
+    5 * finite.len t.by_code + 2 * attribute_count t.by_code + offset ≤ length section.bytes
 
 -- a result that doesn't depend on where the section ends
 abbrev pub IsFinal : Result Table Error → Type 0
@@ -85,6 +91,11 @@ abbrev pub TakesNoMemory : Input → ℕ → Type 0
 TakesNoMemory section offset =
     (length section.bytes ≤ offset) ⊎ ((zero_code rest : List ℕ) × (drop offset section.bytes ≡ zero_code ++ rest)
     × IsNumber unsigned64 zero_code 0)
+
+-- if clones can't fail, memory doesn't run out where none is needed
+abbrev pub SparesMemory : {X : Type 0} → Bool → Input → ℕ → Result X Error → Type 0
+SparesMemory clone_is_free section offset result =
+    clone_is_free ≡ true → TakesNoMemory section offset → IsErrOf result OutOfMemory → ⊥
 
 -- the error for a table that only the section's end, at this position, closes
 abbrev pub unterminated : ℕ → Error
@@ -102,8 +113,7 @@ StrictAnswer section offset strict =
 
 -- what a call returned is the strict result, unless memory ran out
 abbrev pub AnswersStrictly : Result Table Error → Input → ℕ → Type 0
-AnswersStrictly (Ok t) section offset = StrictAnswer section offset (Ok t)
-AnswersStrictly (Err e) section offset = e ≢ OutOfMemory → StrictAnswer section offset (Err e)
+AnswersStrictly result section offset = UnlessOutOfMemory (StrictAnswer section offset) (λ t. t) result
 
 -- a strict result that doesn't depend on where the section ends: every table, and every error except `UnexpectedEof`
 -- and `UnterminatedAbbreviations`

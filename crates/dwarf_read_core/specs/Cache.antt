@@ -1,16 +1,14 @@
 -- What a cache of abbreviation tables keeps.
-use Rattle.std.specs.Prelude.{◌≡◌, ◌≢◌, ◌==◌, ℕ, ◌<◌, ◌≤◌, Bool, true, false, List, map, option_map, count_by, Option, Some, None, MatchOption, IfSome, Result, Ok, Err, MatchResult, ⊤, ◌⊎◌}
-use Rattle.std.specs.BTreeMap.{is_at}
+use Rattle.std.specs.Prelude.{◌≡◌, ◌≢◌, ◌==◌, ℕ, ◌<◌, ◌≤◌, Bool, List, map, count_by, Option, Some, None, MatchOption, IfSome, Result, Ok, Err, MatchResult, ⊤, ◌⊎◌}
 use Rattle.std.specs.FinMap as finite
 use Rattle.std.specs.Iterator.{YieldsThen}
-use Rattle.std.specs.Map.{lookup}
 use Rattle.std.specs.Ordering.{nat_cmp}
 use Rattle.std.specs.declared.rc.Rc.{Rc}
 use Rattle.dwarf_base_core.specs.declared.error.Error.{Error}
-use Rattle.dwarf_base_core.specs.declared.error.Error.TheVariants.{OutOfMemory, UnexpectedEof}
+use Rattle.dwarf_base_core.specs.declared.error.Error.TheVariants.{OutOfMemory}
 use Rattle.dwarf_reader_core.specs.Input.{Input}
 use Rattle.dwarf_read_core.specs.Answer.{Answer, IsFinal}
-use Rattle.dwarf_read_core.specs.Grammar.{Table, is_by_null}
+use Rattle.dwarf_read_core.specs.Grammar.{Table}
 use Rattle.dwarf_read_core.specs.declared.read.abbrev.cache.AbbreviationsCacheStrategy.{AbbreviationsCacheStrategy}
 use Rattle.dwarf_read_core.specs.declared.read.abbrev.cache.AbbreviationsCacheStrategy.TheVariants.{Duplicates, All}
 
@@ -22,10 +20,6 @@ answer_of (Err e) = Err e
 -- the entries of a cache, without the sharing of their tables
 abbrev pub shown_entries : {Z : Type 0} → List (ℕ × Result (Rc Table Z) Error) → List (ℕ × Result Table Error)
 shown_entries entries = map (λ entry. (entry.0, answer_of entry.1)) entries
-
--- what entries have at an offset, without the sharing
-abbrev pub kept_at : {Z : Type 0} → List (ℕ × Result (Rc Table Z) Error) → ℕ → Option (Result Table Error)
-kept_at entries key = option_map answer_of (lookup (is_at (nat_cmp key)) entries)
 
 -- the results that a cache keeps, by offset
 abbrev pub Cache : Type 0
@@ -87,12 +81,6 @@ abbrev pub ReturnsKept : {Z : Type 0} → Result Table Error → Result (Rc Tabl
 ReturnsKept kept result =
     MatchResult kept (λ table. MatchResult result (λ shared. shared.value ≡ table) (λ e. e ≡ OutOfMemory))
     (λ e. (result ≡ Err e) × (e ≢ OutOfMemory))
-
--- whether a result is final, as a test
-abbrev pub is_final : Result Table Error → Bool
-is_final (Ok t) = is_by_null t.close
-is_final (Err (UnexpectedEof _)) = false
-is_final (Err _) = true
 
 -- what a cache keeps of an entry once the section has grown: the entry if appended bytes leave it unchanged, and else
 -- nothing

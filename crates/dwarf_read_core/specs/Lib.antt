@@ -1,5 +1,6 @@
 pub mod Answer
 pub mod Cache
+pub mod Codes
 pub mod Entries
 pub mod Equality
 pub mod Forms

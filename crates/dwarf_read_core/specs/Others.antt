@@ -1,5 +1,5 @@
 -- What contracts see of the abbreviations of a table whose codes don't count up from 1.
-use Rattle.std.specs.Prelude.{◌≡◌, ℕ, ◌<◌, false, cond, Option, Some, None, List, [], map, length, slice_index_or}
+use Rattle.std.specs.Prelude.{◌≡◌, ℕ, ◌<◌, false, if◌then◌else◌, Option, Some, None, List, [], map, length, slice_index_or}
 use Rattle.std.specs.BTreeMap.{is_at}
 use Rattle.std.specs.List.{All}
 use Rattle.std.specs.List.Sorted.{IsStrictlySortedBy}
@@ -28,4 +28,5 @@ at_code code es = lookup (is_at (nat_cmp code)) es
 -- the entries fs have what es have, and d at its code, where es have none
 pub record Adds (d : Declaration) (es fs : List (ℕ × Declaration)) : Type 0 where
   pub absent : at_code d.code es ≡ None
-  pub added : (code : ℕ) → at_code code fs ≡ cond (is_at (nat_cmp d.code) code) (Some d) (at_code code es)
+  pub added : (code : ℕ) → at_code code fs
+      ≡ (if is_at (nat_cmp d.code) code then Some d else at_code code es)

@@ -1,12 +1,13 @@
 -- Functions that read tables from the front of bytes. Each returns what it read and the bytes after it, or the first
 -- error.
-use Rattle.std.specs.Prelude.{◌≡◌, ◌≢◌, ℕ, zero, suc, ◌+◌, Bool, true, false, ℤ, List, [], ◌∷◌, length, Option, Some, None, Result, Ok, Err, nat_lt, ◌==◌, if◌then◌else◌}
+use Rattle.std.specs.Prelude.{◌≡◌, ℕ, zero, suc, ◌+◌, Bool, true, false, ℤ, List, [], ◌∷◌, length, Option, Some, None, Result, Ok, Err, nat_lt, ◌==◌, if◌then◌else◌}
 use Rattle.std.specs.FinMap.{contains_key, insert}
 use Rattle.dwarf_base_core.specs.declared.error.Error.{Error}
-use Rattle.dwarf_base_core.specs.declared.error.Error.TheVariants.{AbbreviationTagZero, InvalidAbbreviationChildren, AttributeNameZero, AttributeFormZero, DuplicateAbbreviationCode, OutOfMemory}
+use Rattle.dwarf_base_core.specs.declared.error.Error.TheVariants.{AbbreviationTagZero, InvalidAbbreviationChildren, AttributeNameZero, AttributeFormZero, DuplicateAbbreviationCode, UnexpectedEof}
 use Rattle.dwarf_reader_core.specs.Leb128.{Kind, Number, unsigned64, unsigned16, signed64, limit, value, is_in_range, overflow_error}
 use Rattle.dwarf_reader_core.specs.Faults.{eof}
-use Rattle.dwarf_read_core.specs.Grammar.{Specification, Declaration, implicit_const, ByCode, Table, closed, Close, by_null, by_end}
+use Rattle.dwarf_read_core.specs.Grammar.{Specification, Declaration, implicit_const, ByCode, Table, closed, Close, by_null, by_end, is_by_null}
+use Rattle.dwarf_read_core.specs.Lookups.{UnlessOutOfMemory}
 
 infixl 10 ◌>>=◌
 abbrev pub ◌>>=◌ : {A B : Type 0} → Result A Error → (A → Result B Error) → Result B Error
@@ -15,8 +16,7 @@ Err e >>= f = Err e
 
 -- what a call returned, seen by a view, is what the function reads, unless memory ran out
 abbrev pub ReturnsUnlessOutOfMemory : {X Y : Type 0} → (X → Y) → Result X Error → Result Y Error → Type 0
-ReturnsUnlessOutOfMemory view (Ok x) read = read ≡ Ok (view x)
-ReturnsUnlessOutOfMemory view (Err e) read = e ≢ OutOfMemory → read ≡ Err e
+ReturnsUnlessOutOfMemory view result read = UnlessOutOfMemory (λ seen. read ≡ seen) view result
 
 -- one more byte before the first bytes
 abbrev pub with_byte : ℕ → Option (List ℕ × List ℕ) → Option (List ℕ × List ℕ)
@@ -120,3 +120,9 @@ table_at (suc n) end t bytes =
 -- the declarations at the front of the bytes, added to those of a table
 unfoldable pub table_in : ℕ → ByCode → List ℕ → Result Table Error
 table_in end t bytes = table_at (length bytes + 1) end t bytes
+
+-- whether a result doesn't depend on where the section ends
+abbrev pub is_final : Result Table Error → Bool
+is_final (Ok t) = is_by_null t.close
+is_final (Err (UnexpectedEof _)) = false
+is_final (Err _) = true

@@ -6,7 +6,8 @@ use Rattle.std.specs.Map.{lookup}
 use Rattle.std.specs.Ordering.{nat_cmp}
 use Rattle.std.proofs.Common.{sym, ap}
 use Rattle.std.proofs.lemmas.Bool.{eqb-false}
-use Rattle.dwarf_read_core.specs.Grammar.{Specification, Declaration, Table, closed, close_from, implicit_const}
+use Rattle.dwarf_read_core.specs.Codes.{close_from}
+use Rattle.dwarf_read_core.specs.Grammar.{Specification, Declaration, Table, closed, implicit_const}
 use Rattle.dwarf_read_core.specs.declared.read.abbrev.attribute.AttributeSpecification.TheInside.{Inside}
 use Rattle.dwarf_read_core.specs.declared.read.abbrev.abbreviation.Abbreviation.TheInside as abbreviation
 use Rattle.dwarf_read_core.specs.declared.read.abbrev.table.Abbreviations.TheInside as abbreviations

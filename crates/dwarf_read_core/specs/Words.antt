@@ -32,7 +32,7 @@ pub record IsPlaced (greatest : ℕ) (section : Input) (s : Slot) : Type 0 where
 -- the whole slot is in the section, and its bytes encode the number x
 pub record Holds (section : Input) (s : Slot) (x : ℕ) : Type 0 where
   pub within : place s + s.width ≤ length section.bytes
-  pub is : x ≡ number_of section.is_big (take s.width (drop (place s) section.bytes))
+  pub encoded : x ≡ number_of section.is_big (take s.width (drop (place s) section.bytes))
 
 -- a section has the word x at a slot: the slot has a place, and holds x, which is an offset
 pub record HasWord (greatest : ℕ) (section : Input) (s : Slot) (x : ℕ) : Type 0 where

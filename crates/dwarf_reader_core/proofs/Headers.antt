@@ -1,5 +1,5 @@
 -- Bytes have exactly one header of each kind, or exactly one error in place of it, and what a reader reads is it.
-use Rattle.dwarf_reader_core.proofs.Common.{common_steps, ◌≡◌, ◌≢◌, ◌∙◌, ℕ, ◌+◌, ◌<◌, ◌≤◌, Bool, true, false, IsTrue, length, take, Result, Ok, Err, refl, sym, subst, arith, ◌⊎◌, inl, inr, cases_lt, if◌then◌else◌, Error, IsTooShort, end_fault, Input, after, Takes, TakesByte, TakesNumber, HasOne}
+use Rattle.dwarf_reader_core.proofs.Common.{common_steps, ◌≡◌, ◌≢◌, ◌∙◌, ℕ, ◌+◌, ◌<◌, ◌≤◌, Bool, true, false, IsTrue, length, take, Result, Ok, Err, refl, sym, subst, arith, ◌⊎◌, inl, inr, cases_lt, if◌then◌else◌, Error, IsTooShort, end_fault, Input, after, Takes, TakesByte, TakesNumber}
 use Rattle.std.proofs.Common.{nat_lt, ◌==◌, slice_index}
 use Rattle.std.proofs.lemmas.Bool.{cases_eq, cases_Bool}
 use Rattle.std.proofs.lemmas.List.{get_or-drop}
@@ -135,8 +135,8 @@ sizes_at unit =
 address_header-is : (unit : Input) (r : Result (ℕ × Input) Error) → AddressHeaderAt unit r
     → r ≡ versioned unit (sizes_at unit)
 address_header-is unit (Ok x) has =
-    versioned-is has.version ((λ i. Ok (sym has.is i, has.left i))
-    ∙ flat-is _ _ _ _ _ _ _ _ has.enough (subst (λ n. IsTrue (is_number_size n)) (sym has.is) has.sized) has.flat)
+    versioned-is has.version ((λ i. Ok (sym has.address_size i, has.left i))
+    ∙ flat-is _ _ _ _ _ _ _ _ has.enough (subst (λ n. IsTrue (is_number_size n)) (sym has.address_size) has.sized) has.flat)
 address_header-is unit (Err e) (address_unversioned lacks) = unversioned-is _ lacks
 address_header-is unit (Err e) (address_size_cut version short) =
     versioned-is version (size_cut-is _ _ _ _ _ _ _ _ short)
@@ -175,7 +175,7 @@ address_header-some unit =
                                 record {
                                   enough = four;
                                   version = version;
-                                  is = refl;
+                                  address_size = refl;
                                   sized = sized;
                                   flat = flat;
                                   left = refl;
@@ -230,19 +230,19 @@ string_offsets_header = record {
 -- ---- what a reader reads
 
 -- a byte that is read after n bytes is the one with that index
-record ByteBehind (n : ℕ) (unit : Input) (b : ℕ) (new : Input) : Type 0 where
+record ByteAfter (n : ℕ) (unit : Input) (b : ℕ) (new : Input) : Type 0 where
   enough : n + 1 ≤ length unit.bytes
-  is : slice_index unit.bytes n ≡ b
+  byte : slice_index unit.bytes n ≡ b
   takes : Takes (n + 1) unit new
 
 -- a byte that is read after n bytes is the next one
-byte_behind : {n b : ℕ} {unit mid new : Input} → Takes n unit mid → TakesByte mid b new → ByteBehind n unit b new
-byte_behind {n} {b} {unit} {mid} {new} takes byte = grind (arith, common_steps, get_or-drop)
+byte_after : {n b : ℕ} {unit mid new : Input} → Takes n unit mid → TakesByte mid b new → ByteAfter n unit b new
+byte_after {n} {b} {unit} {mid} {new} takes byte = grind (arith, common_steps, get_or-drop)
 
 -- if no byte is read after n bytes, the input has these alone
-no_byte_behind : {n : ℕ} {unit mid new : Input} {e : Error} → Takes n unit mid → IsTooShort 1 mid e new
+no_byte_after : {n : ℕ} {unit mid new : Input} {e : Error} → Takes n unit mid → IsTooShort 1 mid e new
     → (length unit.bytes ≡ n) × (e ≡ end_fault (after n unit))
-no_byte_behind {n} {unit} {mid} {new} {e} takes short = grind (arith, common_steps)
+no_byte_after {n} {unit} {mid} {new} {e} takes short = grind (arith, common_steps)
 
 -- if two bytes aren't read, no version is there
 pub version_cut_read : {unit new : Input} {e : Error} → IsTooShort 2 unit e new → HasNoVersion unit e
@@ -255,12 +255,12 @@ module _ {unit mid : Input} {v : ℕ} (takes : TakesNumber 2 unit v mid) where
 
   -- another version is read than 5
   pub other_version_read : v ≢ 5 → HasNoVersion unit (UnknownVersion v)
-  other_version_read other = version_unknown takes.enough takes.is other
+  other_version_read other = version_unknown takes.enough takes.encoded other
 
   module _ (known : v ≡ 5) where
     -- version 5 is read
     version_read : HasVersion unit
-    version_read = record { enough = takes.enough; version = sym takes.is ∙ known }
+    version_read = record { enough = takes.enough; version = sym takes.encoded ∙ known }
 
     -- the padding of a header of string offsets is read after it, or is cut
     pub padding_read : {p : ℕ} {new : Input} → TakesNumber 2 mid p new → HasStringOffsetsHeader unit new
@@ -277,44 +277,44 @@ module _ {unit mid : Input} {v : ℕ} (takes : TakesNumber 2 unit v mid) where
     pub no_size_read : {e : Error} {new : Input} → IsTooShort 1 mid e new ⊎ IsUnsupportedAddressSize mid e new
         → HasNoAddressHeader unit e
     no_size_read (inl cut) =
-        let short = no_byte_behind version_taken cut in
+        let short = no_byte_after version_taken cut in
         rw short.1 (address_size_cut version_read (omega (arith, short.0)))
     no_size_read (inr other) =
-        let third = byte_behind version_taken other.taken in
-        rw other.fault (address_size_unknown version_read third.enough third.is other.none)
+        let third = byte_after version_taken other.taken in
+        rw other.fault (address_size_unknown version_read third.enough third.byte other.none)
 
     module _ {size : ℕ} {late : Input} (byte : TakesByte mid size late) (sized : IsTrue (is_number_size size)) where
       -- the address size is that of the third byte
-      third_read : ByteBehind 2 unit size late
-      third_read = byte_behind version_taken byte
+      third_read : ByteAfter 2 unit size late
+      third_read = byte_after version_taken byte
 
       -- that byte is an address size
       third_sized : IsTrue (is_number_size (slice_index unit.bytes 2))
-      third_sized = rw third_read.is sized
+      third_sized = rw third_read.byte sized
 
       -- without a segment size after it, that is cut
       pub no_segment_read : {e : Error} {new : Input} → IsTooShort 1 late e new → HasNoAddressHeader unit e
       no_segment_read cut =
-          let short = no_byte_behind third_read.takes cut in
+          let short = no_byte_after third_read.takes cut in
           rw short.1 (segment_size_cut version_read third_sized short.0)
 
       -- with a segment size that isn't 0 there is no header
       pub other_segment_read : {s : ℕ} {new : Input} → TakesByte late s new → s ≢ 0
           → HasNoAddressHeader unit (UnsupportedSegmentSize s)
       other_segment_read segment other =
-          let fourth = byte_behind third_read.takes segment in
-          segment_size_unknown version_read third_sized fourth.enough fourth.is other
+          let fourth = byte_after third_read.takes segment in
+          segment_size_unknown version_read third_sized fourth.enough fourth.byte other
 
       -- with the segment size 0 the header is read
       pub address_header_read : {s : ℕ} {new : Input} → TakesByte late s new → s ≡ 0 → HasAddressHeader unit size new
       address_header_read segment flat =
-          let fourth = byte_behind third_read.takes segment in
+          let fourth = byte_after third_read.takes segment in
           record {
             enough = fourth.enough;
             version = version_read;
-            is = third_read.is;
+            address_size = third_read.byte;
             sized = sized;
-            flat = fourth.is ∙ flat;
+            flat = fourth.byte ∙ flat;
             left = fourth.takes.left;
           }
 

@@ -1,7 +1,7 @@
 -- Bytes have exactly one initial length, or exactly one error in place of it, and either stays with more bytes appended.
-use Rattle.dwarf_reader_core.proofs.Common.{◌≡◌, ◌≢◌, ◌∙◌, ℕ, ◌+◌, ◌<◌, ◌≤◌, List, length, take, Result, Ok, Err, refl, sym, subst, ap, arith, ◌⊎◌, inl, inr, cases_lt, if◌then◌else◌, Error, end_fault, IsTooShort, Input, after, Takes, TakesNumber, HasOne}
-use Rattle.std.proofs.Common.{nat_lt, nat_le, ◌==◌, lt-ltb, le-ltb, eqb, ne_eqb}
-use Rattle.std.proofs.lemmas.Bool.{cases_eq, le-leb, lt-leb}
+use Rattle.dwarf_reader_core.proofs.Common.{◌≡◌, ◌≢◌, ◌∙◌, ℕ, ◌<◌, ◌≤◌, List, length, take, Result, Ok, Err, refl, sym, subst, ap, arith, inl, inr, cases_lt, if◌then◌else◌, Error, end_fault, IsTooShort, Input, after, Takes, TakesNumber, HasOne}
+use Rattle.std.proofs.Common.{nat_lt, nat_le, ◌==◌}
+use Rattle.std.proofs.lemmas.Bool.{cases_eq}
 use Rattle.dwarf_base_core.specs.declared.common.Format.{Format}
 use Rattle.dwarf_base_core.specs.declared.common.Format.TheVariants.{Dwarf32, Dwarf64}
 use Rattle.dwarf_base_core.specs.declared.error.Error.TheVariants.{UnknownReservedLength, UnsupportedOffset}
@@ -17,7 +17,7 @@ front_number n old = number_of old.is_big (take n old.bytes)
 
 -- if there are n bytes, their number is consumed
 front_taken : (n : ℕ) (old : Input) → n ≤ length old.bytes → TakesNumber n old (front_number n old) (after n old)
-front_taken n old enough = record { enough = enough; is = refl; left = refl }
+front_taken n old enough = record { enough = enough; encoded = refl; left = refl }
 
 -- if there are fewer than n bytes, that is an error
 front_cut : (n : ℕ) (old : Input) → length old.bytes < n → IsTooShort n old (end_fault old) old
@@ -94,27 +94,27 @@ length_at greatest old =
 long-is : (greatest : ℕ) {old mid : Input} (x : Outcome) → TakesNumber 4 old 0xffff_ffff mid
     → x ≡ long_at greatest mid → x ≡ length_at greatest old
 long-is greatest x four is =
-    is ∙ ap (long_at greatest) four.left ∙ announced-is _ _ _ _ _ _ four.enough (sym four.is)
+    is ∙ ap (long_at greatest) four.left ∙ announced-is _ _ _ _ _ _ four.enough (sym four.encoded)
 
 -- each result is the one result
 result_is : (greatest : ℕ) (old : Input) (x : Outcome) → LengthAt greatest old x → x ≡ length_at greatest old
 result_is greatest old (Ok x, new) (in_four_bytes takes low) =
-    (λ i. (Ok (Dwarf32, takes.is i), takes.left i))
-    ∙ four_bytes-is _ _ _ _ _ _ takes.enough (subst (λ n. n < 0xffff_fff0) takes.is low)
+    (λ i. (Ok (Dwarf32, takes.encoded i), takes.left i))
+    ∙ four_bytes-is _ _ _ _ _ _ takes.enough (subst (λ n. n < 0xffff_fff0) takes.encoded low)
 result_is greatest old (Ok x, new) (in_eight_bytes four eight fits) =
-    long-is greatest _ four ((λ i. (Ok (Dwarf64, eight.is i), eight.left i))
-    ∙ eight_bytes-is _ _ _ _ _ _ eight.enough (subst (λ n. n ≤ greatest) eight.is fits))
+    long-is greatest _ four ((λ i. (Ok (Dwarf64, eight.encoded i), eight.left i))
+    ∙ eight_bytes-is _ _ _ _ _ _ eight.enough (subst (λ n. n ≤ greatest) eight.encoded fits))
 result_is greatest old (Err e, new) (four_cut short) =
     (λ i. (Err (short.fault i), short.left i)) ∙ four_cut-is _ _ _ _ _ _ short.short
 result_is greatest old (Err e, new) (reserved takes high other) =
-    (λ i. (Err (UnknownReservedLength (takes.is i)), takes.left i))
-    ∙ reserved-is _ _ _ _ _ _ takes.enough (subst (λ n. 0xffff_fff0 ≤ n) takes.is high)
-    (λ same. other (takes.is ∙ same))
+    (λ i. (Err (UnknownReservedLength (takes.encoded i)), takes.left i))
+    ∙ reserved-is _ _ _ _ _ _ takes.enough (subst (λ n. 0xffff_fff0 ≤ n) takes.encoded high)
+    (λ same. other (takes.encoded ∙ same))
 result_is greatest old (Err e, new) (eight_cut four short) =
     long-is greatest _ four ((λ i. (Err (short.fault i), short.left i)) ∙ eight_cut-is _ _ _ _ _ _ short.short)
 result_is greatest old (Err e, new) (too_great four eight over) =
     long-is greatest _ four ((λ i. (Err UnsupportedOffset, eight.left i))
-    ∙ too_great-is _ _ _ _ _ _ eight.enough (subst (λ n. greatest < n) eight.is over))
+    ∙ too_great-is _ _ _ _ _ _ eight.enough (subst (λ n. greatest < n) eight.encoded over))
 
 -- there is a result
 some_result : (greatest : ℕ) (old : Input) → (x : Outcome) × LengthAt greatest old x
@@ -130,7 +130,7 @@ some_result greatest old =
                 elim (cases_eq n 0xffff_ffff) [
                   | inl same ↦
                       let four : TakesNumber 4 old 0xffff_ffff mid =
-                      record { enough = enough; is = sym same; left = refl } in
+                      record { enough = enough; encoded = sym same; left = refl } in
                       elim (cases_lt (length mid.bytes) 8) [
                         | inl short ↦ ((Err (end_fault mid), mid), eight_cut four (front_cut 8 mid short))
                         | inr more ↦

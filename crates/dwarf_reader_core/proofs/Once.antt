@@ -26,7 +26,7 @@ same_index {i = i} {j} a b =
 pub one_string : (old s t x y : Input) → TakesString old s x → TakesString old t y → (s ≡ t) × (x ≡ y)
 one_string old s t x y a b =
     let same = same_index a.ends b.ends in (
-      a.is ∙ ap (λ n. first n old) same ∙ sym b.is,
+      a.content ∙ ap (λ n. first n old) same ∙ sym b.content,
       a.left ∙ ap (λ n. after (n + 1) old) same ∙ sym b.left,
     )
 
@@ -63,6 +63,6 @@ some_string old =
       | inl none ↦ inr (end_fault old, record { none = none; fault = refl })
       | inr found ↦
           let taken : TakesString old (first found.0 old) (after (found.0 + 1) old) =
-          record { len = found.0; ends = found.1; is = refl; left = refl } in
+          record { len = found.0; ends = found.1; content = refl; left = refl } in
           inl (first found.0 old, after (found.0 + 1) old, taken)
     ]

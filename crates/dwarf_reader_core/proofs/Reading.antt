@@ -1,7 +1,7 @@
 -- Reading a LEB128 number, one byte after the other.
 use Rattle.dwarf_reader_core.proofs.Common.{common_steps, List, ◌-◌, ◌≡◌, ℕ, ◌+◌, ◌*◌, ◌%◌, ◌^◌, ◌<◌, ◌≤◌, [], ◌∷◌, ◌++◌, length, get_or, take, refl, sym, ap, ◌∙◌, arith, inl, inr, IsTrue, ◌↔◌, ◌≢◌, Bool, ℤ, pos, ◌-ℤ◌, nat_le, if◌then◌else◌, lt-ltb, ltb-true, bit_or, to_z, of_z, w64, FitsSigned, add_assoc, add-zero, length-take-le, drop-drop, take_all, Error, IsTooShort, IsFirst, length-drop, Input, after, Takes, TakesByte, ints, to_z-of_z}
 use Rattle.dwarf_base_core.specs.declared.error.Error.TheVariants.{BadUnsignedLeb128, BadSignedLeb128}
-use Rattle.dwarf_reader_core.specs.Leb128.{unsigned64, unsigned16, signed64, IsEncoding, NoneIsLast, unsigned_value, signed_value, is_negative, Kind, Number, value as value_of, limit, is_in_range, overflow_error, HasNumber, IsTruncated, ReadsNumber, RejectsNumber, LacksEncoding, TakesEncoding}
+use Rattle.dwarf_reader_core.specs.Leb128.{unsigned64, unsigned16, signed64, IsEncoding, NoneIsLast, unsigned_value, signed_value, is_negative, Kind, Number, value as value_of, limit, is_in_range, overflow_error, HasNumber, IsTruncated, ReadsNumber, ReadsNoNumber, TakesNoEncoding, TakesEncoding}
 use Rattle.dwarf_reader_core.proofs.Encodings.{in_range_i64, IsEncoding-cons, NoneIsLast-push, IsEncoding-push, IsEncoding-last, unsigned_value-push, worth_below, past_none, is_negative-push}
 use Rattle.dwarf_reader_core.proofs.Bits.{pow_digits, or_digit, tenth_out}
 
@@ -43,7 +43,7 @@ begun_below_nine b nine = rw nine at (begun_below b)
 
 -- without a byte after the first k, all bytes are consumed and no encoding ends in them
 pub begun_cut : {old mid new : Input} {k value : ℕ} {e : Error} → Begun old k mid value → IsTooShort 1 mid e new
-    → LacksEncoding old e new × (k ≡ length old.bytes)
+    → TakesNoEncoding old e new × (k ≡ length old.bytes)
 begun_cut {old} {k = k} b ends =
     let all : k ≡ length old.bytes = grind (arith, common_steps) in
     let whole : take k old.bytes ≡ old.bytes = take_all k old.bytes (omega arith) in (
@@ -57,7 +57,7 @@ begun_cut {old} {k = k} b ends =
 
 -- a number that bytes are missing for, within the limit of its kind, is rejected
 pub cut_rejects : {old mid new : Input} {k value : ℕ} {e : Error} (kind : Kind) → Begun old k mid value
-    → k < limit kind → IsTooShort 1 mid e new → RejectsNumber kind old e new
+    → k < limit kind → IsTooShort 1 mid e new → ReadsNoNumber kind old e new
 cut_rejects kind b within ends =
     let cut = begun_cut b ends in
     let short : IsTruncated kind _ = record { short = rw (cut.1) at within; unended = cut.0.none } in
@@ -91,19 +91,19 @@ module _ {old mid new : Input} {k value byte : ℕ} (b : Begun old k mid value) 
 
   -- a byte without a continuation bit ends an encoding of any length
   pub next_encoding : byte < 128 → TakesEncoding old new
-  next_encoding last = record { len = k + 1; enough = omega (arith, next.0); is = next_ends last; left = next.2 }
+  next_encoding last = record { len = k + 1; enough = omega (arith, next.0); encoding = next_ends last; left = next.2 }
 
   -- the number is read if its encoding ends within the limit and its value is in the range of the kind
   next_reads : (kind : Kind) (v : Number kind) → byte < 128 → k < limit kind
       → value_of kind (take (k + 1) old.bytes) ≡ v → IsTrue (is_in_range kind v) → ReadsNumber kind old v new
   next_reads kind v last short means in_range =
-      let is : HasNumber kind old.bytes v (k + 1) = grind (arith, next, next_ends, length-take-le) in
-      record { len = k + 1; is = is; left = next.2 }
+      let has : HasNumber kind old.bytes v (k + 1) = grind (arith, next, next_ends, length-take-le) in
+      record { len = k + 1; has = has; left = next.2 }
 
   -- reading fails at the limit if no encoding that ends there has a value in range
   next_rejects : (kind : Kind) → k + 1 ≡ limit kind
       → (byte < 128 → IsTrue (is_in_range kind (value_of kind (take (k + 1) old.bytes))) → ⊥)
-      → RejectsNumber kind old (overflow_error kind) new
+      → ReadsNoNumber kind old (overflow_error kind) new
   next_rejects kind whole out =
       let none : (v : Number kind) (m : ℕ) → HasNumber kind old.bytes v m → ⊥ = λ v m found.
       let past = past_none old.bytes k m b.enough b.none found.is_number.encoding in
@@ -139,7 +139,7 @@ module _ {old mid new : Input} {k value byte : ℕ} (b : Begun old k mid value) 
       (lt-ltb _ _ (omega (arith, sum)))
 
   -- ten bytes are no unsigned number if the tenth is above 1
-  pub rejects_tenth_unsigned : k ≡ 9 → 1 < byte → RejectsNumber unsigned64 old BadUnsignedLeb128 new
+  pub rejects_tenth_unsigned : k ≡ 9 → 1 < byte → ReadsNoNumber unsigned64 old BadUnsignedLeb128 new
   rejects_tenth_unsigned nine large =
       let worth = rw nine at next_worth in
       next_rejects unsigned64 (omega arith) (λ last has. omega (arith, worth, ltb-true _ _ (rw nine at has)))
@@ -150,7 +150,7 @@ module _ {old mid new : Input} {k value byte : ℕ} (b : Begun old k mid value) 
   reads_short worth last short is fits = next_reads unsigned16 worth last short (next_worth ∙ sym is) (lt-ltb _ _ fits)
 
   -- three bytes are no short unsigned number if the third is above 3
-  pub rejects_third_short : k ≡ 2 → 3 < byte → RejectsNumber unsigned16 old BadUnsignedLeb128 new
+  pub rejects_third_short : k ≡ 2 → 3 < byte → ReadsNoNumber unsigned16 old BadUnsignedLeb128 new
   rejects_third_short two large =
       let worth = rw two at next_worth in
       next_rejects unsigned16 (omega arith) (λ last has. omega (arith, worth, ltb-true _ _ (rw two at has)))
@@ -174,7 +174,7 @@ module _ {old mid new : Input} {k value byte : ℕ} (b : Begun old k mid value) 
       rw to_z-of_z (next_reads signed64 v (grind arith) (omega arith) value_is (in_range_i64 v fits))
 
   -- ten bytes are no signed number if the tenth is neither 0 nor 127
-  pub rejects_tenth_signed : k ≡ 9 → byte ≢ 0 → byte ≢ 127 → RejectsNumber signed64 old BadSignedLeb128 new
+  pub rejects_tenth_signed : k ≡ 9 → byte ≢ 0 → byte ≢ 127 → ReadsNoNumber signed64 old BadSignedLeb128 new
   rejects_tenth_signed nine nonzero other = next_rejects signed64 (omega arith) (λ last has.
       tenth_out value (byte % 128) _ (begun_below_nine b nine) (omega arith) (omega arith) (omega arith)
       (next_signed _ 70 (nat_le 64 (byte % 128)) (rw nine refl) (omega arith) (grind arith)) has)
@@ -189,6 +189,6 @@ encoding_found {old} {mid} {new} {byte} n t more none last next =
     record {
       len = n + 2;
       enough = grind (arith, common_steps);
-      is = rw parts (IsEncoding-cons byte (take n mid.bytes ++ get_or mid.bytes n 0 ∷ []) more rest);
+      encoding = rw parts (IsEncoding-cons byte (take n mid.bytes ++ get_or mid.bytes n 0 ∷ []) more rest);
       left = grind (arith, after-after);
     }

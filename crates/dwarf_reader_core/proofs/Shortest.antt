@@ -71,12 +71,12 @@ module _ (k : Kind) (number above : Number k) (digit : ℕ) (tail : List ℕ) (s
       let parts = join-same k (b % 128) digit (value k (c ∷ bytes)) above (omega arith) small
       (sym (value-cons k b (c ∷ bytes) encodes.encoding.1) ∙ encodes.means ∙ is) in
       let b_is : b ≡ digit + 128 = omega (arith, encodes.encoding.0) in
-      let behind : Encodes k (c ∷ bytes) above = record {
+      let following : Encodes k (c ∷ bytes) above = record {
         are_bytes = All-tail (λ x. x < 256) b (c ∷ bytes) encodes.are_bytes;
         encoding = encodes.encoding.1;
         means = parts.1;
       } in
-      let longer = shortest.shorter (c ∷ bytes) behind (λ tail_is. apart cc) in
+      let longer = shortest.shorter (c ∷ bytes) following (λ tail_is. apart cc) in
       omega arith
 
   -- the lowest digit goes before the shortest encoding of the number above it

@@ -53,16 +53,16 @@ pub record IsUnsupportedSize (error : ℕ → Error) (size : ℕ) (old : Input) 
   pub left : new ≡ old
 
 -- no address of this size is read: addresses don't have this size, or bytes are missing
-abbrev pub RejectsAddress : ℕ → Input → Error → Input → Type 0
-RejectsAddress size old e new =
+abbrev pub ReadsNoAddress : ℕ → Input → Error → Input → Type 0
+ReadsNoAddress size old e new =
     IsUnsupportedSize UnsupportedAddressSize size old e new ⊎ (IsTrue (is_number_size size) × IsTooShort size old e new)
 
 -- no word of n bytes is read as an offset: bytes are missing, or the number is too great
-abbrev pub RejectsWord : ℕ → ℕ → Input → Error → Input → Type 0
-RejectsWord greatest n old e new = IsTooShort n old e new ⊎ ExceedsOffset greatest n old e new
+abbrev pub ReadsNoWord : ℕ → ℕ → Input → Error → Input → Type 0
+ReadsNoWord greatest n old e new = IsTooShort n old e new ⊎ ExceedsOffset greatest n old e new
 
 -- no offset of this size is read: offsets don't have this size, or no word of it is read as one
-abbrev pub RejectsOffset : ℕ → ℕ → Input → Error → Input → Type 0
-RejectsOffset greatest size old e new =
+abbrev pub ReadsNoOffset : ℕ → ℕ → Input → Error → Input → Type 0
+ReadsNoOffset greatest size old e new =
     IsUnsupportedSize UnsupportedOffsetSize size old e new
-    ⊎ (IsTrue (is_number_size size) × RejectsWord greatest size old e new)
+    ⊎ (IsTrue (is_number_size size) × ReadsNoWord greatest size old e new)

@@ -31,7 +31,7 @@ pub data HasNoVersion (unit : Input) : Error → Type 0 where
 pub record HasAddressHeader (unit : Input) (size : ℕ) (rest : Input) : Type 0 where
   pub enough : 4 ≤ length unit.bytes
   pub version : HasVersion unit
-  pub is : slice_index unit.bytes 2 ≡ size
+  pub address_size : slice_index unit.bytes 2 ≡ size
   pub sized : IsTrue (is_number_size size)
   pub flat : slice_index unit.bytes 3 ≡ 0
   pub left : rest ≡ after 4 unit

@@ -34,19 +34,19 @@ pub record Takes (n : ℕ) (old new : Input) : Type 0 where
 -- a byte is consumed
 pub record TakesByte (old : Input) (byte : ℕ) (new : Input) : Type 0 where
   pub enough : 1 ≤ length old.bytes
-  pub is : byte ≡ slice_index old.bytes 0
+  pub front : byte ≡ slice_index old.bytes 0
   pub left : new ≡ after 1 old
 
 -- the number that n bytes encode is consumed
 pub record TakesNumber (n : ℕ) (old : Input) (x : ℕ) (new : Input) : Type 0 where
   pub enough : n ≤ length old.bytes
-  pub is : x ≡ number_of old.is_big (take n old.bytes)
+  pub encoded : x ≡ number_of old.is_big (take n old.bytes)
   pub left : new ≡ after n old
 
 -- the signed number that n bytes encode is consumed
 pub record TakesSigned (n : ℕ) (old : Input) (x : ℤ) (new : Input) : Type 0 where
   pub enough : n ≤ length old.bytes
-  pub is : x ≡ signed_number n (number_of old.is_big (take n old.bytes))
+  pub encoded : x ≡ signed_number n (number_of old.is_big (take n old.bytes))
   pub left : new ≡ after n old
 
 -- the index is that of the first byte with this value
@@ -59,7 +59,7 @@ pub record IsFirst (byte : ℕ) (bytes : List ℕ) (index : ℕ) : Type 0 where
 pub record TakesString (old string new : Input) : Type 0 where
   pub len : ℕ
   pub ends : IsFirst 0 old.bytes len
-  pub is : string ≡ first len old
+  pub content : string ≡ first len old
   pub left : new ≡ after (len + 1) old
 
 -- the part lies within the whole, from its position to its end

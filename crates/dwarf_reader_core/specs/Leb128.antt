@@ -104,7 +104,7 @@ HasOutcome k bytes Bad = IsMalformed k bytes
 -- a number is read, and its bytes are consumed
 pub record ReadsNumber (k : Kind) (old : Input) (number : Number k) (new : Input) : Type 0 where
   pub len : ℕ
-  pub is : HasNumber k old.bytes number len
+  pub has : HasNumber k old.bytes number len
   pub left : new ≡ after len old
 
 -- the bytes end before the number does, and all are consumed
@@ -120,18 +120,18 @@ pub record IsMalformedNumber (k : Kind) (old : Input) (e : Error) (new : Input) 
   pub fault : e ≡ overflow_error k
 
 -- no number is read, with one of two errors
-abbrev pub RejectsNumber : Kind → Input → Error → Input → Type 0
-RejectsNumber k old e new = IsTruncatedNumber k old e new ⊎ IsMalformedNumber k old e new
+abbrev pub ReadsNoNumber : Kind → Input → Error → Input → Type 0
+ReadsNoNumber k old e new = IsTruncatedNumber k old e new ⊎ IsMalformedNumber k old e new
 
 -- an encoding of any length is consumed
 pub record TakesEncoding (old new : Input) : Type 0 where
   pub len : ℕ
   pub enough : len ≤ length old.bytes
-  pub is : IsEncoding (take len old.bytes)
+  pub encoding : IsEncoding (take len old.bytes)
   pub left : new ≡ after len old
 
 -- no encoding is at the front: all bytes are consumed, and the error is that of missing bytes
-pub record LacksEncoding (old : Input) (e : Error) (new : Input) : Type 0 where
+pub record TakesNoEncoding (old : Input) (e : Error) (new : Input) : Type 0 where
   pub none : NoneIsLast old.bytes
   pub left : new ≡ after (length old.bytes) old
   pub fault : e ≡ end_fault new

@@ -20,7 +20,7 @@ pub record IsShortest (k : Kind) (number : Number k) (bytes : List ℕ) : Type 0
 pub record IsShortestLength (k : Kind) (number : Number k) (len : ℕ) : Type 0 where
   pub bytes : List ℕ
   pub shortest : IsShortest k number bytes
-  pub is : len ≡ length bytes
+  pub counted : len ≡ length bytes
 
 -- ten places: an encoding of `len` bytes, and zeros after it
 pub record IsPadded (buffer : Inside) : Type 0 where

@@ -304,13 +304,8 @@ impl<'input, Endian: Endianity> Reader for EndianSlice<'input, Endian> {
     }
 
     #[inline]
-    // A struct with a ghost field is copied field by field, since `*self` gets no proof.
     fn try_clone(&self) -> Result<Self> {
-        Ok(EndianSlice {
-            slice: self.slice,
-            endian: self.endian,
-            end: self.end,
-        })
+        Ok(self.clone()?)
     }
 
     #[inline]

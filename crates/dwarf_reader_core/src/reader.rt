@@ -7,8 +7,8 @@ ghost use Rattle.std.specs.Str.Lossy.{utf8_lossy};
 ghost use Rattle.dwarf_base_core.specs.declared.error.Error.TheVariants.{BadUtf8, OutOfMemory};
 ghost use Rattle.dwarf_base_core.specs.Format.{word_size};
 ghost use Rattle.dwarf_reader_core.specs.Input.{Input, first, IsPartOf, IsBounded, IsFirst, Covers, Takes, TakesByte, TakesNumber, TakesSigned, TakesString};
-ghost use Rattle.dwarf_reader_core.specs.Faults.{IsTooShort, IsUnsupportedAddressSize, HasNoByte, RejectsAddress, RejectsOffset, RejectsWord, CloneRanOutOfMemory, is_number_size};
-ghost use Rattle.dwarf_reader_core.specs.Leb128.{unsigned64, unsigned16, signed64, IsOver, LacksEncoding, ReadsNumber, RejectsNumber, TakesEncoding};
+ghost use Rattle.dwarf_reader_core.specs.Faults.{IsTooShort, IsUnsupportedAddressSize, HasNoByte, ReadsNoAddress, ReadsNoOffset, ReadsNoWord, CloneRanOutOfMemory, is_number_size};
+ghost use Rattle.dwarf_reader_core.specs.Leb128.{unsigned64, unsigned16, signed64, IsOver, TakesNoEncoding, ReadsNumber, ReadsNoNumber, TakesEncoding};
 ghost use Rattle.dwarf_reader_core.specs.InitialLength.{HasLength, HasNoLength};
 
 use crate::leb128::{
@@ -409,7 +409,7 @@ pub trait Reader: Debug + Drop + Sized {
     #[inline]
     fn skip_leb128(&mut self) -> Result<()>
         ensures ok { OnOk result (TakesEncoding (view self.old) (view self.new)) }
-        ensures err { IfErr result (λ e. LacksEncoding (view self.old) e (view self.new)) }
+        ensures err { IfErr result (λ e. TakesNoEncoding (view self.old) e (view self.new)) }
         ensures order { order self.new ≡ order self.old }
     {
         loop {
@@ -432,7 +432,7 @@ pub trait Reader: Debug + Drop + Sized {
     fn read_uleb128(&mut self) -> Result<u64>
         ensures ok { IfOk result (λ v. ReadsNumber unsigned64 (view self.old) v (view self.new)) }
         ensures err { IfErr result
-            (λ e. RejectsNumber unsigned64 (view self.old) e (view self.new)) }
+            (λ e. ReadsNoNumber unsigned64 (view self.old) e (view self.new)) }
         ensures order { order self.new ≡ order self.old }
     {
         // Most numbers have one byte.
@@ -464,7 +464,7 @@ pub trait Reader: Debug + Drop + Sized {
     #[inline]
     fn read_uleb128_u32(&mut self) -> Result<u32>
         ensures ok { IfOk result (λ v. ReadsNumber unsigned64 (view self.old) v (view self.new)) }
-        ensures err { IfErr result (λ e. RejectsNumber unsigned64 (view self.old) e (view self.new)
+        ensures err { IfErr result (λ e. ReadsNoNumber unsigned64 (view self.old) e (view self.new)
             ⊎ IsOver (2 ^ 32) (view self.old) e (view self.new)) }
         ensures order { order self.new ≡ order self.old }
     {
@@ -484,7 +484,7 @@ pub trait Reader: Debug + Drop + Sized {
     fn read_uleb128_u16(&mut self) -> Result<u16>
         ensures ok { IfOk result (λ v. ReadsNumber unsigned16 (view self.old) v (view self.new)) }
         ensures err { IfErr result
-            (λ e. RejectsNumber unsigned16 (view self.old) e (view self.new)) }
+            (λ e. ReadsNoNumber unsigned16 (view self.old) e (view self.new)) }
         ensures order { order self.new ≡ order self.old }
     {
         let first = self.read_u8()?;
@@ -515,7 +515,7 @@ pub trait Reader: Debug + Drop + Sized {
     #[inline(always)]
     fn read_sleb128(&mut self) -> Result<i64>
         ensures ok { IfOk result (λ v. ReadsNumber signed64 (view self.old) v (view self.new)) }
-        ensures err { IfErr result (λ e. RejectsNumber signed64 (view self.old) e (view self.new)) }
+        ensures err { IfErr result (λ e. ReadsNoNumber signed64 (view self.old) e (view self.new)) }
         ensures order { order self.new ≡ order self.old }
     {
         let first = self.read_u8()?;
@@ -608,7 +608,7 @@ pub trait Reader: Debug + Drop + Sized {
         ensures ok { IfOk result
             (λ address. TakesNumber size (view self.old) address (view self.new)
             × IsTrue (is_number_size size)) }
-        ensures err { IfErr result (λ e. RejectsAddress size (view self.old) e (view self.new)) }
+        ensures err { IfErr result (λ e. ReadsNoAddress size (view self.old) e (view self.new)) }
         ensures order { order self.new ≡ order self.old }
     {
         match size {
@@ -633,7 +633,7 @@ pub trait Reader: Debug + Drop + Sized {
             (view self.old) (Self.Offset.value x) (view self.new)) }
         ensures in_range { IfOk result (λ x. Self.Offset.value x ≤ Self.Offset.GREATEST) }
         ensures err { IfErr result
-            (λ e. RejectsWord Self.Offset.GREATEST (word_size format)
+            (λ e. ReadsNoWord Self.Offset.GREATEST (word_size format)
             (view self.old) e (view self.new)) }
         ensures order { order self.new ≡ order self.old }
     {
@@ -656,7 +656,7 @@ pub trait Reader: Debug + Drop + Sized {
             (view self.old) (Self.Offset.value x) (view self.new)) }
         ensures in_range { IfOk result (λ x. Self.Offset.value x ≤ Self.Offset.GREATEST) }
         ensures err { IfErr result
-            (λ e. RejectsWord Self.Offset.GREATEST (word_size format)
+            (λ e. ReadsNoWord Self.Offset.GREATEST (word_size format)
             (view self.old) e (view self.new)) }
         ensures order { order self.new ≡ order self.old }
     {
@@ -675,7 +675,7 @@ pub trait Reader: Debug + Drop + Sized {
             (view self.old) (Self.Offset.value x) (view self.new)) }
         ensures in_range { IfOk result (λ x. Self.Offset.value x ≤ Self.Offset.GREATEST) }
         ensures err { IfErr result
-            (λ e. RejectsWord Self.Offset.GREATEST (word_size format)
+            (λ e. ReadsNoWord Self.Offset.GREATEST (word_size format)
             (view self.old) e (view self.new)) }
         ensures order { order self.new ≡ order self.old }
     {
@@ -696,7 +696,7 @@ pub trait Reader: Debug + Drop + Sized {
             × IsTrue (is_number_size size)) }
         ensures in_range { IfOk result (λ x. Self.Offset.value x ≤ Self.Offset.GREATEST) }
         ensures err { IfErr result
-            (λ e. RejectsOffset Self.Offset.GREATEST size (view self.old) e (view self.new)) }
+            (λ e. ReadsNoOffset Self.Offset.GREATEST size (view self.old) e (view self.new)) }
         ensures order { order self.new ≡ order self.old }
     {
         let number = match size {

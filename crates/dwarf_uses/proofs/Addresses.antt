@@ -7,9 +7,9 @@ use Rattle.dwarf_read_core.specs.Input.{Input}
 use Rattle.dwarf_read_core.specs.Items.{AreItems, GivesFirst, first_error}
 
 -- no items follow an error
-error_is_last : {S A : Type 0} {rest : S → Input} {Is : S → Result A Error → Type 0} {behind : A → S → S} {old : S}
-    {e : Error} {others : List (Result A Error)} → AreItems rest Is behind old (Err e ∷ others)
-    → AreItems rest Is behind old (Err e ∷ [])
+error_is_last : {S A : Type 0} {rest : S → Input} {Is : S → Result A Error → Type 0} {following : A → S → S} {old : S}
+    {e : Error} {others : List (Result A Error)} → AreItems rest Is following old (Err e ∷ others)
+    → AreItems rest Is following old (Err e ∷ [])
 error_is_last (first_error some is) = first_error some is
 
 -- an error that `next` returned is the only item, unless memory ran out

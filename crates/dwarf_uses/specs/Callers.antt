@@ -7,13 +7,13 @@ use Rattle.dwarf_read_core.specs.Grammar.{Table}
 use Rattle.dwarf_read_core.specs.Input.{Input}
 
 -- the result after the table at an offset
-abbrev pub IsBehind : Input → ℕ → Table → Result Table Error → Type 0
-IsBehind section offset table behind = (end : ℕ) × TableEndsAt section offset table end × Answer section end behind
+abbrev pub IsAfter : Input → ℕ → Table → Result Table Error → Type 0
+IsAfter section offset table following = (end : ℕ) × TableEndsAt section offset table end × Answer section end following
 
 -- the error at an offset, or else the one after the table there
 abbrev pub IsErrorOfTwo : Input → ℕ → Error → Type 0
 IsErrorOfTwo section offset e = Answer section offset (Err e)
-    ⊎ ((t : Table) × Answer section offset (Ok t) × IsBehind section offset t (Err e))
+    ⊎ ((t : Table) × Answer section offset (Ok t) × IsAfter section offset t (Err e))
 
 -- how many declarations the table at an offset has
 abbrev pub HasLength : Input → ℕ → ℕ → Type 0
@@ -30,8 +30,8 @@ HaveLengths section (offset ∷ offsets) [] = ⊥
 pub record IsFirstError (section : Input) (offsets : List ℕ) (e : Error) : Type 0 where
   pub before : List ℕ
   pub offset : ℕ
-  pub behind : List ℕ
-  pub parts : offsets ≡ before ++ offset ∷ behind
+  pub following : List ℕ
+  pub parts : offsets ≡ before ++ offset ∷ following
   pub lengths : List ℕ
   pub tables : HaveLengths section before lengths
   pub fault : Answer section offset (Err e)

@@ -9,7 +9,7 @@ ghost use Rattle.dwarf_read_core.specs.Sections.{debug_abbrev_reader, debug_str_
 ghost use Rattle.dwarf_read_core.specs.Sets.{addresses_of, seen_by};
 ghost use Rattle.dwarf_read_core.specs.Strings.{StringAt};
 ghost use Rattle.dwarf_read_core.specs.Words.{WordAt, slot};
-ghost use Rattle.dwarf_uses.specs.Callers.{HaveLengths, IsBehind, IsErrorOfTwo, IsFirstError};
+ghost use Rattle.dwarf_uses.specs.Callers.{HaveLengths, IsAfter, IsErrorOfTwo, IsFirstError};
 
 use dwarf_read_core::{
     Abbreviations, AbbreviationsCache, AbbreviationsCacheStrategy, AddrHeader, DebugAbbrev,
@@ -39,7 +39,7 @@ pub fn two_tables<R: Reader>(
     ensures ok { let bytes = R.view (debug_abbrev_reader section.now) in
         let at = R.Offset.value offset.0 in
         IfOk result (λ tables. Answer bytes at (Ok tables.0)
-        × IsBehind bytes at tables.0 (Ok tables.1)) }
+        × IsAfter bytes at tables.0 (Ok tables.1)) }
     ensures err { let bytes = R.view (debug_abbrev_reader section.now) in
         let at = R.Offset.value offset.0 in
         IfErr result (λ e. e ≢ Error.OutOfMemory → IsErrorOfTwo bytes at e) }

@@ -1,5 +1,5 @@
 -- The entries of a cache are one finite map.
-use Rattle.dwarf_read_core.proofs.Common.{◌≡◌, ℕ, List, Bool, cond, Option, Some, Result, option_map, sym, ap, ◌∙◌, arith, filter, nat_cmp, is_at, nat_cmp_total, eq_by_cmp_equiv, get, insert, from_entries, lookup, keys_of, option_filter, lookup-filter-values, IsDistinct-from_sorted, IsStrictlySortedBy, lookup-map_values, Error, Table, Cache, answer_of, kept_at, shown_entries, is_final, StillKept, true, false, None, Ok, Err, refl, inl, inr, IsFinal}
+use Rattle.dwarf_read_core.proofs.Common.{◌≡◌, ℕ, List, Bool, cond, Option, Some, Result, option_map, sym, ap, ◌∙◌, arith, filter, nat_cmp, is_at, nat_cmp_total, eq_by_cmp_equiv, get, insert, from_entries, lookup, keys_of, option_filter, lookup-filter-values, IsDistinct-from_sorted, IsStrictlySortedBy, lookup-map_values, Error, Table, Cache, answer_of, shown_entries, is_final, StillKept, true, false, None, Ok, Err, refl, inl, inr, IsFinal}
 use Rattle.std.specs.Prelude.{MatchBool}
 use Rattle.dwarf_base_core.specs.declared.error.Error.TheVariants.{UnexpectedEof}
 use Rattle.std.specs.declared.rc.Rc.{Rc}
@@ -16,7 +16,8 @@ still_kept None = None
 still_kept (Some answer) = cond (is_final answer) (Some answer) None
 
 -- a result that passes the test is final, and one that doesn't isn't
-final_is : (answer : Result Table Error) (b : Bool) → is_final answer ≡ b → MatchBool b (IsFinal answer) (IsFinal answer → ⊥)
+final_is : (answer : Result Table Error) (b : Bool) → is_final answer ≡ b
+    → MatchBool b (IsFinal answer) (IsFinal answer → ⊥)
 final_is answer true is = grind arith
 final_is (Ok t) false is = grind arith
 final_is (Err (UnexpectedEof position)) false is = λ settled. settled position.0 refl
@@ -41,6 +42,10 @@ abbrev pub SharedEntries : Type 0 → Type 0
 SharedEntries Z = List (ℕ × Result (Rc Table Z) Error)
 
 module _ {Z : Type 0} where
+  -- what entries have at an offset, without the sharing
+  abbrev pub kept_at : SharedEntries Z → ℕ → Option (Result Table Error)
+  kept_at entries key = option_map answer_of (lookup (is_at (nat_cmp key)) entries)
+
   -- the cache that entries are
   abbrev pub shown : SharedEntries Z → Cache
   shown entries = from_entries (shown_entries entries)

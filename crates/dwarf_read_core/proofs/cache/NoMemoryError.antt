@@ -1,5 +1,5 @@
 -- A cache keeps no `OutOfMemory`.
-use Rattle.dwarf_read_core.proofs.Common.{arith, ◌≡◌, ◌≢◌, ℕ, Err, Result, List, nat_cmp, nat_cmp_total, Error, OutOfMemory, Table, Answer, IsFirstError, Cache, KeepsNoOutOfMemory, StillKept, Input}
+use Rattle.dwarf_read_core.proofs.Common.{arith, ◌≢◌, ℕ, Err, Result, List, nat_cmp, nat_cmp_total, Error, OutOfMemory, Table, Answer, IsFirstError, Cache, KeepsNoOutOfMemory, StillKept, Input}
 use Rattle.std.specs.FinMap as finite
 
 -- the empty cache keeps no `OutOfMemory`

@@ -1,5 +1,5 @@
 -- Strings and words are parts of their section, and so is each part of a part.
-use Rattle.dwarf_read_core.proofs.Common.{common_steps, ◌≡◌, ◌∙◌, ℕ, ◌+◌, ◌-◌, ◌≤◌, ◌∷◌, ◌++◌, length, take, drop, Ok, refl, sym, subst, ap, arith, slice_index, get_or, length-append, length-drop, length-take-le, take_all, Input, after, first}
+use Rattle.dwarf_read_core.proofs.Common.{common_steps, ◌≡◌, ◌∙◌, ℕ, ◌+◌, ◌-◌, ◌∷◌, ◌++◌, length, take, drop, refl, sym, subst, ap, arith, slice_index, get_or, length-append, length-drop, length-take-le, take_all, Input, after, first}
 use Rattle.std.proofs.lemmas.List.{get_or-append-add, get_or-drop, drop-drop, drop-take, take-take}
 use Rattle.std.proofs.Math.Nat.{add-zero}
 use Rattle.std.proofs.Math.Seq.{take-append_seam}
@@ -16,16 +16,18 @@ range_whole section = grind (arith, common_steps, take_all)
 pub range_nested : (section part inner : Input) (offset size at n : ℕ) → HoldsRange section offset size part
     → HoldsRange part at n inner → HoldsRange section (offset + at) n inner
 range_nested section part inner offset size at n outer nested =
-    let behind = drop offset section.bytes in
+    let following = drop offset section.bytes in
     let long : length part.bytes ≡ size =
-    ap length outer.is ∙ length-take-le size behind (omega (arith, outer.within, length-drop offset section.bytes)) in
+    ap length outer.content
+    ∙ length-take-le size following (omega (arith, outer.within, length-drop offset section.bytes)) in
     let rest = size - at in
     let whole : at + rest ≡ size = omega (arith, long, nested.within) in
-    let cut : drop at part.bytes ≡ take rest (drop at behind) =
-    ap (drop at) (outer.is ∙ ap (λ k. take k behind) (sym whole)) ∙ drop-take at rest behind in
+    let cut : drop at part.bytes ≡ take rest (drop at following) =
+    ap (drop at) (outer.content ∙ ap (λ k. take k following) (sym whole)) ∙ drop-take at rest following in
     record {
       within = omega (arith, outer.within, nested.within, long);
-      is = nested.is ∙ ap (take n) cut ∙ take-take n rest (drop at behind) (omega (arith, nested.within, long))
+      content = nested.content ∙ ap (take n) cut
+          ∙ take-take n rest (drop at following) (omega (arith, nested.within, long))
           ∙ ap (take n) (drop-drop at offset section.bytes);
       place = omega (arith, nested.place, outer.place);
       order = nested.order ∙ outer.order;
@@ -45,7 +47,7 @@ string_part section offset string has =
           length-append string.bytes (0 ∷ has.rest),
           has.within,
         );
-        is = sym (ap (take (length string.bytes)) has.parts ∙ take-append_seam string.bytes (0 ∷ has.rest));
+        content = sym (ap (take (length string.bytes)) has.parts ∙ take-append_seam string.bytes (0 ∷ has.rest));
         place = has.place;
         order = has.order;
       },
@@ -60,6 +62,6 @@ pub number_part : {section : Input} {s : Slot} {x : ℕ} → Holds section s x
     → (part : Input) × HoldsRange section (place s) s.width part × (x ≡ number_of part.is_big part.bytes)
 number_part {section} {s} held = (
   first s.width (after (place s) section),
-  record { within = held.within; is = refl; place = refl; order = refl },
-  held.is,
+  record { within = held.within; content = refl; place = refl; order = refl },
+  held.encoded,
 )

@@ -9,7 +9,7 @@ range_taken section offset size rest part takes enough is =
     let bytes : rest.bytes ≡ drop offset section.bytes = ap (λ (i : Input). i.bytes) takes.left in
     record {
       within = omega (arith, takes.enough, enough, rest-length offset section rest takes);
-      is = ap (λ (i : Input). i.bytes) is ∙ ap (take size) bytes;
+      content = ap (λ (i : Input). i.bytes) is ∙ ap (take size) bytes;
       place = ap (λ (i : Input). i.position) is ∙ ap (λ (i : Input). i.position) takes.left;
       order = ap (λ (i : Input). i.is_big) is ∙ ap (λ (i : Input). i.is_big) takes.left;
     }
@@ -39,7 +39,7 @@ range_some section offset size =
             | inl cut ↦ (Err (end_fault (after offset section)), range_cut within cut)
             | inr enough ↦ (
               Ok (first size (after offset section)),
-              record { within = enough; is = refl; place = refl; order = refl },
+              record { within = enough; content = refl; place = refl; order = refl },
             )
           ]
     ]
@@ -54,7 +54,7 @@ range_or_none h (range_cut within cut) = omega (arith, h.within)
 range_same : (section : Input) (offset size : ℕ) (r t : Result Input Error) → RangeAt section offset size r
     → RangeAt section offset size t → r ≡ t
 range_same section offset size (Ok s) (Ok t) h k = λ i. Ok (record {
-  bytes = (h.is ∙ sym k.is) i;
+  bytes = (h.content ∙ sym k.content) i;
   position = (h.place ∙ sym k.place) i;
   is_big = (h.order ∙ sym k.order) i;
 })
@@ -68,4 +68,5 @@ range_same section offset size (Err e) (Err d) (range_cut within cut) (range_cut
 -- a section has exactly one part or error at an offset
 pub ranges_exactly_one : (section : Input) (offset size : ℕ) → HasOne (RangeAt section offset size)
 ranges_exactly_one section offset size =
-    let found = range_some section offset size in (found.0, found.1, λ other is. range_same section offset size other found.0 is found.1)
+    let found = range_some section offset size in
+    (found.0, found.1, λ other is. range_same section offset size other found.0 is found.1)

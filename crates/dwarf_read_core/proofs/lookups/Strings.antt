@@ -1,5 +1,5 @@
 -- The string that a reader reads after an offset is the section's string there, and a section has one result there.
-use Rattle.dwarf_read_core.proofs.Common.{common_steps, ◌≡◌, ◌≢◌, ℕ, suc, ◌+◌, ◌<◌, List, [], ◌∷◌, ◌++◌, length, take, drop, Result, Ok, Err, refl, sym, ap, subst, ◌∙◌, arith, ◌⊎◌, inl, inr, Bool, slice_index, IfOk, IfErr, All, cases_lt, append_assoc, length-append, drop-append-le, Error, end_fault, followed_by, IsTooShort, HasNoByte, CloneRanOutOfMemory, Input, after, Takes, TakesString, HasOne, AnswersBy, StaysBy, set}
+use Rattle.dwarf_read_core.proofs.Common.{◌≡◌, ◌≢◌, ℕ, suc, ◌+◌, ◌<◌, List, ◌∷◌, ◌++◌, length, take, drop, Result, Ok, Err, refl, sym, ap, subst, ◌∙◌, arith, ◌⊎◌, inl, inr, Bool, slice_index, IfOk, IfErr, All, cases_lt, append_assoc, length-append, drop-append-le, Error, end_fault, followed_by, IsTooShort, HasNoByte, CloneRanOutOfMemory, Input, after, Takes, TakesString, HasOne, UnlessCloneRanOut, Stays, set}
 use Rattle.std.proofs.Math.Seq.{take-append_seam, get_or-append_seam}
 use Rattle.std.proofs.lemmas.List.{set-get_or, set_split}
 use Rattle.dwarf_reader_core.specs.Input.{IsFirst}
@@ -19,15 +19,15 @@ string_held : {section mid found new : Input} {offset : ℕ} → Takes offset se
     → HoldsString section offset found
 string_held {section} {mid} {found} {offset = offset} takes t =
     let bytes : mid.bytes ≡ drop offset section.bytes = ap (λ (i : Input). i.bytes) takes.left in
-    let same : found.bytes ≡ take t.len mid.bytes = ap (λ (i : Input). i.bytes) t.is in
+    let same : found.bytes ≡ take t.len mid.bytes = ap (λ (i : Input). i.bytes) t.content in
     record {
       rest = drop (suc t.len) mid.bytes;
       within = takes.enough;
       parts = sym bytes ∙ cut_at mid.bytes t.len 0 t.ends.within t.ends.here
           ∙ ap (λ (l : List ℕ). l ++ 0 ∷ drop (suc t.len) mid.bytes) (sym same);
       unbroken = subst (λ (l : List ℕ). All (λ b. b ≢ 0) l) (sym same) t.ends.before;
-      place = ap (λ (i : Input). i.position) t.is ∙ ap (λ (i : Input). i.position) takes.left;
-      order = ap (λ (i : Input). i.is_big) t.is ∙ ap (λ (i : Input). i.is_big) takes.left;
+      place = ap (λ (i : Input). i.position) t.content ∙ ap (λ (i : Input). i.position) takes.left;
+      order = ap (λ (i : Input). i.is_big) t.content ∙ ap (λ (i : Input). i.is_big) takes.left;
     }
 
 -- if no zero byte is after an offset, there is no string
@@ -42,7 +42,7 @@ pub string-read : {X : Type 0} (section : Input) (offset : ℕ) (rest new : Inpu
     (clone_is_free : Bool) (r : Result X Error) → Takes offset section rest
     → IfOk r (λ x. TakesString rest (view x) new)
     → IfErr r (λ e. HasNoByte 0 rest e ⊎ CloneRanOutOfMemory clone_is_free e)
-    → AnswersBy (StringAt section offset) view clone_is_free r
+    → UnlessCloneRanOut (StringAt section offset) view clone_is_free r
 string-read section offset rest new view clone_is_free (Ok x) takes given h = string_held takes given
 string-read section offset rest new view clone_is_free (Err e) takes given (inl lacks) = inl (string_lacked takes lacks)
 string-read section offset rest new view clone_is_free (Err e) takes given (inr want) = inr want
@@ -69,8 +69,8 @@ string_more section offset found more is = record {
 
 -- what a lookup of a string returned, except `UnexpectedEof` and `OutOfMemory`, stays when bytes are appended
 pub string-stays : {X : Type 0} (section : Input) (offset : ℕ) (view : X → Input) (clone_is_free : Bool)
-    (r : Result X Error) → AnswersBy (StringAt section offset) view clone_is_free r
-    → StaysBy (λ input. StringAt input offset) view clone_is_free section r
+    (r : Result X Error) → UnlessCloneRanOut (StringAt section offset) view clone_is_free r
+    → Stays (λ input. StringAt input offset) view clone_is_free section r
 string-stays section offset view clone_is_free (Ok x) is = λ more. string_more section offset (view x) more is
 string-stays section offset view clone_is_free (Err e) (inl (string_past_end past)) = λ settled. absurd (settled _ refl)
 string-stays section offset view clone_is_free (Err e) (inl (string_unended within none)) =
@@ -111,7 +111,7 @@ string_there {section} {string} {offset} h =
       len = length string.bytes;
       ends = subst (λ (l : List ℕ). IsFirst 0 l (length string.bytes)) parts
           (first_zero string.bytes h.rest h.unbroken);
-      is = λ i. record { bytes = bytes i; position = h.place i; is_big = h.order i };
+      content = λ i. record { bytes = bytes i; position = h.place i; is_big = h.order i };
       left = refl;
     }
 
@@ -138,4 +138,5 @@ string_same section offset (Err e) (Err d) (string_unended within none) (string_
 -- a section has exactly one string or error at an offset
 pub strings_exactly_one : (section : Input) (offset : ℕ) → HasOne (StringAt section offset)
 strings_exactly_one section offset =
-    let found = string_some section offset in (found.0, found.1, λ other is. string_same section offset other found.0 is found.1)
+    let found = string_some section offset in
+    (found.0, found.1, λ other is. string_same section offset other found.0 is found.1)

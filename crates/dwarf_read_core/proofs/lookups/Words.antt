@@ -1,5 +1,5 @@
 -- What a reader reads at the place of a slot is the section's result there, and a section has one result there.
-use Rattle.dwarf_read_core.proofs.Common.{common_steps, ◌≡◌, ◌≢◌, ℕ, ◌+◌, ◌<◌, ◌≤◌, length, take, drop, List, Bool, true, false, Result, Ok, Err, refl, sym, ◌∙◌, arith, inl, inr, ◌⊎◌, IsTrue, IfOk, IfErr, OnOk, cases_lt, length-append, drop-append-le, take-append-le, length-drop, ap, Error, UnsupportedOffset, UnsupportedAddressSize, end_fault, IsTooShort, RejectsAddress, RejectsWord, is_number_size, Input, after, Takes, TakesNumber, followed_by, IsNotEof, HasOne, AnswersBy, rest-length, takes-both, StaysBy}
+use Rattle.dwarf_read_core.proofs.Common.{common_steps, ◌≡◌, ℕ, ◌+◌, ◌<◌, ◌≤◌, length, take, drop, List, Bool, true, false, Result, Ok, Err, refl, sym, ◌∙◌, arith, inl, inr, ◌⊎◌, IsTrue, IfOk, IfErr, OnOk, cases_lt, length-append, Error, UnsupportedOffset, UnsupportedAddressSize, end_fault, IsTooShort, ReadsNoAddress, ReadsNoWord, is_number_size, Input, after, Takes, TakesNumber, followed_by, IsNotEof, HasOne, UnlessCloneRanOut, rest-length, takes-both, Stays}
 use Rattle.dwarf_base_core.specs.Number.{number_of}
 use Rattle.dwarf_read_core.specs.Words.{Slot, distance, place, IsPlaced, Holds, HasWord, HasAddress, HasNoPlace, no_base, no_distance, no_place, HasNoWord, word_unplaced, word_cut, word_too_great, HasNoAddress, address_unplaced, address_unsized, address_cut, WordAt, AddressAt}
 
@@ -69,7 +69,7 @@ module _ (greatest : ℕ) (section : Input) (s : Slot) where
         record { placed = is_placed; held = slot_holds section s x rest _ takes number; fits = fits }
 
     -- if the word is cut, or too great for an offset, that is the error at the slot
-    pub word_fails : {e : Error} {new : Input} → RejectsWord greatest s.width rest e new
+    pub word_fails : {e : Error} {new : Input} → ReadsNoWord greatest s.width rest e new
         → HasNoWord greatest section s e
     word_fails (inl short) = rw (short.fault, takes.left) (word_cut is_placed (slot_ends short.short))
     word_fails (inr unfit) =
@@ -79,8 +79,8 @@ module _ (greatest : ℕ) (section : Input) (s : Slot) where
     -- what a reader returns for an address there is the section's result
     pub address-read : (new : Input) (clone_is_free : Bool) (r : Result ℕ Error)
         → IfOk r (λ x. TakesNumber s.width rest x new × IsTrue (is_number_size s.width))
-        → IfErr r (λ e. RejectsAddress s.width rest e new)
-        → AnswersBy (AddressAt greatest section s) (λ x. x) clone_is_free r
+        → IfErr r (λ e. ReadsNoAddress s.width rest e new)
+        → UnlessCloneRanOut (AddressAt greatest section s) (λ x. x) clone_is_free r
     address-read new clone_is_free (Ok x) (number, size) h =
         record { placed = is_placed; sized = size; held = slot_holds section s x rest _ takes number }
     address-read new clone_is_free (Err e) given (inl other) =
@@ -102,7 +102,7 @@ module _ (greatest : ℕ) (section : Input) (s : Slot) where
     holds_more : {x : ℕ} → Holds section s x → Holds (followed_by section more) s x
     holds_more h = record {
       within = omega (arith, h.within, length-append section.bytes more);
-      is = grind (arith, common_steps, h.is, h.within);
+      encoded = grind (arith, common_steps, h.encoded, h.within);
     }
 
   -- a slot still has its word when bytes are appended
@@ -137,16 +137,16 @@ module _ (greatest : ℕ) (section : Input) (s : Slot) where
 
   -- what a lookup of a word returned, except `UnexpectedEof` and `OutOfMemory`, stays when bytes are appended
   pub word-stays : {X : Type 0} (view : X → ℕ) (clone_is_free : Bool) (r : Result X Error)
-      → AnswersBy (WordAt greatest section s) view clone_is_free r
-      → StaysBy (λ input. WordAt greatest input s) view clone_is_free section r
+      → UnlessCloneRanOut (WordAt greatest section s) view clone_is_free r
+      → Stays (λ input. WordAt greatest input s) view clone_is_free section r
   word-stays view clone_is_free (Ok x) is = λ more. word_more (Ok (view x)) more is tt
   word-stays view clone_is_free (Err e) (inl is) = λ settled more. inl (word_more (Err e) more is settled)
   word-stays view clone_is_free (Err e) (inr want) = λ settled more. inr want
 
   -- what a lookup of an address returned, except `UnexpectedEof` and `OutOfMemory`, stays when bytes are appended
   pub address-stays : (clone_is_free : Bool) (r : Result ℕ Error)
-      → AnswersBy (AddressAt greatest section s) (λ x. x) clone_is_free r
-      → StaysBy (λ input. AddressAt greatest input s) (λ x. x) clone_is_free section r
+      → UnlessCloneRanOut (AddressAt greatest section s) (λ x. x) clone_is_free r
+      → Stays (λ input. AddressAt greatest input s) (λ x. x) clone_is_free section r
   address-stays clone_is_free (Ok x) is = λ more. address_more (Ok x) more is tt
   address-stays clone_is_free (Err e) (inl is) = λ settled more. inl (address_more (Err e) more is settled)
   address-stays clone_is_free (Err e) (inr want) = λ settled more. inr want
@@ -189,7 +189,7 @@ module _ (greatest : ℕ) (section : Input) (s : Slot) where
 
   -- a slot holds one number
   holds_same : {x y : ℕ} → Holds section s x → Holds section s y → x ≡ y
-  holds_same h k = h.is ∙ sym k.is
+  holds_same h k = h.encoded ∙ sym k.encoded
 
   -- a slot has a word, or an error
   word_some : (r : Result ℕ Error) × WordAt greatest section s r
@@ -201,7 +201,7 @@ module _ (greatest : ℕ) (section : Input) (s : Slot) where
               | inl cut ↦ (Err (end_fault (after (place s) section)), word_cut there cut)
               | inr within ↦
                   let x = number_of section.is_big (take s.width (drop (place s) section.bytes)) in
-                  let held : Holds section s x = record { within = within; is = refl } in
+                  let held : Holds section s x = record { within = within; encoded = refl } in
                   elim (cases_lt greatest x) [
                     | inl over ↦ (Err UnsupportedOffset, word_too_great x there held over)
                     | inr fits ↦ (Ok x, record { placed = there; held = held; fits = fits })
@@ -255,7 +255,7 @@ module _ (greatest : ℕ) (section : Input) (s : Slot) where
             | inl cut ↦ (Err (end_fault (after (place s) section)), address_cut there size cut)
             | inr within ↦
                 let x = number_of section.is_big (take s.width (drop (place s) section.bytes)) in
-                let held : Holds section s x = record { within = within; is = refl } in
+                let held : Holds section s x = record { within = within; encoded = refl } in
                 (Ok x, record { placed = there; sized = size; held = held })
           ]
 

@@ -1,5 +1,5 @@
 -- Bytes have exactly one list of entries, and `next` returns the first.
-use Rattle.dwarf_read_core.proofs.Common.{common_steps, ◌≡◌, ◌≢◌, ◌∙◌, ℕ, zero, suc, ◌+◌, ◌-◌, ◌*◌, ◌/◌, ◌<◌, ◌≤◌, Bool, cond, ◌∷◌, sum_by-cons, true, false, List, [], length, take, Result, Ok, Err, refl, sym, ap, subst, arith, ◌⊎◌, inl, inr, cases_lt, sum_by, IsTrue, le-leb, lt-leb, leb, UnsupportedOffset, Error, end_fault, is_number_size, RejectsAddress, RejectsWord, Input, after, TakesNumber, HasOne, Entries, RepresentsAddresses, RepresentsStringOffsets, ComesFirst, least_taken, length-drop}
+use Rattle.dwarf_read_core.proofs.Common.{common_steps, ◌≡◌, ◌≢◌, ◌∙◌, ℕ, zero, suc, ◌+◌, ◌-◌, ◌*◌, ◌/◌, ◌<◌, ◌≤◌, Bool, cond, ◌∷◌, sum_by-cons, true, List, [], length, take, Result, Ok, Err, refl, sym, ap, subst, arith, inl, inr, cases_lt, sum_by, IsTrue, le-leb, lt-leb, leb, UnsupportedOffset, Error, end_fault, is_number_size, ReadsNoAddress, ReadsNoWord, Input, after, TakesNumber, HasOne, Entries, RepresentsAddresses, RepresentsStringOffsets, ComesFirst, least_taken, length-drop}
 use Rattle.std.specs.Prelude.{if◌then◌else◌, nat_lt, slice_get, count_by, is_ok, IfSome}
 use Rattle.std.proofs.lemmas.Nat.{div-mul-add}
 use Rattle.std.proofs.Math.Nat.{suc-mul}
@@ -37,7 +37,7 @@ module _ (fits : ℕ → Bool) (width : ℕ) where
         | inl short ↦ (Err (end_fault old), entry_cut short)
         | inr enough ↦
             let taken : TakesNumber width old (entry_number old) (after width old) =
-            record { enough = enough; is = refl; left = refl } in
+            record { enough = enough; encoded = refl; left = refl } in
             elim (cases_Bool (fits (entry_number old))) [
               | inl fit ↦ (Ok (entry_number old), record { number = taken; fitting = fit })
               | inr over ↦ (Err UnsupportedOffset, entry_too_great taken over)
@@ -62,7 +62,8 @@ module _ (fits : ℕ → Bool) where
   -- the bytes that remain have exactly one list of numbers
   pub numbers_exactly_one : (entries : Entries) → 0 < entries.width → HasOne (AreNumbers fits entries)
   numbers_exactly_one entries positive =
-      items-exactly_one (entry_exactly_one fits entries.width) (entry_least fits entries.width) (omega (arith, positive))
+      items-exactly_one (entry_exactly_one fits entries.width) (entry_least fits entries.width)
+      (omega (arith, positive))
       entries.rest
 
   -- numbers consume no more bytes than there are
@@ -76,7 +77,7 @@ module _ (fits : ℕ → Bool) where
         → ComesFirst (AreNumbers fits) (entries_in width old) (Ok x) (entries_in width new)
     number_first {x} takes fit =
         let taken : TakesNumber width old x (after width old) =
-        record { enough = takes.enough; is = takes.is; left = refl } in
+        record { enough = takes.enough; encoded = takes.encoded; left = refl } in
         item-first (entry_exactly_one fits width) (entry_least fits width) (omega (arith, positive)) old new some
         (record { number = taken; fitting = fit }) takes.left
 
@@ -98,7 +99,7 @@ module _ (width : ℕ) (old new : Input) (sized : IsTrue (is_number_size width))
   address_first takes = number_first (λ x. true) width (size-positive width sized) old new some takes refl
 
   -- an address that is cut is the first item, as an error after which nothing remains
-  pub address_error_first : {e : Error} {left : Input} → RejectsAddress width old e new → left.bytes ≡ []
+  pub address_error_first : {e : Error} {left : Input} → ReadsNoAddress width old e new → left.bytes ≡ []
       → ComesFirst RepresentsAddresses (entries_in width old) (Err e) (entries_in width left)
   address_error_first (inl size) empty = absurd (let n = size.none in cc)
   address_error_first (inr (_, short)) empty =
@@ -122,30 +123,30 @@ module _ (greatest : ℕ) (format : Format) (old new : Input) (some : old.bytes 
       (le-leb x greatest fit)
 
   -- a string offset that is cut or too great is the first item, as an error after which nothing remains
-  pub string_offset_error_first : {e : Error} {left : Input} → RejectsWord greatest (word_size format) old e new
+  pub string_offset_error_first : {e : Error} {left : Input} → ReadsNoWord greatest (word_size format) old e new
       → left.bytes ≡ [] → ComesFirst (RepresentsStringOffsets greatest) (entries_in (word_size format) old)
       (Err e) (entries_in (word_size format) left)
   string_offset_error_first {e} {left} failed empty =
       number_error_first (λ x. leb x greatest) (word_size format) (word_size-positive format) old new some
       (lacks failed) empty
     where
-      lacks : RejectsWord greatest (word_size format) old e new
+      lacks : ReadsNoWord greatest (word_size format) old e new
           → HasNoEntry (λ x. leb x greatest) (word_size format) old e
       lacks (inl short) = rw short.fault (entry_cut short.short)
       lacks (inr unfit) =
           let taken : TakesNumber (word_size format) old unfit.number (after (word_size format) old) =
-          record { enough = unfit.taken.enough; is = unfit.taken.is; left = refl } in
+          record { enough = unfit.taken.enough; encoded = unfit.taken.encoded; left = refl } in
           rw unfit.fault (entry_too_great taken (lt-leb unfit.number greatest unfit.over))
 
 -- ---- entries by their index, and how many there are
 
 -- the bytes after an entry and others are those after one more
-behind_entry : (width index : ℕ) (old : Input) → after (index * width) (after width old) ≡ after (suc index * width) old
-behind_entry width index old = grind (arith, common_steps, suc-mul)
+after_entry : (width index : ℕ) (old : Input) → after (index * width) (after width old) ≡ after (suc index * width) old
+after_entry width index old = grind (arith, common_steps, suc-mul)
 
 -- after no entries are all bytes
-behind_none : (width : ℕ) (old : Input) → old ≡ after (0 * width) old
-behind_none width old = grind (arith, common_steps)
+after_none : (width : ℕ) (old : Input) → old ≡ after (0 * width) old
+after_none width old = grind (arith, common_steps)
 
 module _ {fits : ℕ → Bool} {width : ℕ} where
   -- the item with an index is the entry after those before it
@@ -154,12 +155,12 @@ module _ {fits : ℕ → Bool} {width : ℕ} where
       → (index : ℕ) → IfSome (slice_get items index) (EntryAt fits width (after (index * width) old))
   item_at (none empty) index = tt
   item_at (more {old = old} {x = x} some has others) zero =
-      subst (λ (i : Input). EntryAt fits width i (Ok x)) (behind_none width old) has
+      subst (λ (i : Input). EntryAt fits width i (Ok x)) (after_none width old) has
   item_at (more {old = old} {items = items} some has others) (suc index) =
-      subst (λ (i : Input). IfSome (slice_get items index) (EntryAt fits width i)) (behind_entry width index old)
+      subst (λ (i : Input). IfSome (slice_get items index) (EntryAt fits width i)) (after_entry width index old)
       (item_at others index)
   item_at (first_error {old = old} {e = e} some has) zero =
-      subst (λ (i : Input). EntryAt fits width i (Err e)) (behind_none width old) has
+      subst (λ (i : Input). EntryAt fits width i (Err e)) (after_none width old) has
   item_at (first_error some has) (suc index) = tt
 
 -- the item with an index is the number of the bytes at its place
@@ -176,14 +177,14 @@ module _ (width : ℕ) (positive : 0 < width) where
       × (length old.bytes < count_by is_ok items * width + width)
   counted (none empty) = (omega arith, omega (arith, ap length empty, positive))
   counted (more {old = old} {x = x} {items = items} some has others) =
-      let behind = counted others in
+      let following = counted others in
       let one : count_by is_ok (Ok x ∷ items) ≡ 1 + count_by is_ok items =
       sum_by-cons (λ (r : Result ℕ Error). cond (is_ok r) 1 0) (Ok x) items in
       let long = length-drop width old.bytes in
       let all : (1 + count_by is_ok items) * width ≡ count_by is_ok items * width + width = grind (arith, suc-mul) in
       rw one (
-        omega (arith, behind.0, long, all, has.number.enough),
-        omega (arith, behind.1, long, all, has.number.enough),
+        omega (arith, following.0, long, all, has.number.enough),
+        omega (arith, following.1, long, all, has.number.enough),
       )
   counted (first_error some (entry_cut short)) = (omega arith, omega (arith, short))
   counted (first_error some (entry_too_great taken over)) = absurd cc

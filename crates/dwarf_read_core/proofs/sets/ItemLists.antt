@@ -12,23 +12,23 @@ bytes-none_or_some [] = inl refl
 bytes-none_or_some (b ∷ bytes) = inr (λ e. cc)
 
 -- bytes that aren't empty stay so with more bytes after them
-pub bytes-still_some : (bytes behind : List ℕ) → bytes ≢ [] → bytes ++ behind ≢ []
-bytes-still_some [] behind some e = some refl
-bytes-still_some (x ∷ bytes) behind some e = cc
+pub bytes-still_some : (bytes following : List ℕ) → bytes ≢ [] → bytes ++ following ≢ []
+bytes-still_some [] following some e = some refl
+bytes-still_some (x ∷ bytes) following some e = cc
 
 -- of two values with the property that exactly one has, each is the other
 pub same_of_one : {A : Type 0} {P : A → Type 0} {x y : A} → HasOne P → P x → P y → x ≡ y
 same_of_one {x = x} {y} one p q = one.2 x p ∙ sym (one.2 y q)
 
-module _ {S A : Type 0} (rest : S → Input) (Is : S → Result A Error → Type 0) (behind : A → S → S) where
+module _ {S A : Type 0} (rest : S → Input) (Is : S → Result A Error → Type 0) (following : A → S → S) where
   -- each value has at least n bytes
   pub record TakesLeast (n : ℕ) : Type 0 where
-    pub by : (old : S) (x : A) → Is old (Ok x) → length (rest (behind x old)).bytes + n ≤ length (rest old).bytes
+    pub by : (old : S) (x : A) → Is old (Ok x) → length (rest (following x old)).bytes + n ≤ length (rest old).bytes
 
-module _ {S A : Type 0} {rest : S → Input} {Is : S → Result A Error → Type 0} {behind : A → S → S} where
+module _ {S A : Type 0} {rest : S → Input} {Is : S → Result A Error → Type 0} {following : A → S → S} where
   -- items consume no more bytes than there are
-  pub items-bounded : {n : ℕ} → TakesLeast rest Is behind n → {old : S} {items : List (Result A Error)}
-      → AreItems rest Is behind old items → sum_by (least_taken n) items ≤ length (rest old).bytes
+  pub items-bounded : {n : ℕ} → TakesLeast rest Is following n → {old : S} {items : List (Result A Error)}
+      → AreItems rest Is following old items → sum_by (least_taken n) items ≤ length (rest old).bytes
   items-bounded least (none e) = omega arith
   items-bounded {n} least (more {old = old} {x = x} {items = items} some is others) =
       rw (sum_by-cons (least_taken n) (Ok x) items)
@@ -38,8 +38,8 @@ module _ {S A : Type 0} {rest : S → Input} {Is : S → Result A Error → Type
 
   module _ (one : (old : S) → HasOne (Is old)) where
     -- two lists of items of the same bytes are equal
-    pub items-same : {old : S} {items others : List (Result A Error)} → AreItems rest Is behind old items
-        → AreItems rest Is behind old others → items ≡ others
+    pub items-same : {old : S} {items others : List (Result A Error)} → AreItems rest Is following old items
+        → AreItems rest Is following old others → items ≡ others
     items-same (none e) (none f) = refl
     items-same (none e) (more some is others) = absurd (some e)
     items-same (none e) (first_error some is) = absurd (some e)
@@ -47,7 +47,8 @@ module _ {S A : Type 0} {rest : S → Input} {Is : S → Result A Error → Type
     items-same {old} (more {x = x} some is others) (more {x = y} {items = ys} full has after) =
         let both = same_of_one (one old) is has in
         let same : x ≡ y = cc in
-        let left = items-same others (subst (λ (z : A). AreItems rest Is behind (behind z old) ys) (sym same) after) in
+        let left =
+        items-same others (subst (λ (z : A). AreItems rest Is following (following z old) ys) (sym same) after) in
         λ i. Ok (same i) ∷ left i
     items-same {old} (more some is others) (first_error full has) =
         absurd (let both = same_of_one (one old) is has in cc)
@@ -59,57 +60,58 @@ module _ {S A : Type 0} {rest : S → Input} {Is : S → Result A Error → Type
 
     -- an error is the first item, and no others are after it
     pub error-first : (old left : S) {e : Error} → (rest old).bytes ≢ [] → Is old (Err e) → (rest left).bytes ≡ []
-        → ComesFirst (AreItems rest Is behind) old (Err e) left
+        → ComesFirst (AreItems rest Is following) old (Err e) left
     error-first old left {e} some is empty = (
       ([], none empty),
-      λ others has. subst (λ (all : List (Result A Error)). AreItems rest Is behind old (Err e ∷ all))
+      λ others has. subst (λ (all : List (Result A Error)). AreItems rest Is following old (Err e ∷ all))
           (items-same (none empty) has) (first_error some is),
     )
 
     -- ---- if each value has at least one byte
-    module _ {n : ℕ} (least : TakesLeast rest Is behind n) (positive : 1 ≤ n) where
+    module _ {n : ℕ} (least : TakesLeast rest Is following n) (positive : 1 ≤ n) where
       -- bytes have a list of items, by induction on a number above their length
       items-some : (steps : ℕ) (old : S) → length (rest old).bytes < steps
-          → (items : List (Result A Error)) × AreItems rest Is behind old items
+          → (items : List (Result A Error)) × AreItems rest Is following old items
       items-some zero old few = absurd (omega arith)
       items-some (suc steps) old few =
           go (items-some steps) (bytes-none_or_some (rest old).bytes) (one old).0 (one old).1
         where
-          go : ((s : S) → length (rest s).bytes < steps → (items : List (Result A Error)) × AreItems rest Is behind s items)
+          go : ((s : S) → length (rest s).bytes < steps
+              → (items : List (Result A Error)) × AreItems rest Is following s items)
               → ((rest old).bytes ≡ []) ⊎ ((rest old).bytes ≢ []) → (r : Result A Error) → Is old r
-              → (items : List (Result A Error)) × AreItems rest Is behind old items
+              → (items : List (Result A Error)) × AreItems rest Is following old items
           go again (inl empty) r is = ([], none empty)
           go again (inr some) (Err e) is = (Err e ∷ [], first_error some is)
           go again (inr some) (Ok x) is =
-              let others = again (behind x old)
+              let others = again (following x old)
               (let l = least.by old x is in omega (arith, l, positive, few)) in
               (Ok x ∷ others.0, more some is others.1)
 
       -- bytes have exactly one list of items
-      pub items-exactly_one : (old : S) → HasOne (AreItems rest Is behind old)
+      pub items-exactly_one : (old : S) → HasOne (AreItems rest Is following old)
       items-exactly_one old =
           let found = items-some (suc (length (rest old).bytes)) old (omega arith) in
           (found.0, found.1, λ others has. items-same has found.1)
 
       -- a value is the first item, and the others are after it
-      pub item-first : (old new : S) {x : A} → (rest old).bytes ≢ [] → Is old (Ok x) → new ≡ behind x old
-          → ComesFirst (AreItems rest Is behind) old (Ok x) new
+      pub item-first : (old new : S) {x : A} → (rest old).bytes ≢ [] → Is old (Ok x) → new ≡ following x old
+          → ComesFirst (AreItems rest Is following) old (Ok x) new
       item-first old new some is left =
           let found = items-exactly_one new in (
             (found.0, found.1),
-            λ others has. more some is (subst (λ (s : S). AreItems rest Is behind s others) left has),
+            λ others has. more some is (subst (λ (s : S). AreItems rest Is following s others) left has),
           )
 
   -- what is known of a first item: bytes remain, and it is the item there
   pub first-is : {old : S} {r : Result A Error} {items : List (Result A Error)}
-      → AreItems rest Is behind old (r ∷ items) → ((rest old).bytes ≢ []) × Is old r
+      → AreItems rest Is following old (r ∷ items) → ((rest old).bytes ≢ []) × Is old r
   first-is (more some is others) = (some, is)
   first-is (first_error some is) = (some, is)
 
   -- bytes that are empty have no items
-  pub items-none : {old : S} → (rest old).bytes ≡ [] → AreItems rest Is behind old []
+  pub items-none : {old : S} → (rest old).bytes ≡ [] → AreItems rest Is following old []
   items-none empty = none empty
 
   -- where there is no item, there are no bytes
-  pub no_first-is : {old : S} → AreItems rest Is behind old [] → (rest old).bytes ≡ []
+  pub no_first-is : {old : S} → AreItems rest Is following old [] → (rest old).bytes ≡ []
   no_first-is (none empty) = empty

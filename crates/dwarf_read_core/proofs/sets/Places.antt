@@ -1,5 +1,5 @@
 -- Each set of a list is where its offset says.
-use Rattle.dwarf_read_core.proofs.Common.{◌≡◌, ◌∙◌, ℕ, zero, suc, ◌+◌, ◌-◌, ◌≤◌, List, length, take, drop, Option, Some, Result, Ok, sym, ap, subst, arith, length-drop, Error, Input, after, Set, Headers}
+use Rattle.dwarf_read_core.proofs.Common.{◌≡◌, ◌∙◌, ℕ, zero, suc, ◌+◌, ◌-◌, ◌≤◌, List, length, take, drop, Some, Result, Ok, sym, ap, subst, arith, length-drop, Error, Input, after, Set, Headers}
 use Rattle.std.specs.Prelude.{slice_get}
 use Rattle.std.proofs.lemmas.List.{drop-drop, drop-take, length-take}
 use Rattle.dwarf_base_core.specs.Format.{initial_length_size}
@@ -9,11 +9,11 @@ use Rattle.dwarf_read_core.specs.Ranges.{HoldsRange}
 use Rattle.dwarf_read_core.specs.Sets.{HasSet, SetAt, after_set, set_size}
 
 -- a part of what remains after k bytes is a part of all, k bytes later
-range_behind : {k offset n : ℕ} {rest part : Input} → k ≤ length rest.bytes → HoldsRange (after k rest) offset n part
+range_after : {k offset n : ℕ} {rest part : Input} → k ≤ length rest.bytes → HoldsRange (after k rest) offset n part
     → HoldsRange rest (k + offset) n part
-range_behind {k} {offset} {n} {rest} {part} enough held = record {
+range_after {k} {offset} {n} {rest} {part} enough held = record {
   within = omega (arith, enough, held.within, length-drop k rest.bytes);
-  is = held.is ∙ ap (take n) (drop-drop offset k rest.bytes);
+  content = held.content ∙ ap (take n) (drop-drop offset k rest.bytes);
   place = omega (arith, held.place);
   order = held.order;
 }
@@ -31,7 +31,7 @@ module _ {H : Type 0} {header : Header H} {size : ℕ} (is_header : IsHeader siz
       let whole : size + n ≡ s.unit_length = omega (arith, taken.enough, long) in
       record {
         within = omega (arith, has.within, whole);
-        is = ap (λ (i : Input). i.bytes) taken.left ∙ ap (λ k. drop size (take k bytes)) (sym whole)
+        content = ap (λ (i : Input). i.bytes) taken.left ∙ ap (λ k. drop size (take k bytes)) (sym whole)
             ∙ drop-take size n bytes ∙ ap (take n) (drop-drop size front headers.rest.bytes);
         place = omega (arith, ap (λ (i : Input). i.position) taken.left);
         order = ap (λ (i : Input). i.is_big) taken.left;
@@ -53,14 +53,15 @@ module _ {H : Type 0} {header : Header H} {size : ℕ} (is_header : IsHeader siz
         subst (λ n. HoldsRange headers.rest n (s.unit_length - size) s.entries) none_before (entries_range there),
       )
   set_placed {headers} (suc index) {s} (more {x = x} some has others) is =
-      let behind = set_placed index others is in
+      let following = set_placed index others is in
       let k = set_size x in
-      let far : k + (behind.0 + initial_length_size s.format + size) ≡ k + behind.0 + initial_length_size s.format + size =
+      let far : k + (following.0 + initial_length_size s.format + size)
+      ≡ k + following.0 + initial_length_size s.format + size =
       omega arith in (
-        k + behind.0,
-        omega (arith, behind.1),
+        k + following.0,
+        omega (arith, following.1),
         subst (λ n. HoldsRange headers.rest n (s.unit_length - size) s.entries) far
-            (range_behind has.within behind.2),
+            (range_after has.within following.2),
       )
   set_placed zero (first_error some has) is = absurd cc
   set_placed (suc index) (first_error some has) is = absurd cc

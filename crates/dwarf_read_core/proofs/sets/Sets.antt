@@ -1,14 +1,14 @@
 -- Bytes have exactly one list of sets, a set stays with more bytes appended, and what a reader reads of it is it.
-use Rattle.dwarf_read_core.proofs.Common.{common_steps, ◌≡◌, ◌≢◌, ◌∙◌, ℕ, ◌+◌, ◌-◌, ◌<◌, ◌≤◌, List, [], ◌∷◌, length, drop, Result, Ok, Err, refl, sym, ap, subst, arith, Bool, ◌⊎◌, inl, inr, cases_lt, sum_by, length-append, length-drop, take-append-le, drop-append-le, Error, CloneRanOutOfMemory, end_fault, IsTooShort, Input, after, first, Takes, HasOne, IsNotEof, followed_by, ComesFirst, least_taken, Set, Headers, RepresentsSets, followed_headers, rest-length, takes-both}
+use Rattle.dwarf_read_core.proofs.Common.{◌≡◌, ◌≢◌, ◌∙◌, ℕ, ◌+◌, ◌-◌, ◌≤◌, List, [], ◌∷◌, length, drop, Result, Ok, Err, refl, sym, ap, subst, arith, Bool, ◌⊎◌, inl, inr, cases_lt, sum_by, length-append, length-drop, take-append-le, drop-append-le, Error, CloneRanOutOfMemory, end_fault, IsTooShort, Input, after, first, Takes, HasOne, IsNotEof, followed_by, ComesFirst, least_taken, Set, Headers, RepresentsSets, followed_headers, rest-length, takes-both}
 use Rattle.std.proofs.lemmas.List.{length-take}
 use Rattle.dwarf_base_core.specs.declared.common.Format.{Format}
 use Rattle.dwarf_base_core.specs.Format.{initial_length_size}
 use Rattle.dwarf_reader_core.specs.InitialLength.{HasLength, HasNoLength, LengthAt}
 use Rattle.dwarf_reader_core.proofs.InitialLengths.{exactly_one_length, length_taken, length_more, no_length-more}
 use Rattle.dwarf_reader_core.specs.Headers.{Header, IsHeader}
-use Rattle.dwarf_read_core.specs.Items.{AreItems, first_error}
+use Rattle.dwarf_read_core.specs.Items.{first_error}
 use Rattle.dwarf_read_core.specs.Sets.{HasSet, HasNoSet, set_unmeasured, set_cut, set_headless, SetAt, set_size, unit_of, after_set}
-use Rattle.dwarf_read_core.proofs.sets.ItemLists.{bytes-still_some, same_of_one, TakesLeast, items-exactly_one, items-bounded, items-same, item-first, error-first, first-is, items-none, no_first-is}
+use Rattle.dwarf_read_core.proofs.sets.ItemLists.{bytes-still_some, same_of_one, TakesLeast, items-exactly_one, items-bounded, item-first, error-first, first-is, items-none, no_first-is}
 
 -- an initial length has at least four bytes
 initial_length_size-least : (format : Format) → 4 ≤ initial_length_size format
@@ -20,7 +20,7 @@ initial_length_size-least format = grind arith
 record SameLength (format : Format) (n : ℕ) (mid : Input) (others : Format) (m : ℕ) (new : Input) : Type 0 where
   formats : format ≡ others
   lengths : n ≡ m
-  behind : mid ≡ new
+  following : mid ≡ new
 
 -- a result for an initial length, and what remains
 abbrev Length : Type 0
@@ -39,7 +39,7 @@ module _ {greatest : ℕ} {old : Input} where
       let same = length_result-same greatest old {x = (Ok (format, n), mid)} {y = (Ok (others, m), new)} a b in
       let results : ◌≡◌ {A = Result (Format × ℕ) Error} (Ok (format, n)) (Ok (others, m)) = λ i. (same i).0 in
       let both : ◌≡◌ {A = Format × ℕ} (format, n) (others, m) = cc in
-      record { formats = λ i. (both i).0; lengths = λ i. (both i).1; behind = λ i. (same i).1 }
+      record { formats = λ i. (both i).0; lengths = λ i. (both i).1; following = λ i. (same i).1 }
 
   -- bytes with an initial length have no error in its place
   length_not_none : {format : Format} {n : ℕ} {mid new : Input} {e : Error} → HasLength greatest old format n mid
@@ -71,11 +71,11 @@ module _ {H : Type 0} {header : Header H} {size : ℕ} (is_header : IsHeader siz
     set_not_none {headers} {s} has (set_cut {format = f} {n = n} {mid = mid} measured short) =
         let same = length-same has.measured measured in
         let long = length-drop (initial_length_size s.format) headers.rest.bytes in
-        let left = ap (λ (i : Input). length i.bytes) same.behind in
+        let left = ap (λ (i : Input). length i.bytes) same.following in
         omega (arith, long, left, has.within, same.lengths, short)
     set_not_none {headers} {s} {e} has (set_headless {n = n} {mid = mid} measured enough lacks) =
         let same = length-same has.measured measured in
-        let unit : first n mid ≡ unit_of s headers.rest = λ i. first (sym same.lengths i) (sym same.behind i) in
+        let unit : first n mid ≡ unit_of s headers.rest = λ i. first (sym same.lengths i) (sym same.following i) in
         let both = said-same _ has.said (subst (λ (i : Input). header i (Err e)) unit lacks) in
         cc
 
@@ -85,7 +85,7 @@ module _ {H : Type 0} {header : Header H} {size : ℕ} (is_header : IsHeader siz
     set-same {headers} {s} {t} a b =
         let same = length-same a.measured b.measured in
         let unit : unit_of t headers.rest ≡ unit_of s headers.rest =
-        λ i. first (sym same.lengths i) (sym same.behind i) in
+        λ i. first (sym same.lengths i) (sym same.following i) in
         let both = said-same _ a.said (subst (λ (u : Input). header u (Ok (t.header, t.entries))) unit b.said) in
         let parts : ◌≡◌ {A = H × Input} (s.header, s.entries) (t.header, t.entries) = cc in
         let here : s.offset ≡ t.offset = a.here ∙ sym b.here in
@@ -106,18 +106,18 @@ module _ {H : Type 0} {header : Header H} {size : ℕ} (is_header : IsHeader siz
     no_set-same (set_cut measured short) (set_unmeasured lacks) = absurd (length_not_none measured lacks)
     no_set-same (set_headless measured enough headless) (set_unmeasured lacks) =
         absurd (length_not_none measured lacks)
-    no_set-same (set_cut a short) (set_cut b few) = ap end_fault (length-same a b).behind
+    no_set-same (set_cut a short) (set_cut b few) = ap end_fault (length-same a b).following
     no_set-same (set_cut a short) (set_headless b enough headless) =
         let same = length-same a b in
-        let left = ap (λ (i : Input). length i.bytes) same.behind in
+        let left = ap (λ (i : Input). length i.bytes) same.following in
         absurd (omega (arith, short, enough, left, same.lengths))
     no_set-same (set_headless a enough headless) (set_cut b short) =
         let same = length-same a b in
-        let left = ap (λ (i : Input). length i.bytes) same.behind in
+        let left = ap (λ (i : Input). length i.bytes) same.following in
         absurd (omega (arith, short, enough, left, same.lengths))
     no_set-same {d = d} {e = e} (set_headless a enough headless) (set_headless b many lacks) =
         let same = length-same a b in
-        let both = said-same _ (subst (λ (i : Input). header i (Err d)) (λ i. first (same.lengths i) (same.behind i))
+        let both = said-same _ (subst (λ (i : Input). header i (Err d)) (λ i. first (same.lengths i) (same.following i))
         headless) lacks in
         cc
 
@@ -132,14 +132,15 @@ module _ {H : Type 0} {header : Header H} {size : ℕ} (is_header : IsHeader siz
 -- ---- what a reader reads of a set
 
 -- a reader consumes an initial length and as many bytes as it says
-pub set_taken : {greatest : ℕ} {old behind new : Input} {format : Format} {n : ℕ} → HasLength greatest old format n behind
-    → Takes n behind new → Takes (initial_length_size format + n) old new
+pub set_taken : {greatest : ℕ} {old following new : Input} {format : Format} {n : ℕ}
+    → HasLength greatest old format n following
+    → Takes n following new → Takes (initial_length_size format + n) old new
 set_taken measured taken = takes-both (length_taken measured) taken
 
-module _ {H : Type 0} {header : Header H} {greatest : ℕ} {old : Input} {format : Format} {n : ℕ} {behind : Input}
-    (measured : HasLength greatest old format n behind) where
+module _ {H : Type 0} {header : Header H} {greatest : ℕ} {old : Input} {format : Format} {n : ℕ} {following : Input}
+    (measured : HasLength greatest old format n following) where
   -- an initial length, a part of that length, and a header in it are a set
-  pub set_read : (offset : ℕ) {unit new : Input} → unit ≡ first n behind → Takes n behind new → {said : H}
+  pub set_read : (offset : ℕ) {unit new : Input} → unit ≡ first n following → Takes n following new → {said : H}
       {entries : Input} → header unit (Ok (said, entries))
       → HasSet header greatest (record { offset = offset; rest = old })
       (record { offset = offset; format = format; unit_length = n; header = said; entries = entries })
@@ -154,14 +155,14 @@ module _ {H : Type 0} {header : Header H} {greatest : ℕ} {old : Input} {format
       }
 
   -- if the header is an error, so is the set
-  pub headless_read : {unit new : Input} → unit ≡ first n behind → Takes n behind new → {e : Error}
+  pub headless_read : {unit new : Input} → unit ≡ first n following → Takes n following new → {e : Error}
       → header unit (Err e) → HasNoSet header greatest old e
   headless_read is taken {e} lacks =
       set_headless measured taken.enough (subst (λ (i : Input). header i (Err e)) is lacks)
 
   -- what a reader returns without a part of that length is the error of the set, or memory ran out
   pub unit_cut_read : (is_free : Bool) {e : Error} {new : Input}
-      → IsTooShort n behind e new ⊎ (CloneRanOutOfMemory is_free e × (new ≡ behind))
+      → IsTooShort n following e new ⊎ (CloneRanOutOfMemory is_free e × (new ≡ following))
       → HasNoSet header greatest old e ⊎ CloneRanOutOfMemory is_free e
   unit_cut_read is_free (inl short) = inl (rw short.fault (set_cut measured short.short))
   unit_cut_read is_free (inr want) = inr want.0
@@ -273,7 +274,8 @@ module _ {H : Type 0} {header : Header H} {size : ℕ} (is_header : IsHeader siz
           → (rest : List (Result (Set H) Error)) × (others ≡ Ok s ∷ rest)
       go [] are kept some = absurd (some (no_first-is are))
       go (r ∷ rest) are kept some =
-          let same : r ≡ Ok s = set_result-same is_header greatest (followed_headers more headers) r (Ok s) (first-is are).1 kept in
+          let same : r ≡ Ok s =
+          set_result-same is_header greatest (followed_headers more headers) r (Ok s) (first-is are).1 kept in
           (rest, λ i. same i ∷ rest)
 
   -- an error, unless it is an `UnexpectedEof`, stays the only item of the sets when bytes are appended
@@ -310,7 +312,7 @@ module _ {H : Type 0} {header : Header H} {size : ℕ} (is_header : IsHeader siz
 
   module _ (offset place : ℕ) (rest left : Input) {at : ℕ} {s : Set H} (some : rest.bytes ≢ [])
       (has_at : HasSet header greatest (headers_at at rest) s) (taken : Takes (set_size s) rest left)
-      (same : at ≡ offset) (behind : place ≡ offset + (length rest.bytes - length left.bytes)) where
+      (same : at ≡ offset) (following : place ≡ offset + (length rest.bytes - length left.bytes)) where
     -- a set that is read at `at`, the offset as the code computes it, is at the offset
     is_there : HasSet header greatest (headers_at offset rest) s
     is_there = subst (λ n. HasSet header greatest (headers_at n rest) s) same has_at
@@ -319,7 +321,7 @@ module _ {H : Type 0} {header : Header H} {size : ℕ} (is_header : IsHeader siz
     remains : headers_at place left ≡ after_set s (headers_at offset rest)
     remains =
         let long = rest-length (set_size s) rest left taken in
-        let at_end : place ≡ offset + set_size s = omega (arith, behind, long, taken.enough) in
+        let at_end : place ≡ offset + set_size s = omega (arith, following, long, taken.enough) in
         λ i. headers_at (at_end i) (taken.left i)
 
     -- a set that is read is the first item

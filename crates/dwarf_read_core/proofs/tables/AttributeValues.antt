@@ -21,9 +21,9 @@ valued_by (suc n) end bytes ss rest is = go (valued_by n end) (specification_at 
         → (r >>= λ first. and_others first.0 first.1 (attributes_at n end first.1)) ≡ Ok (ss, rest)
         → All HasValueByForm ss
     go others (Err e) q is = absurd cc
-    go others (Ok (None, behind)) q is = grind (arith, (All-nil HasValueByForm))
-    go others (Ok (Some s, behind)) q is =
-        grind (arith, All-cons, (valued_one end bytes s behind q), (others behind))
+    go others (Ok (None, following)) q is = grind (arith, (All-nil HasValueByForm))
+    go others (Ok (Some s, following)) q is =
+        grind (arith, All-cons, (valued_one end bytes s following q), (others following))
 
 -- each attribute that is read has a value exactly if its form has one
 pub attributes_valued : (end : ℕ) (bytes : List ℕ) (ss : List Specification) (rest : List ℕ)

@@ -4,7 +4,7 @@ use Rattle.std.specs.Result.{IsErrAnd}
 use Rattle.dwarf_read_core.proofs.tables.ReadingNumbers.{end_after}
 use Rattle.dwarf_read_core.proofs.tables.ReadingIsComplete.{zero_again, end_again}
 use Rattle.dwarf_read_core.proofs.tables.ReadingTables.{TableRead}
-use Rattle.dwarf_read_core.proofs.tables.TablesAreRead.{begins_with_none, table_behind, table_read_again, first_error_again}
+use Rattle.dwarf_read_core.proofs.tables.TablesAreRead.{begins_with_none, table_after, table_read_again, first_error_again}
 
 -- what the functions read at an offset of a section
 unfoldable pub answer_at : Input → ℕ → TableRead
@@ -18,7 +18,7 @@ unfolding answer_at table_in
 is_answer section offset = elim (cases_lt (length section.bytes) offset) [
   | inl lt ↦ rw (lt-ltb (length section.bytes) offset lt) (outside lt)
   | inr le ↦ rw (le-ltb (length section.bytes) offset le) (read le
-      (table_behind (length bytes + 1) (end_of section) bytes bytes empty (begins_with_none bytes) (omega arith)))
+      (table_after (length bytes + 1) (end_of section) bytes bytes empty (begins_with_none bytes) (omega arith)))
 ]
   where
     bytes : List ℕ
@@ -70,7 +70,7 @@ outside_of section offset e new short =
 
 -- no declaration is read at an offset that needs no memory: at the end, past it, or at a code of value 0
 pub nothing_declared : (end : ℕ) (section : Input) (offset : ℕ) (rest : List ℕ) → TakesNoMemory section offset
-    → rest ≡ drop offset section.bytes → (behind : List ℕ) × (declaration_at end rest ≡ Ok (None, behind))
+    → rest ≡ drop offset section.bytes → (following : List ℕ) × (declaration_at end rest ≡ Ok (None, following))
 nothing_declared end section offset rest (inl past) is =
     grind (arith, common_steps, nil_from_length, length-drop, end_again)
 nothing_declared end section offset rest (inr z) is = grind (arith, zero_again)

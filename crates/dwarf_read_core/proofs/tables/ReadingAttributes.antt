@@ -2,7 +2,7 @@
 use Rattle.dwarf_read_core.proofs.Common.{◌≡◌, ℕ, zero, suc, ◌+◌, ◌<◌, List, [], ◌∷◌, ◌++◌, length, take, ◌≢◌, Option, Some, None, Result, Ok, Err, refl, sym, ap, ◌∙◌, append_assoc, arith, append-nil, Error, Specification, Declaration, Sequence, IsSpecification, IsNull, IsFront, HasError, ◌>>=◌, specification_at, and_others, attributes_at, attributes_in, declaration_of, HasOutcome, returned, outcome-bind, common_steps}
 use Rattle.std.specs.Prelude.{slice_set}
 use Rattle.std.proofs.lemmas.List.{take_more_set}
-use Rattle.dwarf_read_core.proofs.tables.ReadingSpecifications.{SomeFound, specification_behind, specification_again, null_again, found_shorter, specification_shorter}
+use Rattle.dwarf_read_core.proofs.tables.ReadingSpecifications.{SomeFound, specification_after, specification_again, null_again, found_shorter, specification_shorter}
 
 -- the bytes of items, with those of one more after them, are the bytes of all of them
 pub Sequence-push : {A : Type 0} (Is : List ℕ → A → Type 0) (bytes : List ℕ) (xs : List A) (last : List ℕ) (x : A)
@@ -108,26 +108,26 @@ front_push front first d s is one = record {
 }
 
 -- under a bound above the bytes, specifications are read after a front, or an error of both together
-behind_by : (n end : ℕ) (front bytes whole : List ℕ) (d : Declaration) → whole ≡ front ++ bytes → length bytes < n
+after_by : (n end : ℕ) (front bytes whole : List ℕ) (d : Declaration) → whole ≡ front ++ bytes → length bytes < n
     → IsFront front d → HasOutcome (λ x. AttributesFound bytes x.0 x.1) (HasError end whole) (attributes_at n end bytes)
 unfolding attributes_at
-behind_by zero end front bytes whole d parts short is = absurd (omega arith)
-behind_by (suc n) end front bytes whole d parts short is =
-    outcome-bind _ (specification_behind end front bytes whole d parts is) (λ first f.
-    go (λ rest front. behind_by n end front rest whole) first.0 first.1 f)
+after_by zero end front bytes whole d parts short is = absurd (omega arith)
+after_by (suc n) end front bytes whole d parts short is =
+    outcome-bind _ (specification_after end front bytes whole d parts is) (λ first f.
+    go (λ rest front. after_by n end front rest whole) first.0 first.1 f)
   where
     go : ((rest front : List ℕ) (d : Declaration) → whole ≡ front ++ rest → length rest < n → IsFront front d
         → HasOutcome (λ x. AttributesFound rest x.0 x.1) (HasError end whole) (attributes_at n end rest))
-        → (o : Option Specification) (behind : List ℕ) → SomeFound bytes o behind
+        → (o : Option Specification) (following : List ℕ) → SomeFound bytes o following
         → HasOutcome (λ x. AttributesFound bytes x.0 x.1) (HasError end whole)
-        (and_others o behind (attributes_at n end behind))
-    go others None behind f =
-        returned ([], behind)
+        (and_others o following (attributes_at n end following))
+    go others None following f =
+        returned ([], following)
         (record { specifications = []; null = f.front; parts = f.parts; are = refl; is_null = f.is_null })
-    go others (Some s) behind f =
-        outcome-bind _ (others behind (front ++ f.front) (declaration_with d (s ∷ []))
+    go others (Some s) following f =
+        outcome-bind _ (others following (front ++ f.front) (declaration_with d (s ∷ []))
         (rw (parts, f.parts) (simp append_assoc))
-        (let h = found_shorter bytes (Some s) behind f in omega arith)
+        (let h = found_shorter bytes (Some s) following f in omega arith)
         (front_push front f.front d s is f.is_specification))
         (λ y g. returned (s ∷ y.0, y.1) (record {
           specifications = f.front ++ g.specifications;
@@ -138,11 +138,11 @@ behind_by (suc n) end front bytes whole d parts short is =
         }))
 
 -- specifications are read after a front, or an error of both together
-pub attributes_behind : (end : ℕ) (front bytes whole : List ℕ) (d : Declaration) → whole ≡ front ++ bytes
+pub attributes_after : (end : ℕ) (front bytes whole : List ℕ) (d : Declaration) → whole ≡ front ++ bytes
     → IsFront front d → HasOutcome (λ x. AttributesFound bytes x.0 x.1) (HasError end whole) (attributes_in end bytes)
 unfolding attributes_in
-attributes_behind end front bytes whole d parts is =
-    behind_by (length bytes + 1) end front bytes whole d parts (omega arith) is
+attributes_after end front bytes whole d parts is =
+    after_by (length bytes + 1) end front bytes whole d parts (omega arith) is
 
 -- ---- what is in the grammar is read
 

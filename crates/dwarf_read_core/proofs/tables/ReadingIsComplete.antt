@@ -59,8 +59,8 @@ front_again : (end : ℕ) (front rest : List ℕ) (d : Declaration) → IsFront 
     ≡ after_attributes d.code d.tag d.children (with_front d.attributes (attributes_in end rest))
 front_again end front rest d is =
     let again = attributes_again end is.specifications rest d.attributes is.are_attributes in
-    let behind = children_byte d.children ∷ (is.specifications ++ rest) in
-    rw (is.parts, append_assoc, head_again end is.head behind d.code d.tag is.is_head)
+    let following = children_byte d.children ∷ (is.specifications ++ rest) in
+    rw (is.parts, append_assoc, head_again end is.head following d.code d.tag is.is_head)
     (rw (children_again end d.children (is.specifications ++ rest), again) refl)
 
 -- the bytes of a declaration are read as that declaration, and the rest remains

@@ -1,8 +1,8 @@
 -- A declaration that is read, or its error, is what the grammar says.
 use Rattle.dwarf_read_core.proofs.Common.{common_steps, ◌≡◌, ◌≢◌, ℕ, ◌<◌, Bool, true, false, eqb, List, [], ◌∷◌, ◌++◌, length, Option, Some, None, Ok, refl, sym, ap, subst, append_assoc, arith, eqb-true, eqb-false, length-append, append-nil, nil_from_length, AbbreviationTagZero, InvalidAbbreviationChildren, unsigned64, unsigned16, IsNumber, eof, Declaration, children_byte, IsCode, IsHead, IsFront, IsDeclaration, before_code, before_tag, HasError, children_cut, tag_zero, children_bad, tag_at, children_at, declaration_of, declared_at, coded_at, declaration_at, HasOutcome, returned, failed, outcome-bind, outcome-cond, outcome-map, outcome-ok}
 use Rattle.dwarf_read_core.proofs.tables.ReadingNumbers.{encoding-nonempty, number-positive, Found}
-use Rattle.dwarf_read_core.proofs.tables.ReadingSpecifications.{number_behind}
-use Rattle.dwarf_read_core.proofs.tables.ReadingAttributes.{attributes_behind}
+use Rattle.dwarf_read_core.proofs.tables.ReadingSpecifications.{number_after}
+use Rattle.dwarf_read_core.proofs.tables.ReadingAttributes.{attributes_after}
 
 -- a tag above 0 is at the front of bytes, and this remains
 pub record TagFound (bytes : List ℕ) (tag : ℕ) (rest : List ℕ) : Type 0 where
@@ -10,23 +10,23 @@ pub record TagFound (bytes : List ℕ) (tag : ℕ) (rest : List ℕ) : Type 0 wh
   pub tagged : 0 < tag
 
 -- a tag is read after a code, or an error of both together
-tag_behind : (end : ℕ) (front bytes whole : List ℕ) (code : ℕ) → whole ≡ front ++ bytes → IsCode front code
+tag_after : (end : ℕ) (front bytes whole : List ℕ) (code : ℕ) → whole ≡ front ++ bytes → IsCode front code
     → HasOutcome (λ x. TagFound bytes x.0 x.1) (HasError end whole) (tag_at end bytes)
 unfolding tag_at
-tag_behind end front bytes whole code parts is =
-    outcome-bind _ (number_behind unsigned16 end front bytes whole parts (before_tag front code is)) (λ x f.
+tag_after end front bytes whole code parts is =
+    outcome-bind _ (number_after unsigned16 end front bytes whole parts (before_tag front code is)) (λ x f.
     outcome-cond (eqb x.0 0)
     (λ t. failed AbbreviationTagZero (rw (parts, f.parts, sym (append_assoc front f.front x.1))
     (tag_zero front f.front x.1 code is (subst (IsNumber unsigned16 f.front) (eqb-true x.0 0 t) f.string))))
     (λ t. returned x (record { found = f; tagged = number-positive x.0 t })))
 
 -- a flag for children is read after a code and a tag, or an error of all of them together
-children_behind : (end : ℕ) (front bytes whole : List ℕ) (code tag : ℕ) → whole ≡ front ++ bytes → IsHead front code tag
+children_after : (end : ℕ) (front bytes whole : List ℕ) (code tag : ℕ) → whole ≡ front ++ bytes → IsHead front code tag
     → HasOutcome (λ (x : Bool × List ℕ). bytes ≡ children_byte x.0 ∷ x.1) (HasError end whole) (children_at end bytes)
 unfolding children_at
-children_behind end front [] whole code tag parts is =
+children_after end front [] whole code tag parts is =
     failed (eof end) (rw (parts, append-nil front) (children_cut front code tag is))
-children_behind end front (b ∷ bytes) whole code tag parts is =
+children_after end front (b ∷ bytes) whole code tag parts is =
     outcome-cond (eqb b 0) (λ s. returned (false, bytes) (ap (λ (c : ℕ). c ∷ bytes) (eqb-true b 0 s)))
     (λ s. outcome-cond (eqb b 1) (λ t. returned (true, bytes) (ap (λ (c : ℕ). c ∷ bytes) (eqb-true b 1 t)))
     (λ t. let n = eqb-false b 0 s in let m = eqb-false b 1 t in
@@ -40,21 +40,21 @@ pub record DeclarationFound (bytes : List ℕ) (d : Declaration) (rest : List �
   pub is_declaration : IsDeclaration front d
 
 -- what follows a code is read, a declaration together with the code, or an error of both together
-declared_behind : (end code : ℕ) (front bytes whole : List ℕ) → whole ≡ front ++ bytes → IsCode front code
+declared_after : (end code : ℕ) (front bytes whole : List ℕ) → whole ≡ front ++ bytes → IsCode front code
     → HasOutcome (λ x. DeclarationFound whole x.0 x.1) (HasError end whole) (declared_at end code bytes)
 unfolding declared_at
-declared_behind end code front bytes whole parts is =
-    outcome-bind _ (tag_behind end front bytes whole code parts is) (λ tag t.
+declared_after end code front bytes whole parts is =
+    outcome-bind _ (tag_after end front bytes whole code parts is) (λ tag t.
     let head = front ++ t.found.front in
-    let behind_head : whole ≡ head ++ tag.1 = rw (parts, t.found.parts) (simp append_assoc) in
+    let after_head : whole ≡ head ++ tag.1 = rw (parts, t.found.parts) (simp append_assoc) in
     let f = t.found in
     let is_head : IsHead head code tag.0 =
     record { first = front; second = f.front; parts = refl; is_code = is; is_tag = f.string; tagged = t.tagged } in
-    outcome-bind _ (children_behind end head tag.1 whole code tag.0 behind_head is_head) (λ children h.
+    outcome-bind _ (children_after end head tag.1 whole code tag.0 after_head is_head) (λ children h.
     let byte = children_byte children.0 in
-    let behind_byte : whole ≡ (head ++ byte ∷ []) ++ children.1 = rw (behind_head, h) (simp append_assoc) in
-    outcome-bind _ (attributes_behind end (head ++ byte ∷ []) children.1 whole (declaration_of code tag.0 children.0 [])
-    behind_byte (record { head = head; specifications = []; parts = refl; is_head = is_head; are_attributes = refl }))
+    let after_byte : whole ≡ (head ++ byte ∷ []) ++ children.1 = rw (after_head, h) (simp append_assoc) in
+    outcome-bind _ (attributes_after end (head ++ byte ∷ []) children.1 whole (declaration_of code tag.0 children.0 [])
+    after_byte (record { head = head; specifications = []; parts = refl; is_head = is_head; are_attributes = refl }))
     (λ attributes s.
     let d = declaration_of code tag.0 children.0 attributes.0 in
     let bytes = head ++ byte ∷ s.specifications in
@@ -63,7 +63,7 @@ declared_behind end code front bytes whole parts is =
     in
     returned (d, attributes.1) (record {
       front = bytes ++ s.null;
-      parts = rw (behind_byte, s.parts) (simp append_assoc);
+      parts = rw (after_byte, s.parts) (simp append_assoc);
       is_declaration = record { front = bytes; null = s.null; parts = refl; is_front = is_front; is_null = s.is_null };
     }))))
 
@@ -93,14 +93,14 @@ declaration_outcome end bytes =
     (λ t. let none : bytes ≡ [] = nil_from_length bytes (eqb-true (length bytes) 0 t) in
     returned (None, bytes) (subst (λ (b : List ℕ). EndFound b b) (sym none) at_end))
     (λ t. outcome-map (λ x f. f) (λ e f. ((λ h. eqb-false (length bytes) 0 t (ap length h)), f))
-    (outcome-bind _ (number_behind unsigned64 end [] bytes bytes refl before_code) (λ code f.
+    (outcome-bind _ (number_after unsigned64 end [] bytes bytes refl before_code) (λ code f.
     outcome-cond (eqb code.0 0)
     (λ z. returned (None, code.1) (at_zero bytes code.1 (record {
       front = f.front;
       parts = f.parts;
       is_zero = subst (IsNumber unsigned64 f.front) (eqb-true code.0 0 z) f.string;
     })))
-    (λ z. outcome-bind _ (declared_behind end code.0 f.front code.1 bytes f.parts
+    (λ z. outcome-bind _ (declared_after end code.0 f.front code.1 bytes f.parts
     (record { is_code = f.string; nonzero = number-positive code.0 z })) (λ d h. returned (Some d.0, d.1) h)))))
 
 -- ---- fewer bytes remain after a declaration

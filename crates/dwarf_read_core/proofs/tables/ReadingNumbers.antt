@@ -1,5 +1,5 @@
 -- The function that reads a LEB128 number returns what the definition says, and nothing else.
-use Rattle.dwarf_read_core.proofs.Common.{common_steps, ◌≡◌, ℕ, zero, suc, ◌<◌, ◌≤◌, false, eqb, ltb, List, [], ◌∷◌, ◌++◌, length, drop, Option, Some, None, Result, Ok, Err, refl, sym, ap, ◌∙◌, arith, ◌⊎◌, inl, inr, length-append, length-drop, take-append-drop, take, ne_eqb, eqb-false, ltb-true, lt-ltb, le-ltb, Error, Kind, Number, limit, value, is_in_range, overflow_error, IsEncoding, NoneIsLast, IsNumber, HasNumber, IsTruncated, IsMalformed, ReadsNumber, RejectsNumber, Input, end_of, after, eof, encoding_at, number_from, number_at, HasOutcome, returned, failed, outcome-cond, IfOk, MatchOption, nat_tests}
+use Rattle.dwarf_read_core.proofs.Common.{common_steps, ◌≡◌, ℕ, zero, suc, ◌<◌, ◌≤◌, false, eqb, ltb, List, [], ◌∷◌, ◌++◌, length, drop, Option, Some, None, Result, Ok, Err, refl, sym, ap, ◌∙◌, arith, ◌⊎◌, inl, inr, length-append, length-drop, take-append-drop, take, ne_eqb, eqb-false, ltb-true, lt-ltb, le-ltb, Error, Kind, Number, limit, value, is_in_range, overflow_error, IsEncoding, NoneIsLast, IsNumber, HasNumber, IsTruncated, IsMalformed, ReadsNumber, ReadsNoNumber, Input, end_of, after, eof, encoding_at, number_from, number_at, HasOutcome, returned, failed, outcome-cond, IfOk, MatchOption, nat_tests}
 use Rattle.std.proofs.Math.Seq.{take-append_seam}
 
 -- an encoding of a number has at least one byte
@@ -140,7 +140,7 @@ number_at-bad k end bytes b = go (number_outcome k end bytes)
 -- ---- what a reader reads, and what the function reads
 
 -- the error that a reader returns in place of a number is what the function reads
-pub number_not_read : {k : Kind} {old : Input} {e : Error} {new : Input} → RejectsNumber k old e new
+pub number_not_read : {k : Kind} {old : Input} {e : Error} {new : Input} → ReadsNoNumber k old e new
     → number_at k (end_of old) old.bytes ≡ Err e
 number_not_read r = grind (arith, number_at-cut, number_at-bad)
 
@@ -156,7 +156,7 @@ end_after n old le = omega (arith, length-drop n old.bytes)
 -- reading a number doesn't change the position of the end
 pub end_stays : {k : Kind} {old : Input} {number : Number k} {new : Input} → ReadsNumber k old number new
     → end_of new ≡ end_of old
-end_stays {old = old} r = ap end_of r.left ∙ end_after r.len old r.is.enough
+end_stays {old = old} r = ap end_of r.left ∙ end_after r.len old r.has.enough
 
 -- the function reads what a reader reads
 pub ruleset number_steps = (number_read, number_not_read, end_stays)

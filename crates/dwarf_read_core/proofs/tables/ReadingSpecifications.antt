@@ -5,9 +5,9 @@ use Rattle.dwarf_read_core.proofs.tables.ReadingNumbers.{encoding-nonempty, numb
 -- ---- what is read, value or error, is in the grammar
 
 -- a number is read after the beginning of a declaration, or an error of both together
-pub number_behind : (k : Kind) (end : ℕ) (front bytes whole : List ℕ) → whole ≡ front ++ bytes → IsBeginning front k
+pub number_after : (k : Kind) (end : ℕ) (front bytes whole : List ℕ) → whole ≡ front ++ bytes → IsBeginning front k
     → HasOutcome (λ x. Found k bytes x.0 x.1) (HasError end whole) (number_at k end bytes)
-number_behind k end front bytes whole parts begins =
+number_after k end front bytes whole parts begins =
     outcome-map (λ x f. f) (λ e f. grind (arith, number_cut, number_bad)) (number_outcome k end bytes)
 
 -- the value of an attribute of this form, if it has one, is at the front of bytes, and this remains
@@ -17,15 +17,15 @@ pub record ValueFound (form : ℕ) (bytes : List ℕ) (value : Option ℤ) (rest
   pub is_value : IsImplicit form front value
 
 -- a value is read after a form, or an error of what begins the declaration and the value together
-value_behind : (end form : ℕ) (front bytes whole : List ℕ) → whole ≡ front ++ bytes
+value_after : (end form : ℕ) (front bytes whole : List ℕ) → whole ≡ front ++ bytes
     → (form ≡ implicit_const → IsBeginning front signed64)
     → HasOutcome (λ (x : Option ℤ × List ℕ). ValueFound form bytes x.0 x.1) (HasError end whole)
     (value_at end form bytes)
 unfolding value_at
-value_behind end form front bytes whole parts begins =
+value_after end form front bytes whole parts begins =
     outcome-cond (eqb form implicit_const)
     (λ t. let is = eqb-true form implicit_const t in
-    outcome-bind _ (number_behind signed64 end front bytes whole parts (begins is))
+    outcome-bind _ (number_after signed64 end front bytes whole parts (begins is))
     (λ v f. returned (Some v.0, v.1) (record { front = f.front; parts = f.parts; is_value = (is, f.string) })))
     (λ t. returned (None, bytes)
     (record { front = []; parts = refl; is_value = (eqb-false form implicit_const t, refl) }))
@@ -48,14 +48,14 @@ SomeFound bytes None rest = NullFound bytes rest
 SomeFound bytes (Some s) rest = SpecificationFound bytes s rest
 
 -- a specification is read after the front of a declaration, or the null one, or an error of both together
-pub specification_behind : (end : ℕ) (front bytes whole : List ℕ) (d : Declaration) → whole ≡ front ++ bytes
+pub specification_after : (end : ℕ) (front bytes whole : List ℕ) (d : Declaration) → whole ≡ front ++ bytes
     → IsFront front d
     → HasOutcome (λ (x : Option Specification × List ℕ). SomeFound bytes x.0 x.1) (HasError end whole)
     (specification_at end bytes)
 unfolding specification_at
-specification_behind end front bytes whole d parts is =
-    outcome-bind _ (number_behind unsigned16 end front bytes whole parts (before_name front d is)) (λ name n.
-    outcome-bind _ (number_behind unsigned16 end (front ++ n.front) name.1 whole
+specification_after end front bytes whole d parts is =
+    outcome-bind _ (number_after unsigned16 end front bytes whole parts (before_name front d is)) (λ name n.
+    outcome-bind _ (number_after unsigned16 end (front ++ n.front) name.1 whole
     (rw (parts, n.parts) (simp append_assoc)) (before_form front n.front d name.0 is n.string)) (λ form f.
     let grouped : whole ≡ front ++ n.front ++ f.front ++ form.1 = rw (parts, n.parts, f.parts) (simp append_assoc) in
     let no_name : eqb name.0 0 ≡ true → IsNumber unsigned16 n.front 0 =
@@ -74,7 +74,7 @@ specification_behind end front bytes whole d parts is =
     (λ s. outcome-cond (eqb form.0 0)
     (λ t. failed AttributeFormZero (rw grouped
     (form_zero front n.front f.front form.1 d name.0 is n.string (number-positive name.0 s) (no_form t))))
-    (λ t. outcome-bind _ (value_behind end form.0 (front ++ n.front ++ f.front) form.1 whole grouped (λ e.
+    (λ t. outcome-bind _ (value_after end form.0 (front ++ n.front ++ f.front) form.1 whole grouped (λ e.
     before_value front n.front f.front d name.0 is n.string (number-positive name.0 s)
     (subst (IsNumber unsigned16 f.front) e f.string)))
     (λ value v. returned (Some (specification_of name.0 form.0 value.0), value.1) (record {

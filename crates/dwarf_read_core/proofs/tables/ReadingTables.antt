@@ -1,5 +1,5 @@
 -- How a table changes with the next entry that its parser reads.
-use Rattle.dwarf_read_core.proofs.Common.{common_steps, ◌≡◌, ℕ, zero, suc, ◌<◌, true, false, cond, List, [], length, Option, Some, None, Result, Ok, Err, refl, ap, arith, ne_eqb, insert, contains_key, nil_from_length, Error, DuplicateAbbreviationCode, Declaration, ByCode, Table, closed, ◌>>=◌, declaration_at, close_of, and_declared, ◌≢◌, by_null, by_end, coded_at, table_at, table_in}
+use Rattle.dwarf_read_core.proofs.Common.{◌≡◌, ℕ, zero, suc, ◌<◌, true, false, cond, List, [], length, Option, Some, None, Result, Ok, Err, refl, ap, arith, ne_eqb, insert, contains_key, nil_from_length, Error, DuplicateAbbreviationCode, Declaration, ByCode, Table, closed, ◌>>=◌, declaration_at, close_of, and_declared, ◌≢◌, by_null, by_end, coded_at, table_at, table_in}
 use Rattle.dwarf_read_core.proofs.tables.ReadingIsSound.{declaration_shorter}
 use Rattle.dwarf_read_core.proofs.tables.ReadingIsComplete.{end_again}
 

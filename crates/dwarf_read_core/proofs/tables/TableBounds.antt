@@ -1,5 +1,5 @@
 -- A table has no more declarations and attributes than fit its bytes.
-use Rattle.dwarf_read_core.proofs.Common.{common_steps, ◌≡◌, ℕ, ◌+◌, ◌*◌, ◌≤◌, false, List, [], ◌∷◌, length, map, Ok, sym, ap, ◌∙◌, arith, is_some, sum_by, nat_cmp, nat_cmp_total, find, len, entries, entries-insert, len-insert, len-empty, len-entries, get-entries, length-append, length-drop, nil_from_length, sum_by-cons, Specification, Declaration, Sequence, IsSpecification, IsDeclaration, AreDistinct, Table, by_code_of, attribute_count, IsTable, Input, Answer, table}
+use Rattle.dwarf_read_core.proofs.Common.{common_steps, ◌≡◌, ℕ, ◌+◌, ◌*◌, ◌≤◌, false, List, [], ◌∷◌, length, map, Ok, sym, ap, ◌∙◌, arith, is_some, sum_by, nat_cmp, nat_cmp_total, find, len, entries, entries-insert, len-insert, len-empty, len-entries, get-entries, length-append, length-drop, nil_from_length, sum_by-cons, Specification, Declaration, Sequence, IsSpecification, IsDeclaration, AreDistinct, Table, by_code_of, attribute_count, IsTable, Input, Answer, table, FitsIn}
 use Rattle.std.specs.FinMap.Entries.{put}
 use Rattle.dwarf_read_core.proofs.tables.ReadingNumbers.{encoding-nonempty}
 use Rattle.dwarf_read_core.proofs.tables.ReadingSpecifications.{specification_long, null_long}
@@ -29,7 +29,15 @@ declarations_long : (bytes : List ℕ) (ds : List Declaration) → Sequence IsDe
     → 5 * length ds + 2 * sum_by (λ d. length d.attributes) ds ≤ length bytes
 declarations_long bytes [] e = omega arith
 declarations_long bytes (d ∷ ds) q =
-    grind (arith, common_steps, length-append, declaration_long, sum_by-cons, attributes, (declarations_long q.1 ds q.4))
+    grind (
+      arith,
+      common_steps,
+      length-append,
+      declaration_long,
+      sum_by-cons,
+      attributes,
+      (declarations_long q.1 ds q.4),
+    )
 
 -- ---- tables
 
@@ -71,5 +79,5 @@ table_bound h = grind (arith, len_is, count_is, declarations_long, length-append
 
 -- a section with a table at an offset has five bytes there for each declaration and two for each attribute
 pub answer_bound : {section : Input} {offset : ℕ} {t : Table} → Answer section offset (Ok t)
-    → 5 * len t.by_code + 2 * attribute_count t.by_code + offset ≤ length section.bytes
+    → FitsIn section offset t
 answer_bound {section} {offset} (table t le is) = omega (arith, table_bound is, length-drop offset section.bytes)

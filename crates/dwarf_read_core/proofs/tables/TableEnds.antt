@@ -1,5 +1,5 @@
 -- Where a table ends: at one offset, which stays when bytes are appended.
-use Rattle.dwarf_read_core.proofs.Common.{◌≡◌, ℕ, ◌+◌, ◌-◌, ◌≤◌, List, [], ◌∷◌, ◌++◌, length, drop, Option, Some, None, Ok, refl, sym, ap, ◌∙◌, arith, inl, inr, ◌⊎◌, subst, append_assoc, length-append, length-drop, drop-append-le, Input, followed_by, Declaration, Table, by_null, by_end, Sequence, IsDeclaration, IsNumber, unsigned64, IsTableBefore, closed_by_null, closed_by_end, HasOne, Answer, table, declaration_at}
+use Rattle.dwarf_read_core.proofs.Common.{◌≡◌, ℕ, ◌-◌, List, [], ◌∷◌, ◌++◌, length, Option, Some, None, Ok, refl, sym, ap, ◌∙◌, arith, inl, inr, ◌⊎◌, subst, append_assoc, length-append, length-drop, drop-append-le, Input, followed_by, Declaration, Table, by_null, by_end, Sequence, IsDeclaration, IsNumber, unsigned64, IsTableBefore, closed_by_null, closed_by_end, HasOne, Answer, table, declaration_at}
 use Rattle.dwarf_read_core.specs.Answer.{TableEndsAt}
 use Rattle.dwarf_read_core.proofs.tables.ReadingIsComplete.{declaration_again, zero_again}
 use Rattle.dwarf_read_core.proofs.tables.TablesAreRead.{table_before_fits}
@@ -10,25 +10,26 @@ record IsClosed (bytes rest : List ℕ) (ds : List Declaration) : Type 0 where
   zero_code : List ℕ
   parts : bytes ≡ front ++ zero_code ++ rest
   are : Sequence IsDeclaration front ds
-  is : IsNumber unsigned64 zero_code 0
+  encodes : IsNumber unsigned64 zero_code 0
 
 -- the code of value 0 is read if no declaration is before it
 zero_read : {bytes rest : List ℕ} → IsClosed bytes rest [] → declaration_at 0 bytes ≡ Ok (None, rest)
 zero_read {rest = rest} h =
     ap (declaration_at 0) (h.parts ∙ ap (λ (f : List ℕ). f ++ h.zero_code ++ rest) h.are)
-    ∙ zero_again 0 h.zero_code rest h.is
+    ∙ zero_again 0 h.zero_code rest h.encodes
 
 -- the first declaration is read, and the others are after it
 first_read : {bytes rest : List ℕ} {d : Declaration} {ds : List Declaration} → IsClosed bytes rest (d ∷ ds)
-    → (behind : List ℕ) × (declaration_at 0 bytes ≡ Ok (Some d, behind)) × IsClosed behind rest ds
+    → (following : List ℕ) × (declaration_at 0 bytes ≡ Ok (Some d, following)) × IsClosed following rest ds
 first_read {rest = rest} {d} h =
     let (first, tail, parts, is, others) = h.are in
     let all : h.front ++ h.zero_code ++ rest ≡ first ++ (tail ++ h.zero_code ++ rest) =
-    ap (λ (f : List ℕ). f ++ h.zero_code ++ rest) parts ∙ ap (λ (l : List ℕ). l ++ rest) (append_assoc first tail h.zero_code)
+    ap (λ (f : List ℕ). f ++ h.zero_code ++ rest) parts
+    ∙ ap (λ (l : List ℕ). l ++ rest) (append_assoc first tail h.zero_code)
     ∙ append_assoc first (tail ++ h.zero_code) rest in (
       tail ++ h.zero_code ++ rest,
       ap (declaration_at 0) (h.parts ∙ all) ∙ declaration_again 0 first (tail ++ h.zero_code ++ rest) d is,
-      record { front = tail; zero_code = h.zero_code; parts = refl; are = others; is = h.is },
+      record { front = tail; zero_code = h.zero_code; parts = refl; are = others; encodes = h.encodes },
     )
 
 -- two readings of the same bytes have the same declaration, if any, and the same rest
@@ -39,27 +40,27 @@ same_read bytes {x} {y} {c} {d} h k =
     let pair : ◌≡◌ {A = Option Declaration × List ℕ} (c, x) (d, y) = cc in (λ i. (pair i).0, λ i. (pair i).1)
 
 -- after declarations and a code of value 0 one rest remains
-same_rest : (bytes : List ℕ) {rest behind : List ℕ} (ds es : List Declaration) → IsClosed bytes rest ds
-    → IsClosed bytes behind es → rest ≡ behind
+same_rest : (bytes : List ℕ) {rest following : List ℕ} (ds es : List Declaration) → IsClosed bytes rest ds
+    → IsClosed bytes following es → rest ≡ following
 same_rest bytes [] [] a b = (same_read _ (zero_read a) (zero_read b)).1
 same_rest bytes [] (e ∷ es) a b = absurd (let none = (same_read _ (zero_read a) (first_read b).1).0 in cc)
 same_rest bytes (d ∷ ds) [] a b = absurd (let none = (same_read _ (first_read a).1 (zero_read b)).0 in cc)
-same_rest bytes {behind = behind} (d ∷ ds) (e ∷ es) a b =
+same_rest bytes {following = following} (d ∷ ds) (e ∷ es) a b =
     let x = first_read a in
     let y = first_read b in
     let same = (same_read _ x.1 y.1).1 in
-    same_rest x.0 ds es x.2 (subst (λ (l : List ℕ). IsClosed l behind es) (sym same) y.2)
+    same_rest x.0 ds es x.2 (subst (λ (l : List ℕ). IsClosed l following es) (sym same) y.2)
 
 -- a table is closed by a code of value 0, or by the end
 how_closed : {bytes rest : List ℕ} {t : Table} → IsTableBefore bytes t rest
     → ((t.close ≡ by_null) × (ds : List Declaration) × IsClosed bytes rest ds) ⊎ ((t.close ≡ by_end) × (rest ≡ []))
 how_closed (closed_by_null bytes zero_code rest ds are is) =
-    inl (refl, ds, record { front = bytes; zero_code = zero_code; parts = refl; are = are.each; is = is })
+    inl (refl, ds, record { front = bytes; zero_code = zero_code; parts = refl; are = are.each; encodes = is })
 how_closed (closed_by_end bytes ds are) = inr (refl, refl)
 
 -- after a table one rest remains
-rest_same : {bytes rest behind : List ℕ} {t : Table} → IsTableBefore bytes t rest → IsTableBefore bytes t behind
-    → rest ≡ behind
+rest_same : {bytes rest following : List ℕ} {t : Table} → IsTableBefore bytes t rest → IsTableBefore bytes t following
+    → rest ≡ following
 rest_same {t = t} a b =
     elim (how_closed a) [
       | inl null ↦

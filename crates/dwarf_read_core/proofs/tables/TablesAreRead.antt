@@ -78,14 +78,14 @@ pub begins_before_end : {whole bytes : List ℕ} {t : ByCode} → BeginsWith who
 begins_before_end b none = rw none (begins_and_ends (rw none at b) at_end)
 
 -- what is read after some declarations is the table that all bytes begin with, or their first error
-pub table_behind : (n end : ℕ) (bytes whole : List ℕ) (t : ByCode) → BeginsWith whole t bytes → length bytes < n
+pub table_after : (n end : ℕ) (bytes whole : List ℕ) (t : ByCode) → BeginsWith whole t bytes → length bytes < n
     → HasOutcome (IsTable whole) (IsFirstError end whole) (table_at n end t bytes)
 unfolding table_at
-table_behind zero end bytes whole t b short = absurd (omega arith)
-table_behind (suc n) end bytes whole t b short =
+table_after zero end bytes whole t b short = absurd (omega arith)
+table_after (suc n) end bytes whole t b short =
     outcome-bind _ (outcome-map (λ x f. f)
     (λ e f. rw b.parts (in_declaration b.front bytes b.declarations e b.are f.0 f.1)) (declaration_outcome end bytes))
-    (λ first f. go (λ rest. table_behind n end rest whole) first.0 first.1 f)
+    (λ first f. go (λ rest. table_after n end rest whole) first.0 first.1 f)
   where
     go : ((rest : List ℕ) (t : ByCode) → BeginsWith whole t rest → length rest < n
         → HasOutcome (IsTable whole) (IsFirstError end whole) (table_at n end t rest))
@@ -94,10 +94,10 @@ table_behind (suc n) end bytes whole t b short =
         (and_declared (close_of bytes) t o (λ more. table_at n end more rest))
     go others None rest f = returned _ (rest, begins_and_ends b f)
     go others (Some d) rest f =
-        let behind : whole ≡ b.front ++ f.front ++ rest = rw (b.parts, f.parts) (simp append_assoc) in
+        let following : whole ≡ b.front ++ f.front ++ rest = rw (b.parts, f.parts) (simp append_assoc) in
         outcome-cond (contains_key t d.code)
         (λ e. failed (DuplicateAbbreviationCode d.code)
-        (rw behind (repeated b.front f.front rest b.declarations d b.are f.is_declaration
+        (rw following (repeated b.front f.front rest b.declarations d b.are f.is_declaration
         (declared_from_key b.declarations d.code (rw b.by_code at e)))))
         (λ e. others rest (insert t d.code d) (begins_with_more d b f e)
         (let h = declaration_found_shorter bytes d rest f in omega arith))

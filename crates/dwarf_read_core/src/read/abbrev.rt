@@ -4,15 +4,13 @@
 //! attributes. The unit's table of abbreviations says what a code means: the tag of the entry,
 //! whether it has children, and which attributes follow in which forms.
 
-ghost use Rattle.std.specs.Prelude.{◌≡◌, ◌+◌, ◌*◌, ◌≤◌, ℕ, List, length, true, Ok, Err, IfOk, IfErr, IsErrOf};
-ghost use Rattle.std.specs.FinMap as finite;
+ghost use Rattle.std.specs.Prelude.{◌≡◌, ℕ, List, Ok, Err, IfOk, IfErr};
 ghost use Rattle.std.specs.Fn.{CalledAt, TakesAt};
 ghost use Rattle.dwarf_base_core.specs.declared.common.SectionId.TheVariants.{DebugAbbrev as debug_abbrev};
 ghost use Rattle.dwarf_reader_core.specs.Appended.{followed_by};
 ghost use Rattle.dwarf_reader_core.specs.Input.{end_of};
 ghost use Rattle.dwarf_reader_core.specs.Slice.{input_of};
-ghost use Rattle.dwarf_read_core.specs.Answer.{Answer, Answers, AnswersStrictly, IsFinal, IsStrictlyFinal, TableEndsAt, TakesNoMemory};
-ghost use Rattle.dwarf_read_core.specs.Grammar.{attribute_count};
+ghost use Rattle.dwarf_read_core.specs.Answer.{Answer, Answers, AnswersStrictly, FitsIn, IsFinal, IsStrictlyFinal, SparesMemory, TableEndsAt};
 
 use super::section::Section;
 use dwarf_base_core::{
@@ -98,13 +96,11 @@ impl<R: Reader> DebugAbbrev<R> {
 
         // A declaration has at least five bytes, and an attribute two more.
         ensures bound { let section = R.view (debug_abbrev_reader self.now) in
-            IfOk result (λ table. 5 * finite.len table.by_code + 2 * attribute_count table.by_code
-            + R.Offset.value offset.0 ≤ length section.bytes) }
+            IfOk result (FitsIn section (R.Offset.value offset.0)) }
 
         // If clones can't fail, a table without declarations needs no memory.
         ensures memory { let section = R.view (debug_abbrev_reader self.now) in
-            R.clone_is_free ≡ true → TakesNoMemory section (R.Offset.value offset.0)
-            → IsErrOf result Error.OutOfMemory → ⊥ }
+            SparesMemory R.clone_is_free section (R.Offset.value offset.0) result }
 
         // Appended bytes don't change a result that doesn't depend on where the section ends.
         ensures stable { let section = R.view (debug_abbrev_reader self.now) in
@@ -142,16 +138,10 @@ impl<R: Reader> DebugAbbrev<R> {
             r.0 (R.Offset.value r.1.0)) }
         ensures err { let section = R.view (debug_abbrev_reader self.now) in
             IfErr result (λ e. Answers (Err e) section (R.Offset.value offset.0)) }
-
-        // A declaration has at least five bytes, and an attribute two more.
         ensures bound { let section = R.view (debug_abbrev_reader self.now) in
-            IfOk result (λ r. 5 * finite.len r.0.by_code + 2 * attribute_count r.0.by_code
-            + R.Offset.value offset.0 ≤ length section.bytes) }
-
-        // If clones can't fail, a table without declarations needs no memory.
+            IfOk result (λ r. FitsIn section (R.Offset.value offset.0) r.0) }
         ensures memory { let section = R.view (debug_abbrev_reader self.now) in
-            R.clone_is_free ≡ true → TakesNoMemory section (R.Offset.value offset.0)
-            → IsErrOf result Error.OutOfMemory → ⊥ }
+            SparesMemory R.clone_is_free section (R.Offset.value offset.0) result }
     {
         let mut input = self.debug_abbrev_section.try_clone()?;
         let len = input.len();
@@ -183,16 +173,10 @@ impl<R: Reader> DebugAbbrev<R> {
     ) -> Result<Abbreviations>
         ensures answer { let section = R.view (debug_abbrev_reader self.now) in
             AnswersStrictly result section (R.Offset.value offset.0) }
-
-        // A declaration has at least five bytes, and an attribute two more.
         ensures bound { let section = R.view (debug_abbrev_reader self.now) in
-            IfOk result (λ table. 5 * finite.len table.by_code + 2 * attribute_count table.by_code
-            + R.Offset.value offset.0 ≤ length section.bytes) }
-
-        // If clones can't fail, a table without declarations needs no memory.
+            IfOk result (FitsIn section (R.Offset.value offset.0)) }
         ensures memory { let section = R.view (debug_abbrev_reader self.now) in
-            R.clone_is_free ≡ true → TakesNoMemory section (R.Offset.value offset.0)
-            → IsErrOf result Error.OutOfMemory → ⊥ }
+            SparesMemory R.clone_is_free section (R.Offset.value offset.0) result }
 
         // Appended bytes don't change a result that doesn't depend on where the section ends. No
         // table does.

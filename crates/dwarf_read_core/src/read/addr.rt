@@ -7,10 +7,10 @@ ghost use Rattle.std.specs.Result.{result_transpose};
 ghost use Rattle.dwarf_reader_core.specs.Faults.{CloneRanOutOfMemory, is_number_size};
 ghost use Rattle.dwarf_read_core.specs.Entries.{RepresentsAddresses};
 ghost use Rattle.dwarf_read_core.specs.Items.{GivesFirst};
-ghost use Rattle.dwarf_read_core.specs.Lookups.{AnswersBy, StaysBy};
+ghost use Rattle.dwarf_read_core.specs.Lookups.{UnlessCloneRanOut, Stays};
 ghost use Rattle.dwarf_reader_core.specs.Headers.{AddressHeaderAt};
 ghost use Rattle.dwarf_reader_core.proofs.Headers.{address_header};
-ghost use Rattle.dwarf_read_core.specs.Sets.{addresses_of, remaining_by, seen_by};
+ghost use Rattle.dwarf_read_core.specs.Sets.{addresses_of, remaining_of, seen_by};
 ghost use Rattle.dwarf_read_core.specs.Words.{AddressAt, slot};
 
 use super::indexed::skip_to_index;
@@ -59,13 +59,13 @@ impl<R: Reader> DebugAddr<R> {
     ) -> Result<u64>
         ensures answer { let section = R.view (debug_addr_reader self.now) in
             let s = slot (R.Offset.value base.0) (R.Offset.value index.0) address_size in
-            AnswersBy (AddressAt R.Offset.GREATEST section s)
+            UnlessCloneRanOut (AddressAt R.Offset.GREATEST section s)
             (λ address. address) R.clone_is_free result }
 
         // Appended bytes don't change the result, unless it is `UnexpectedEof` or memory ran out.
         ensures stable { let section = R.view (debug_addr_reader self.now) in
             let s = slot (R.Offset.value base.0) (R.Offset.value index.0) address_size in
-            StaysBy (λ input. AddressAt R.Offset.GREATEST input s)
+            Stays (λ input. AddressAt R.Offset.GREATEST input s)
             (λ address. address) R.clone_is_free section result }
     {
         let input = &mut self.section.try_clone()?;
@@ -84,7 +84,7 @@ impl<R: Reader> DebugAddr<R> {
     pub fn headers(&self) -> Result<AddrHeaderIter<R>>
         ensures ok { let section = R.view (debug_addr_reader self.now) in
             IfOk result
-            (λ headers. remaining_by R.view headers ≡ record { offset = 0; rest = section }) }
+            (λ headers. remaining_of R.view headers ≡ record { offset = 0; rest = section }) }
         ensures order { let order = R.order (debug_addr_reader self.now) in
             IfOk result (λ headers. R.order headers.rest ≡ order) }
         ensures err { IfErr result (CloneRanOutOfMemory R.clone_is_free) }
@@ -177,7 +177,7 @@ impl Model for AddressSize {
 impl AddressSize {
     /// Returns the size in bytes.
     pub fn bytes(self) -> u8
-        ensures is { result ≡ self }
+        ensures size { result ≡ self }
         ensures sized { IsTrue (is_number_size result) }
     {
         self.size
@@ -219,7 +219,7 @@ impl<R: Reader> AddrHeader<R> {
 
     /// Returns the set's format and address size. The size is 1, 2, 4 or 8, and the version is 5.
     pub fn encoding(&self) -> Encoding
-        ensures is { result ≡ record {
+        ensures fields { result ≡ record {
           address_size = self.now.header;
           format = self.now.format;
           version = 5;

@@ -4,7 +4,7 @@ ghost use Rattle.std.specs.Prelude.{◌≡◌, ◌+◌, ◌↔◌, IfOk, IfErr, 
 ghost use Rattle.dwarf_base_core.specs.declared.common.SectionId.{SectionId};
 ghost use Rattle.dwarf_base_core.specs.Section.{section_names};
 ghost use Rattle.dwarf_reader_core.specs.Input.{Covers};
-ghost use Rattle.dwarf_read_core.specs.Lookups.{AnswersBy};
+ghost use Rattle.dwarf_read_core.specs.Lookups.{UnlessCloneRanOut};
 ghost use Rattle.dwarf_read_core.specs.Ranges.{RangeAt};
 
 use dwarf_base_core::{ReaderOffset, ReaderOffsetId, Result, SectionId};
@@ -91,7 +91,7 @@ pub trait Section<R>: From<R> + Sized {
     where
         R: Reader,
         ensures answer { let section = R.view (section_reader self.now) in
-            AnswersBy (RangeAt section offset size)
+            UnlessCloneRanOut (RangeAt section offset size)
             (λ part. R.view (section_reader part)) R.clone_is_free result }
         ensures order { let order = R.order (section_reader self.now) in
             IfOk result (λ part. R.order (section_reader part) ≡ order) }

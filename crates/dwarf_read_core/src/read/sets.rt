@@ -8,7 +8,7 @@ ghost use Rattle.dwarf_reader_core.specs.Input.{Input, Takes};
 ghost use Rattle.dwarf_read_core.specs.Equality.{same_set, same_set_per, same_set_equiv};
 ghost use Rattle.dwarf_reader_core.specs.Headers.{IsHeader};
 ghost use Rattle.dwarf_read_core.specs.Items.{GivesFirst, StaysFirst};
-ghost use Rattle.dwarf_read_core.specs.Sets.{HasNoSet, HasSet, RepresentsSets, RepresentsSetsBy, followed_headers, remaining_by, seen_by, set_size};
+ghost use Rattle.dwarf_read_core.specs.Sets.{HasNoSet, HasSet, RepresentsSets, RepresentsSetsOf, followed_headers, remaining_of, seen_by, set_size};
 
 use dwarf_base_core::{Format, Result};
 use dwarf_reader_core::Reader;
@@ -116,7 +116,7 @@ impl<R: Reader, H: HeaderFields> SetHeaderIter<R, H> {
     /// `OutOfMemory` if memory for a reader of the set runs out. After any error the iterator is
     /// exhausted: `next` returns `Ok(None)`.
     pub fn next(&mut self) -> Result<Option<SetHeader<R, H>>>
-        ensures first { GivesFirst (RepresentsSetsBy R.view H.header R.Offset.GREATEST)
+        ensures first { GivesFirst (RepresentsSetsOf R.view H.header R.Offset.GREATEST)
             (seen_by R.view) R.clone_is_free self.old
             (result_transpose result) self.new }
         ensures failed { OnErr result ((R.view self.new.rest).bytes ≡ []) }
@@ -130,10 +130,10 @@ impl<R: Reader, H: HeaderFields> SetHeaderIter<R, H> {
 
         // Appended bytes change neither a set nor an error, unless that is an `UnexpectedEof` or
         // memory ran out.
-        ensures stable { let old = remaining_by R.view self.old in
+        ensures stable { let old = remaining_of R.view self.old in
             StaysFirst (RepresentsSets H.header R.Offset.GREATEST)
             (seen_by R.view) R.clone_is_free followed_headers old
-            (result_transpose result) (remaining_by R.view self.new) }
+            (result_transpose result) (remaining_of R.view self.new) }
     {
         if self.input.is_empty() {
             return Ok(None);
@@ -156,9 +156,9 @@ impl<R: Reader, H: HeaderFields> Iterator for SetHeaderIter<R, H> {
     ghost use Rattle.std.specs.Prelude.{length};
     ghost use Rattle.std.specs.Iterator.{at_most};
     ghost use Rattle.dwarf_read_core.specs.Items.{GivesFirst};
-    ghost use Rattle.dwarf_read_core.specs.Sets.{RepresentsSetsBy, seen_by};
+    ghost use Rattle.dwarf_read_core.specs.Sets.{RepresentsSetsOf, seen_by};
 
-    ghost next_gives = { GivesFirst (RepresentsSetsBy R.view H.header R.Offset.GREATEST) (seen_by R.view) R.clone_is_free };
+    ghost next_gives = { GivesFirst (RepresentsSetsOf R.view H.header R.Offset.GREATEST) (seen_by R.view) R.clone_is_free };
 
     ghost remaining = { λ headers. at_most (length (R.view headers.rest).bytes) };
 
@@ -168,7 +168,7 @@ impl<R: Reader, H: HeaderFields> Iterator for SetHeaderIter<R, H> {
 }
 
 impl<R: Reader + Clone, H: HeaderFields> Clone for SetHeaderIter<R, H> {
-    ghost is_clone = { λ headers copy. (remaining_by R.view copy ≡ remaining_by R.view headers)
+    ghost is_clone = { λ headers copy. (remaining_of R.view copy ≡ remaining_of R.view headers)
         × (R.order copy.rest ≡ R.order headers.rest) };
 
     ghost is_infallible = { λ _. R.clone_is_free ≡ true };

@@ -7,8 +7,8 @@ ghost use Rattle.dwarf_base_core.specs.declared.common.SectionId.TheVariants.{De
 ghost use Rattle.dwarf_base_core.specs.Format.{word_size};
 ghost use Rattle.dwarf_reader_core.specs.Faults.{CloneRanOutOfMemory};
 ghost use Rattle.dwarf_reader_core.specs.Slice.{input_of};
-ghost use Rattle.dwarf_read_core.specs.Lookups.{AnswersBy, StaysBy};
-ghost use Rattle.dwarf_read_core.specs.Sets.{remaining_by};
+ghost use Rattle.dwarf_read_core.specs.Lookups.{UnlessCloneRanOut, Stays};
+ghost use Rattle.dwarf_read_core.specs.Sets.{remaining_of};
 ghost use Rattle.dwarf_read_core.specs.Strings.{StringAt};
 ghost use Rattle.dwarf_read_core.specs.Words.{WordAt, slot};
 
@@ -58,13 +58,14 @@ impl<R: Reader> DebugStr<R> {
     /// start if no zero byte ends it. `OutOfMemory` if a clone of the reader runs out of memory.
     pub fn get_str(&self, offset: DebugStrOffset<R::Offset>) -> Result<R>
         ensures answer { let section = R.view (debug_str_reader self.now) in
-            AnswersBy (StringAt section (R.Offset.value offset.0)) R.view R.clone_is_free result }
+            UnlessCloneRanOut (StringAt section (R.Offset.value offset.0))
+            R.view R.clone_is_free result }
         ensures order { let order = R.order (debug_str_reader self.now) in
             IfOk result (λ string. R.order string ≡ order) }
 
         // Appended bytes don't change the result, unless it is `UnexpectedEof` or memory ran out.
         ensures stable { let section = R.view (debug_str_reader self.now) in
-            StaysBy (λ input. StringAt input (R.Offset.value offset.0))
+            Stays (λ input. StringAt input (R.Offset.value offset.0))
             R.view R.clone_is_free section result }
     {
         string_at(&self.debug_str_section, offset.0)
@@ -160,13 +161,13 @@ impl<R: Reader> DebugStrOffsets<R> {
     ) -> Result<DebugStrOffset<R::Offset>>
         ensures answer { let section = R.view (debug_str_offsets_reader self.now) in
             let s = slot (R.Offset.value base.0) (R.Offset.value index.0) (word_size format) in
-            AnswersBy (WordAt R.Offset.GREATEST section s)
+            UnlessCloneRanOut (WordAt R.Offset.GREATEST section s)
             (λ offset. R.Offset.value offset.0) R.clone_is_free result }
 
         // Appended bytes don't change the result, unless it is `UnexpectedEof` or memory ran out.
         ensures stable { let section = R.view (debug_str_offsets_reader self.now) in
             let s = slot (R.Offset.value base.0) (R.Offset.value index.0) (word_size format) in
-            StaysBy (λ input. WordAt R.Offset.GREATEST input s)
+            Stays (λ input. WordAt R.Offset.GREATEST input s)
             (λ offset. R.Offset.value offset.0) R.clone_is_free section result }
     {
         let input = &mut self.section.try_clone()?;
@@ -186,7 +187,7 @@ impl<R: Reader> DebugStrOffsets<R> {
     pub fn headers(&self) -> Result<StrOffsetsHeaderIter<R>>
         ensures ok { let section = R.view (debug_str_offsets_reader self.now) in
             IfOk result
-            (λ headers. remaining_by R.view headers ≡ record { offset = 0; rest = section }) }
+            (λ headers. remaining_of R.view headers ≡ record { offset = 0; rest = section }) }
         ensures order { let order = R.order (debug_str_offsets_reader self.now) in
             IfOk result (λ headers. R.order headers.rest ≡ order) }
         ensures err { IfErr result (CloneRanOutOfMemory R.clone_is_free) }
@@ -278,13 +279,14 @@ impl<R: Reader> DebugLineStr<R> {
     /// start if no zero byte ends it. `OutOfMemory` if a clone of the reader runs out of memory.
     pub fn get_str(&self, offset: DebugLineStrOffset<R::Offset>) -> Result<R>
         ensures answer { let section = R.view (debug_line_str_reader self.now) in
-            AnswersBy (StringAt section (R.Offset.value offset.0)) R.view R.clone_is_free result }
+            UnlessCloneRanOut (StringAt section (R.Offset.value offset.0))
+            R.view R.clone_is_free result }
         ensures order { let order = R.order (debug_line_str_reader self.now) in
             IfOk result (λ string. R.order string ≡ order) }
 
         // Appended bytes don't change the result, unless it is `UnexpectedEof` or memory ran out.
         ensures stable { let section = R.view (debug_line_str_reader self.now) in
-            StaysBy (λ input. StringAt input (R.Offset.value offset.0))
+            Stays (λ input. StringAt input (R.Offset.value offset.0))
             R.view R.clone_is_free section result }
     {
         string_at(&self.section, offset.0)
@@ -341,7 +343,7 @@ impl<R> From<R> for DebugLineStr<R> {
 // The string at an offset of a section.
 #[inline]
 fn string_at<R: Reader>(section: &R, offset: R::Offset) -> Result<R>
-    ensures answer { AnswersBy (StringAt (R.view section.now) (R.Offset.value offset))
+    ensures answer { UnlessCloneRanOut (StringAt (R.view section.now) (R.Offset.value offset))
         R.view R.clone_is_free result }
     ensures order { IfOk result (λ string. R.order string ≡ R.order section.now) }
 {

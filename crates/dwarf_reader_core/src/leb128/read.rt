@@ -1,7 +1,7 @@
 //! Reading LEB128 numbers (DWARF 5, 7.6) from any [`Reader`].
 
 ghost use Rattle.std.specs.Prelude.{◌≡◌, IfOk, IfErr, OnOk};
-ghost use Rattle.dwarf_reader_core.specs.Leb128.{unsigned64, unsigned16, signed64, LacksEncoding, ReadsNumber, RejectsNumber, TakesEncoding};
+ghost use Rattle.dwarf_reader_core.specs.Leb128.{unsigned64, unsigned16, signed64, TakesNoEncoding, ReadsNumber, ReadsNoNumber, TakesEncoding};
 
 use crate::reader::Reader;
 use dwarf_base_core::error::Result;
@@ -15,7 +15,7 @@ use dwarf_base_core::error::Result;
 #[inline]
 pub fn skip<R: Reader>(r: &mut R) -> Result<()>
     ensures ok { OnOk result (TakesEncoding (R.view r.old) (R.view r.new)) }
-    ensures err { IfErr result (λ e. LacksEncoding (R.view r.old) e (R.view r.new)) }
+    ensures err { IfErr result (λ e. TakesNoEncoding (R.view r.old) e (R.view r.new)) }
     ensures order { R.order r.new ≡ R.order r.old }
 {
     r.skip_leb128()
@@ -32,7 +32,7 @@ pub fn skip<R: Reader>(r: &mut R) -> Result<()>
 #[inline]
 pub fn unsigned<R: Reader>(r: &mut R) -> Result<u64>
     ensures ok { IfOk result (λ v. ReadsNumber unsigned64 (R.view r.old) v (R.view r.new)) }
-    ensures err { IfErr result (λ e. RejectsNumber unsigned64 (R.view r.old) e (R.view r.new)) }
+    ensures err { IfErr result (λ e. ReadsNoNumber unsigned64 (R.view r.old) e (R.view r.new)) }
     ensures order { R.order r.new ≡ R.order r.old }
 {
     r.read_uleb128()
@@ -49,7 +49,7 @@ pub fn unsigned<R: Reader>(r: &mut R) -> Result<u64>
 #[inline]
 pub fn u16<R: Reader>(r: &mut R) -> Result<u16>
     ensures ok { IfOk result (λ v. ReadsNumber unsigned16 (R.view r.old) v (R.view r.new)) }
-    ensures err { IfErr result (λ e. RejectsNumber unsigned16 (R.view r.old) e (R.view r.new)) }
+    ensures err { IfErr result (λ e. ReadsNoNumber unsigned16 (R.view r.old) e (R.view r.new)) }
     ensures order { R.order r.new ≡ R.order r.old }
 {
     r.read_uleb128_u16()
@@ -66,7 +66,7 @@ pub fn u16<R: Reader>(r: &mut R) -> Result<u16>
 #[inline]
 pub fn signed<R: Reader>(r: &mut R) -> Result<i64>
     ensures ok { IfOk result (λ v. ReadsNumber signed64 (R.view r.old) v (R.view r.new)) }
-    ensures err { IfErr result (λ e. RejectsNumber signed64 (R.view r.old) e (R.view r.new)) }
+    ensures err { IfErr result (λ e. ReadsNoNumber signed64 (R.view r.old) e (R.view r.new)) }
     ensures order { R.order r.new ≡ R.order r.old }
 {
     r.read_sleb128()

@@ -41,7 +41,7 @@ enum Call {
     IsEmpty,
     Find(u8),
     // The offset after this many bytes, from their first.
-    OffsetBehind(u8),
+    OffsetAfter(u8),
     // The offset of a position, or -1 if it is outside of the bytes.
     Lookup(u64),
     // Three bytes as an array, the bytes of a part of this length, and those of a string, each as a number.
@@ -74,7 +74,7 @@ fn outcome<R: Reader>(input: &mut R, call: Call) -> Result<i128> {
         Call::Skip(_) | Call::Truncate(_) | Call::Empty => cut(input, call),
         Call::Array => array(input),
         Call::Split(_) | Call::String | Call::SplitPosition(_) => part(input, call),
-        Call::OffsetBehind(len) => offset_behind(input, R::Offset::from_u8(len)),
+        Call::OffsetAfter(len) => offset_after(input, R::Offset::from_u8(len)),
         Call::Len | Call::IsEmpty | Call::Find(_) | Call::Lookup(_) => place(input, call),
         _ => leb128_number(input, call),
     }
@@ -194,7 +194,7 @@ fn array<R: Reader>(input: &mut R) -> Result<i128> {
     Ok(i128::from(u32::from_le_bytes([first, second, third, 0])))
 }
 
-fn offset_behind<R: Reader>(input: &mut R, len: R::Offset) -> Result<i128> {
+fn offset_after<R: Reader>(input: &mut R, len: R::Offset) -> Result<i128> {
     let whole = input.try_clone()?;
     match input.skip(len) {
         Ok(()) => Ok(i128::from(input.offset_from(&whole).into_u64())),

@@ -11,7 +11,7 @@ pub set_from-requires : goal.set_from-requires
 set_from-requires c =
     let found : FoundSet AddressHeaderAt (section_of c.args.section.now c.args.is_big) c.args.offset _ =
     set_found address_header (grind arith) (rw c.in-Some.is at c.in_ok-header.ensures.first) in
-    rw (c.encoding-encoding.ensures.is, c.length-length.ensures) (record {
+    rw (c.encoding-encoding.ensures.fields, c.length-length.ensures) (record {
       within = omega (arith, found.within, c.well_formed);
       header = found.four;
       sized = grind (arith, c.encoding-encoding.ensures.sized);
@@ -21,7 +21,7 @@ pub returns-in-Some-clause-found : goal.returns-in-Some-clause-found
 returns-in-Some-clause-found c =
     let first = rw c.in-Some.is at c.in_ok-header.ensures.first in
     set_reported addresses_of _ (grind (arith, c.encoding-encoding.ensures.sized)) refl (set_found address_header (grind arith) first)
-    (rw (c.encoding-encoding.ensures.is, c.length-length.ensures) at c.set_from.ensures)
+    (rw (c.encoding-encoding.ensures.fields, c.length-length.ensures) at c.set_from.ensures)
 
 pub returns-in-None-clause-end : goal.returns-in-None-clause-end
 returns-in-None-clause-end c =

@@ -24,7 +24,8 @@ pub struct Abbreviation {
 }
 
 impl Model for Abbreviation {
-    ghost use Rattle.dwarf_read_core.specs.Grammar.{Declaration, declaration_code};
+    ghost use Rattle.dwarf_read_core.specs.Codes.{declaration_code};
+    ghost use Rattle.dwarf_read_core.specs.Grammar.{Declaration};
 
     ghost Value = { Declaration };
 
@@ -135,7 +136,7 @@ impl Abbreviation {
     /// Exactly those of the form `DW_FORM_implicit_const` have an
     /// [`implicit_const_value`](AttributeSpecification::implicit_const_value).
     pub fn attributes(&self) -> &[AttributeSpecification]
-        ensures is { result.now ≡ self.now.attributes }
+        ensures list { result.now ≡ self.now.attributes }
         ensures valued { All HasValueByForm result.now }
     {
         self.attributes.as_slice()

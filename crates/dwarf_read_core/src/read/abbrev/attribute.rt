@@ -34,7 +34,8 @@ pub struct AttributeSpecification {
 }
 
 impl Model for AttributeSpecification {
-    ghost use Rattle.dwarf_read_core.specs.Grammar.{Specification, specification_code};
+    ghost use Rattle.dwarf_read_core.specs.Codes.{specification_code};
+    ghost use Rattle.dwarf_read_core.specs.Grammar.{Specification};
 
     ghost Value = { Specification };
 

@@ -6,7 +6,8 @@ ghost use Rattle.std.specs.Iterator.{IsFinite};
 ghost use Rattle.dwarf_reader_core.specs.Input.{Input};
 ghost use Rattle.dwarf_reader_core.specs.Appended.{followed_by};
 ghost use Rattle.dwarf_read_core.specs.Answer.{Answer, Answers};
-ghost use Rattle.dwarf_read_core.specs.Cache.{answer_of, KeepsAnswers, least_count, NamesOffsets, GivesBeforeError, HasFirstItem, IsFaithful, ReturnsKept, StillKept, is_final};
+ghost use Rattle.dwarf_read_core.specs.Cache.{answer_of, KeepsAnswers, least_count, NamesOffsets, GivesBeforeError, HasFirstItem, IsFaithful, ReturnsKept, StillKept};
+ghost use Rattle.dwarf_read_core.specs.Reading.{is_final};
 ghost use Rattle.dwarf_read_core.specs.Sections.{debug_abbrev_reader};
 
 use super::super::key::Key;
@@ -65,7 +66,7 @@ pub struct AbbreviationsCache {
 impl Model for AbbreviationsCache {
     ghost use Rattle.std.specs.FinMap as finite;
     ghost use Rattle.std.specs.Coded.{coded_ℕ, coded_result};
-    ghost use Rattle.dwarf_read_core.specs.Grammar.{table_code};
+    ghost use Rattle.dwarf_read_core.specs.Codes.{table_code};
     ghost use Rattle.dwarf_read_core.specs.Cache.{Cache, KeepsNoOutOfMemory, shown_entries};
     ghost use Rattle.dwarf_base_core.specs.contracts.error.Error as error;
 

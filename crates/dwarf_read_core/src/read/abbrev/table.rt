@@ -26,7 +26,8 @@ pub struct Abbreviations {
 }
 
 impl Model for Abbreviations {
-    ghost use Rattle.dwarf_read_core.specs.Grammar.{Table, table_code};
+    ghost use Rattle.dwarf_read_core.specs.Codes.{table_code};
+    ghost use Rattle.dwarf_read_core.specs.Grammar.{Table};
 
     ghost Value = { Table };
 
@@ -174,7 +175,7 @@ impl Abbreviations {
             → IsOk result }
         ensures read { ReturnsUnlessOutOfMemory (λ t. t) result
             (table_in (end_of (R.view input.old)) finite.empty (R.view input.old).bytes) }
-        ensures behind { IfOk result
+        ensures after { IfOk result
             (λ t. IsTableBefore (R.view input.old).bytes t (R.view input.new).bytes) }
     {
         let mut abbreviations = Abbreviations::empty(mem);

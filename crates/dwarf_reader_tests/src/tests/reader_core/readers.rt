@@ -144,7 +144,7 @@ static CUTS: &[Row] = &[
         (Call::Split(2), Ok(0x0504), 6),
         (Call::Unsigned(4), Ok(0x0908_0706), 10),
     ]),
-    (LITTLE, TEN, &[(Call::Skip(3), Ok(0), 3), (Call::OffsetBehind(4), Ok(4), 7)]),
+    (LITTLE, TEN, &[(Call::Skip(3), Ok(0), 3), (Call::OffsetAfter(4), Ok(4), 7)]),
     (LITTLE, b"one\0two", &[
         (Call::String, Ok(0x65_6e6f), 4),
         (Call::String, Err(eof!(4)), 4),

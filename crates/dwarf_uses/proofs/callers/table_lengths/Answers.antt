@@ -11,7 +11,7 @@ returns-in_err-get-clause-err g c =
     rw (p.1, p.2) (λ memory. record {
       before = map (λ unit. g.R.Offset.ReaderOffset.value unit.0) (take i units);
       offset = g.R.Offset.ReaderOffset.value c.offset-item.result.0;
-      behind = map (λ unit. g.R.Offset.ReaderOffset.value unit.0) (drop (suc i) units);
+      following = map (λ unit. g.R.Offset.ReaderOffset.value unit.0) (drop (suc i) units);
       parts = numbers_around (λ unit. g.R.Offset.ReaderOffset.value unit.0) units i c.offset-item.result
           (search rules) (search rules);
       lengths = c.loop-offset.lengths.items;

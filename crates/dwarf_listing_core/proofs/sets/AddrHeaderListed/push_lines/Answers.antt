@@ -8,5 +8,5 @@ returns g c =
     let length = c.into_u64-length.ensures.number in
     set_appended address_listing (seen_by g.R.Reader.view c.args.self.now)
     (λ address. address) true _ _ c.push_items.new.text.items c.push_items.result
-    (rw (offset, c.offset.ensures, length, c.length.ensures, c.word_size.ensures, c.encoding-encoding.ensures.is)
+    (rw (offset, c.offset.ensures, length, c.length.ensures, c.word_size.ensures, c.encoding-encoding.ensures.fields)
     at c.in_ok-push_address_header.ensures) (rw c.in_ok-entries.ensures.ok at c.push_items.ensures)

@@ -14,10 +14,10 @@ returns-in_err-skip-clause-unchanged g c =
 
 pub returns-clause-ok : goal.returns-clause-ok
 returns-clause-ok g c =
-    let behind = rw c.from_u8.ensures at c.in_ok-skip.ensures.ok.left in
+    let following = rw c.from_u8.ensures at c.in_ok-skip.ensures.ok.left in
     record {
       len = g.Self.Offset.ReaderOffset.value c.in_ok-len.len;
       ends = c.in_ok-len.ensures.ok;
-      is = c.in_ok-string.ensures.part;
-      left = behind ∙ ap (after 1) c.in_ok-string.ensures.ok.left ∙ after-after 1 _ _;
+      content = c.in_ok-string.ensures.part;
+      left = following ∙ ap (after 1) c.in_ok-string.ensures.ok.left ∙ after-after 1 _ _;
     }

@@ -30,9 +30,9 @@ sub-requires g c =
     let takes = rw c.in_ok-input.ensures.ok at c.in_ok-skip.ensures.ok in
     let bytes = ap (λ (i : Input). length i.bytes) takes.left in
     let whole = ap (λ (i : Input). length i.bytes) c.in_ok-input.ensures.ok in
-    let behind = c.in_ok-abbreviations.ensures.behind in
+    let following = c.in_ok-abbreviations.ensures.after in
     g.met.R.Offset.ReaderOffset.can_sub_law _ _
-    (omega (arith, c.len.ensures, table_before_fits behind, bytes, whole, c.len-len.ensures, length-drop {A = ℕ}))
+    (omega (arith, c.len.ensures, table_before_fits following, bytes, whole, c.len-len.ensures, length-drop {A = ℕ}))
 
 pub returns-clause-answer : goal.returns-clause-answer
 returns-clause-answer g c =
@@ -46,13 +46,22 @@ returns-clause-end g c =
     let takes = rw c.in_ok-input.ensures.ok at c.in_ok-skip.ensures.ok in
     let bytes = ap (λ (i : Input). length i.bytes) takes.left in
     let whole = ap (λ (i : Input). length i.bytes) c.in_ok-input.ensures.ok in
-    let behind = c.in_ok-abbreviations.ensures.behind in
+    let following = c.in_ok-abbreviations.ensures.after in
     let less = g.met.R.Offset.ReaderOffset.sub_law _ _ _ c.sub.ensures in (
       (view c.parse.new.input).bytes,
       rw c.trim.ensures
           (subst (λ (b : List ℕ). IsTableBefore b c.in_ok-abbreviations.abbreviations (view c.parse.new.input).bytes)
-          (ap (λ (i : Input). i.bytes) takes.left) behind),
-      omega (arith, less, c.len.ensures, table_before_fits behind, bytes, whole, c.len-len.ensures, length-drop {A = ℕ}),
+          (ap (λ (i : Input). i.bytes) takes.left) following),
+      omega (
+        arith,
+        less,
+        c.len.ensures,
+        table_before_fits following,
+        bytes,
+        whole,
+        c.len-len.ensures,
+        length-drop {A = ℕ},
+      ),
     )
 
 pub returns-clause-bound : goal.returns-clause-bound

@@ -7,12 +7,14 @@ use Rattle.dwarf_read_core.proofs.read.sets.SetHeaderIter.next.Goals as goal
 pub returns-in-Ok-clause-first : goal.returns-in-Ok-clause-first
 returns-in-Ok-clause-first g c =
     rw (← c.self.view_is) (set_first g.met.H.HeaderFields.is_header _ _ _ _ _ (search rules) c.in-Ok.ensures.ok
-    c.in-Ok.ensures.taken (omega (arith, g.met.R.Offset.ReaderOffset.sub_law _ _ _ c.sub-offset.ensures, c.len.ensures)) (search rules))
+    c.in-Ok.ensures.taken
+    (omega (arith, g.met.R.Offset.ReaderOffset.sub_law _ _ _ c.sub-offset.ensures, c.len.ensures)) (search rules))
 
 pub returns-in-Ok-clause-stable : goal.returns-in-Ok-clause-stable
 returns-in-Ok-clause-stable g c =
     rw (← c.self.view_is) (set_stays g.met.H.HeaderFields.is_header _ _ _ _ _ (search rules) c.in-Ok.ensures.ok
-    c.in-Ok.ensures.taken (omega (arith, g.met.R.Offset.ReaderOffset.sub_law _ _ _ c.sub-offset.ensures, c.len.ensures)) (search rules))
+    c.in-Ok.ensures.taken
+    (omega (arith, g.met.R.Offset.ReaderOffset.sub_law _ _ _ c.sub-offset.ensures, c.len.ensures)) (search rules))
 
 pub returns-in-Err-clause-first : goal.returns-in-Err-clause-first
 returns-in-Err-clause-first g c =

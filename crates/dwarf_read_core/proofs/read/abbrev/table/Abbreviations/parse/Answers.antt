@@ -50,8 +50,8 @@ returns-in_default-clause-read g c =
     ∙ rw (loop.invariant.same_end, c.in_default.is) at c.in_ok-abbreviation.ensures.read in
     grind (arith, table_steps)
 
-pub returns-in_default-clause-behind : goal.returns-in_default-clause-behind
-returns-in_default-clause-behind g c =
+pub returns-in_default-clause-after : goal.returns-in_default-clause-after
+returns-in_default-clause-after g c =
     let loop = c.declarations in
     let some : (g.R.Reader.view loop.input).bytes ≢ [] = search rules in
     let closes = begins_before_null _ loop.invariant.begins some (declaration-coded _ _ some
@@ -61,8 +61,8 @@ returns-in_default-clause-behind g c =
 pub returns-clause-read : goal.returns-clause-read
 returns-clause-read g c = grind (arith, table_steps)
 
-pub returns-clause-behind : goal.returns-clause-behind
-returns-clause-behind g c =
+pub returns-clause-after : goal.returns-clause-after
+returns-clause-after g c =
     let loop = c.declarations in
     let none : (g.R.Reader.view loop.input).bytes ≡ [] = search rules in
     let closes = begins_before_end loop.invariant.begins none in
