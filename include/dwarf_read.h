@@ -11,7 +11,7 @@
  * its own. Without an installation, link libdwarf_read_c.a and dwarf_read_heap.c.
  *
  * WHAT A CALL DOES. A call returns DWARF_OK and has written its outputs, or it returns another status.
- * A status from 1 to 19 is the number of an error. The call has then written that number to `fault`,
+ * A status from 1 to 99 is the number of an error. The call has then written that number to `fault`,
  * with the position or value that the error carries, and has written nothing else. The one exception is
  * dwarf_fault_text, whose `fault` is an input: with DWARF_OUT_OF_MEMORY it has written nothing. A status
  * from 100 on is described at the calls that return it. All offsets and positions are in bytes from the
@@ -86,7 +86,7 @@ enum {
 
 /* The error of a call. */
 struct dwarf_fault {
-    uint32_t kind;  /* its number, from 1 to 19 */
+    uint32_t kind;  /* its number */
     uint64_t value; /* the position or the value that it carries, or 0 */
 };
 

@@ -1,45 +1,55 @@
 -- How C sees an error: its number, and the position or value that it carries.
-use Rattle.std.specs.Prelude.{ℕ}
+use Rattle.std.specs.Prelude.{◌≡◌, ◌<◌, ◌^◌, ℕ, Option, Some, None, IfSome}
+use Rattle.std.specs.Option.{option_map_or}
 use Rattle.dwarf_read_core.specs.declared.Error.{Error}
 use Rattle.dwarf_read_core.specs.declared.Error.TheVariants.{UnexpectedEof, BadUnsignedLeb128, BadSignedLeb128, AbbreviationTagZero, InvalidAbbreviationChildren, AttributeNameZero, AttributeFormZero, DuplicateAbbreviationCode, UnknownReservedLength, UnsupportedOffset, UnknownVersion, UnsupportedAddressSize, UnsupportedSegmentSize, UnsupportedOffsetSize, BadUtf8, AddressOverflow, UnsupportedRegister, OutOfMemory, UnterminatedAbbreviations}
 use Rattle.dwarf_fault.specs.declared.DwarfFault.{DwarfFault}
 
--- the number of an error; all errors of higher layers have the same number
+-- the number of an error, and the position or value that it carries, if any, with a bound of its type; all errors of
+-- higher layers have the same number
+abbrev pub number_and_value : Error → ℕ × Option (ℕ × ℕ)
+number_and_value (UnexpectedEof id) = (1, Some (id.0, 2 ^ 64))
+number_and_value BadUnsignedLeb128 = (2, None)
+number_and_value BadSignedLeb128 = (3, None)
+number_and_value AbbreviationTagZero = (4, None)
+number_and_value (InvalidAbbreviationChildren value) = (5, Some (value.0, 2 ^ 8))
+number_and_value AttributeNameZero = (6, None)
+number_and_value AttributeFormZero = (7, None)
+number_and_value (DuplicateAbbreviationCode code) = (8, Some (code, 2 ^ 64))
+number_and_value (UnknownReservedLength value) = (9, Some (value, 2 ^ 32))
+number_and_value UnsupportedOffset = (10, None)
+number_and_value (UnknownVersion version) = (11, Some (version, 2 ^ 64))
+number_and_value (UnsupportedAddressSize size) = (12, Some (size, 2 ^ 8))
+number_and_value (UnsupportedSegmentSize size) = (13, Some (size, 2 ^ 8))
+number_and_value (UnsupportedOffsetSize size) = (14, Some (size, 2 ^ 8))
+number_and_value BadUtf8 = (15, None)
+number_and_value AddressOverflow = (16, None)
+number_and_value (UnsupportedRegister register) = (17, Some (register, 2 ^ 64))
+number_and_value OutOfMemory = (18, None)
+number_and_value (UnterminatedAbbreviations id) = (19, Some (id.0, 2 ^ 64))
+number_and_value _ = (255, None)
+
 abbrev pub kind_of : Error → ℕ
-kind_of (UnexpectedEof _) = 1
-kind_of BadUnsignedLeb128 = 2
-kind_of BadSignedLeb128 = 3
-kind_of AbbreviationTagZero = 4
-kind_of (InvalidAbbreviationChildren _) = 5
-kind_of AttributeNameZero = 6
-kind_of AttributeFormZero = 7
-kind_of (DuplicateAbbreviationCode _) = 8
-kind_of (UnknownReservedLength _) = 9
-kind_of UnsupportedOffset = 10
-kind_of (UnknownVersion _) = 11
-kind_of (UnsupportedAddressSize _) = 12
-kind_of (UnsupportedSegmentSize _) = 13
-kind_of (UnsupportedOffsetSize _) = 14
-kind_of BadUtf8 = 15
-kind_of AddressOverflow = 16
-kind_of (UnsupportedRegister _) = 17
-kind_of OutOfMemory = 18
-kind_of (UnterminatedAbbreviations _) = 19
-kind_of _ = 255
+kind_of error = (number_and_value error).0
 
 -- the position or the value that an error carries, or 0
 abbrev pub value_of : Error → ℕ
-value_of (UnexpectedEof id) = id.0
-value_of (InvalidAbbreviationChildren value) = value.0
-value_of (DuplicateAbbreviationCode code) = code
-value_of (UnknownReservedLength value) = value
-value_of (UnknownVersion version) = version
-value_of (UnsupportedAddressSize size) = size
-value_of (UnsupportedSegmentSize size) = size
-value_of (UnsupportedOffsetSize size) = size
-value_of (UnsupportedRegister register) = register
-value_of (UnterminatedAbbreviations id) = id.0
-value_of _ = 0
+value_of error = option_map_or (λ carried. carried.0) (number_and_value error).1 0
 
 abbrev pub fault_of : Error → DwarfFault
 fault_of error = record { kind = kind_of error; value = value_of error }
+
+-- the error has a number of its own: from 100 on there are other statuses
+abbrev pub IsKnown : Error → Type 0
+IsKnown error = kind_of error < 100
+
+-- a number and a value tell an error: the number is its own, and the value is the one that it carries, if any
+pub record Tells (fault : DwarfFault) (error : Error) : Type 0 where
+  pub known : IsKnown error
+  pub numbered : fault.kind ≡ kind_of error
+  pub valued : IfSome (number_and_value error).1 (λ carried. (fault.value ≡ carried.0) × (carried.0 < carried.1))
+
+-- a number and a value mean the error that they tell, or none if they tell no error
+abbrev pub Means : DwarfFault → Option Error → Type 0
+Means fault (Some error) = Tells fault error
+Means fault None = (error : Error) → Tells fault error → ⊥

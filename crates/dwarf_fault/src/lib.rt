@@ -4,7 +4,7 @@
 #![tactic(auto)]
 
 ghost use Rattle.std.specs.Prelude.{◌≡◌, ◌<◌};
-ghost use Rattle.dwarf_fault.specs.Fault.{fault_of, kind_of};
+ghost use Rattle.dwarf_fault.specs.Fault.{Means, fault_of, kind_of};
 
 use dwarf_read_core::{DwChildren, Error, ReaderOffsetId};
 
@@ -47,6 +47,37 @@ pub fn fault_of(error: Error) -> DwarfFault
         _ => (255, 0),
     };
     DwarfFault { kind, value }
+}
+
+/// Returns the error with the number and the value of a fault, if there is one. For an error that
+/// carries nothing the value doesn't matter.
+pub fn error_of(fault: &DwarfFault) -> Option<Error>
+    ensures { Means fault.now result }
+{
+    let value = fault.value;
+    let error = match fault.kind {
+        1 => Error::UnexpectedEof(ReaderOffsetId(value)),
+        2 => Error::BadUnsignedLeb128,
+        3 => Error::BadSignedLeb128,
+        4 => Error::AbbreviationTagZero,
+        5 => Error::InvalidAbbreviationChildren(DwChildren(u8::try_from(value).ok()?)),
+        6 => Error::AttributeNameZero,
+        7 => Error::AttributeFormZero,
+        8 => Error::DuplicateAbbreviationCode(value),
+        9 => Error::UnknownReservedLength(u32::try_from(value).ok()?),
+        10 => Error::UnsupportedOffset,
+        11 => Error::UnknownVersion(value),
+        12 => Error::UnsupportedAddressSize(u8::try_from(value).ok()?),
+        13 => Error::UnsupportedSegmentSize(u8::try_from(value).ok()?),
+        14 => Error::UnsupportedOffsetSize(u8::try_from(value).ok()?),
+        15 => Error::BadUtf8,
+        16 => Error::AddressOverflow,
+        17 => Error::UnsupportedRegister(value),
+        18 => Error::OutOfMemory,
+        19 => Error::UnterminatedAbbreviations(ReaderOffsetId(value)),
+        _ => return None,
+    };
+    Some(error)
 }
 
 /// Writes the error of a call, and returns its number.

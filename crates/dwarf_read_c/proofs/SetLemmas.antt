@@ -1,15 +1,14 @@
 -- The set at an offset, by the first item of the sets from there on.
 use Rattle.std.proofs.lemmas.List.{length-take}
-use Rattle.std.specs.Prelude.{count_by, is_ok}
 use Rattle.dwarf_read_core.specs.Entries.{AreNumbers, Entries}
 use Rattle.dwarf_read_core.specs.Format.{initial_length_size, word_size}
 use Rattle.dwarf_read_core.specs.Headers.{Header, IsHeader}
 use Rattle.dwarf_read_core.specs.Items.{ComesFirst}
-use Rattle.dwarf_read_core.specs.Sets.{HasSet, set_size}
+use Rattle.dwarf_read_core.specs.Sets.{HasSet}
 use Rattle.dwarf_read_core.proofs.sets.Entries.{numbers_counted}
 use Rattle.dwarf_read_core.proofs.sets.ItemLists.{first-is, no_first-is}
 use Rattle.dwarf_read_c.specs.declared.sets.DwarfSet.{DwarfSet}
-use Rattle.dwarf_read_c.proofs.Common.{◌≡◌, ◌≢◌, ◌∙◌, Bool, true, ℕ, ◌+◌, ◌-◌, ◌/◌, ◌<◌, ◌≤◌, ◌^◌, List, [], ◌∷◌, length, drop, Result, Ok, Err, refl, sym, ap, subst, arith, ◌⊎◌, inl, inr, length-drop, common_steps, Error, IsTooShort, CloneRanOutOfMemory, Input, after, Headers, Set, RepresentsSets, take, section_of, sets_from, LacksSet, TellsSet, set_from, outside, faulty}
+use Rattle.dwarf_read_c.proofs.Common.{◌≡◌, ◌≢◌, ◌∙◌, Bool, true, ℕ, ◌+◌, ◌-◌, ◌/◌, ◌<◌, ◌≤◌, ◌^◌, List, [], ◌∷◌, length, drop, Ok, Err, refl, sym, ap, subst, arith, ◌⊎◌, inl, inr, length-drop, common_steps, Error, IsTooShort, CloneRanOutOfMemory, Input, after, Headers, Set, RepresentsSets, take, section_of, sets_from, LacksSet, TellsSet, set_from, outside, faulty}
 use Rattle.dwarf_read_c.specs.Sets.{shown}
 
 -- what is known of a set that was found at an offset

@@ -3,7 +3,6 @@
 ghost use Rattle.std.specs.Prelude.{◌≡◌, ◌≢◌, ◌<◌, ◌^◌, nat_lt, option_map, Some, None, if◌then◌else◌};
 ghost use Rattle.dwarf_read_c.specs.Families.{name_in};
 
-use crate::texts::byte_of;
 use dwarf_read_core::{
     DwAccess, DwAddr, DwAt, DwAte, DwCc, DwCfa, DwChildren, DwDefaulted, DwDs, DwDsc, DwEhPe,
     DwEnd, DwForm, DwId, DwIdx, DwInl, DwLang, DwLle, DwLnct, DwLne, DwLns, DwMacinfo, DwMacro,
@@ -78,6 +77,12 @@ fn byte_name(family: u32, value: u8) -> Option<&'static str>
         33 => GdbIndexSymbolKind(value).static_string(),
         _ => None,
     }
+}
+
+fn byte_of(value: u64) -> Option<u8>
+    ensures { result ≡ (if nat_lt value (2 ^ 8) then Some value else None) }
+{
+    u8::try_from(value).ok()
 }
 
 fn half_of(value: u64) -> Option<u16>

@@ -8,9 +8,11 @@ ghost use Rattle.dwarf_read_core.specs.Grammar.{Table};
 ghost use Rattle.dwarf_read_core.specs.Input.{Input};
 ghost use Rattle.dwarf_read_core.specs.Once.{HasOne};
 ghost use Rattle.dwarf_read_core.specs.declared.Format.TheVariants.{Dwarf32, Dwarf64};
+ghost use Rattle.dwarf_fault.specs.Fault.{Means};
 ghost use Rattle.dwarf_read_c.specs.Sections.{offset_size};
 ghost use Rattle.dwarf_read_c.specs.Tables.{Measures};
 
+use dwarf_fault::{DwarfFault, error_of};
 use dwarf_read_core::laws::exactly_one_end;
 
 /// The table at an offset has exactly one measure.
@@ -19,6 +21,13 @@ pub fn exactly_one_measure()
         → HasOne (λ measure. Measures measure section offset t) }
 {
     exactly_one_end();
+}
+
+/// A number and a value mean exactly one error, or none.
+pub fn exactly_one_error(fault: &DwarfFault)
+    ensures { HasOne (λ error. Means fault.now error) }
+{
+    error_of(fault);
 }
 
 /// A string offset has as many bytes as a word of its format.

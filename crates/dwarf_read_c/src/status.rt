@@ -3,9 +3,6 @@
 /// The call succeeded, and its outputs are written.
 pub const DWARF_OK: u32 = 0;
 
-/// Memory ran out. This is also the number of an error.
-pub const DWARF_OUT_OF_MEMORY: u32 = 18;
-
 /// There are more items than the caller has places for. The call wrote their count, or the measure
 /// of the table, and nothing else.
 pub const DWARF_NO_ROOM: u32 = 100;
