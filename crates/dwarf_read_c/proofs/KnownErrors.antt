@@ -1,7 +1,6 @@
 -- The errors that a call for C can return have numbers of their own.
 use Rattle.dwarf_read_core.specs.declared.Error.TheVariants.{OutOfMemory}
-use Rattle.dwarf_read_core.specs.Answer.{Answers, AnswersStrictly, IsFirstError, IsTableError}
-use Rattle.dwarf_read_core.proofs.tables.TableErrors.{table_error}
+use Rattle.dwarf_read_core.specs.Answer.{Answers, AnswersStrictly, IsFirstError}
 use Rattle.dwarf_read_core.specs.Headers.{AddressHeaderAt, HasNoVersion, Header, StringOffsetsHeaderAt}
 use Rattle.dwarf_read_core.specs.InitialLength.{HasNoLength}
 use Rattle.dwarf_read_core.specs.Sets.{set_cut, set_headless, set_unmeasured}
@@ -87,15 +86,9 @@ known_first_error error = grind arith
 pub known_table : (section : Input) (offset : ℕ) (e : Error) → Answers (Err e) section offset → IsKnown e
 known_table section offset e answers = grind (arith, known_first_error)
 
--- an error that a table can have isn't `OutOfMemory`, nor has its number
-table_error_kind : {e : Error} → IsTableError e → kind_of e ≢ 18
-table_error_kind is same = grind arith
-
--- the error that a call returns in place of a table has another number than `OutOfMemory`, unless it is that
-pub table_kind : (section : Input) (offset : ℕ) (e : Error) → Answers (Err e) section offset → e ≢ OutOfMemory
-    → kind_of e ≢ kind_of OutOfMemory
-table_kind section offset e answers other =
-    table_error_kind (table_error section offset e (answers other))
+-- no other error has the number of `OutOfMemory`
+pub memory_number : (e : Error) → e ≢ OutOfMemory → kind_of e ≢ kind_of OutOfMemory
+memory_number e other = grind arith
 
 -- the error that a strict call returns in place of a table has a number of its own
 known_strict_table : (section : Input) (offset : ℕ) (e : Error) → AnswersStrictly (Err e) section offset → IsKnown e

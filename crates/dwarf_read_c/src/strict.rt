@@ -1,8 +1,9 @@
 //! Abbreviation tables (DWARF 5, 7.5.3) that a code of value 0 has to close.
 
-ghost use Rattle.std.specs.Prelude.{◌≡◌, ◌≢◌, ◌<◌, ◌^◌, false, Ok, Err, length, IfOk, IfErr};
-ghost use Rattle.dwarf_read_core.specs.Answer.{AnswersStrictly, StrictAnswer, TableEndsAt};
+ghost use Rattle.std.specs.Prelude.{◌≡◌, ◌≢◌, ◌<◌, ◌^◌, false, Ok, Err, length, IfOk, IfErr, IsErrOf};
+ghost use Rattle.dwarf_read_core.specs.Answer.{AnswersStrictly, StrictAnswer, TableEndsAt, TakesNoMemory};
 ghost use Rattle.dwarf_read_core.specs.Grammar.{Table, attribute_count};
+ghost use Rattle.dwarf_fault.specs.Fault.{kind_of};
 ghost use Rattle.dwarf_read_c.specs.Fault.{Rejects};
 ghost use Rattle.dwarf_read_c.specs.Room.{Fills};
 ghost use Rattle.dwarf_read_c.specs.Sections.{section_of};
@@ -10,8 +11,7 @@ ghost use Rattle.dwarf_read_c.specs.Tables.{LacksRoom, Measures, abbreviations_o
 
 use crate::status::{DWARF_NO_ROOM, DWARF_OK};
 use crate::tables::{
-    DwarfAbbreviation, DwarfAttribute, DwarfMeasure, fill_abbreviations, fill_attributes,
-    measure_of, table_at,
+    DwarfAbbreviation, DwarfAttribute, DwarfMeasure, measure_of, put_table, table_at,
 };
 use dwarf_fault::{DwarfFault, reject};
 use dwarf_read_core::{Abbreviations, Error, ReaderOffsetId};
@@ -27,6 +27,7 @@ use std::alloc::Global;
 ///   if `offset` is that end;
 /// - all errors of `dwarf_table_measure`.
 #[unsafe(no_mangle)]
+#[tactic(auto, using(crate::proofs::KnownErrors::memory_number))]
 pub extern "C" fn dwarf_table_measure_strict(
     mem: Global,
     section: &[u8],
@@ -38,6 +39,9 @@ pub extern "C" fn dwarf_table_measure_strict(
         → (t : Table) × StrictAnswer s offset (Ok t) × Measures measure.new s offset t }
     ensures rejected { let s = section_of section.now false in result ≢ DWARF_OK
         → Rejects (λ e. AnswersStrictly (Err e) s offset) result fault.new }
+    // A table without declarations needs no memory.
+    ensures memory { TakesNoMemory (section_of section.now false) offset
+        → result ≢ kind_of Error.OutOfMemory }
     ensures no_measure { result ≢ DWARF_OK → measure.new ≡ measure.old }
     ensures no_fault { result ≡ DWARF_OK → fault.new ≡ fault.old }
 {
@@ -61,6 +65,7 @@ pub extern "C" fn dwarf_table_measure_strict(
 ///
 /// Those of [`dwarf_table_measure_strict`].
 #[unsafe(no_mangle)]
+#[tactic(auto, using(crate::proofs::KnownErrors::memory_number))]
 pub extern "C" fn dwarf_table_read_strict(
     mem: Global,
     section: &[u8],
@@ -82,21 +87,16 @@ pub extern "C" fn dwarf_table_read_strict(
         result ≢ DWARF_OK → result ≢ DWARF_NO_ROOM
         → Rejects (λ e. AnswersStrictly (Err e) s offset) result fault.new
         × (measure.new ≡ measure.old) }
+    ensures memory { TakesNoMemory (section_of section.now false) offset
+        → result ≢ kind_of Error.OutOfMemory }
     ensures no_items { result ≢ DWARF_OK
         → (abbreviations.new ≡ abbreviations.old) × (attributes.new ≡ attributes.old) }
     ensures no_fault { result ≡ DWARF_OK → fault.new ≡ fault.old }
 {
-    let (table, end) = match closed_table_at(mem, section, offset) {
-        Ok(found) => found,
-        Err(error) => return reject(error, fault),
-    };
-    *measure = measure_of(&table, end);
-    if abbreviations.len() < measure.abbreviations || attributes.len() < measure.attributes {
-        return DWARF_NO_ROOM;
+    match closed_table_at(mem, section, offset) {
+        Ok((table, end)) => put_table(&table, end, abbreviations, attributes, measure),
+        Err(error) => reject(error, fault),
     }
-    fill_abbreviations(&table, abbreviations);
-    fill_attributes(&table, attributes);
-    DWARF_OK
 }
 
 // Returns the table at an offset, which a code of value 0 closes, and where it ends. Its attributes
@@ -110,6 +110,8 @@ fn closed_table_at(
         IfOk result (λ r. StrictAnswer s offset (Ok r.0) × TableEndsAt s offset r.0 r.1) }
     ensures err { let s = section_of section.now false in
         IfErr result (λ e. AnswersStrictly (Err e) s offset) }
+    ensures memory { TakesNoMemory (section_of section.now false) offset
+        → IsErrOf result Error.OutOfMemory → ⊥ }
     ensures counted { IfOk result (λ r. attribute_count r.0.by_code < 2 ^ 64) }
 {
     let (table, end) = table_at(mem, section, offset)?;

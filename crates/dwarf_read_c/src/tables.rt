@@ -74,7 +74,7 @@ pub struct DwarfAttribute {
 ///
 /// 18 (`OutOfMemory`) if memory for the table runs out.
 #[unsafe(no_mangle)]
-#[tactic(auto, using(crate::proofs::KnownErrors::known_table, crate::proofs::KnownErrors::table_kind))]
+#[tactic(auto, using(crate::proofs::KnownErrors::known_table, crate::proofs::KnownErrors::memory_number))]
 pub extern "C" fn dwarf_table_measure(
     mem: Global,
     section: &[u8],
@@ -112,7 +112,7 @@ pub extern "C" fn dwarf_table_measure(
 ///
 /// Those of [`dwarf_table_measure`].
 #[unsafe(no_mangle)]
-#[tactic(auto, using(crate::proofs::KnownErrors::known_table, crate::proofs::KnownErrors::table_kind))]
+#[tactic(auto, using(crate::proofs::KnownErrors::known_table, crate::proofs::KnownErrors::memory_number))]
 pub extern "C" fn dwarf_table_read(
     mem: Global,
     section: &[u8],
@@ -139,17 +139,10 @@ pub extern "C" fn dwarf_table_read(
         → (abbreviations.new ≡ abbreviations.old) × (attributes.new ≡ attributes.old) }
     ensures no_fault { result ≡ DWARF_OK → fault.new ≡ fault.old }
 {
-    let (table, end) = match table_at(mem, section, offset) {
-        Ok(found) => found,
-        Err(error) => return reject(error, fault),
-    };
-    *measure = measure_of(&table, end);
-    if abbreviations.len() < measure.abbreviations || attributes.len() < measure.attributes {
-        return DWARF_NO_ROOM;
+    match table_at(mem, section, offset) {
+        Ok((table, end)) => put_table(&table, end, abbreviations, attributes, measure),
+        Err(error) => reject(error, fault),
     }
-    fill_abbreviations(&table, abbreviations);
-    fill_attributes(&table, attributes);
-    DWARF_OK
 }
 
 // Returns the table at an offset, and where it ends. Its attributes can be counted in a `usize`.
@@ -187,9 +180,36 @@ pub(crate) fn measure_of(table: &Abbreviations, end: usize) -> DwarfMeasure
     }
 }
 
+// Writes the measure of a table that ends there, and its abbreviations and attributes to the front
+// of the places. If there are fewer places for either, only the measure is written.
+pub(crate) fn put_table(
+    table: &Abbreviations,
+    end: usize,
+    abbreviations: &mut [DwarfAbbreviation],
+    attributes: &mut [DwarfAttribute],
+    measure: &mut DwarfMeasure,
+) -> u32
+    requires { attribute_count table.now.by_code < 2 ^ 64 }
+    ensures measured { measure.new ≡ measure_of table.now end }
+    ensures filled { result ≡ DWARF_OK
+        → Fills (abbreviations_of table.now) abbreviations.old abbreviations.new
+        × Fills (attributes_of table.now) attributes.old attributes.new }
+    ensures full { result ≢ DWARF_OK → (result ≡ DWARF_NO_ROOM)
+        × LacksRoom measure.new (length abbreviations.old) (length attributes.old)
+        × (abbreviations.new ≡ abbreviations.old) × (attributes.new ≡ attributes.old) }
+{
+    *measure = measure_of(table, end);
+    if abbreviations.len() < measure.abbreviations || attributes.len() < measure.attributes {
+        return DWARF_NO_ROOM;
+    }
+    fill_abbreviations(table, abbreviations);
+    fill_attributes(table, attributes);
+    DWARF_OK
+}
+
 // Writes the abbreviations, in the order of their codes, to the front of the places.
 #[tactic(auto, using(crate::proofs::TableLemmas::table_steps))]
-pub(crate) fn fill_abbreviations(table: &Abbreviations, places: &mut [DwarfAbbreviation])
+fn fill_abbreviations(table: &Abbreviations, places: &mut [DwarfAbbreviation])
     requires room { finite.len table.now.by_code ≤ length places.old }
     requires counted { attribute_count table.now.by_code < 2 ^ 64 }
     ensures { Fills (abbreviations_of table.now) places.old places.new }
@@ -211,7 +231,7 @@ pub(crate) fn fill_abbreviations(table: &Abbreviations, places: &mut [DwarfAbbre
 
 // Writes the attributes of all abbreviations, in the order of their codes, to the front of the
 // places.
-pub(crate) fn fill_attributes(table: &Abbreviations, places: &mut [DwarfAttribute])
+fn fill_attributes(table: &Abbreviations, places: &mut [DwarfAttribute])
     requires { attribute_count table.now.by_code ≤ length places.old }
     ensures { Fills (attributes_of table.now) places.old places.new }
 {

@@ -1,9 +1,16 @@
 use Rattle.dwarf_read_c.proofs.Common.{arith, refl}
 use Rattle.dwarf_read_c.proofs.tables.dwarf_table_read.Goals as goal
 
-pub returns-then-abbreviations-measure-clause-full :
-    goal.returns-then-abbreviations-measure-clause-full
-returns-then-abbreviations-measure-clause-full c =
-    let found = c.in-Ok.found in
-    let is = c.in-Ok.ensures.answer in
-    λ _. (found.0, is.0, (found.1, is.1, c.measure_of.ensures), grind arith, refl)
+pub returns-in-Ok-clause-read : goal.returns-in-Ok-clause-read
+returns-in-Ok-clause-read c =
+    let answer = c.in-Ok.ensures.answer in
+    λ ok.
+    let filled = c.put_table.ensures.filled ok in
+    (c.in-Ok.table, answer.0, (c.in-Ok.end, answer.1, c.put_table.ensures.measured), filled.0, filled.1)
+
+pub returns-in-Ok-clause-full : goal.returns-in-Ok-clause-full
+returns-in-Ok-clause-full c =
+    let answer = c.in-Ok.ensures.answer in
+    λ no_room.
+    let full = c.put_table.ensures.full (grind arith) in
+    (c.in-Ok.table, answer.0, (c.in-Ok.end, answer.1, c.put_table.ensures.measured), full.1, refl)
