@@ -29,24 +29,26 @@ number_and_value OutOfMemory = (18, None)
 number_and_value (UnterminatedAbbreviations id) = (19, Some (id.0, 2 ^ 64))
 number_and_value _ = (255, None)
 
-abbrev pub kind_of : Error → ℕ
-kind_of error = (number_and_value error).0
+-- the number of an error
+abbrev pub error_number : Error → ℕ
+error_number error = (number_and_value error).0
 
 -- the position or the value that an error carries, or 0
-abbrev pub value_of : Error → ℕ
-value_of error = option_map_or (λ carried. carried.0) (number_and_value error).1 0
+abbrev pub error_value : Error → ℕ
+error_value error = option_map_or (λ carried. carried.0) (number_and_value error).1 0
 
+-- an error as C sees it
 abbrev pub fault_of : Error → DwarfFault
-fault_of error = record { kind = kind_of error; value = value_of error }
+fault_of error = record { kind = error_number error; value = error_value error }
 
 -- the error has a number of its own: from 100 on there are other statuses
 abbrev pub IsKnown : Error → Type 0
-IsKnown error = kind_of error < 100
+IsKnown error = error_number error < 100
 
 -- a number and a value tell an error: the number is its own, and the value is the one that it carries, if any
 pub record Tells (fault : DwarfFault) (error : Error) : Type 0 where
   pub known : IsKnown error
-  pub numbered : fault.kind ≡ kind_of error
+  pub numbered : fault.kind ≡ error_number error
   pub valued : IfSome (number_and_value error).1 (λ carried. (fault.value ≡ carried.0) × (carried.0 < carried.1))
 
 -- a number and a value mean the error that they tell, or none if they tell no error

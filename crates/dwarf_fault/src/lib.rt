@@ -4,7 +4,7 @@
 #![tactic(auto)]
 
 ghost use Rattle.std.specs.Prelude.{◌≡◌, ◌<◌};
-ghost use Rattle.dwarf_fault.specs.Fault.{Means, fault_of, kind_of};
+ghost use Rattle.dwarf_fault.specs.Fault.{Means, error_number, fault_of};
 
 use dwarf_read_core::{DwChildren, Error, ReaderOffsetId};
 
@@ -83,7 +83,7 @@ pub fn error_of(fault: &DwarfFault) -> Option<Error>
 /// Writes the error of a call, and returns its number.
 pub fn reject(error: Error, fault: &mut DwarfFault) -> u32
     ensures reported { fault.new ≡ fault_of error }
-    ensures status { result ≡ kind_of error }
+    ensures status { result ≡ error_number error }
     ensures nonzero { 0 < result }
 {
     *fault = fault_of(error);

@@ -14,10 +14,10 @@ pub use Rattle.dwarf_read_core.specs.Sets.{Headers, Set, RepresentsSets, address
 pub use Rattle.dwarf_read_core.proofs.Headers.{address_header, string_offsets_header}
 pub use Rattle.dwarf_read_core.specs.Strings.{HoldsString, StringAt}
 pub use Rattle.dwarf_read_core.specs.declared.Error.{Error}
-pub use Rattle.dwarf_fault.specs.Fault.{IsKnown, fault_of, kind_of}
+pub use Rattle.dwarf_fault.specs.Fault.{IsKnown, error_number, fault_of}
 pub use Rattle.dwarf_fault.specs.declared.DwarfFault.{DwarfFault}
 pub use Rattle.dwarf_read_c.specs.Fault.{Rejects}
-pub use Rattle.dwarf_read_c.specs.Numbers.{LacksNumber, cut, bad}
+pub use Rattle.dwarf_read_c.specs.Numbers.{HasNoNumber, cut, bad}
 pub use Rattle.dwarf_read_c.specs.Sections.{section_of, part_of}
-pub use Rattle.dwarf_read_c.specs.Sets.{LacksSet, TellsSet, sets_from, set_from, outside, faulty}
+pub use Rattle.dwarf_read_c.specs.Sets.{HasNoSetAt, TellsSet, sets_from, set_from, outside, faulty}
 pub use Rattle.dwarf_read_c.specs.Tables.{abbreviation_of, laid_from, attribute_of, attributes_in}

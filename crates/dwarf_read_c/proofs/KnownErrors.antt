@@ -6,11 +6,11 @@ use Rattle.dwarf_read_core.specs.InitialLength.{HasNoLength}
 use Rattle.dwarf_read_core.specs.Sets.{set_cut, set_headless, set_unmeasured}
 use Rattle.dwarf_read_core.specs.Strings.{string_past_end, string_unended}
 use Rattle.dwarf_read_core.specs.Words.{Slot, HasNoPlace, no_base, no_distance, no_place, WordAt, word_unplaced, word_cut, word_too_great, AddressAt, address_unplaced, address_unsized, address_cut}
-use Rattle.dwarf_read_c.proofs.Common.{◌≡◌, ◌≢◌, ℕ, List, Err, arith, Error, eof, Input, Kind, StringAt, DwarfFault, Rejects, fault_of, kind_of, IsKnown, LacksNumber, LacksSet, outside, faulty}
+use Rattle.dwarf_read_c.proofs.Common.{◌≡◌, ◌≢◌, ℕ, List, Err, arith, Error, eof, Input, Kind, StringAt, DwarfFault, Rejects, error_number, fault_of, IsKnown, HasNoNumber, HasNoSetAt, outside, faulty}
 
 -- the error of bytes that begin with no number has a number of its own
-pub known_number : {k : Kind} {bytes : List ℕ} {e : Error} → LacksNumber k bytes e → IsKnown e
-known_number lacks = grind arith
+pub known_number : {k : Kind} {bytes : List ℕ} {e : Error} → HasNoNumber k bytes e → IsKnown e
+known_number absent = grind arith
 
 -- ---- lookups
 
@@ -31,14 +31,14 @@ known_place (no_place based counted past) = omega arith
 
 -- the error of a lookup of a word has a number of its own
 pub known_word : (greatest : ℕ) (s : Slot) (section : Input) (e : Error) → WordAt greatest section s (Err e) → IsKnown e
-known_word greatest s section e (word_unplaced lacks) = known_place lacks
+known_word greatest s section e (word_unplaced absent) = known_place absent
 known_word greatest s section e (word_cut placed cut) = omega arith
 known_word greatest s section e (word_too_great x placed held over) = omega arith
 
 -- the error of a lookup of an address has a number of its own
 pub known_address : (greatest : ℕ) (s : Slot) (section : Input) (e : Error) → AddressAt greatest section s (Err e)
     → IsKnown e
-known_address greatest s section e (address_unplaced lacks) = known_place lacks
+known_address greatest s section e (address_unplaced absent) = known_place absent
 known_address greatest s section e (address_unsized placed other) = omega arith
 known_address greatest s section e (address_cut placed size cut) = omega arith
 
@@ -46,11 +46,11 @@ known_address greatest s section e (address_cut placed size cut) = omega arith
 
 -- the error of bytes without an initial length has a number of its own
 known_length : {greatest : ℕ} {old new : Input} {e : Error} → HasNoLength greatest old e new → IsKnown e
-known_length lacks = grind arith
+known_length absent = grind arith
 
 -- the error in place of a set has a number of its own, if each error of the header has
 known_set : {H : Type 0} {header : Header H} {section : Input} {offset : ℕ} {e : Error}
-    → ((unit : Input) (e : Error) → header unit (Err e) → IsKnown e) → LacksSet header section offset e → IsKnown e
+    → ((unit : Input) (e : Error) → header unit (Err e) → IsKnown e) → HasNoSetAt header section offset e → IsKnown e
 known_set law (outside past) = omega arith
 known_set law (faulty e some (set_unmeasured none)) = known_length none
 known_set law (faulty e some (set_cut measured short)) = omega arith
@@ -58,20 +58,20 @@ known_set law (faulty e some (set_headless measured enough none)) = law _ e none
 
 -- the error in place of version 5 has a number of its own
 known_version : {unit : Input} {e : Error} → HasNoVersion unit e → IsKnown e
-known_version lacks = grind arith
+known_version absent = grind arith
 
 -- the error in place of a set of addresses has a number of its own
 pub known_address_set :
-    {section : Input} {offset : ℕ} {e : Error} → LacksSet AddressHeaderAt section offset e → IsKnown e
-known_address_set lacks = known_set known lacks
+    {section : Input} {offset : ℕ} {e : Error} → HasNoSetAt AddressHeaderAt section offset e → IsKnown e
+known_address_set absent = known_set known absent
   where
     known : (unit : Input) (e : Error) → AddressHeaderAt unit (Err e) → IsKnown e
     known unit e none = grind (arith, known_version)
 
 -- the error in place of a set of string offsets has a number of its own
 pub known_str_offset_set :
-    {section : Input} {offset : ℕ} {e : Error} → LacksSet StringOffsetsHeaderAt section offset e → IsKnown e
-known_str_offset_set lacks = known_set known lacks
+    {section : Input} {offset : ℕ} {e : Error} → HasNoSetAt StringOffsetsHeaderAt section offset e → IsKnown e
+known_str_offset_set absent = known_set known absent
   where
     known : (unit : Input) (e : Error) → StringOffsetsHeaderAt unit (Err e) → IsKnown e
     known unit e none = grind (arith, known_version)
@@ -87,7 +87,7 @@ pub known_table : (section : Input) (offset : ℕ) (e : Error) → Answers (Err 
 known_table section offset e answers = grind (arith, known_first_error)
 
 -- no other error has the number of `OutOfMemory`
-pub memory_number : (e : Error) → e ≢ OutOfMemory → kind_of e ≢ kind_of OutOfMemory
+pub memory_number : (e : Error) → e ≢ OutOfMemory → error_number e ≢ error_number OutOfMemory
 memory_number e other = grind arith
 
 -- the error that a strict call returns in place of a table has a number of its own
@@ -96,8 +96,8 @@ known_strict_table section offset e answers = grind (arith, known_first_error)
 
 -- a strict call that writes the error of its reading rejects the bytes
 pub strictly_rejected : {section : Input} {offset : ℕ} {e : Error} {status : ℕ} {fault : DwarfFault}
-    → AnswersStrictly (Err e) section offset → status ≡ kind_of e → fault ≡ fault_of e
+    → AnswersStrictly (Err e) section offset → status ≡ error_number e → fault ≡ fault_of e
     → Rejects (λ e. AnswersStrictly (Err e) section offset) status fault
-strictly_rejected {section} {offset} {e} is numbered reported =
-    let known = known_strict_table section offset e is in
-    record { error = e; is = is; known = known; numbered = numbered; reported = reported }
+strictly_rejected {section} {offset} {e} answers numbered reported =
+    let known = known_strict_table section offset e answers in
+    record { error = e; holds = answers; known = known; numbered = numbered; reported = reported }

@@ -8,7 +8,7 @@ use Rattle.dwarf_read_core.specs.Sets.{HasSet}
 use Rattle.dwarf_read_core.proofs.sets.Entries.{numbers_counted}
 use Rattle.dwarf_read_core.proofs.sets.ItemLists.{first-is, no_first-is}
 use Rattle.dwarf_read_c.specs.declared.sets.DwarfSet.{DwarfSet}
-use Rattle.dwarf_read_c.proofs.Common.{◌≡◌, ◌≢◌, ◌∙◌, Bool, true, ℕ, ◌+◌, ◌-◌, ◌/◌, ◌<◌, ◌≤◌, ◌^◌, List, [], ◌∷◌, length, drop, Ok, Err, refl, sym, ap, subst, arith, ◌⊎◌, inl, inr, length-drop, common_steps, Error, IsTooShort, CloneRanOutOfMemory, Input, after, Headers, Set, RepresentsSets, take, section_of, sets_from, LacksSet, TellsSet, set_from, outside, faulty}
+use Rattle.dwarf_read_c.proofs.Common.{◌≡◌, ◌≢◌, ◌∙◌, Bool, true, ℕ, ◌+◌, ◌-◌, ◌/◌, ◌<◌, ◌≤◌, ◌^◌, List, [], ◌∷◌, length, drop, Ok, Err, refl, sym, ap, subst, arith, ◌⊎◌, inl, inr, length-drop, common_steps, Error, IsTooShort, CloneRanOutOfMemory, Input, after, Headers, Set, RepresentsSets, take, section_of, sets_from, HasNoSetAt, TellsSet, set_from, outside, faulty}
 use Rattle.dwarf_read_c.specs.Sets.{shown}
 
 -- what is known of a set that was found at an offset
@@ -25,7 +25,7 @@ sets_after offset section = record { offset = 0; rest = after offset section }
 
 -- no set is at an offset past the end, and the error is that of missing bytes
 pub set_outside : {H : Type 0} {header : Header H} {section : Input} {offset : ℕ} {e : Error} {new : Input}
-    → IsTooShort offset section e new → LacksSet header section offset e
+    → IsTooShort offset section e new → HasNoSetAt header section offset e
 set_outside short = grind (arith, outside)
 
 -- if bytes remain from an offset on, the offset is below the length
@@ -69,16 +69,16 @@ set_found {H} {header} {bytes} {is_big} {offset} {old} {new} {s} is_header start
     }
 
 -- if the first item from an offset on is an error, the section has no set there, with this error
-pub set_lacked : {H P : Type 0} {header : Header H} {bytes : List ℕ} {is_big : Bool} {offset : ℕ} {old new : Headers}
+pub set_absent : {H P : Type 0} {header : Header H} {bytes : List ℕ} {is_big : Bool} {offset : ℕ} {old new : Headers}
     {e : Error} → old ≡ sets_after offset (section_of bytes is_big)
     → ComesFirst (RepresentsSets header (2 ^ 64 - 1)) old (Err e) new ⊎ (CloneRanOutOfMemory true e × P)
-    → LacksSet header (section_of bytes is_big) offset e
-set_lacked {header = header} {bytes} {is_big} {offset} {old} {new} {e} start (inl given) =
+    → HasNoSetAt header (section_of bytes is_big) offset e
+set_absent {header = header} {bytes} {is_big} {offset} {old} {new} {e} start (inl given) =
     let there = subst (λ (h : Headers). RepresentsSets header (2 ^ 64 - 1) h (Err e ∷ given.0.0)) start
     (given.1 given.0.0 given.0.1) in
     let begins = first-is there in
     faulty e (some_left bytes offset begins.0) begins.1
-set_lacked start (inr want) = let costs = want.0.costs in absurd (cc)
+set_absent start (inr want) = let costs = want.0.costs in absurd (cc)
 
 -- what is written for C describes a set that was found
 pub set_reported : {H : Type 0} {header : Header H} {section : Input} {offset : ℕ} {s : Set H} {reported : DwarfSet}
@@ -86,14 +86,14 @@ pub set_reported : {H : Type 0} {header : Header H} {section : Input} {offset : 
     → entries_of (record s { offset = offset }) ≡ record { width = width; rest = s.entries }
     → FoundSet header section offset s → reported ≡ set_from offset s.format s.unit_length width
     → TellsSet header entries_of section offset reported
-set_reported {offset = offset} {s} {reported} entries_of width positive entries found is =
+set_reported {offset = offset} {s} {reported} entries_of width positive entries found fields =
     let front = initial_length_size s.format in
     let ends : offset + front + s.unit_length ≡ offset + (front + s.unit_length) = omega arith in
     record {
       s = record s { offset = offset };
       within = omega (arith, found.within);
       has = found.has;
-      is = is ∙ (λ i. record {
+      fields = fields ∙ (λ i. record {
         next = ends i;
         unit_length = s.unit_length;
         first_entry = (sym found.first) i;
@@ -105,5 +105,5 @@ set_reported {offset = offset} {s} {reported} entries_of width positive entries 
       counted = λ items are.
           let count = numbers_counted (record { width = width; rest = s.entries }) items positive
           (subst (λ (e : Entries). AreNumbers (λ x. true) e items) entries are) in
-          ap (λ (told : DwarfSet). told.entry_count) is ∙ ap (λ n. n / width) (sym found.rest) ∙ sym count;
+          ap (λ (told : DwarfSet). told.entry_count) fields ∙ ap (λ n. n / width) (sym found.rest) ∙ sym count;
     }

@@ -1,13 +1,14 @@
 -- What a call reports of an error.
 use Rattle.std.specs.Prelude.{◌≡◌, ℕ}
 use Rattle.dwarf_read_core.specs.declared.Error.{Error}
-use Rattle.dwarf_fault.specs.Fault.{IsKnown, fault_of, kind_of}
+use Rattle.dwarf_fault.specs.Fault.{IsKnown, error_number, fault_of}
 use Rattle.dwarf_fault.specs.declared.DwarfFault.{DwarfFault}
 
--- a call returns an error with the property: the status is its number, and `fault` has its number and value
-pub record Rejects (Is : Error → Type 0) (status : ℕ) (fault : DwarfFault) : Type 0 where
+-- a call returns an error with the property and a number of its own: the status is this number, and `fault` has it and
+-- the error's value
+pub record Rejects (Holds : Error → Type 0) (status : ℕ) (fault : DwarfFault) : Type 0 where
   pub error : Error
-  pub is : Is error
+  pub holds : Holds error
   pub known : IsKnown error
-  pub numbered : status ≡ kind_of error
+  pub numbered : status ≡ error_number error
   pub reported : fault ≡ fault_of error

@@ -5,7 +5,7 @@ use Rattle.dwarf_read_c.specs.declared.status.TheConstants.{DWARF_OK, DWARF_NO_R
 -- the items are at the front, and the places after them are unchanged
 pub record Fills {A : Type 0} (items old new : List A) : Type 0 where
   pub room : length items ≤ length old
-  pub is : new ≡ items ++ drop (length items) old
+  pub content : new ≡ items ++ drop (length items) old
 
 -- the items are at the front; or there is no room for them, and all places are unchanged
 pub data Puts {A : Type 0} (items old new : List A) : ℕ → Type 0 where

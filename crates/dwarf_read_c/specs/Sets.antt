@@ -15,10 +15,10 @@ abbrev pub sets_from : ℕ → Input → Headers
 sets_from offset section = record { offset = offset; rest = after offset section }
 
 -- no set is at the offset: it is past the end, or the bytes from there on don't begin with a set
-pub data LacksSet {H : Type 0} (header : Header H) (section : Input) (offset : ℕ) : Error → Type 0 where
-  outside : length section.bytes < offset → LacksSet header section offset (end_fault section)
+pub data HasNoSetAt {H : Type 0} (header : Header H) (section : Input) (offset : ℕ) : Error → Type 0 where
+  outside : length section.bytes < offset → HasNoSetAt header section offset (end_fault section)
   faulty : (e : Error) → offset < length section.bytes
-      → HasNoSet header (2 ^ 64 - 1) (after offset section) e → LacksSet header section offset e
+      → HasNoSet header (2 ^ 64 - 1) (after offset section) e → HasNoSetAt header section offset e
 
 -- a set as C sees it, with its entries and where the next set may begin. Only whole entries are counted
 abbrev pub shown : {H : Type 0} → Set H → Entries → ℕ → DwarfSet
@@ -38,7 +38,7 @@ pub record TellsSet {H : Type 0} (header : Header H) (entries_of : Set H → Ent
   pub s : Set H
   pub within : offset ≤ length section.bytes
   pub has : HasSet header (2 ^ 64 - 1) (sets_from offset section) s
-  pub is : reported ≡ shown s (entries_of s) (offset + set_size s)
+  pub fields : reported ≡ shown s (entries_of s) (offset + set_size s)
   pub counted : (items : List (Result ℕ Error)) → AreNumbers (λ x. true) (entries_of s) items
       → reported.entry_count ≡ count_by is_ok items
 

@@ -3,7 +3,7 @@
 ghost use Rattle.std.specs.Prelude.{◌≡◌, ◌≢◌};
 ghost use Rattle.dwarf_read_core.specs.Leb128.{unsigned64, signed64, HasNumber};
 ghost use Rattle.dwarf_read_c.specs.Fault.{Rejects};
-ghost use Rattle.dwarf_read_c.specs.Numbers.{LacksNumber, PutsShortest};
+ghost use Rattle.dwarf_read_c.specs.Numbers.{HasNoNumber, PutsShortest};
 
 use crate::room::put;
 use crate::status::DWARF_OK;
@@ -27,7 +27,7 @@ pub extern "C" fn dwarf_uleb128(
 ) -> u32
     ensures read { result ≡ DWARF_OK → HasNumber unsigned64 bytes.now value.new len.new }
     ensures rejected { result ≢ DWARF_OK
-        → Rejects (LacksNumber unsigned64 bytes.now) result fault.new }
+        → Rejects (HasNoNumber unsigned64 bytes.now) result fault.new }
     ensures no_value { result ≢ DWARF_OK → (value.new ≡ value.old) × (len.new ≡ len.old) }
     ensures no_fault { result ≡ DWARF_OK → fault.new ≡ fault.old }
 {
@@ -59,7 +59,7 @@ pub extern "C" fn dwarf_sleb128(
 ) -> u32
     ensures read { result ≡ DWARF_OK → HasNumber signed64 bytes.now value.new len.new }
     ensures rejected { result ≢ DWARF_OK
-        → Rejects (LacksNumber signed64 bytes.now) result fault.new }
+        → Rejects (HasNoNumber signed64 bytes.now) result fault.new }
     ensures no_value { result ≢ DWARF_OK → (value.new ≡ value.old) × (len.new ≡ len.old) }
     ensures no_fault { result ≡ DWARF_OK → fault.new ≡ fault.old }
 {

@@ -9,7 +9,7 @@ ghost use Rattle.dwarf_read_core.specs.Headers.{AddressHeaderAt, StringOffsetsHe
 ghost use Rattle.dwarf_read_core.specs.Sets.{addresses_of, string_offsets_of};
 ghost use Rattle.dwarf_read_c.specs.Fault.{Rejects};
 ghost use Rattle.dwarf_read_c.specs.Sections.{section_of};
-ghost use Rattle.dwarf_read_c.specs.Sets.{LacksSet, TellsSet, set_from};
+ghost use Rattle.dwarf_read_c.specs.Sets.{HasNoSetAt, TellsSet, set_from};
 
 use crate::sections::order;
 use crate::status::{DWARF_END, DWARF_OK};
@@ -70,8 +70,9 @@ pub extern "C" fn dwarf_address_set(
     ensures found { let s = section_of section.now is_big in
         result ≡ DWARF_OK → TellsSet AddressHeaderAt addresses_of s offset set.new }
     ensures end { result ≡ DWARF_END → (offset ≡ length section.now) × (fault.new ≡ fault.old) }
-    ensures rejected { let s = section_of section.now is_big in result ≢ DWARF_OK
-        → result ≢ DWARF_END → Rejects (LacksSet AddressHeaderAt s offset) result fault.new }
+    ensures rejected { let s = section_of section.now is_big in
+        result ≢ DWARF_OK → result ≢ DWARF_END
+        → Rejects (HasNoSetAt AddressHeaderAt s offset) result fault.new }
     ensures no_set { result ≢ DWARF_OK → set.new ≡ set.old }
     ensures no_fault { result ≡ DWARF_OK → fault.new ≡ fault.old }
 {
@@ -108,8 +109,9 @@ pub extern "C" fn dwarf_str_offset_set(
     ensures found { let s = section_of section.now is_big in
         result ≡ DWARF_OK → TellsSet StringOffsetsHeaderAt string_offsets_of s offset set.new }
     ensures end { result ≡ DWARF_END → (offset ≡ length section.now) × (fault.new ≡ fault.old) }
-    ensures rejected { let s = section_of section.now is_big in result ≢ DWARF_OK
-        → result ≢ DWARF_END → Rejects (LacksSet StringOffsetsHeaderAt s offset) result fault.new }
+    ensures rejected { let s = section_of section.now is_big in
+        result ≢ DWARF_OK → result ≢ DWARF_END
+        → Rejects (HasNoSetAt StringOffsetsHeaderAt s offset) result fault.new }
     ensures no_set { result ≢ DWARF_OK → set.new ≡ set.old }
     ensures no_fault { result ≡ DWARF_OK → fault.new ≡ fault.old }
 {
@@ -129,7 +131,7 @@ fn address_set_at(section: &[u8], is_big: bool, offset: usize) -> Result<Option<
     ensures found { let s = section_of section.now is_big in
         IfOk result (λ found. IfSome found (TellsSet AddressHeaderAt addresses_of s offset)) }
     ensures end { IfOk result (λ found. IfNone found (offset ≡ length section.now)) }
-    ensures err { IfErr result (LacksSet AddressHeaderAt (section_of section.now is_big) offset) }
+    ensures err { IfErr result (HasNoSetAt AddressHeaderAt (section_of section.now is_big) offset) }
 {
     let addresses = DebugAddr::from(bytes_from(section, is_big, offset)?);
     match addresses.headers()?.next()? {
@@ -148,7 +150,7 @@ fn str_offset_set_at(section: &[u8], is_big: bool, offset: usize) -> Result<Opti
         (λ found. IfSome found (TellsSet StringOffsetsHeaderAt string_offsets_of s offset)) }
     ensures end { IfOk result (λ found. IfNone found (offset ≡ length section.now)) }
     ensures err { IfErr result
-        (LacksSet StringOffsetsHeaderAt (section_of section.now is_big) offset) }
+        (HasNoSetAt StringOffsetsHeaderAt (section_of section.now is_big) offset) }
 {
     let offsets = DebugStrOffsets::from(bytes_from(section, is_big, offset)?);
     match offsets.headers()?.next()? {

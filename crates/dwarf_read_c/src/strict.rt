@@ -3,7 +3,7 @@
 ghost use Rattle.std.specs.Prelude.{◌≡◌, ◌≢◌, ◌<◌, ◌^◌, false, Ok, Err, length, IfOk, IfErr, IsErrOf};
 ghost use Rattle.dwarf_read_core.specs.Answer.{AnswersStrictly, StrictAnswer, TableEndsAt, TakesNoMemory};
 ghost use Rattle.dwarf_read_core.specs.Grammar.{Table, attribute_count};
-ghost use Rattle.dwarf_fault.specs.Fault.{kind_of};
+ghost use Rattle.dwarf_fault.specs.Fault.{error_number};
 ghost use Rattle.dwarf_read_c.specs.Fault.{Rejects};
 ghost use Rattle.dwarf_read_c.specs.Room.{Fills};
 ghost use Rattle.dwarf_read_c.specs.Sections.{section_of};
@@ -41,7 +41,7 @@ pub extern "C" fn dwarf_table_measure_strict(
         → Rejects (λ e. AnswersStrictly (Err e) s offset) result fault.new }
     // A table without declarations needs no memory.
     ensures memory { TakesNoMemory (section_of section.now false) offset
-        → result ≢ kind_of Error.OutOfMemory }
+        → result ≢ error_number Error.OutOfMemory }
     ensures no_measure { result ≢ DWARF_OK → measure.new ≡ measure.old }
     ensures no_fault { result ≡ DWARF_OK → fault.new ≡ fault.old }
 {
@@ -88,7 +88,7 @@ pub extern "C" fn dwarf_table_read_strict(
         → Rejects (λ e. AnswersStrictly (Err e) s offset) result fault.new
         × (measure.new ≡ measure.old) }
     ensures memory { TakesNoMemory (section_of section.now false) offset
-        → result ≢ kind_of Error.OutOfMemory }
+        → result ≢ error_number Error.OutOfMemory }
     ensures no_items { result ≢ DWARF_OK
         → (abbreviations.new ≡ abbreviations.old) × (attributes.new ≡ attributes.old) }
     ensures no_fault { result ≡ DWARF_OK → fault.new ≡ fault.old }

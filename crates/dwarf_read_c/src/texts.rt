@@ -2,7 +2,7 @@
 
 ghost use Rattle.std.specs.Prelude.{◌≡◌, ◌≢◌, Option, option_map};
 ghost use Rattle.dwarf_read_core.specs.ErrorText.{error_text};
-ghost use Rattle.dwarf_fault.specs.Fault.{Means, kind_of};
+ghost use Rattle.dwarf_fault.specs.Fault.{Means, error_number};
 ghost use Rattle.dwarf_read_c.specs.Names.{PutsName};
 
 use crate::room::put;
@@ -23,10 +23,10 @@ pub extern "C" fn dwarf_fault_text(
     text: &mut [u8],
     len: &mut usize,
 ) -> u32
-    ensures reported { result ≢ kind_of Error.OutOfMemory
+    ensures reported { result ≢ error_number Error.OutOfMemory
         → (error : Option Error) × Means fault.now error
         × PutsName (option_map error_text error) text.old text.new len.old len.new result }
-    ensures no_text { result ≡ kind_of Error.OutOfMemory
+    ensures no_text { result ≡ error_number Error.OutOfMemory
         → (text.new ≡ text.old) × (len.new ≡ len.old) }
 {
     let Some(error) = error_of(fault) else {

@@ -1,11 +1,11 @@
 use Rattle.dwarf_read_c.proofs.Common.{address_header, AddressHeaderAt, addresses_of, arith, err_from_is_err_and, refl, section_of}
-use Rattle.dwarf_read_c.proofs.SetLemmas.{FoundSet, set_after_the_last, set_found, set_lacked, set_reported}
+use Rattle.dwarf_read_c.proofs.SetLemmas.{FoundSet, set_after_the_last, set_found, set_absent, set_reported}
 use Rattle.dwarf_read_c.proofs.sets.address_set_at.Goals as goal
 
 pub returns-in_err-header-clause-err : goal.returns-in_err-header-clause-err
 returns-in_err-header-clause-err c =
     let p = err_from_is_err_and c.from_residual-in_err-header.result c.from_residual-in_err-header.ensures.1 in
-    rw (p.1, p.2) (set_lacked (grind arith) c.in_err-header.ensures.first)
+    rw (p.1, p.2) (set_absent (grind arith) c.in_err-header.ensures.first)
 
 pub set_from-requires : goal.set_from-requires
 set_from-requires c =
