@@ -1,5 +1,5 @@
 -- Sets have exactly one text or error.
-use Rattle.dwarf_listing_core.proofs.Common.{◌-◌, ◌^◌, ◌<◌, ◌∷◌, ℕ, List, [], Result, Ok, Err, refl, arith, Error, Input, HasOne, Headers, Set, ListsItems, SetListing, HasSets, ListsLine, ListsSection, ListsSet}
+use Rattle.dwarf_listing_core.proofs.Common.{◌-◌, ◌^◌, ◌<◌, ◌∷◌, ℕ, List, [], Result, Ok, Err, refl, Error, Input, HasOne, Headers, Set, ListsItems, SetListing, HasSets, ListsLine, ListsSection, ListsSet}
 use Rattle.dwarf_read_core.specs.Headers.{AddressHeaderAt}
 use Rattle.dwarf_read_core.specs.Items.{AreItems, none, more, first_error}
 use Rattle.dwarf_read_core.specs.Sets.{HasSet}

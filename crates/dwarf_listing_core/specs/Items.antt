@@ -1,7 +1,6 @@
 -- Consecutive items, listed in the order in which they are read.
-use Rattle.std.specs.Prelude.{◌≡◌, ◌≢◌, ℕ, List, [], ◌∷◌, ◌++◌, Option, Some, None, Result, Ok, Err}
+use Rattle.std.specs.Prelude.{◌≡◌, ℕ, List, [], ◌∷◌, ◌++◌, Option, Some, None, Result, Ok, Err}
 use Rattle.dwarf_read_core.specs.declared.Error.{Error}
-use Rattle.dwarf_read_core.specs.declared.Error.TheVariants.{OutOfMemory}
 
 -- a text before what is listed after it
 abbrev pub in_front : List ℕ → Result (List ℕ) Error → Result (List ℕ) Error
@@ -36,8 +35,3 @@ pub data ListsRun {I X : Type 0} (gives : I → Option (Result X Error) → I �
       → ListsRun gives Lists now (Err e)
   item : (now next : I) (x : X) (text : List ℕ) (rest : Result (List ℕ) Error) → gives now (Some (Ok x)) next
       → Lists x (Ok text) → ListsRun gives Lists next rest → ListsRun gives Lists now (in_front text rest)
-
--- what a call appended to a text is listed, or so is the error that it returned, unless memory ran out
-abbrev pub AppendsText : (Result (List ℕ) Error → Type 0) → List ℕ → List ℕ → Result (Unit {0}) Error → Type 0
-AppendsText Lists old new (Ok _) = (text : List ℕ) × Lists (Ok text) × (new ≡ old ++ text)
-AppendsText Lists old new (Err error) = error ≢ OutOfMemory → Lists (Err error)

@@ -1,7 +1,6 @@
 -- What the program writes.
-use Rattle.std.specs.Prelude.{◌≡◌, ◌≢◌, ℕ, List, Option, Result, Ok, Err, None, IsSomeAnd}
+use Rattle.std.specs.Prelude.{◌≡◌, ℕ, List, Option, Result, Ok, Err, None, IsSomeAnd}
 use Rattle.dwarf_read_core.specs.declared.Error.{Error}
-use Rattle.dwarf_read_core.specs.declared.Error.TheVariants.{OutOfMemory}
 use Rattle.dwarf_read_core.specs.Leb128.{Kind, Number, unsigned64, signed64}
 use Rattle.dwarf_read_core.specs.Shortest.{IsShortest}
 use Rattle.dwarf_listing_core.specs.Lines.{ListsString, hex_text, line}
@@ -19,11 +18,6 @@ use Rattle.dwarf_listing_core.specs.declared.text.Text.TheVariants.{Table, Bytes
 abbrev pub text_bytes : Text → List ℕ
 text_bytes (Table t) = table_text t
 text_bytes (Bytes bytes) = bytes.items
-
--- what a call returned is a text with these bytes, or the error that is listed, unless memory ran out
-abbrev pub ReturnsListing : (Result (List ℕ) Error → Type 0) → Result Text Error → Type 0
-ReturnsListing Lists (Ok text) = Lists (Ok (text_bytes text))
-ReturnsListing Lists (Err error) = error ≢ OutOfMemory → Lists (Err error)
 
 -- the shortest encoding of a number, in hexadecimal, and never an error
 abbrev pub ListsNumber : (k : Kind) → Number k → Result (List ℕ) Error → Type 0

@@ -1,8 +1,8 @@
 //! Single lines: a string of a section, and bytes in hexadecimal.
 
-ghost use Rattle.std.specs.Prelude.{◌≡◌, ◌++◌, IfOk, IsErrOf, OnOk, string_bytes};
+ghost use Rattle.std.specs.Prelude.{◌≡◌, ◌++◌, IfOk, IsErrOf, OnOk, string_bytes, vec_items};
+ghost use Rattle.dwarf_read_core.specs.Lookups.{UnlessOutOfMemory};
 ghost use Rattle.dwarf_listing_core.specs.Lines.{ListsString, hex_byte, hex_text, line};
-ghost use Rattle.dwarf_listing_core.specs.Listing.{ReturnsText};
 
 use dwarf_read_core::{DebugStr, DebugStrOffset, Error, LittleEndian};
 use std::alloc::{AllocError, Global};
@@ -14,7 +14,7 @@ use std::alloc::{AllocError, Global};
 ///
 /// That of [`DebugStr::get_str`], or `OutOfMemory` if memory runs out.
 pub fn string(mem: Global, section: &[u8], offset: u64) -> Result<Vec<u8>, Error>
-    ensures { ReturnsText (ListsString section.now offset) result }
+    ensures { UnlessOutOfMemory (ListsString section.now offset) vec_items result }
 {
     let debug_str = DebugStr::new(section, LittleEndian);
     let string = debug_str.get_str(DebugStrOffset(offset as usize))?;
@@ -32,7 +32,7 @@ pub fn string(mem: Global, section: &[u8], offset: u64) -> Result<Vec<u8>, Error
 /// That of [`DebugStr::get_str`]. The call doesn't allocate.
 #[tactic(auto, using(crate::proofs::StringLines::string_place))]
 pub fn string_in_place(mut section: Vec<u8>, offset: u64) -> Result<Vec<u8>, Error>
-    ensures answer { ReturnsText (ListsString section.items offset) result }
+    ensures answer { UnlessOutOfMemory (ListsString section.items offset) vec_items result }
     ensures memory { IsErrOf result Error.OutOfMemory → ⊥ }
 {
     let debug_str = DebugStr::new(&section, LittleEndian);

@@ -1,6 +1,7 @@
 //! What a command lists.
 
-ghost use Rattle.dwarf_listing_core.specs.Text.{Lists, ReturnsListing};
+ghost use Rattle.dwarf_read_core.specs.Lookups.{UnlessOutOfMemory};
+ghost use Rattle.dwarf_listing_core.specs.Text.{Lists, text_bytes};
 
 use crate::command::Command;
 use crate::lines::{hex_line, string_in_place};
@@ -20,7 +21,7 @@ use std::alloc::Global;
 ///
 /// The section's error, or `OutOfMemory` if memory runs out.
 pub fn listing(mem: Global, command: Command, input: Vec<u8>) -> Result<Text, Error>
-    ensures { ReturnsListing (Lists command input.items) result }
+    ensures { UnlessOutOfMemory (Lists command input.items) text_bytes result }
 {
     match command {
         Command::Abbrev(offset) => abbreviations(mem, &input, offset),

@@ -4,10 +4,11 @@ ghost use Rattle.std.specs.Prelude.{◌≡◌, ◌≢◌, ◌⊎◌, ℕ, true, 
 ghost use Rattle.std.specs.Io.KnownBytes.{Appends, IsAtEnd};
 ghost use Rattle.dwarf_listing_core.specs.Fault.{IsMemoryFault, WasRead};
 ghost use Rattle.dwarf_read_core.specs.declared.Error.TheVariants.{OutOfMemory};
+ghost use Rattle.dwarf_read_core.specs.Lookups.{UnlessOutOfMemory};
 ghost use Rattle.dwarf_listing_core.specs.Many.{EndsAt, EndsManyAt, IfKnown, IsManyText, ListsAll, ListsAt, ListsFirst, ListsManyFirst, ListsOne, error_line, title};
 ghost use Rattle.dwarf_listing_core.specs.ManyFault.{IsListingFault};
 ghost use Rattle.dwarf_listing_core.specs.Offsets.{IsBadLine, lines_of};
-ghost use Rattle.dwarf_listing_core.specs.Text.{ReturnsListing};
+ghost use Rattle.dwarf_listing_core.specs.Text.{text_bytes};
 
 use crate::arguments::{Kind, OnError};
 use crate::fault::Fault;
@@ -210,7 +211,7 @@ fn write_at<O: Write>(
 }
 
 fn text_at(mem: Global, kind: Kind, section: &[u8], offset: u64) -> Result<Text, Error>
-    ensures { ReturnsListing (ListsOne kind section.now offset) result }
+    ensures { UnlessOutOfMemory (ListsOne kind section.now offset) text_bytes result }
 {
     match kind {
         Kind::Tables => abbreviations(mem, section, offset),

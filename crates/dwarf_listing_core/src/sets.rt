@@ -1,11 +1,11 @@
 //! The lines of sets of addresses and of string offsets.
 
-ghost use Rattle.std.specs.Prelude.{◌≡◌, ◌<◌, ◌≤◌, ◌++◌, ℕ, List, Result, false, drop, OnOk};
+ghost use Rattle.std.specs.Prelude.{◌≡◌, ◌<◌, ◌≤◌, ◌++◌, ℕ, List, Result, Ok, false, drop, OnOk, vec_items};
 ghost use Rattle.std.specs.Fmt.{digit_glyph, digits};
 ghost use Rattle.std.specs.Iterator.{IsFinite};
+ghost use Rattle.dwarf_read_core.specs.Lookups.{UnlessOutOfMemory};
 ghost use Rattle.dwarf_listing_core.specs.Lines.{line};
-ghost use Rattle.dwarf_listing_core.specs.Listing.{ReturnsText};
-ghost use Rattle.dwarf_listing_core.specs.Items.{AppendsText, ListsRun};
+ghost use Rattle.dwarf_listing_core.specs.Items.{Joins, ListsRun};
 ghost use Rattle.dwarf_listing_core.specs.Sets.{ListsAddresses, ListsStringOffsets, address_header_line, offset_header_line};
 
 use dwarf_read_core::{
@@ -24,7 +24,7 @@ use std::io::Write;
 /// The first error: that of a header, or that of a set's addresses before the next header.
 /// `OutOfMemory` if memory runs out.
 pub fn addresses(mem: Global, section: &[u8], endian: RunTimeEndian) -> Result<Vec<u8>, Error>
-    ensures { ReturnsText (ListsAddresses endian section.now) result }
+    ensures { UnlessOutOfMemory (ListsAddresses endian section.now) vec_items result }
 {
     let debug_addr = DebugAddr::from(EndianSlice::new(section, endian));
     text_of(mem, debug_addr.headers()?)
@@ -37,7 +37,7 @@ pub fn addresses(mem: Global, section: &[u8], endian: RunTimeEndian) -> Result<V
 ///
 /// The first error, as [`addresses`] returns it.
 pub fn string_offsets(mem: Global, section: &[u8], endian: RunTimeEndian) -> Result<Vec<u8>, Error>
-    ensures { ReturnsText (ListsStringOffsets endian section.now) result }
+    ensures { UnlessOutOfMemory (ListsStringOffsets endian section.now) vec_items result }
 {
     let debug_str_offsets = DebugStrOffsets::from(EndianSlice::new(section, endian));
     text_of(mem, debug_str_offsets.headers()?)
@@ -51,7 +51,8 @@ trait Listed: Drop {
 
     /// Appends the lines of the item, or returns the error that takes their place.
     fn push_lines(&self, text: &mut Vec<u8>) -> Result<(), Error>
-        ensures { AppendsText (lists self.now) text.old.items text.new.items result };
+        ensures { UnlessOutOfMemory (Joins (Ok text.old.items) (lists self.now))
+            (λ _. text.new.items) result };
 }
 
 // Returns the lines of items, in order.
@@ -61,7 +62,7 @@ fn text_of<T: Listed, I: Iterator<Item = Result<T, Error>>>(
 ) -> Result<Vec<u8>, Error>
     requires can { I.can_next items }
     requires ends { IsFinite (I.remaining items) }
-    ensures { ReturnsText (ListsRun I.next_gives T.lists items) result }
+    ensures { UnlessOutOfMemory (ListsRun I.next_gives T.lists items) vec_items result }
 {
     let mut text = Vec::new(mem);
     push_items(&mut text, items)?;
@@ -75,8 +76,8 @@ fn push_items<T: Listed, I: Iterator<Item = Result<T, Error>>>(
 ) -> Result<(), Error>
     requires can { I.can_next items }
     requires ends { IsFinite (I.remaining items) }
-    ensures { AppendsText (ListsRun I.next_gives T.lists items)
-        text.old.items text.new.items result }
+    ensures { UnlessOutOfMemory (Joins (Ok text.old.items) (ListsRun I.next_gives T.lists items))
+        (λ _. text.new.items) result }
 {
     for item in items {
         item?.push_lines(text)?;

@@ -3,9 +3,10 @@
 ghost use Rattle.std.specs.Prelude.{◌≡◌, ◌++◌, IfSome, OnOk, codes, decimal};
 ghost use Rattle.std.specs.Io.KnownBytes.{Appends};
 ghost use Rattle.dwarf_read_core.specs.DwTag.{tag_text};
+ghost use Rattle.dwarf_read_core.specs.Lookups.{UnlessOutOfMemory};
 ghost use Rattle.dwarf_listing_core.specs.Lines.{line};
 ghost use Rattle.dwarf_listing_core.specs.Tables.{ListsStrictTable, ListsTable, attribute_line, declaration_lines, table_text, value_text, yes_or_no};
-ghost use Rattle.dwarf_listing_core.specs.Text.{ReturnsListing};
+ghost use Rattle.dwarf_listing_core.specs.Text.{text_bytes};
 
 use crate::text::Text;
 use dwarf_read_core::{
@@ -27,7 +28,7 @@ use std::io::Write;
 ///
 /// That of [`DebugAbbrev::abbreviations`].
 pub fn abbreviations(mem: Global, section: &[u8], offset: u64) -> Result<Text, Error>
-    ensures { ReturnsListing (ListsTable section.now offset) result }
+    ensures { UnlessOutOfMemory (ListsTable section.now offset) text_bytes result }
 {
     let debug_abbrev = DebugAbbrev::new(section, LittleEndian);
     let table = debug_abbrev.abbreviations(mem, DebugAbbrevOffset(offset as usize))?;
@@ -40,7 +41,7 @@ pub fn abbreviations(mem: Global, section: &[u8], offset: u64) -> Result<Text, E
 ///
 /// That of [`DebugAbbrev::abbreviations_strict`].
 pub fn abbreviations_strict(mem: Global, section: &[u8], offset: u64) -> Result<Text, Error>
-    ensures { ReturnsListing (ListsStrictTable section.now offset) result }
+    ensures { UnlessOutOfMemory (ListsStrictTable section.now offset) text_bytes result }
 {
     let debug_abbrev = DebugAbbrev::new(section, LittleEndian);
     let table = debug_abbrev.abbreviations_strict(mem, DebugAbbrevOffset(offset as usize))?;
