@@ -1,11 +1,13 @@
 -- What consecutive writes leave.
-use Rattle.dwarf_listing_core.proofs.Common.{arith, ℕ, suc, ◌<◌, Bool, Option, List, [], ◌∷◌, ◌++◌, length, take, drop, get_or, flat_map, take-append-drop, drop-cons, common_steps, Appends, ListsAll}
+use Rattle.dwarf_listing_core.proofs.Common.{arith, ◌≡◌, ◌≢◌, ℕ, suc, ◌<◌, Bool, true, false, Option, Result, Ok, refl, one_more, List, [], ◌∷◌, ◌++◌, length, take, drop, get_or, flat_map, take-append-drop, drop-cons, common_steps, Appends, ListsAll}
 use Rattle.std.proofs.Common.{subst}
 use Rattle.std.proofs.KnownBytes.{Appends-trans}
 use Rattle.std.proofs.lemmas.List.{flat_map_more}
-use Rattle.dwarf_listing_core.specs.Many.{ListsFirst}
+use Rattle.dwarf_listing_core.specs.Many.{ListsAt, ListsFirst, WritesEach, nothing}
 use Rattle.dwarf_listing_core.specs.declared.arguments.Kind.{Kind}
 use Rattle.dwarf_listing_core.specs.declared.arguments.OnError.{OnError}
+use Rattle.dwarf_listing_core.specs.declared.arguments.OnError.TheVariants.{Stop}
+use Rattle.dwarf_listing_core.specs.declared.many.fault.ManyFault.{ManyFault}
 
 -- two texts that are written in order are one
 pub ruleset one_text = (common_steps, Appends-trans)
@@ -29,3 +31,24 @@ first_offsets {failed = failed} offsets i within listed = record {
   failed = failed;
   listed = listed;
 }
+
+-- with `Stop` no text is the line of an error
+ListsAt-stop : (kind : Kind) (section : List ℕ) (offset : ℕ) (text : List ℕ) (fails : Bool)
+    → ListsAt Stop kind section offset text fails → fails ≡ false
+ListsAt-stop kind section offset text false listed = refl
+ListsAt-stop kind section offset text true listed = absurd listed
+
+-- with `Stop` no offset that is listed has an error
+pub ListsAll-stop : {kind : Kind} {section offsets text : List ℕ} {failed : Bool}
+    → ListsAll Stop kind section offsets text failed → failed ≡ false
+ListsAll-stop nothing = refl
+ListsAll-stop (one_more offsets text more offset failed fails before one) =
+    rw (ListsAll-stop before) (ListsAt-stop _ _ _ _ fails one)
+
+-- a run that stops at an error doesn't return that there was one
+pub stop_without_error : (on_error : OnError) (kind : Kind) (section offsets : List ℕ) (Wrote : List ℕ → Type 0)
+    (r : Result Bool ManyFault) → WritesEach on_error kind section offsets Wrote r → on_error ≡ Stop → r ≢ Ok true
+stop_without_error on_error kind section offsets Wrote r writes stops same =
+    let listed = rw (same, stops) at writes in
+    let none : true ≡ false = ListsAll-stop listed.1 in
+    absurd cc

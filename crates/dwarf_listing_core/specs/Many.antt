@@ -1,7 +1,8 @@
 -- What the program that takes many offsets writes.
-use Rattle.std.specs.Prelude.{◌≡◌, ◌||◌, ℕ, Bool, true, false, List, [], ◌∷◌, ◌++◌, Option, IfSome, Result, Ok, Err, codes}
+use Rattle.std.specs.Prelude.{◌≡◌, ◌||◌, ◌⊎◌, ℕ, Bool, true, false, List, [], ◌∷◌, ◌++◌, Option, IfSome, Result, Ok, Err, codes}
 use Rattle.dwarf_read_core.specs.declared.Error.{Error}
 use Rattle.dwarf_read_core.specs.ErrorText.{error_text, hexadecimal}
+use Rattle.dwarf_listing_core.specs.Fault.{IsMemoryFault}
 use Rattle.dwarf_listing_core.specs.Lines.{ListsString, line}
 use Rattle.dwarf_listing_core.specs.Offsets.{AreOffsets}
 use Rattle.dwarf_listing_core.specs.Tables.{ListsTable}
@@ -9,6 +10,9 @@ use Rattle.dwarf_listing_core.specs.declared.arguments.Kind.{Kind}
 use Rattle.dwarf_listing_core.specs.declared.arguments.Kind.TheVariants.{Tables, Strings}
 use Rattle.dwarf_listing_core.specs.declared.arguments.OnError.{OnError}
 use Rattle.dwarf_listing_core.specs.declared.arguments.OnError.TheVariants.{Stop, GoOn}
+use Rattle.dwarf_listing_core.specs.declared.fault.Fault.TheVariants.{Write}
+use Rattle.dwarf_listing_core.specs.declared.many.fault.ManyFault.{ManyFault}
+use Rattle.dwarf_listing_core.specs.declared.many.fault.ManyFault.TheVariants.{At, Other}
 
 -- the title of an offset, before its lines
 abbrev pub title : Kind → ℕ → List ℕ
@@ -56,6 +60,18 @@ pub record ListsFirst (on_error : OnError) (kind : Kind) (section offsets text :
   pub place : offsets ≡ before ++ offset ∷ after
   pub failed : Bool
   pub listed : ListsAll on_error kind section before text failed
+
+-- what a run over these offsets returns, and which text it wrote: that of all of them; with the first error, which ends
+-- a run that stops, that of the offsets before it; if memory ran out, that of the offsets before one of them; or the
+-- output failed
+abbrev pub WritesEach : OnError → Kind → List ℕ → List ℕ → (List ℕ → Type 0) → Result Bool ManyFault → Type 0
+WritesEach on_error kind section offsets Wrote (Ok failed) =
+    (text : List ℕ) × ListsAll on_error kind section offsets text failed × Wrote text
+WritesEach on_error kind section offsets Wrote (Err (At offset error)) =
+    (on_error ≡ Stop) × (text : List ℕ) × EndsAt kind section offsets offset error text × Wrote text
+WritesEach on_error kind section offsets Wrote (Err (Other fault)) =
+    (fault ≡ Write) ⊎ (IsMemoryFault fault × (text : List ℕ) × ListsFirst on_error kind section offsets text × Wrote text)
+WritesEach _ _ _ _ _ (Err _) = ⊥
 
 -- the text that a section has for the offsets on these lines, and whether one of them has an error
 abbrev pub IsManyText : OnError → Kind → List ℕ → List (List ℕ) → List ℕ → Bool → Type 0

@@ -5,7 +5,7 @@ ghost use Rattle.std.specs.Io.KnownBytes.{Appends, IsAtEnd};
 ghost use Rattle.dwarf_listing_core.specs.Fault.{IsMemoryFault, WasRead};
 ghost use Rattle.dwarf_read_core.specs.declared.Error.TheVariants.{OutOfMemory};
 ghost use Rattle.dwarf_read_core.specs.Lookups.{UnlessOutOfMemory};
-ghost use Rattle.dwarf_listing_core.specs.Many.{EndsAt, EndsManyAt, IfKnown, IsManyText, ListsAll, ListsAt, ListsFirst, ListsManyFirst, ListsOne, error_line, title};
+ghost use Rattle.dwarf_listing_core.specs.Many.{EndsManyAt, IfKnown, IsManyText, ListsAt, ListsManyFirst, ListsOne, WritesEach, error_line, title};
 ghost use Rattle.dwarf_listing_core.specs.ManyFault.{IsListingFault};
 ghost use Rattle.dwarf_listing_core.specs.Offsets.{IsBadLine, lines_of};
 ghost use Rattle.dwarf_listing_core.specs.Text.{text_bytes};
@@ -108,6 +108,7 @@ pub fn run_many<S: Read, I: Read, O: Write>(
 /// # Errors
 ///
 /// The first other error. Unless it is one of the output, the lines before it are written.
+#[tactic(auto, using(crate::proofs::Written::stop_without_error))]
 pub fn write_all_at<O: Write>(
     mem: Global,
     on_error: OnError,
@@ -116,19 +117,12 @@ pub fn write_all_at<O: Write>(
     offsets: &[u64],
     output: &mut O,
 ) -> Result<bool, ManyFault>
-    ensures ok { IfOk result (λ failed. (text : List ℕ)
-        × ListsAll on_error kind section.now offsets.now text failed
-        × Appends (O.contents output.old) (O.contents output.new) text) }
+    // The buffer needs memory before anything is written.
+    ensures listed { WritesEach on_error kind section.now offsets.now
+        (Appends (O.contents output.old) (O.contents output.new)) result
+        ⊎ ((result ≡ Err (ManyFault.Other (Fault.Section OutOfMemory)))
+        × (output.new ≡ output.old)) }
     ensures stops { on_error ≡ OnError.Stop → result ≢ Ok true }
-    ensures first { (offset : ℕ) (error : _) → result ≡ Err (ManyFault.At offset error)
-        → (on_error ≡ OnError.Stop)
-        × (text : List ℕ) × EndsAt kind section.now offsets.now offset error text
-        × Appends (O.contents output.old) (O.contents output.new) text }
-    ensures stopped { (fault : _) → result ≡ Err (ManyFault.Other fault) → fault ≢ Fault.Write
-        → (output.new ≡ output.old) ⊎ ((text : List ℕ)
-        × ListsFirst on_error kind section.now offsets.now text
-        × Appends (O.contents output.old) (O.contents output.new) text) }
-    ensures err { IfErr result IsListingFault }
 {
     let buffer = Vec::with_capacity(mem, BUFFER_SIZE)?;
     let mut buffered = Buffered::new(output, buffer);
@@ -152,18 +146,8 @@ fn write_each_at<O: Write>(
     offsets: &[u64],
     output: &mut O,
 ) -> Result<bool, ManyFault>
-    ensures ok { IfOk result (λ failed. (text : List ℕ)
-        × ListsAll on_error kind section.now offsets.now text failed
-        × Appends (O.contents output.old) (O.contents output.new) text) }
-    ensures stops { on_error ≡ OnError.Stop → result ≢ Ok true }
-    ensures first { (offset : ℕ) (error : _) → result ≡ Err (ManyFault.At offset error)
-        → (on_error ≡ OnError.Stop)
-        × (text : List ℕ) × EndsAt kind section.now offsets.now offset error text
-        × Appends (O.contents output.old) (O.contents output.new) text }
-    ensures stopped { (fault : _) → result ≡ Err (ManyFault.Other fault) → fault ≢ Fault.Write
-        → (text : List ℕ) × ListsFirst on_error kind section.now offsets.now text
-        × Appends (O.contents output.old) (O.contents output.new) text }
-    ensures err { IfErr result IsListingFault }
+    ensures { WritesEach on_error kind section.now offsets.now
+        (Appends (O.contents output.old) (O.contents output.new)) result }
 {
     let mut failed = false;
     for offset in offsets {
