@@ -22,7 +22,7 @@ pub use Rattle.dwarf_listing_core.specs.Tables.{table_text, attribute_line, decl
 pub use Rattle.dwarf_listing_core.specs.Listing.{ListsBy, section_of}
 pub use Rattle.std.specs.Fmt.{digit_glyph, digits_onto}
 pub use Rattle.std.proofs.lemmas.Bool.Decides.{nat_tests}
-pub use Rattle.dwarf_listing_core.specs.Number.{hexadecimal_below, hexadecimal_of, is_all_digits, is_all_hex, number_below, signed_of, unsigned_of, without_minus}
+pub use Rattle.dwarf_listing_core.specs.Number.{hexadecimal_of, number_below, signed_of, unsigned_of, without_minus}
 pub use Rattle.dwarf_read_core.specs.declared.Error.TheVariants.{OutOfMemory}
 pub use Rattle.std.specs.List.{join_with_byte, after_first, before_first, position}
 pub use Rattle.dwarf_read_core.specs.Input.{Input}

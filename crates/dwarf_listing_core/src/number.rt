@@ -2,7 +2,9 @@
 //! optional minus.
 
 ghost use Rattle.std.specs.Prelude.{◌≡◌};
-ghost use Rattle.dwarf_listing_core.specs.Number.{hexadecimal_of, is_all_digits, is_all_hex, signed_of, unsigned_of, without_minus};
+ghost use Rattle.std.specs.Char.{is_ascii_digit, is_ascii_hexdigit};
+ghost use Rattle.std.specs.List.{list_all};
+ghost use Rattle.dwarf_listing_core.specs.Number.{hexadecimal_of, signed_of, unsigned_of, without_minus};
 
 /// Parses one or more ASCII digits as a number below 2^64. Leading zeros are allowed.
 #[tactic(auto, using(crate::proofs::Numbers::parsed_unsigned))]
@@ -52,13 +54,13 @@ pub fn parse_hexadecimal(text: &[u8]) -> Option<u64>
 }
 
 fn is_all_hex(text: &[u8]) -> bool
-    ensures { result ≡ is_all_hex text.now }
+    ensures { result ≡ list_all is_ascii_hexdigit text.now }
 {
     text.iter().all(|byte| byte.is_ascii_hexdigit())
 }
 
 fn is_all_digits(text: &[u8]) -> bool
-    ensures { result ≡ is_all_digits text.now }
+    ensures { result ≡ list_all is_ascii_digit text.now }
 {
     text.iter().all(|byte| byte.is_ascii_digit())
 }
