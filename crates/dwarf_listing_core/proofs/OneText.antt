@@ -3,7 +3,7 @@ use Rattle.dwarf_listing_core.proofs.Common.{◌≡◌, List, ℕ, Result, Ok, E
 
 -- all that have a property of which there is one are equal
 pub only_one : {A : Type 0} {Is : A → Type 0} → HasOne Is → (one other : A) → Is one → Is other → other ≡ one
-only_one has one other is is_other = has.2 other is_other ∙ sym (has.2 one is)
+only_one has one other is_one is_other = has.2 other is_other ∙ sym (has.2 one is_one)
 
 -- there is exactly one image if there is exactly one value
 pub one_image : {A B : Type 0} {Is : A → Type 0} {Of : B → Type 0} (f : A → B) → HasOne Is → ((a : A) → Is a → Of (f a))
@@ -20,7 +20,7 @@ one_after has following =
 -- a text or an error is joined in exactly one way if what is after it is listed in exactly one way
 pub one_joined : {Lists : Result (List ℕ) Error → Type 0} (own : Result (List ℕ) Error) → HasOne Lists
     → HasOne (Joins own Lists)
-one_joined (Ok text) has = one_image (in_front text) has (λ rest is. (rest, is, refl)) (λ listed h. h)
+one_joined (Ok text) has = one_image (in_front text) has (λ rest lists. (rest, lists, refl)) (λ listed h. h)
 one_joined (Err e) has = (Err e, refl, λ other h. h)
 
 -- the text of a value, or the error
@@ -35,8 +35,8 @@ unfolding text_of_result
 one_text_by {A} text_of Is has = one_image (text_of_result text_of) has to from
   where
     to : (answer : Result A Error) → Is answer → ListsBy text_of Is (text_of_result text_of answer)
-    to (Ok value) is = (value, is, refl)
-    to (Err e) is = is
+    to (Ok value) answers = (value, answers, refl)
+    to (Err e) answers = answers
 
     from : (listed : Result (List ℕ) Error) → ListsBy text_of Is listed
         → (answer : Result A Error) × Is answer × (listed ≡ text_of_result text_of answer)

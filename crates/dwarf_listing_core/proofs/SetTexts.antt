@@ -13,15 +13,15 @@ one_of_items : {S A : Type 0} (Lists : A → Result (List ℕ) Error → Type 0)
     → HasOne (ListsItems Lists items)
 one_of_items Lists law (none empty) = (Ok [], refl, λ other h. h)
 one_of_items Lists law (first_error {e = e} some h) = (Err e, refl, λ other h. h)
-one_of_items Lists law (more {old = old} {x = x} some is others) =
-    one_after (law old x is) (λ own lists. one_joined own (one_of_items Lists law others))
+one_of_items Lists law (more {old = old} {x = x} some first others) =
+    one_after (law old x first) (λ own lists. one_joined own (one_of_items Lists law others))
 
 -- lines have exactly one text or error
 one_of_lines : (line_of : ℕ → List ℕ) (items : List (Result ℕ Error)) → HasOne (ListsItems (ListsLine line_of) items)
 one_of_lines line_of [] = (Ok [], refl, λ other h. h)
 one_of_lines line_of (Err e ∷ items) = (Err e, refl, λ other h. h)
 one_of_lines line_of (Ok n ∷ items) =
-    one_after (Ok (line_of n), refl, λ other is. is) (λ own lists. one_joined own (one_of_lines line_of items))
+    one_after (Ok (line_of n), refl, λ other same. same) (λ own lists. one_joined own (one_of_lines line_of items))
 
 -- a section has exactly one text or error if it has exactly one list of sets, and each set one list of entries
 pub one_section : {H : Type 0} (listing : SetListing H) (headers : Headers)

@@ -7,7 +7,7 @@ use Rattle.dwarf_listing_core.proofs.OneText.{one_image}
 
 -- a number has exactly one line
 pub one_number : (k : Kind) (number : Number k) → HasOne (IsShortest k number) → HasOne (ListsNumber k number)
-one_number k number has = one_image (λ bytes. Ok (line (hex_text bytes))) has (λ bytes is. (bytes, is, refl)) from
+one_number k number has = one_image (λ bytes. Ok (line (hex_text bytes))) has (λ bytes shortest. (bytes, shortest, refl)) from
   where
     from : (listed : Result (List ℕ) Error) → ListsNumber k number listed
         → (bytes : List ℕ) × IsShortest k number bytes × (listed ≡ Ok (line (hex_text bytes)))
@@ -31,8 +31,8 @@ one_result None input has = (Err Usage, refl, only_usage input)
 one_result (Some c) input has = one_image run_result_of (has c) to from
   where
     to : (listed : Result (List ℕ) Error) → Lists c input listed → IsTextOf (Some c) input (run_result_of listed)
-    to (Ok text) is = is
-    to (Err e) is = is
+    to (Ok text) lists = lists
+    to (Err e) lists = lists
 
     from : (result : Result (List ℕ) Fault) → IsTextOf (Some c) input result
         → (listed : Result (List ℕ) Error) × Lists c input listed × (result ≡ run_result_of listed)

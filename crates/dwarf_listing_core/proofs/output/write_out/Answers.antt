@@ -10,11 +10,11 @@ written_more : (old now new : Option (List ℕ)) (bytes : List ℕ) (done count 
     → count ≤ length (take (length bytes - done) (drop done bytes)) → all ≡ done + count
     → Appends old now (take done bytes) → Appends now new (take count (take (length bytes - done) (drop done bytes)))
     → record { within : all ≤ length bytes; appended : Appends old new (take all bytes) }
-written_more old now new bytes done count all within bound is before next =
+written_more old now new bytes done count all within bound sum before next =
     let most = length-take (length bytes - done) (drop done bytes) in
     let joined : take done bytes ++ take count (take (length bytes - done) (drop done bytes)) ≡ take all bytes =
     ap (λ l. take done bytes ++ l) (take-take count (length bytes - done) (drop done bytes) (omega arith))
-    ∙ sym (take-add done count bytes) ∙ ap (λ n. take n bytes) (sym is) in record {
+    ∙ sym (take-add done count bytes) ∙ ap (λ n. take n bytes) (sym sum) in record {
       within = omega arith;
       appended = subst (Appends old new) joined (Appends-trans old now new _ _ before next);
     }

@@ -28,8 +28,8 @@ alone_text words command bytes text named alone listed =
 -- what is appended on success is the text
 appended : {X E P : Type 0} (T A : List ℕ → Type 0) (r : Result X E) (text : List ℕ) → (P → T text)
     → OnOk r (A text) → OnOk r (P → (x : List ℕ) × T x × A x)
-appended T A (Ok x) text is written = λ alone. (text, is alone, written)
-appended T A (Err e) text is written = tt
+appended T A (Ok x) text lists written = λ alone. (text, lists alone, written)
+appended T A (Err e) text lists written = tt
 
 pub returns-clause-written_alone : goal.returns-clause-written_alone
 returns-clause-written_alone g c =
