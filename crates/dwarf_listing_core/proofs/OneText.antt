@@ -1,9 +1,5 @@
 -- What has exactly one value has exactly one text.
-use Rattle.dwarf_listing_core.proofs.Common.{◌≡◌, List, ℕ, Result, Ok, Err, refl, ap, sym, ◌∙◌, Error, HasOne, Joins, in_front, ListsBy}
-
--- all that have a property of which there is one are equal
-pub only_one : {A : Type 0} {Is : A → Type 0} → HasOne Is → (one other : A) → Is one → Is other → other ≡ one
-only_one has one other is_one is_other = has.2 other is_other ∙ sym (has.2 one is_one)
+use Rattle.dwarf_listing_core.proofs.Common.{◌≡◌, List, ℕ, Result, Ok, Err, refl, ap, ◌∙◌, Error, HasOne, Joins, in_front, ListsBy}
 
 -- there is exactly one image if there is exactly one value
 pub one_image : {A B : Type 0} {Is : A → Type 0} {Of : B → Type 0} (f : A → B) → HasOne Is → ((a : A) → Is a → Of (f a))

@@ -1,6 +1,6 @@
 use Rattle.dwarf_listing_core.proofs.Common.{ℕ, List, unsigned64, signed64, HasOne, command_of, Lists, Command}
 use Rattle.dwarf_listing_core.specs.declared.command.Command.TheVariants.{Abbrev, Str, Addr, Uleb, Sleb, AbbrevStrict, StrOffsets}
-use Rattle.dwarf_listing_core.proofs.OneText.{only_one}
+use Rattle.dwarf_read_core.proofs.sets.ItemLists.{same_of_one}
 use Rattle.dwarf_listing_core.proofs.Texts.{one_number, one_result}
 use Rattle.dwarf_listing_core.proofs.laws.exactly_one_text.Goals as goal
 
@@ -17,5 +17,6 @@ one_listing c (StrOffsets endian) input = c.exactly_one_listing.ensures.string_o
 pub returns : goal.returns
 returns c = record {
   text = λ words input. one_result (command_of words) input (λ command. one_listing c command input);
-  listing = λ command input one other. only_one (one_listing c command input) one other;
+  listing = λ command input one other lists_one lists_other.
+      same_of_one (one_listing c command input) lists_other lists_one;
 }
