@@ -12,7 +12,7 @@ pub use Rattle.std.proofs.lemmas.List.{take_all, take_rest}
 pub use Rattle.std.proofs.lemmas.List.{drop-take, drop-append-le, length-append, take_more_set, take-append-drop}
 pub use Rattle.dwarf_listing_core.specs.Items.{Joins, in_front, ListsItemsOf, ListsRun, nothing}
 pub use Rattle.dwarf_listing_core.specs.Items.{bad_item, bad_text, item, ListsItems}
-pub use Rattle.dwarf_read_core.specs.Sets.{Set, Headers, addresses_of, remaining_of, string_offsets_of, seen_by}
+pub use Rattle.dwarf_read_core.specs.Sets.{Set, Headers, addresses_of, string_offsets_of, seen_by}
 pub use Rattle.dwarf_listing_core.specs.Lines.{hex_byte, hex_text, line, string_line}
 pub use Rattle.std.proofs.lemmas.Result.{err_from_is_err_and}
 pub use Rattle.dwarf_read_core.specs.Once.{HasOne}

@@ -2,8 +2,8 @@
 pub use Rattle.std.proofs.Common.{set, Bool, true, false, cond, refl, ◌≡◌, ◌≢◌, ◌∙◌, Result, Ok, Err, subst, ℕ, ◌+◌}
 pub use Rattle.std.proofs.Common.{◌<◌, ◌≤◌, eqb, List, [], ◌∷◌, ◌++◌, length, take, get_or, map, Option, Some, None}
 pub use Rattle.std.proofs.Common.{MatchOption, sym, arith, All, IsPermutation, option_map, ap, filter}
-pub use Rattle.std.proofs.Common.{nat_cmp, Less, Equal, Greater, suc, zero, ◌-◌, inl, inr, IfSome, OnErr, ◌*◌, ◌/◌}
-pub use Rattle.std.proofs.Common.{◌^◌, IfErr, leb, leb-true, leb-false, drop, ◌⊎◌, slice_index, IfOk, IsTrue, rules}
+pub use Rattle.std.proofs.Common.{nat_cmp, Less, suc, zero, ◌-◌, inl, inr, IfSome, OnErr, ◌*◌, ◌/◌}
+pub use Rattle.std.proofs.Common.{◌^◌, IfErr, leb, drop, ◌⊎◌, slice_index, IfOk, IsTrue, rules}
 pub use Rattle.std.proofs.Common.{◌==◌, ltb-true, is_some, sum_by, append_assoc, nat_lt}
 pub use Rattle.std.proofs.Common.{length-append, length-take-le, take-append-drop, ne_eqb, ◌↔◌, ltb, lt-ltb, le-ltb}
 pub use Rattle.std.proofs.Common.{Bor, option_copied, append-nil, length-drop, ℤ, OnOk}
@@ -61,7 +61,7 @@ pub use Rattle.dwarf_read_core.specs.Grammar.{children_byte, IsCode, IsHead, IsD
 pub use Rattle.dwarf_read_core.specs.Grammar.{attribute_count, AreDeclarations}
 pub use Rattle.dwarf_read_core.specs.Items.{ComesFirst, least_taken}
 pub use Rattle.dwarf_read_core.specs.Lookups.{UnlessCloneRanOut, Stays}
-pub use Rattle.dwarf_read_core.specs.Reading.{◌>>=◌, ReturnsUnlessOutOfMemory, and_others, declaration_of, number_from, specification_of}
+pub use Rattle.dwarf_read_core.specs.Reading.{◌>>=◌, and_others, declaration_of, number_from, specification_of}
 pub use Rattle.dwarf_read_core.specs.Reading.{close_of, and_declared, is_final}
 unfoldable pub use Rattle.dwarf_read_core.specs.Reading.{attributes_in, declared_at, tag_at, coded_at, declaration_at, table_in}
 unfoldable pub use Rattle.dwarf_read_core.specs.Reading.{specification_at, value_at, number_at, attributes_at}

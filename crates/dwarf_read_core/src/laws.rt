@@ -64,7 +64,8 @@ pub fn appended_bytes_change_nothing()
 {}
 
 /// A table at an offset ends at exactly one offset. Appended bytes don't change where a table ends
-/// that a code of value 0 closes.
+/// that a code of value 0 closes. A table that begins before the section's end takes at least one
+/// byte, so a walk from table to table ends.
 #[tactic(auto, using(crate::proofs::tables::TableEnds::ends))]
 pub fn exactly_one_end()
     ensures one { (section : Input) (offset : ℕ) (t : Table) → Answer section offset (Ok t)
@@ -72,6 +73,8 @@ pub fn exactly_one_end()
     ensures stable { (section : Input) (more : List ℕ) (offset end : ℕ) (t : Table)
         → Answer section offset (Ok t) → IsFinal (Ok t) → TableEndsAt section offset t end
         → TableEndsAt (followed_by section more) offset t end }
+    ensures after { (section : Input) (offset end : ℕ) (t : Table) → offset < length section.bytes
+        → TableEndsAt section offset t end → offset < end }
 {}
 
 /// A strategy, a section and offsets determine what a cache keeps: at each offset its one result,

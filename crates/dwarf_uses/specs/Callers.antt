@@ -1,19 +1,21 @@
 -- What the small callers return.
-use Rattle.std.specs.Prelude.{◌≡◌, ℕ, ◌⊎◌, List, [], ◌∷◌, ◌++◌, Result, Ok, Err, ⊤}
+use Rattle.std.specs.Prelude.{◌≡◌, ℕ, false, List, [], ◌∷◌, ◌++◌, Ok, Err, ⊤}
 use Rattle.std.specs.FinMap.{len}
 use Rattle.dwarf_read_core.specs.declared.Error.{Error}
 use Rattle.dwarf_read_core.specs.Answer.{Answer, TableEndsAt}
 use Rattle.dwarf_read_core.specs.Grammar.{Table}
 use Rattle.dwarf_read_core.specs.Input.{Input}
 
--- the result after the table at an offset
-abbrev pub IsAfter : Input → ℕ → Table → Result Table Error → Type 0
-IsAfter section offset table following = (end : ℕ) × TableEndsAt section offset table end × Answer section end following
+-- a section with these bytes, whose first byte has position 0
+abbrev pub section_of : List ℕ → Input
+section_of bytes = record { bytes = bytes; position = 0; is_big = false }
 
--- the error at an offset, or else the one after the table there
-abbrev pub IsErrorOfTwo : Input → ℕ → Error → Type 0
-IsErrorOfTwo section offset e = Answer section offset (Err e)
-    ⊎ ((t : Table) × Answer section offset (Ok t) × IsAfter section offset t (Err e))
+-- the tables of a section from its start up to an offset: each begins where the one before it ends
+pub data AreTablesUpTo (section : Input) : List Table → ℕ → Type 0 where
+  none : AreTablesUpTo section [] 0
+  one_more : (tables : List Table) (table : Table) (offset end : ℕ) → AreTablesUpTo section tables offset
+      → Answer section offset (Ok table) → TableEndsAt section offset table end
+      → AreTablesUpTo section (tables ++ table ∷ []) end
 
 -- how many declarations the table at an offset has
 abbrev pub HasLength : Input → ℕ → ℕ → Type 0

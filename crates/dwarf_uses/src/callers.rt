@@ -1,20 +1,21 @@
 //! Small callers of the library, to start from. `docs/USING.md` and doc comments quote them.
 
-ghost use Rattle.std.specs.Prelude.{◌≡◌, ◌≢◌, ◌⊎◌, ◌∷◌, ◌++◌, [], ℕ, List, Ok, Err, IfOk, IfErr, map, option_map};
+ghost use Rattle.std.specs.Prelude.{◌≡◌, ◌≢◌, ◌⊎◌, ◌∷◌, ◌++◌, [], ℕ, List, length, Ok, Err, IfOk, IfErr, map, option_map};
 ghost use Rattle.std.specs.FinMap as finite;
 ghost use Rattle.dwarf_read_core.specs.Entries.{RepresentsAddresses};
 ghost use Rattle.dwarf_read_core.specs.Format.{word_size};
+ghost use Rattle.dwarf_read_core.specs.Grammar.{Table};
 ghost use Rattle.dwarf_read_core.specs.Answer.{Answer};
 ghost use Rattle.dwarf_read_core.specs.Sections.{debug_abbrev_reader, debug_str_offsets_reader, debug_str_reader};
 ghost use Rattle.dwarf_read_core.specs.Sets.{addresses_of, seen_by};
 ghost use Rattle.dwarf_read_core.specs.Strings.{StringAt};
 ghost use Rattle.dwarf_read_core.specs.Words.{WordAt, slot};
-ghost use Rattle.dwarf_uses.specs.Callers.{HaveLengths, IsAfter, IsErrorOfTwo, IsFirstError};
+ghost use Rattle.dwarf_uses.specs.Callers.{AreTablesUpTo, HaveLengths, IsFirstError, section_of};
 
 use dwarf_read_core::{
     Abbreviations, AbbreviationsCache, AbbreviationsCacheStrategy, AddrHeader, DebugAbbrev,
     DebugAbbrevOffset, DebugStr, DebugStrOffsets, DebugStrOffsetsBase, DebugStrOffsetsIndex, DwTag,
-    Error, Format, Reader, Result,
+    Error, Format, LittleEndian, Reader, Result,
 };
 use std::alloc::Global;
 
@@ -26,27 +27,27 @@ pub fn tag_of(table: &Abbreviations, code: u64) -> Option<DwTag>
     Some(table.get(code)?.tag())
 }
 
-/// Returns the table at `offset` and the one after it.
+/// Returns the tables of a `.debug_abbrev` section, from the first to the last.
 ///
 /// # Errors
 ///
-/// The first error of the two tables, which is one of [`DebugAbbrev::abbreviations`].
-pub fn two_tables<R: Reader>(
-    mem: Global,
-    section: &DebugAbbrev<R>,
-    offset: DebugAbbrevOffset<R::Offset>,
-) -> Result<(Abbreviations, Abbreviations)>
-    ensures ok { let bytes = R.view (debug_abbrev_reader section.now) in
-        let at = R.Offset.value offset.0 in
-        IfOk result (λ tables. Answer bytes at (Ok tables.0)
-        × IsAfter bytes at tables.0 (Ok tables.1)) }
-    ensures err { let bytes = R.view (debug_abbrev_reader section.now) in
-        let at = R.Offset.value offset.0 in
-        IfErr result (λ e. e ≢ Error.OutOfMemory → IsErrorOfTwo bytes at e) }
+/// The first error of a table, which is one of [`DebugAbbrev::abbreviations`].
+pub fn all_tables(mem: Global, bytes: &[u8]) -> Result<Vec<Abbreviations>>
+    ensures ok { let section = section_of bytes.now in
+        IfOk result (λ tables. AreTablesUpTo section tables.items (length bytes.now)) }
+    ensures err { let section = section_of bytes.now in
+        IfErr result (λ e. e ≢ Error.OutOfMemory → (tables : List Table) × (offset : ℕ)
+        × AreTablesUpTo section tables offset × Answer section offset (Err e)) }
 {
-    let (first, end) = section.abbreviations_and_end(mem, offset)?;
-    let second = section.abbreviations(mem, end)?;
-    Ok((first, second))
+    let section = DebugAbbrev::new(bytes, LittleEndian);
+    let mut tables = Vec::new(mem);
+    let mut offset = 0;
+    while offset < bytes.len() {
+        let (table, end) = section.abbreviations_and_end(mem, DebugAbbrevOffset(offset))?;
+        tables.push(table)?;
+        offset = end.0;
+    }
+    Ok(tables)
 }
 
 /// Returns how many abbreviations the table of each unit has. A table that two units share is read

@@ -1,8 +1,8 @@
 -- Where a table ends: at one offset, which stays when bytes are appended.
-use Rattle.dwarf_read_core.proofs.Common.{◌≡◌, ℕ, ◌-◌, List, [], ◌∷◌, ◌++◌, length, Option, Some, None, Ok, refl, sym, ap, ◌∙◌, arith, inl, inr, ◌⊎◌, subst, append_assoc, length-append, length-drop, drop-append-le, Input, followed_by, Declaration, Table, by_null, by_end, Sequence, IsDeclaration, IsNumber, unsigned64, IsTableBefore, closed_by_null, closed_by_end, HasOne, Answer, table, declaration_at}
+use Rattle.dwarf_read_core.proofs.Common.{◌≡◌, ℕ, ◌-◌, ◌<◌, List, [], ◌∷◌, ◌++◌, length, Option, Some, None, Ok, refl, sym, ap, ◌∙◌, arith, inl, inr, ◌⊎◌, subst, append_assoc, length-append, length-drop, drop-append-le, Input, followed_by, Declaration, Table, by_null, by_end, Sequence, IsDeclaration, IsNumber, unsigned64, IsTableBefore, closed_by_null, closed_by_end, HasOne, Answer, table, declaration_at}
 use Rattle.dwarf_read_core.specs.Answer.{TableEndsAt}
 use Rattle.dwarf_read_core.proofs.tables.ReadingIsComplete.{declaration_again, zero_again}
-use Rattle.dwarf_read_core.proofs.tables.TablesAreRead.{table_before_fits}
+use Rattle.dwarf_read_core.proofs.tables.TablesAreRead.{table_before_fits, table_before_takes}
 
 -- bytes begin with declarations and a code of value 0, and the rest remains
 record IsClosed (bytes rest : List ℕ) (ds : List Declaration) : Type 0 where
@@ -100,6 +100,13 @@ end_more section more offset end _ (table t le is) final (rest, before, sum) = (
     before_more (closed_by_null bytes zero_code rest ds are is) final =
         rw (append_assoc (bytes ++ zero_code) rest more) (closed_by_null bytes zero_code (rest ++ more) ds are is)
     before_more (closed_by_end bytes ds are) final = absurd cc
+
+-- a table that begins before the section's end takes at least one byte
+pub end_after : (section : Input) (offset end : ℕ) (t : Table) → offset < length section.bytes
+    → TableEndsAt section offset t end → offset < end
+end_after section offset end t before (rest, is, sum) =
+    let long = length-drop offset section.bytes in
+    omega (arith, table_before_takes is (omega (arith, before, long)), sum, long)
 
 -- where a table ends
 pub ruleset ends = (one_end, end_more)

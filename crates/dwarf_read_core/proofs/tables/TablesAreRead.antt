@@ -1,6 +1,6 @@
 -- A whole table that is read, or its first error, is what the grammar says, and conversely.
 use Rattle.dwarf_read_core.proofs.Common.{◌≡◌, ◌≢◌, ℕ, zero, suc, ◌<◌, ◌≤◌, false, List, [], ◌∷◌, ◌++◌, length, Option, Some, None, Ok, Err, refl, sym, ap, subst, ◌∙◌, append_assoc, arith, append-nil, length-append, empty, insert, contains_key, Error, DuplicateAbbreviationCode, Declaration, Sequence, IsDeclaration, AreDistinct, AreDeclarations, ByCode, Table, closed, by_code_of, IsTable, IsTableBefore, closed_by_null, closed_by_end, IsFirstError, in_declaration, repeated, close_of, by_null, by_end, and_declared, table_at, table_in, HasOutcome, returned, failed, outcome-bind, outcome-cond, outcome-map, outcome-ok, declaration_at}
-use Rattle.dwarf_read_core.proofs.tables.ReadingNumbers.{encoding-begins}
+use Rattle.dwarf_read_core.proofs.tables.ReadingNumbers.{encoding-begins, encoding-nonempty}
 use Rattle.dwarf_read_core.proofs.tables.ReadingAttributes.{Sequence-push}
 use Rattle.dwarf_read_core.proofs.tables.ReadingIsSound.{DeclarationFound, EndFound, at_end, at_zero, EntryFound, declaration_outcome, declaration_found_shorter}
 use Rattle.dwarf_read_core.proofs.tables.ReadingIsComplete.{declaration_again, zero_again, end_again, error_again}
@@ -58,6 +58,14 @@ pub table_before_fits : {bytes rest : List ℕ} {t : Table} → IsTableBefore by
 table_before_fits (closed_by_null bytes zero_code rest ds are is) =
     omega (arith, length-append (bytes ++ zero_code) rest)
 table_before_fits (closed_by_end bytes ds are) = omega arith
+
+-- fewer bytes are after a table than there are in all, unless there are none
+pub table_before_takes : {bytes rest : List ℕ} {t : Table} → IsTableBefore bytes t rest → 0 < length bytes
+    → length rest < length bytes
+table_before_takes (closed_by_null bytes zero_code rest ds are is) some =
+    let nonempty = encoding-nonempty zero_code is.encoding in
+    omega (arith, nonempty, length-append (bytes ++ zero_code) rest, length-append bytes zero_code)
+table_before_takes (closed_by_end bytes ds are) some = omega (arith, some)
 
 -- a declaration with a new code that is read after some declarations is one more of them
 pub begins_with_read : {whole bytes rest : List ℕ} {t : ByCode} (end : ℕ) (d : Declaration) → BeginsWith whole t bytes

@@ -114,12 +114,15 @@ impl<R: Reader> DebugAbbrev<R> {
     /// Returns the table of abbreviations at `offset`, and the offset of its end, in bytes from the
     /// section's start.
     ///
-    /// A table ends after the code of value 0 that closes it, or at the section's end. A section
-    /// is walked table by table if each is read at the end of the one before it:
+    /// A table ends after the code of value 0 that closes it, or at the section's end. To walk a
+    /// section, read each table at the end of the one before it:
     ///
     /// ```
-    /// let (first, end) = section.abbreviations_and_end(mem, offset)?;
-    /// let second = section.abbreviations(mem, end)?;
+    /// while offset < bytes.len() {
+    ///     let (table, end) = section.abbreviations_and_end(mem, DebugAbbrevOffset(offset))?;
+    ///     tables.push(table)?;
+    ///     offset = end.0;
+    /// }
     /// ```
     ///
     /// # Errors

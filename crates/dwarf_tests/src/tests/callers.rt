@@ -8,7 +8,7 @@ use dwarf_read_core::{
     DebugStrOffsets, DebugStrOffsetsBase, DebugStrOffsetsIndex, Format, Reader, ReaderOffset,
     Result,
 };
-use dwarf_uses::callers::{addresses_in, string_by_index, table_lengths, tag_of, two_tables};
+use dwarf_uses::callers::{addresses_in, all_tables, string_by_index, table_lengths, tag_of};
 use dwarf_uses::calling::read_core::table_text;
 use dwarf_uses::parts::{clone_is_equal, split_ten};
 use std::alloc::Global;
@@ -50,11 +50,16 @@ fn check_lengths<R: Reader<Offset = usize>>(
     Ok(())
 }
 
-// Ends the test if the table at 0 hasn't three declarations, and the one after it none.
-fn check_two<R: Reader>(rt: &impl Abort, mem: Global, section: &DebugAbbrev<R>) -> Result<()> {
-    let offset = DebugAbbrevOffset(R::Offset::from_u8(0));
-    let (first, second) = two_tables(mem, section, offset)?;
-    same(rt, (first.len(), second.len()), (3, 0), "two tables");
+// A declaration and a code of value 0, one more such code, and two declarations.
+const THREE_TABLES: &[u8] = b"\x01\x11\0\0\0\0\0\x01\x11\0\0\0\x02\x11\0\0\0";
+
+// Ends the test unless the tables of a section have these lengths.
+fn check_all(rt: &impl Abort, mem: Global, bytes: &[u8], wanted: &[usize]) -> Result<()> {
+    let tables = all_tables(mem, bytes)?;
+    same(rt, tables.len(), wanted.len(), "how many tables");
+    for (table, len) in tables.iter().zip(wanted) {
+        same(rt, table.len(), *len, "a table");
+    }
     Ok(())
 }
 
@@ -64,10 +69,12 @@ fn tables_are_walked(rt: HostRuntime) {
     same(&rt, unit, Ok(()), "a unit");
     let lengths = check_lengths(&rt, rt.alloc(), &little(THREE).into());
     same(&rt, lengths, Ok(()), "lengths");
-    let two = check_two(&rt, rt.alloc(), &little(THREE).into());
-    same(&rt, two, Ok(()), "two tables");
-    let after = check_two(&rt, rt.alloc(), &little(UNIT).into());
-    same(&rt, after, Err(eof!(9)), "a number is cut after a table");
+    let all = check_all(&rt, rt.alloc(), THREE_TABLES, &[1, 0, 2]);
+    same(&rt, all, Ok(()), "all tables");
+    let cut = check_all(&rt, rt.alloc(), UNIT, &[]);
+    same(&rt, cut, Err(eof!(9)), "a number is cut after a table");
+    let none = check_all(&rt, rt.alloc(), b"", &[]);
+    same(&rt, none, Ok(()), "no tables");
 }
 
 const OFFSETS: &[u8] = b"\x0c\0\0\0\x05\0\0\0\0\0\0\0\x04\0\0\0";

@@ -1,0 +1,5 @@
+use Rattle.dwarf_read_core.proofs.tables.TableEnds.{end_after}
+use Rattle.dwarf_read_core.proofs.laws.exactly_one_end.Goals as goal
+
+pub returns-clause-after : goal.returns-clause-after
+returns-clause-after c = end_after
