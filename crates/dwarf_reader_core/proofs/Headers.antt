@@ -1,6 +1,6 @@
 -- Bytes have exactly one header of each kind, or exactly one error in place of it, and what a reader reads is it.
-use Rattle.dwarf_reader_core.proofs.Common.{common_steps, ◌≡◌, ◌≢◌, ◌∙◌, ℕ, ◌+◌, ◌<◌, ◌≤◌, Bool, true, false, IsTrue, length, take, Result, Ok, Err, refl, sym, subst, arith, ◌⊎◌, inl, inr, cases_lt, if◌then◌else◌, Error, IsTooShort, end_fault, Input, after, Takes, TakesByte, TakesNumber}
-use Rattle.std.proofs.Common.{nat_lt, ◌==◌, slice_index}
+use Rattle.dwarf_reader_core.proofs.Common.{common_steps, ◌≡◌, ◌≢◌, ◌∙◌, ℕ, ◌+◌, ◌≤◌, false, IsTrue, length, take, Result, Ok, Err, refl, sym, subst, arith, ◌⊎◌, inl, inr, cases_lt, cond, lt-ltb, Error, IsTooShort, end_fault, Input, after, Takes, TakesByte, TakesNumber}
+use Rattle.std.proofs.Common.{eq-eqb, eqb, le-ltb, ltb, ne_eqb, slice_index}
 use Rattle.std.proofs.lemmas.Bool.{cases_eq, cases_Bool}
 use Rattle.std.proofs.lemmas.List.{get_or-drop}
 use Rattle.dwarf_base_core.specs.Number.{number_of}
@@ -27,94 +27,24 @@ version-some unit =
 
 -- ---- exactly one result
 
-module _ {A : Type 0} where
-  -- the result by how many bytes there are, and by the version
-  by_version : ℕ → ℕ → Result A Error → Result A Error → Result A Error → Result A Error
-  by_version len v cut next other = if nat_lt len 2 then cut else if v == 5 then next else other
+-- the result for the fields after version 5, or the error in place of the version
+abbrev versioned : {A : Type 0} → Input → Result A Error → Result A Error
+versioned unit next =
+    cond (ltb (length unit.bytes) 2) (Err (end_fault unit))
+    (cond (eqb (version_of unit) 5) next (Err (UnknownVersion (version_of unit))))
 
-  module _ (len v : ℕ) (cut next other : Result A Error) where
-    -- fewer than two bytes are missing bytes
-    version_cut-is : len < 2 → cut ≡ by_version len v cut next other
-    unfolding by_version
-    version_cut-is short = grind arith
+-- after version 5 the other fields have the result
+versioned-is : {A : Type 0} {unit : Input} {next : Result A Error} → HasVersion unit → versioned unit next ≡ next
+versioned-is {unit = unit} has =
+    rw (le-ltb (length unit.bytes) 2 has.enough, eq-eqb (version_of unit) 5 has.version) refl
 
-    -- version 5 is followed by the other fields
-    version-is : 2 ≤ len → v ≡ 5 → next ≡ by_version len v cut next other
-    unfolding by_version
-    version-is enough known = grind arith
-
-    -- other versions are unknown
-    other_version-is : 2 ≤ len → v ≢ 5 → other ≡ by_version len v cut next other
-    unfolding by_version
-    other_version-is enough unknown = grind arith
-
-  -- the result for a header whose other fields have the result `next`
-  abbrev versioned : Input → Result A Error → Result A Error
-  versioned unit next =
-      by_version (length unit.bytes) (version_of unit) (Err (end_fault unit)) next
-      (Err (UnknownVersion (version_of unit)))
-
-  -- after version 5, the other fields are the result
-  versioned-is : {unit : Input} {next r : Result A Error} → HasVersion unit → r ≡ next → r ≡ versioned unit next
-  versioned-is version is = is ∙ version-is _ _ _ _ _ version.enough version.version
-
-  -- without it, the error is the result
-  unversioned-is : {unit : Input} {e : Error} (next : Result A Error) → HasNoVersion unit e
-      → Err e ≡ versioned unit next
-  unversioned-is next (version_cut short) = version_cut-is _ _ _ _ _ short
-  unversioned-is next (version_unknown enough is other) =
-      (λ i. Err (UnknownVersion (is i))) ∙ other_version-is _ _ _ _ _ enough (λ same. other (is ∙ same))
-
-  -- the result by how many bytes there are, whether the address size is one, and by the segment size
-  by_sizes : ℕ → Bool → ℕ → Result A Error → Result A Error → Result A Error → Result A Error → Result A Error
-      → Result A Error
-  by_sizes len sized segment size_cut size_bad segment_cut flat segment_bad =
-      if nat_lt len 3 then size_cut else if sized then (if nat_lt len 4 then segment_cut else if segment == 0 then
-      flat else segment_bad) else size_bad
-
-  module _ (len : ℕ) (sized : Bool) (segment : ℕ) (size_cut size_bad segment_cut flat segment_bad : Result A Error) where
-    -- the size is cut
-    size_cut-is : len < 3 → size_cut ≡ by_sizes len sized segment size_cut size_bad segment_cut flat segment_bad
-    unfolding by_sizes
-    size_cut-is short = grind arith
-
-    -- it isn't one
-    size_bad-is : 3 ≤ len → sized ≡ false
-        → size_bad ≡ by_sizes len sized segment size_cut size_bad segment_cut flat segment_bad
-    unfolding by_sizes
-    size_bad-is enough bad = grind arith
-
-    -- the segment size is cut
-    segment_cut-is : len ≡ 3 → sized ≡ true
-        → segment_cut ≡ by_sizes len sized segment size_cut size_bad segment_cut flat segment_bad
-    unfolding by_sizes
-    segment_cut-is three good = grind arith
-
-    -- it is 0
-    flat-is : 4 ≤ len → sized ≡ true → segment ≡ 0
-        → flat ≡ by_sizes len sized segment size_cut size_bad segment_cut flat segment_bad
-    unfolding by_sizes
-    flat-is enough good zero = grind arith
-
-    -- it isn't
-    segment_bad-is : 4 ≤ len → sized ≡ true → segment ≢ 0
-        → segment_bad ≡ by_sizes len sized segment size_cut size_bad segment_cut flat segment_bad
-    unfolding by_sizes
-    segment_bad-is enough good some = grind arith
-
-  -- the result by how many bytes there are for the padding
-  by_padding : ℕ → Result A Error → Result A Error → Result A Error
-  by_padding len cut padded = if nat_lt len 4 then cut else padded
-
-  -- the padding is cut
-  padding_cut-is : (len : ℕ) (cut padded : Result A Error) → len < 4 → cut ≡ by_padding len cut padded
-  unfolding by_padding
-  padding_cut-is len cut padded short = grind arith
-
-  -- it isn't
-  padded-is : (len : ℕ) (cut padded : Result A Error) → 4 ≤ len → padded ≡ by_padding len cut padded
-  unfolding by_padding
-  padded-is len cut padded enough = grind arith
+-- without it the error is the result
+unversioned-is : {A : Type 0} {unit : Input} {e : Error} (next : Result A Error) → HasNoVersion unit e
+    → versioned unit next ≡ Err e
+unversioned-is {unit = unit} next (version_cut short) = rw (lt-ltb (length unit.bytes) 2 short) refl
+unversioned-is {unit = unit} next (version_unknown enough is other) =
+    rw (le-ltb (length unit.bytes) 2 enough, ne_eqb (version_of unit) 5 (λ same. other (is ∙ same)))
+    (λ i. Err (UnknownVersion (sym is i)))
 
 -- the third byte of a header of addresses is the address size
 abbrev size_of : Input → ℕ
@@ -124,30 +54,41 @@ size_of unit = slice_index unit.bytes 2
 abbrev segment_of : Input → ℕ
 segment_of unit = slice_index unit.bytes 3
 
+-- the result for the segment size
+abbrev segment_at : Input → Result (ℕ × Input) Error
+segment_at unit =
+    cond (ltb (length unit.bytes) 4) (Err (end_fault (after 3 unit)))
+    (cond (eqb (segment_of unit) 0) (Ok (size_of unit, after 4 unit)) (Err (UnsupportedSegmentSize (segment_of unit))))
+
 -- the result for a header of addresses after its version
 abbrev sizes_at : Input → Result (ℕ × Input) Error
 sizes_at unit =
-    by_sizes (length unit.bytes) (is_number_size (size_of unit)) (segment_of unit) (Err (end_fault (after 2 unit)))
-    (Err (UnsupportedAddressSize (size_of unit))) (Err (end_fault (after 3 unit))) (Ok (size_of unit, after 4 unit))
-    (Err (UnsupportedSegmentSize (segment_of unit)))
+    cond (ltb (length unit.bytes) 3) (Err (end_fault (after 2 unit)))
+    (cond (is_number_size (size_of unit)) (segment_at unit) (Err (UnsupportedAddressSize (size_of unit))))
 
 -- a result for a header of a set of addresses is the one result
 address_header-is : (unit : Input) (r : Result (ℕ × Input) Error) → AddressHeaderAt unit r
-    → r ≡ versioned unit (sizes_at unit)
+    → versioned unit (sizes_at unit) ≡ r
 address_header-is unit (Ok x) has =
-    versioned-is has.version ((λ i. Ok (sym has.address_size i, has.left i))
-    ∙ flat-is _ _ _ _ _ _ _ _ has.enough (subst (λ n. IsTrue (is_number_size n)) (sym has.address_size) has.sized) has.flat)
+    let sized = subst (λ n. IsTrue (is_number_size n)) (sym has.address_size) has.sized in
+    let n = length unit.bytes in
+    versioned-is has.version ∙ rw (le-ltb n 3 (omega (arith, has.enough)), sized, le-ltb n 4 has.enough, has.flat)
+    (λ i. Ok (has.address_size i, sym has.left i))
 address_header-is unit (Err e) (address_unversioned lacks) = unversioned-is _ lacks
 address_header-is unit (Err e) (address_size_cut version short) =
-    versioned-is version (size_cut-is _ _ _ _ _ _ _ _ short)
+    versioned-is version ∙ rw (lt-ltb (length unit.bytes) 3 short) refl
 address_header-is unit (Err e) (address_size_unknown version enough is other) =
-    versioned-is version ((λ i. Err (UnsupportedAddressSize (sym is i)))
-    ∙ size_bad-is _ _ _ _ _ _ _ _ enough (subst (λ n. is_number_size n ≡ false) (sym is) other))
-address_header-is unit (Err e) (segment_size_cut version sized short) =
-    versioned-is version (segment_cut-is _ _ _ _ _ _ _ _ short sized)
+    let unsized = subst (λ n. is_number_size n ≡ false) (sym is) other in
+    versioned-is version ∙ rw (le-ltb (length unit.bytes) 3 enough, unsized) (λ i. Err (UnsupportedAddressSize (is i)))
+address_header-is unit (Err e) (segment_size_cut version sized short) = versioned-is version ∙ rw (short, sized) refl
 address_header-is unit (Err e) (segment_size_unknown version sized enough is other) =
-    versioned-is version ((λ i. Err (UnsupportedSegmentSize (sym is i)))
-    ∙ segment_bad-is _ _ _ _ _ _ _ _ enough sized (λ same. other (sym is ∙ same)))
+    let n = length unit.bytes in
+    versioned-is version ∙ rw (
+      le-ltb n 3 (omega (arith, enough)),
+      sized,
+      le-ltb n 4 enough,
+      ne_eqb (segment_of unit) 0 (λ same. other (sym is ∙ same)),
+    ) (λ i. Err (UnsupportedSegmentSize (is i)))
 
 -- there is a result for a header of a set of addresses
 address_header-some : (unit : Input) → (r : Result (ℕ × Input) Error) × AddressHeaderAt unit r
@@ -191,13 +132,18 @@ address_header-some unit =
           ]
     ]
 
+-- the result for a header of string offsets after its version
+abbrev padding_at : Input → Result (Unit {0} × Input) Error
+padding_at unit = cond (ltb (length unit.bytes) 4) (Err (end_fault (after 2 unit))) (Ok (tt, after 4 unit))
+
 -- a result for a header of a set of string offsets is the one result
 offsets_header-is : (unit : Input) (r : Result (Unit {0} × Input) Error) → StringOffsetsHeaderAt unit r
-    → r ≡ versioned unit (by_padding (length unit.bytes) (Err (end_fault (after 2 unit))) (Ok (tt, after 4 unit)))
+    → versioned unit (padding_at unit) ≡ r
 offsets_header-is unit (Ok x) has =
-    versioned-is has.version ((λ i. Ok (tt, has.left i)) ∙ padded-is _ _ _ has.enough)
+    versioned-is has.version ∙ rw (le-ltb (length unit.bytes) 4 has.enough) (λ i. Ok (tt, sym has.left i))
 offsets_header-is unit (Err e) (offsets_unversioned lacks) = unversioned-is _ lacks
-offsets_header-is unit (Err e) (padding_cut version short) = versioned-is version (padding_cut-is _ _ _ short)
+offsets_header-is unit (Err e) (padding_cut version short) =
+    versioned-is version ∙ rw (lt-ltb (length unit.bytes) 4 short) refl
 
 -- there is a result for a header of a set of string offsets
 offsets_header-some : (unit : Input) → (r : Result (Unit {0} × Input) Error) × StringOffsetsHeaderAt unit r
@@ -215,7 +161,7 @@ offsets_header-some unit =
 pub address_header : IsHeader 4 AddressHeaderAt
 address_header = record {
   one = λ unit. let some = address_header-some unit in
-      (some.0, some.1, λ other is. address_header-is unit other is ∙ sym (address_header-is unit some.0 some.1));
+      (some.0, some.1, λ other is. sym (address_header-is unit other is) ∙ address_header-is unit some.0 some.1);
   sized = λ unit rest size has. record { enough = has.enough; left = has.left };
 }
 
@@ -223,7 +169,7 @@ address_header = record {
 pub string_offsets_header : IsHeader 4 StringOffsetsHeaderAt
 string_offsets_header = record {
   one = λ unit. let some = offsets_header-some unit in
-      (some.0, some.1, λ other is. offsets_header-is unit other is ∙ sym (offsets_header-is unit some.0 some.1));
+      (some.0, some.1, λ other is. sym (offsets_header-is unit other is) ∙ offsets_header-is unit some.0 some.1);
   sized = λ unit rest none has. record { enough = has.enough; left = has.left };
 }
 

@@ -1,6 +1,6 @@
 -- Bytes have exactly one initial length, or exactly one error in place of it, and either stays with more bytes appended.
-use Rattle.dwarf_reader_core.proofs.Common.{◌≡◌, ◌≢◌, ◌∙◌, ℕ, ◌<◌, ◌≤◌, List, length, take, Result, Ok, Err, refl, sym, subst, ap, arith, inl, inr, cases_lt, if◌then◌else◌, Error, end_fault, IsTooShort, Input, after, Takes, TakesNumber, HasOne}
-use Rattle.std.proofs.Common.{nat_lt, nat_le, ◌==◌}
+use Rattle.dwarf_reader_core.proofs.Common.{◌≡◌, ◌∙◌, ℕ, ◌<◌, ◌≤◌, List, length, take, Result, Ok, Err, refl, sym, subst, ap, inl, inr, cases_lt, cond, lt-ltb, Error, end_fault, IsTooShort, Input, after, Takes, TakesNumber, HasOne}
+use Rattle.std.proofs.Common.{eqb, le-ltb, ltb, ne_eqb}
 use Rattle.std.proofs.lemmas.Bool.{cases_eq}
 use Rattle.dwarf_base_core.specs.declared.common.Format.{Format}
 use Rattle.dwarf_base_core.specs.declared.common.Format.TheVariants.{Dwarf32, Dwarf64}
@@ -29,92 +29,51 @@ Outcome = Result (Format × ℕ) Error × Input
 
 -- ---- exactly one result
 
--- the result by how many bytes there are and by the number of the first four: bytes are missing, a length of four bytes,
--- what follows the four bytes 0xffffffff, or a reserved length
-by_four : ℕ → ℕ → Outcome → Outcome → Outcome → Outcome → Outcome
-by_four len n cut short long other =
-    if nat_lt len 4 then cut else if nat_lt n 0xffff_fff0 then short else if n == 0xffff_ffff then long else other
-
--- the result by how many bytes there are after these, and whether the number of eight is an offset
-by_eight : ℕ → ℕ → ℕ → Outcome → Outcome → Outcome → Outcome
-by_eight greatest len n cut long over =
-    if nat_lt len 8 then cut else if nat_le n greatest then long else over
-
-module _ (len n : ℕ) (cut short long other : Outcome) where
-  -- fewer than four bytes are missing bytes
-  four_cut-is : len < 4 → cut ≡ by_four len n cut short long other
-  unfolding by_four
-  four_cut-is few = grind arith
-
-  -- a number below the reserved ones is the length
-  four_bytes-is : 4 ≤ len → n < 0xffff_fff0 → short ≡ by_four len n cut short long other
-  unfolding by_four
-  four_bytes-is enough low = grind arith
-
-  -- after 0xffffffff are eight bytes
-  announced-is : 4 ≤ len → n ≡ 0xffff_ffff → long ≡ by_four len n cut short long other
-  unfolding by_four
-  announced-is enough same = grind arith
-
-  -- other numbers are reserved
-  reserved-is : 4 ≤ len → 0xffff_fff0 ≤ n → n ≢ 0xffff_ffff → other ≡ by_four len n cut short long other
-  unfolding by_four
-  reserved-is enough high unlike = grind arith
-
-module _ (greatest len n : ℕ) (cut long over : Outcome) where
-  -- fewer than eight bytes are missing bytes
-  eight_cut-is : len < 8 → cut ≡ by_eight greatest len n cut long over
-  unfolding by_eight
-  eight_cut-is few = grind arith
-
-  -- an offset is the length
-  eight_bytes-is : 8 ≤ len → n ≤ greatest → long ≡ by_eight greatest len n cut long over
-  unfolding by_eight
-  eight_bytes-is enough fits = grind arith
-
-  -- a greater number isn't
-  too_great-is : 8 ≤ len → greatest < n → over ≡ by_eight greatest len n cut long over
-  unfolding by_eight
-  too_great-is enough great = grind arith
-
 -- the result for eight bytes after the four that announce them
 abbrev long_at : ℕ → Input → Outcome
 long_at greatest mid =
-    by_eight greatest (length mid.bytes) (front_number 8 mid) (Err (end_fault mid), mid)
-    (Ok (Dwarf64, front_number 8 mid), after 8 mid) (Err UnsupportedOffset, after 8 mid)
+    cond (ltb (length mid.bytes) 8) (Err (end_fault mid), mid) (cond (ltb greatest (front_number 8 mid))
+    (Err UnsupportedOffset, after 8 mid) (Ok (Dwarf64, front_number 8 mid), after 8 mid))
 
 -- the one result for an initial length
 abbrev length_at : ℕ → Input → Outcome
 length_at greatest old =
-    by_four (length old.bytes) (front_number 4 old) (Err (end_fault old), old)
-    (Ok (Dwarf32, front_number 4 old), after 4 old) (long_at greatest (after 4 old))
-    (Err (UnknownReservedLength (front_number 4 old)), after 4 old)
+    let n = front_number 4 old in
+    let mid = after 4 old in
+    cond (ltb (length old.bytes) 4) (Err (end_fault old), old) (cond (ltb n 0xffff_fff0) (Ok (Dwarf32, n), mid)
+    (cond (eqb n 0xffff_ffff) (long_at greatest mid) (Err (UnknownReservedLength n), mid)))
 
--- what is after 0xffffffff is the one result
-long-is : (greatest : ℕ) {old mid : Input} (x : Outcome) → TakesNumber 4 old 0xffff_ffff mid
-    → x ≡ long_at greatest mid → x ≡ length_at greatest old
-long-is greatest x four is =
-    is ∙ ap (long_at greatest) four.left ∙ announced-is _ _ _ _ _ _ four.enough (sym four.encoded)
+-- after 0xffffffff the result is that of the eight bytes
+long-is : (greatest : ℕ) {old mid : Input} → TakesNumber 4 old 0xffff_ffff mid
+    → length_at greatest old ≡ long_at greatest mid
+long-is greatest {old} four =
+    rw (le-ltb (length old.bytes) 4 four.enough, ← four.encoded) (ap (long_at greatest) (sym four.left))
 
 -- each result is the one result
-result_is : (greatest : ℕ) (old : Input) (x : Outcome) → LengthAt greatest old x → x ≡ length_at greatest old
+result_is : (greatest : ℕ) (old : Input) (x : Outcome) → LengthAt greatest old x → length_at greatest old ≡ x
 result_is greatest old (Ok x, new) (in_four_bytes takes low) =
-    (λ i. (Ok (Dwarf32, takes.encoded i), takes.left i))
-    ∙ four_bytes-is _ _ _ _ _ _ takes.enough (subst (λ n. n < 0xffff_fff0) takes.encoded low)
-result_is greatest old (Ok x, new) (in_eight_bytes four eight fits) =
-    long-is greatest _ four ((λ i. (Ok (Dwarf64, eight.encoded i), eight.left i))
-    ∙ eight_bytes-is _ _ _ _ _ _ eight.enough (subst (λ n. n ≤ greatest) eight.encoded fits))
+    let below = subst (λ n. n < 0xffff_fff0) takes.encoded low in
+    rw (le-ltb (length old.bytes) 4 takes.enough, lt-ltb (front_number 4 old) 0xffff_fff0 below)
+    (λ i. (Ok (Dwarf32, sym takes.encoded i), sym takes.left i))
+result_is greatest old (Ok x, new) (in_eight_bytes {mid = mid} four eight fits) =
+    let low = subst (λ n. n ≤ greatest) eight.encoded fits in
+    long-is greatest four ∙ rw (le-ltb (length mid.bytes) 8 eight.enough, le-ltb greatest (front_number 8 mid) low)
+    (λ i. (Ok (Dwarf64, sym eight.encoded i), sym eight.left i))
 result_is greatest old (Err e, new) (four_cut short) =
-    (λ i. (Err (short.fault i), short.left i)) ∙ four_cut-is _ _ _ _ _ _ short.short
+    rw (lt-ltb (length old.bytes) 4 short.short) (λ i. (Err (sym short.fault i), sym short.left i))
 result_is greatest old (Err e, new) (reserved takes high other) =
-    (λ i. (Err (UnknownReservedLength (takes.encoded i)), takes.left i))
-    ∙ reserved-is _ _ _ _ _ _ takes.enough (subst (λ n. 0xffff_fff0 ≤ n) takes.encoded high)
-    (λ same. other (takes.encoded ∙ same))
-result_is greatest old (Err e, new) (eight_cut four short) =
-    long-is greatest _ four ((λ i. (Err (short.fault i), short.left i)) ∙ eight_cut-is _ _ _ _ _ _ short.short)
-result_is greatest old (Err e, new) (too_great four eight over) =
-    long-is greatest _ four ((λ i. (Err UnsupportedOffset, eight.left i))
-    ∙ too_great-is _ _ _ _ _ _ eight.enough (subst (λ n. greatest < n) eight.encoded over))
+    let n = front_number 4 old in
+    let above = subst (λ n. 0xffff_fff0 ≤ n) takes.encoded high in
+    let unlike = ne_eqb n 0xffff_ffff (λ same. other (takes.encoded ∙ same)) in
+    rw (le-ltb (length old.bytes) 4 takes.enough, le-ltb n 0xffff_fff0 above, unlike)
+    (λ i. (Err (UnknownReservedLength (sym takes.encoded i)), sym takes.left i))
+result_is greatest old (Err e, new) (eight_cut {mid = mid} four short) =
+    long-is greatest four ∙ rw (lt-ltb (length mid.bytes) 8 short.short)
+    (λ i. (Err (sym short.fault i), sym short.left i))
+result_is greatest old (Err e, new) (too_great {mid = mid} four eight over) =
+    let high = subst (λ n. greatest < n) eight.encoded over in
+    long-is greatest four ∙ rw (le-ltb (length mid.bytes) 8 eight.enough, lt-ltb greatest (front_number 8 mid) high)
+    (λ i. (Err UnsupportedOffset, sym eight.left i))
 
 -- there is a result
 some_result : (greatest : ℕ) (old : Input) → (x : Outcome) × LengthAt greatest old x
@@ -157,7 +116,7 @@ some_result greatest old =
 pub exactly_one_length : (greatest : ℕ) (old : Input) → HasOne (LengthAt greatest old)
 exactly_one_length greatest old =
     let some = some_result greatest old in
-    (some.0, some.1, λ other is. result_is greatest old other is ∙ sym (result_is greatest old some.0 some.1))
+    (some.0, some.1, λ other is. sym (result_is greatest old other is) ∙ result_is greatest old some.0 some.1)
 
 -- ---- what an initial length consumes, and more bytes after it
 

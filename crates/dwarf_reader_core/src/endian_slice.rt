@@ -13,7 +13,10 @@ ghost use Rattle.std.proofs.Common.{arith, rules};
 ghost use Rattle.dwarf_base_core.specs.declared.error.Error.TheVariants.{BadUtf8, OutOfMemory};
 ghost use Rattle.dwarf_reader_core.specs.Input.{after, first, IsFirst, IsPartOf};
 
-use crate::leb128::{MAX_TENTH_BYTE, has_continuation_bit, has_sign_bit, with_digit, with_sign};
+use crate::leb128::{
+    MAX_TENTH_BYTE, has_continuation_bit, has_sign_bit, read_sleb128, read_uleb128, with_digit,
+    with_sign,
+};
 use crate::reader::Reader;
 use bstr::ByteSlice;
 use dwarf_base_core::endianity::Endianity;
@@ -447,51 +450,16 @@ impl<'input, Endian: Endianity> Reader for EndianSlice<'input, Endian> {
         Err(Error::UnexpectedEof(self.offset_id()))
     }
 
-    // The next two repeat the bodies of the trait. A default body is called out of line, whatever
-    // its hint says. These are inlined, so that the caller keeps the remaining bytes in registers.
+    // The next two have the bodies of the trait. A default body is called out of line, whatever its
+    // hint says. These are inlined, so that the caller keeps the remaining bytes in registers.
     #[inline(always)]
     fn read_uleb128(&mut self) -> Result<u64> {
-        // Most numbers have one byte.
-        let first = self.read_u8()?;
-        if !has_continuation_bit(first) {
-            return Ok(u64::from(first));
-        }
-        let mut result = with_digit(0, first, 0);
-        for index in 1..9 {
-            let byte = self.read_u8()?;
-            result = with_digit(result, byte, 7 * index);
-            if !has_continuation_bit(byte) {
-                return Ok(result);
-            }
-        }
-        let byte = self.read_u8()?;
-        if byte > MAX_TENTH_BYTE {
-            return Err(Error::BadUnsignedLeb128);
-        }
-        Ok(result | u64::from(byte) << 63)
+        read_uleb128!(self)
     }
 
     #[inline(always)]
     fn read_sleb128(&mut self) -> Result<i64> {
-        let first = self.read_u8()?;
-        let mut result = with_digit(0, first, 0);
-        if !has_continuation_bit(first) {
-            return Ok(with_sign(result, has_sign_bit(first), 7));
-        }
-        for index in 1..9 {
-            let byte = self.read_u8()?;
-            result = with_digit(result, byte, 7 * index);
-            if !has_continuation_bit(byte) {
-                return Ok(with_sign(result, has_sign_bit(byte), 7 * index + 7));
-            }
-        }
-        // The tenth byte has room for bit 63 only, which is the sign.
-        let byte = self.read_u8()?;
-        match byte {
-            0x00 => Ok(with_sign(result, false, 63)),
-            0x7f => Ok(with_sign(result, true, 63)),
-            _ => Err(Error::BadSignedLeb128),
-        }
+        read_sleb128!(self)
     }
 }
 

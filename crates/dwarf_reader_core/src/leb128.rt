@@ -60,3 +60,55 @@ pub(crate) fn with_digit(value: u64, byte: u8, shift: u32) -> u64
 {
     value | u64::from(low_bits_of_byte(byte)) << shift
 }
+
+// The body of `Reader::read_uleb128`. `EndianSlice` has it too, since no default body is inlined.
+macro_rules! read_uleb128 {
+    ($reader:expr) => {{
+        // Most numbers have one byte.
+        let first = $reader.read_u8()?;
+        if !has_continuation_bit(first) {
+            return Ok(u64::from(first));
+        }
+        let mut result = with_digit(0, first, 0);
+        for index in 1..9 {
+            let byte = $reader.read_u8()?;
+            result = with_digit(result, byte, 7 * index);
+            if !has_continuation_bit(byte) {
+                return Ok(result);
+            }
+        }
+        let byte = $reader.read_u8()?;
+        if byte > MAX_TENTH_BYTE {
+            return Err(Error::BadUnsignedLeb128);
+        }
+        Ok(result | u64::from(byte) << 63)
+    }};
+}
+
+// The body of `Reader::read_sleb128`, for the same two.
+macro_rules! read_sleb128 {
+    ($reader:expr) => {{
+        let first = $reader.read_u8()?;
+        let mut result = with_digit(0, first, 0);
+        if !has_continuation_bit(first) {
+            return Ok(with_sign(result, has_sign_bit(first), 7));
+        }
+        for index in 1..9 {
+            let byte = $reader.read_u8()?;
+            result = with_digit(result, byte, 7 * index);
+            if !has_continuation_bit(byte) {
+                return Ok(with_sign(result, has_sign_bit(byte), 7 * index + 7));
+            }
+        }
+        // The tenth byte has room for bit 63 only, which is the sign.
+        let byte = $reader.read_u8()?;
+        match byte {
+            0x00 => Ok(with_sign(result, false, 63)),
+            0x7f => Ok(with_sign(result, true, 63)),
+            _ => Err(Error::BadSignedLeb128),
+        }
+    }};
+}
+
+pub(crate) use read_sleb128;
+pub(crate) use read_uleb128;

@@ -12,7 +12,8 @@ ghost use Rattle.dwarf_reader_core.specs.Leb128.{unsigned64, unsigned16, signed6
 ghost use Rattle.dwarf_reader_core.specs.InitialLength.{HasLength, HasNoLength};
 
 use crate::leb128::{
-    MAX_TENTH_BYTE, MAX_THIRD_BYTE, has_continuation_bit, has_sign_bit, with_digit, with_sign,
+    MAX_TENTH_BYTE, MAX_THIRD_BYTE, has_continuation_bit, has_sign_bit, read_sleb128, read_uleb128,
+    with_digit, with_sign,
 };
 use dwarf_base_core::common::Format;
 use dwarf_base_core::endianity::Endianity;
@@ -435,24 +436,7 @@ pub trait Reader: Debug + Drop + Sized {
             (λ e. ReadsNoNumber unsigned64 (view self.old) e (view self.new)) }
         ensures order { order self.new ≡ order self.old }
     {
-        // Most numbers have one byte.
-        let first = self.read_u8()?;
-        if !has_continuation_bit(first) {
-            return Ok(u64::from(first));
-        }
-        let mut result = with_digit(0, first, 0);
-        for index in 1..9 {
-            let byte = self.read_u8()?;
-            result = with_digit(result, byte, 7 * index);
-            if !has_continuation_bit(byte) {
-                return Ok(result);
-            }
-        }
-        let byte = self.read_u8()?;
-        if byte > MAX_TENTH_BYTE {
-            return Err(Error::BadUnsignedLeb128);
-        }
-        Ok(result | u64::from(byte) << 63)
+        read_uleb128!(self)
     }
 
     /// Reads an unsigned LEB128 number that is below 2^32.
@@ -518,25 +502,7 @@ pub trait Reader: Debug + Drop + Sized {
         ensures err { IfErr result (λ e. ReadsNoNumber signed64 (view self.old) e (view self.new)) }
         ensures order { order self.new ≡ order self.old }
     {
-        let first = self.read_u8()?;
-        let mut result = with_digit(0, first, 0);
-        if !has_continuation_bit(first) {
-            return Ok(with_sign(result, has_sign_bit(first), 7));
-        }
-        for index in 1..9 {
-            let byte = self.read_u8()?;
-            result = with_digit(result, byte, 7 * index);
-            if !has_continuation_bit(byte) {
-                return Ok(with_sign(result, has_sign_bit(byte), 7 * index + 7));
-            }
-        }
-        // The tenth byte has room for bit 63 only, which is the sign.
-        let byte = self.read_u8()?;
-        match byte {
-            0x00 => Ok(with_sign(result, false, 63)),
-            0x7f => Ok(with_sign(result, true, 63)),
-            _ => Err(Error::BadSignedLeb128),
-        }
+        read_sleb128!(self)
     }
 
     /// Reads the length, in bytes, at the front of a unit, and the unit's format (DWARF 5, 7.4).
