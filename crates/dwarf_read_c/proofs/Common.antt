@@ -1,7 +1,7 @@
 -- Names that the proofs of this crate cite from elsewhere, passed on from one place.
 pub use Rattle.std.proofs.Common.{◌≡◌, ◌≢◌, Bool, true, ℕ, ◌+◌, ◌-◌, ◌/◌, ◌<◌, ◌≤◌, ◌^◌, List, [], ◌∷◌, length, drop}
 pub use Rattle.std.proofs.Common.{Result, Ok, Err, subst, arith, ◌⊎◌, inl, inr, length-drop, take, suc, ◌++◌, refl}
-pub use Rattle.std.proofs.Common.{sym, ap, ◌∙◌, sum_by, false, map, length-append, rules}
+pub use Rattle.std.proofs.Common.{sym, ap, ◌∙◌, sum_by, false, map, length-append}
 pub use Rattle.std.proofs.lemmas.Grind.{common_steps}
 pub use Rattle.std.proofs.lemmas.Result.{err_from_is_err_and}
 pub use Rattle.std.specs.FinMap.{entries, len, values, len-entries}

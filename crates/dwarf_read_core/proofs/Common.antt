@@ -3,12 +3,12 @@ pub use Rattle.std.proofs.Common.{set, Bool, true, false, cond, refl, ◌≡◌,
 pub use Rattle.std.proofs.Common.{◌<◌, ◌≤◌, eqb, List, [], ◌∷◌, ◌++◌, length, take, get_or, map, Option, Some, None}
 pub use Rattle.std.proofs.Common.{MatchOption, sym, arith, All, IsPermutation, option_map, ap, filter}
 pub use Rattle.std.proofs.Common.{nat_cmp, Less, suc, zero, ◌-◌, inl, inr, IfSome, OnErr, ◌*◌, ◌/◌}
-pub use Rattle.std.proofs.Common.{◌^◌, IfErr, leb, drop, ◌⊎◌, slice_index, IfOk, IsTrue, rules}
-pub use Rattle.std.proofs.Common.{◌==◌, ltb-true, is_some, sum_by, append_assoc, nat_lt}
+pub use Rattle.std.proofs.Common.{IfErr, leb, drop, ◌⊎◌, slice_index, IfOk, IsTrue, rules}
+pub use Rattle.std.proofs.Common.{◌==◌, ltb-true, is_some, sum_by, append_assoc}
 pub use Rattle.std.proofs.Common.{length-append, length-take-le, take-append-drop, ne_eqb, ◌↔◌, ltb, lt-ltb, le-ltb}
 pub use Rattle.std.proofs.Common.{Bor, option_copied, append-nil, length-drop, ℤ, OnOk}
 pub use Rattle.std.specs.BTreeMap.{is_at}
-pub use Rattle.std.specs.Cmp.{nat_cmp_total, eq_by_cmp_equiv, booleans_Decides}
+pub use Rattle.std.specs.Cmp.{nat_cmp_total, eq_by_cmp_equiv}
 pub use Rattle.std.specs.FinMap.{get, insert, from_entries, contains_key, empty, empty_of_len, find}
 pub use Rattle.std.specs.FinMap.{from_entries_push, get-from_entries, nat_cmp-IsAntisymmetric, same_map, entries, len}
 pub use Rattle.std.specs.FinMap.{entries-insert, len-insert, len-empty, len-entries, get-entries, values, get-insert}
@@ -16,7 +16,7 @@ pub use Rattle.std.specs.List.{AllWithin, AllByRecursion}
 pub use Rattle.std.specs.List.Sorted.{IsNonDecreasingBy}
 unfoldable pub use Rattle.std.specs.List.Sorted.{IsStrictlySortedBy}
 pub use Rattle.std.specs.Map.{lookup, keys_of, values_of}
-pub use Rattle.std.proofs.lemmas.Bool.{eqb-true, eqb-false, eq-eqb, cases_lt, le-leb, lt-leb, true≢false, and_parts}
+pub use Rattle.std.proofs.lemmas.Bool.{eqb-true, eqb-false, eq-eqb, cases_lt, le-leb, lt-leb, true≢false}
 pub use Rattle.std.proofs.lemmas.Bool.Decides.{nat_tests}
 pub use Rattle.std.proofs.lemmas.Fn.{called_at}
 pub use Rattle.std.proofs.lemmas.Grind.{common_steps}
@@ -26,7 +26,7 @@ pub use Rattle.std.proofs.lemmas.List.Elements.{All-head, All-tail, same_from_al
 pub use Rattle.std.proofs.lemmas.List.Sorted.{sum_by-IsPermutation, IsPermutation-map}
 pub use Rattle.std.proofs.lemmas.List.Sorted.{IsNonDecreasingBy-from_sort_by_key}
 pub use Rattle.std.proofs.lemmas.List.Sums.{sum_by_push, sum_by-cons}
-pub use Rattle.std.proofs.lemmas.Map.Entries.{option_filter, lookup-filter-values}
+pub use Rattle.std.proofs.lemmas.Map.Entries.{lookup-filter-values}
 pub use Rattle.std.proofs.lemmas.Map.Keys.{IsDistinct-from_sorted}
 pub use Rattle.std.proofs.lemmas.Map.Made.{lookup-map_values}
 pub use Rattle.dwarf_base_core.specs.declared.error.Error.{Error}
@@ -53,7 +53,7 @@ pub use Rattle.dwarf_read_core.specs.Answer.{StrictAnswer, AnswersStrictly, IsSt
 pub use Rattle.dwarf_read_core.specs.Cache.{KeepsAnswers, occurrences, Cache, answer_of}
 pub use Rattle.dwarf_read_core.specs.Cache.{shown_entries, StillKept, IsFaithful, HasFirstItem, KeepsNoOutOfMemory}
 pub use Rattle.dwarf_read_core.specs.Cache.{least_count}
-pub use Rattle.dwarf_read_core.specs.Entries.{Entries, RepresentsAddresses, RepresentsStringOffsets}
+pub use Rattle.dwarf_read_core.specs.Entries.{Entries}
 pub use Rattle.dwarf_read_core.specs.Grammar.{Table, by_null, by_end, Declaration, closed, implicit_const}
 pub use Rattle.dwarf_read_core.specs.Grammar.{IsTable, IsTableBefore, closed_by_null, closed_by_end, Declares, AreDistinct}
 pub use Rattle.dwarf_read_core.specs.Grammar.{by_code_of, Specification, Sequence, IsSpecification, IsNull, IsFront}

@@ -1,41 +1,20 @@
 -- The entries of a cache are one finite map.
-use Rattle.dwarf_read_core.proofs.Common.{◌≡◌, ℕ, List, Bool, cond, Option, Some, Result, option_map, sym, ap, ◌∙◌, arith, filter, nat_cmp, is_at, nat_cmp_total, eq_by_cmp_equiv, get, insert, from_entries, lookup, keys_of, option_filter, lookup-filter-values, IsDistinct-from_sorted, IsStrictlySortedBy, lookup-map_values, Error, Table, Cache, answer_of, shown_entries, is_final, StillKept, true, false, None, Ok, Err, refl, inl, inr, IsFinal}
-use Rattle.std.specs.Prelude.{MatchBool}
+use Rattle.dwarf_read_core.proofs.Common.{◌≡◌, ℕ, List, cond, Option, Some, Result, option_map, sym, ap, ◌∙◌, arith, filter, nat_cmp, is_at, nat_cmp_total, eq_by_cmp_equiv, get, insert, from_entries, lookup, keys_of, lookup-filter-values, IsDistinct-from_sorted, IsStrictlySortedBy, lookup-map_values, Error, Table, Cache, answer_of, shown_entries, is_final, StillKept, None, Ok, Err, refl, inr}
 use Rattle.dwarf_base_core.specs.declared.error.Error.TheVariants.{UnexpectedEof}
 use Rattle.std.specs.declared.rc.Rc.{Rc}
 use Rattle.dwarf_read_core.proofs.tables.VectorAndMap.{get_is_lookup, inserted}
-
--- a choice between a value and an option may be made before or after a function is applied to both
-mapped_choice : {X Y : Type 0} (f : X → Y) (b : Bool) (x : X) (o : Option X)
-    → cond b (Some (f x)) (option_map f o) ≡ option_map f (cond b (Some x) o)
-mapped_choice f b x o = grind arith
 
 -- the entries that pass the test for final results
 abbrev still_kept : Option (Result Table Error) → Option (Result Table Error)
 still_kept None = None
 still_kept (Some answer) = cond (is_final answer) (Some answer) None
 
--- a result that passes the test is final, and one that doesn't isn't
-final_is : (answer : Result Table Error) (b : Bool) → is_final answer ≡ b
-    → MatchBool b (IsFinal answer) (IsFinal answer → ⊥)
-final_is answer true is = grind arith
-final_is (Ok t) false is = grind arith
-final_is (Err (UnexpectedEof position)) false is = λ settled. settled position.0 refl
-final_is (Err _) false is = absurd cc
-
 -- the entries that pass are those that are still kept
 still_kept-is : (old new : Option (Result Table Error)) → new ≡ still_kept old → StillKept old new
 still_kept-is None new is = is
-still_kept-is (Some answer) new is = go (is_final answer) refl
-  where
-    go : (b : Bool) → is_final answer ≡ b → StillKept (Some answer) new
-    go true final = inl (final_is answer true final, is ∙ ap (λ b. cond b (Some answer) None) final)
-    go false open_ended = inr (final_is answer false open_ended, is ∙ ap (λ b. cond b (Some answer) None) open_ended)
-
--- retaining the final results is the same before and after the sharing of tables is dropped
-mapped_filter : {X : Type 0} (f : X → Result Table Error) (o : Option X)
-    → option_map f (option_filter (λ x. is_final (f x)) o) ≡ still_kept (option_map f o)
-mapped_filter f o = grind arith
+still_kept-is (Some (Ok t)) new is = grind arith
+still_kept-is (Some (Err (UnexpectedEof p))) new is = inr ((λ settled. settled p.0 refl), is)
+still_kept-is (Some (Err e)) new is = grind arith
 
 -- the entries of a cache, with their tables shared
 abbrev pub SharedEntries : Type 0 → Type 0
@@ -63,7 +42,7 @@ module _ {Z : Type 0} where
   module _ (es fs : SharedEntries Z) (key : ℕ) (v : Result (Rc Table Z) Error) (updates : Updates es fs key v) where
     -- entries that are updated at a key keep the new result there, and elsewhere what was kept before
     kept_at-update : (q : ℕ) → kept_at fs q ≡ cond (is_at (nat_cmp key) q) (Some (answer_of v)) (kept_at es q)
-    kept_at-update q = ap (option_map answer_of) (updates q) ∙ sym (mapped_choice answer_of (is_at (nat_cmp key) q) v _)
+    kept_at-update q = grind (arith, updates q)
 
     -- entries that are updated at a key show the map with the new result inserted there
     pub shown-insert : shown fs ≡ insert (shown es) key (answer_of v)
@@ -76,9 +55,6 @@ module _ {Z : Type 0} where
   pub get-shown-final : (es fs : SharedEntries Z) → fs ≡ filter (λ entry. is_final (answer_of entry.1)) es
       → IsStrictlySortedBy nat_cmp (keys_of es) → (key : ℕ) → StillKept (get (shown es) key) (get (shown fs) key)
   get-shown-final es fs retained ordered key =
-      still_kept-is _ _ (ap (λ (entries : SharedEntries Z). get (shown entries) key) retained
-      ∙ get-shown (filter (λ entry. is_final (answer_of entry.1)) es) key
-      ∙ ap (option_map answer_of) (lookup-filter-values (eq_by_cmp_equiv nat_cmp_total)
-      (λ v. is_final (answer_of v)) key es (IsDistinct-from_sorted nat_cmp _ ordered))
-      ∙ mapped_filter answer_of _
-      ∙ ap still_kept (sym (get-shown es key)))
+      let filtered = lookup-filter-values (eq_by_cmp_equiv nat_cmp_total) (λ v. is_final (answer_of v)) key es
+      (IsDistinct-from_sorted nat_cmp _ ordered) in
+      still_kept-is _ _ (rw (retained, get-shown, get-shown, filtered) (grind arith))

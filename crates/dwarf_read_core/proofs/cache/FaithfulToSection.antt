@@ -21,14 +21,10 @@ pub kept_answer : (cache : Cache) (section : Input) (key : ℕ) {answer : Result
 kept_answer cache section key faithful is =
     subst (λ (kept : Option (Result Table Error)). IfSome kept (Answer section key)) is (faithful section.is_big key)
 
--- what is kept of a section's results once appended bytes may have changed them are results of the longer section
-final_results : (old new : Cache) → ((key : ℕ) → StillKept (get old key) (get new key))
-    → (section : Input) (more : List ℕ) → ((key : ℕ) → IfSome (get old key) (Answer section key))
-    → (key : ℕ) → IfSome (get new key) (Answer (followed_by section more) key)
-final_results old new h section more results key = grind (arith, answer_more, h key, results key)
-
 -- a faithful cache is faithful to the longer section once it has dropped what appended bytes may change
 pub faithful_of_final : (old new : Cache) → ((key : ℕ) → StillKept (get old key) (get new key))
     → (section : Input) (more : List ℕ) → IsFaithful old section → IsFaithful new (followed_by section more)
-faithful_of_final old new h section more faithful is_big =
-    final_results old new h (record section { is_big = is_big }) more (faithful is_big)
+faithful_of_final old new h section more faithful is_big key =
+    let turned : Input = record section { is_big = is_big } in
+    let stays = λ (answer : Result Table Error). answer_more {section = turned} {offset = key} {r = answer} more in
+    grind (arith, stays, h key, faithful is_big key)

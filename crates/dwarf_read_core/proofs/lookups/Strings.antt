@@ -1,5 +1,5 @@
 -- The string that a reader reads after an offset is the section's string there, and a section has one result there.
-use Rattle.dwarf_read_core.proofs.Common.{◌≡◌, ◌≢◌, ℕ, suc, ◌+◌, ◌<◌, List, ◌∷◌, ◌++◌, length, take, drop, Result, Ok, Err, refl, sym, ap, subst, ◌∙◌, arith, ◌⊎◌, inl, inr, Bool, slice_index, IfOk, IfErr, All, cases_lt, append_assoc, length-append, drop-append-le, Error, end_fault, followed_by, IsTooShort, HasNoByte, CloneRanOutOfMemory, Input, after, Takes, TakesString, HasOne, UnlessCloneRanOut, Stays, set}
+use Rattle.dwarf_read_core.proofs.Common.{common_steps, ◌≡◌, ◌≢◌, ℕ, suc, ◌+◌, ◌<◌, List, ◌∷◌, ◌++◌, length, take, drop, Result, Ok, Err, refl, sym, ap, subst, ◌∙◌, arith, ◌⊎◌, inl, inr, Bool, slice_index, IfOk, IfErr, All, cases_lt, append_assoc, length-append, drop-append-le, Error, end_fault, followed_by, IsTooShort, HasNoByte, CloneRanOutOfMemory, Input, after, Takes, TakesString, HasOne, UnlessCloneRanOut, Stays, set}
 use Rattle.std.proofs.Math.Seq.{take-append_seam, get_or-append_seam}
 use Rattle.std.proofs.lemmas.List.{set-get_or, set_split}
 use Rattle.dwarf_reader_core.specs.Input.{IsFirst}
@@ -94,11 +94,7 @@ string_some section offset =
 
 -- bytes without a zero byte end at the first zero byte
 first_zero : (front rest : List ℕ) → All (λ b. b ≢ 0) front → IsFirst 0 (front ++ 0 ∷ rest) (length front)
-first_zero front rest unbroken = record {
-  within = omega (arith, length-append front (0 ∷ rest));
-  here = get_or-append_seam front 0 rest 0;
-  before = subst (λ (l : List ℕ). All (λ b. b ≢ 0) l) (sym (take-append_seam front (0 ∷ rest))) unbroken;
-}
+first_zero front rest unbroken = grind (arith, common_steps, get_or-append_seam, take-append_seam)
 
 -- a string that a section has at an offset is consumed after it
 string_there : {section string : Input} {offset : ℕ} → HoldsString section offset string

@@ -1,20 +1,26 @@
 -- What a reader reads at the place of a slot is the section's result there, and a section has one result there.
-use Rattle.dwarf_read_core.proofs.Common.{common_steps, ◌≡◌, ℕ, ◌+◌, ◌<◌, ◌≤◌, length, take, drop, List, Bool, true, false, Result, Ok, Err, refl, sym, ◌∙◌, arith, inl, inr, ◌⊎◌, IsTrue, IfOk, IfErr, OnOk, cases_lt, length-append, Error, UnsupportedOffset, UnsupportedAddressSize, end_fault, IsTooShort, ReadsNoAddress, ReadsNoWord, is_number_size, Input, after, Takes, TakesNumber, followed_by, IsNotEof, HasOne, UnlessCloneRanOut, rest-length, takes-both, Stays}
+use Rattle.dwarf_read_core.proofs.Common.{common_steps, ◌≡◌, ℕ, ◌+◌, ◌<◌, ◌≤◌, length, take, drop, List, Bool, true, false, Result, Ok, Err, refl, arith, inl, inr, ◌⊎◌, IsTrue, IfOk, IfErr, OnOk, cases_lt, length-append, Error, UnsupportedOffset, UnsupportedAddressSize, end_fault, IsTooShort, ReadsNoAddress, ReadsNoWord, is_number_size, Input, after, Takes, TakesNumber, followed_by, IsNotEof, HasOne, UnlessCloneRanOut, rest-length, Stays}
 use Rattle.dwarf_base_core.specs.Number.{number_of}
 use Rattle.dwarf_read_core.specs.Words.{Slot, distance, place, IsPlaced, Holds, HasWord, HasAddress, HasNoPlace, no_base, no_distance, no_place, HasNoWord, word_unplaced, word_cut, word_too_great, HasNoAddress, address_unplaced, address_unsized, address_cut, WordAt, AddressAt}
 
--- ---- going to the place
+-- ---- exactly one result, by cases
 
--- the bytes before the base and the distance are the bytes before the slot's place
-pub skipped : (section : Input) (s : Slot) (rest new : Input) → Takes s.base section rest
-    → Takes (distance s) rest new → Takes (place s) section new
-skipped section s rest new takes further = takes-both takes further
+-- exactly one result has a property if where m < n an error does, and elsewhere exactly one does
+pub one_unless : {A : Type 0} {Is : Result A Error → Type 0} (m n : ℕ) (e : Error) → (m < n → Is (Err e))
+    → (m < n → (other : Result A Error) → Is other → other ≡ Err e) → (n ≤ m → HasOne Is) → HasOne Is
+one_unless m n e below only above = elim (cases_lt m n) [ inl h ↦ (Err e, below h, only h) | inr h ↦ above h ]
+
+-- exactly one value has a property if that is so at either outcome of a test
+one_by_test : {A : Type 0} {Is : A → Type 0} (t : Bool) → (t ≡ true → HasOne Is) → (t ≡ false → HasOne Is) → HasOne Is
+one_by_test true holds fails = holds refl
+one_by_test false holds fails = fails refl
+
+-- ---- going to the place
 
 -- the bytes before the base and a distance that the code computed are the bytes before the slot's place
 pub skipped_found : {A : Type 0} (section : Input) (s : Slot) (rest new : Input) (far : ℕ) (r : Result A Error)
     → Takes s.base section rest → far ≡ distance s → OnOk r (Takes far rest new) → OnOk r (Takes (place s) section new)
-skipped_found section s rest new far (Ok x) takes is further = skipped section s rest new takes (rw is at further)
-skipped_found section s rest new far (Err e) takes is further = tt
+skipped_found section s rest new far r takes is further = grind (arith, common_steps)
 
 -- a number that is consumed at the place of a slot is the one that the slot holds
 pub slot_holds : (section : Input) (s : Slot) (x : ℕ) (rest new : Input) → Takes (place s) section rest
@@ -31,30 +37,19 @@ module _ (greatest : ℕ) (section : Input) (s : Slot) where
       → HasNoPlace greatest section s UnsupportedOffset
   too_far_off rest takes over = no_distance takes.enough over
 
-  -- if the place is past the end, that is the error after the base
-  pub past_end : (rest : Input) (e : Error) (new : Input) → Takes s.base section rest → distance s ≤ greatest
-      → IsTooShort (distance s) rest e new → HasNoPlace greatest section s e
-  past_end rest e new takes counted short =
-      let long = rest-length s.base section rest takes in
-      rw (short.fault, takes.left) (no_place takes.enough counted (omega (arith, short.short, long)))
-
-  -- a place past the end is the error, also with a distance that the code computed
+  -- if the place at a distance that the code computed is past the end, that is the error after the base
   pub past_end_found : {A : Type 0} (rest new : Input) (far : ℕ) (r : Result A Error) → Takes s.base section rest
       → far ≡ distance s → far ≤ greatest → IfErr r (λ e. IsTooShort far rest e new)
       → IfErr r (HasNoPlace greatest section s)
-  past_end_found rest new far r takes is counted h = grind (arith, past_end)
+  past_end_found rest new far (Ok x) takes is counted h = tt
+  past_end_found rest new far (Err e) takes is counted h =
+      let long = rest-length s.base section rest takes in
+      rw (h.fault, takes.left) (no_place takes.enough (omega arith) (omega (arith, h.short, long)))
 
-  -- if the bytes before the base and the distance are consumed, the slot has a place in the section
-  pub placed : (rest new : Input) → Takes s.base section rest → distance s ≤ greatest → Takes (distance s) rest new
-      → IsPlaced greatest section s
-  placed rest new takes counted further = grind (arith, common_steps, rest-length)
-
-  -- a slot has a place if a distance that the code computed is consumed
+  -- if the bytes before the base and a distance that the code computed are consumed, the slot has a place
   pub placed_found : {A : Type 0} (rest new : Input) (far : ℕ) (r : Result A Error) → Takes s.base section rest
       → far ≡ distance s → far ≤ greatest → OnOk r (Takes far rest new) → OnOk r (IsPlaced greatest section s)
-  placed_found rest new far (Ok x) takes is counted further =
-      placed rest new takes (omega arith) (rw is at further)
-  placed_found rest new far (Err e) takes is counted further = tt
+  placed_found rest new far r takes is counted further = grind (arith, common_steps, rest-length)
 
   -- ---- the number at a place
   module _ (rest : Input) (is_placed : IsPlaced greatest section s) (takes : Takes (place s) section rest) where
@@ -153,142 +148,82 @@ module _ (greatest : ℕ) (section : Input) (s : Slot) where
 
   -- ---- exactly one result
 
-  -- a slot has a place, or an error
-  place_some : ((e : Error) × HasNoPlace greatest section s e) ⊎ IsPlaced greatest section s
-  place_some =
-      elim (cases_lt (length section.bytes) s.base) [
-        | inl past ↦ inl (end_fault section, no_base past)
-        | inr based ↦
-            elim (cases_lt greatest (distance s)) [
-              | inl over ↦ inl (UnsupportedOffset, no_distance based over)
-              | inr counted ↦
-                  elim (cases_lt (length section.bytes) (place s)) [
-                    | inl past ↦ inl (end_fault (after s.base section), no_place based counted past)
-                    | inr within ↦ inr (record { based = based; counted = counted; within = within })
-                  ]
-            ]
-      ]
-
   -- a slot that has a place has no error
   place_or_none : {e : Error} → IsPlaced greatest section s → HasNoPlace greatest section s e → ⊥
-  place_or_none h (no_base past) = omega (arith, h.based)
-  place_or_none h (no_distance based over) = omega (arith, h.counted)
-  place_or_none h (no_place based counted past) = omega (arith, h.within)
+  place_or_none h none = grind arith
 
-  -- a slot without a place has one error
-  place_same : {e d : Error} → HasNoPlace greatest section s e → HasNoPlace greatest section s d → e ≡ d
-  place_same (no_base past) (no_base more) = refl
-  place_same (no_base past) (no_distance based over) = absurd (omega arith)
-  place_same (no_base past) (no_place based counted more) = absurd (omega arith)
-  place_same (no_distance based over) (no_base past) = absurd (omega arith)
-  place_same (no_distance based over) (no_distance other more) = refl
-  place_same (no_distance based over) (no_place other counted past) = absurd (omega arith)
-  place_same (no_place based counted past) (no_base more) = absurd (omega arith)
-  place_same (no_place based counted past) (no_distance other over) = absurd (omega arith)
-  place_same (no_place based counted past) (no_place other more last) = refl
+  -- a slot has exactly one result of a kind if it has one wherever it has a place, and elsewhere none of its own
+  one_with_place : (Is : Result ℕ Error → Type 0) → ((e : Error) → HasNoPlace greatest section s e → Is (Err e))
+      → ((x : ℕ) → Is (Ok x) → IsPlaced greatest section s)
+      → ((e : Error) → Is (Err e) → IsPlaced greatest section s ⊎ HasNoPlace greatest section s e)
+      → (IsPlaced greatest section s → HasOne Is) → HasOne Is
+  one_with_place Is unplaced ok err there =
+      one_unless (length section.bytes) s.base (end_fault section) (λ past. unplaced _ (no_base past))
+      (λ past other is. grind arith) (λ based.
+      one_unless greatest (distance s) UnsupportedOffset (λ over. unplaced _ (no_distance based over))
+      (λ over other is. grind arith) (λ counted.
+      one_unless (length section.bytes) (place s) (end_fault (after s.base section))
+      (λ past. unplaced _ (no_place based counted past)) (λ past other is. grind arith)
+      (λ within. there (record { based = based; counted = counted; within = within }))))
 
-  -- a slot holds one number
-  holds_same : {x y : ℕ} → Holds section s x → Holds section s y → x ≡ y
-  holds_same h k = h.encoded ∙ sym k.encoded
-
-  -- a slot has a word, or an error
-  word_some : (r : Result ℕ Error) × WordAt greatest section s r
-  word_some =
-      elim place_some [
-        | inl none ↦ (Err none.0, word_unplaced none.1)
-        | inr there ↦
-            elim (cases_lt (length section.bytes) (place s + s.width)) [
-              | inl cut ↦ (Err (end_fault (after (place s) section)), word_cut there cut)
-              | inr within ↦
-                  let x = number_of section.is_big (take s.width (drop (place s) section.bytes)) in
-                  let held : Holds section s x = record { within = within; encoded = refl } in
-                  elim (cases_lt greatest x) [
-                    | inl over ↦ (Err UnsupportedOffset, word_too_great x there held over)
-                    | inr fits ↦ (Ok x, record { placed = there; held = held; fits = fits })
-                  ]
-            ]
-      ]
-
-  -- a slot that has a word has no error
-  word_or_none : {x : ℕ} {e : Error} → HasWord greatest section s x → HasNoWord greatest section s e → ⊥
-  word_or_none h (word_unplaced none) = place_or_none h.placed none
-  word_or_none h (word_cut there cut) = omega (arith, h.held.within)
-  word_or_none h (word_too_great y there held over) = omega (arith, h.fits, holds_same h.held held)
-
-  -- two results for a word are equal
-  word_same : (r t : Result ℕ Error) → WordAt greatest section s r → WordAt greatest section s t → r ≡ t
-  word_same (Ok x) (Ok y) h k = let same = holds_same h.held k.held in λ i. Ok (same i)
-  word_same (Ok x) (Err e) h k = absurd (word_or_none h k)
-  word_same (Err e) (Ok x) h k = absurd (word_or_none k h)
-  word_same (Err e) (Err d) (word_unplaced none) (word_unplaced other) =
-      let same = place_same none other in λ i. Err (same i)
-  word_same (Err e) (Err d) (word_unplaced none) (word_cut there cut) = absurd (place_or_none there none)
-  word_same (Err e) (Err d) (word_unplaced none) (word_too_great x there held over) =
-      absurd (place_or_none there none)
-  word_same (Err e) (Err d) (word_cut there cut) (word_unplaced none) = absurd (place_or_none there none)
-  word_same (Err e) (Err d) (word_cut there cut) (word_cut here more) = refl
-  word_same (Err e) (Err d) (word_cut there cut) (word_too_great x here held over) =
-      absurd (omega (arith, held.within))
-  word_same (Err e) (Err d) (word_too_great x there held over) (word_unplaced none) =
-      absurd (place_or_none there none)
-  word_same (Err e) (Err d) (word_too_great x there held over) (word_cut here cut) =
-      absurd (omega (arith, held.within))
-  word_same (Err e) (Err d) (word_too_great x there held over) (word_too_great y here found more) = refl
+  -- a number too great for an offset is the only result for a word
+  too_great-is : {x : ℕ} → IsPlaced greatest section s → Holds section s x → greatest < x → (r : Result ℕ Error)
+      → WordAt greatest section s r → r ≡ Err UnsupportedOffset
+  too_great-is there held over (Ok x) is = grind arith
+  too_great-is there held over (Err e) (word_unplaced none) = absurd (place_or_none there none)
+  too_great-is there held over (Err e) (word_cut here cut) = grind arith
+  too_great-is there held over (Err e) (word_too_great y here found more) = refl
 
   -- a slot has exactly one word or error
   pub words_exactly_one : HasOne (WordAt greatest section s)
-  words_exactly_one = (word_some.0, word_some.1, λ other is. word_same other word_some.0 is word_some.1)
+  words_exactly_one =
+      one_with_place (WordAt greatest section s) (λ e. word_unplaced) (λ x has. has.placed) (λ e is. grind arith)
+      (λ there.
+      one_unless (length section.bytes) (place s + s.width) (end_fault (after (place s) section)) (word_cut there)
+      (λ cut other is. grind arith) (λ within.
+      let x = number_of section.is_big (take s.width (drop (place s) section.bytes)) in
+      let held : Holds section s x = record { within = within; encoded = refl } in
+      one_unless greatest x UnsupportedOffset (word_too_great x there held) (too_great-is there held)
+      (λ fits. (Ok x, record { placed = there; held = held; fits = fits }, λ other is. grind arith))))
 
-  -- a slot has an address, or an error
-  address_some : (r : Result ℕ Error) × AddressAt greatest section s r
-  address_some =
-      elim place_some [
-        | inl none ↦ (Err none.0, address_unplaced none.1)
-        | inr there ↦ go there (is_number_size s.width) refl
-      ]
-    where
-      go : IsPlaced greatest section s → (sized : Bool) → is_number_size s.width ≡ sized
-          → (r : Result ℕ Error) × AddressAt greatest section s r
-      go there false other = (Err (UnsupportedAddressSize s.width), address_unsized there other)
-      go there true size =
-          elim (cases_lt (length section.bytes) (place s + s.width)) [
-            | inl cut ↦ (Err (end_fault (after (place s) section)), address_cut there size cut)
-            | inr within ↦
-                let x = number_of section.is_big (take s.width (drop (place s) section.bytes)) in
-                let held : Holds section s x = record { within = within; encoded = refl } in
-                (Ok x, record { placed = there; sized = size; held = held })
-          ]
+  -- a width that addresses don't have is the only result for an address
+  unsized-is : IsPlaced greatest section s → is_number_size s.width ≡ false → (r : Result ℕ Error)
+      → AddressAt greatest section s r → r ≡ Err (UnsupportedAddressSize s.width)
+  unsized-is there other (Ok x) is = let size = is.sized in absurd cc
+  unsized-is there other (Err e) (address_unplaced none) = absurd (place_or_none there none)
+  unsized-is there other (Err e) (address_unsized here more) = refl
+  unsized-is there other (Err e) (address_cut here size cut) = absurd cc
 
-  -- a slot that has an address has no error
-  address_or_none : {x : ℕ} {e : Error} → HasAddress greatest section s x → HasNoAddress greatest section s e → ⊥
-  address_or_none h (address_unplaced none) = place_or_none h.placed none
-  address_or_none h (address_unsized there other) = let size = h.sized in cc
-  address_or_none h (address_cut there size cut) = omega (arith, h.held.within)
+  -- missing bytes are the only result for an address
+  address_cut-is : IsPlaced greatest section s → is_number_size s.width ≡ true
+      → length section.bytes < place s + s.width → (r : Result ℕ Error) → AddressAt greatest section s r
+      → r ≡ Err (end_fault (after (place s) section))
+  address_cut-is there size cut (Ok x) is = grind arith
+  address_cut-is there size cut (Err e) (address_unplaced none) = absurd (place_or_none there none)
+  address_cut-is there size cut (Err e) (address_unsized here other) = absurd cc
+  address_cut-is there size cut (Err e) (address_cut here more short) = refl
 
-  -- two results for an address are equal
-  address_same : (r t : Result ℕ Error) → AddressAt greatest section s r → AddressAt greatest section s t → r ≡ t
-  address_same (Ok x) (Ok y) h k = let same = holds_same h.held k.held in λ i. Ok (same i)
-  address_same (Ok x) (Err e) h k = absurd (address_or_none h k)
-  address_same (Err e) (Ok x) h k = absurd (address_or_none k h)
-  address_same (Err e) (Err d) (address_unplaced none) (address_unplaced other) =
-      let same = place_same none other in λ i. Err (same i)
-  address_same (Err e) (Err d) (address_unplaced none) (address_unsized there other) =
-      absurd (place_or_none there none)
-  address_same (Err e) (Err d) (address_unplaced none) (address_cut there size cut) =
-      absurd (place_or_none there none)
-  address_same (Err e) (Err d) (address_unsized there other) (address_unplaced none) =
-      absurd (place_or_none there none)
-  address_same (Err e) (Err d) (address_unsized there other) (address_unsized here more) = refl
-  address_same (Err e) (Err d) (address_unsized there other) (address_cut here size cut) = absurd cc
-  address_same (Err e) (Err d) (address_cut there size cut) (address_unplaced none) =
-      absurd (place_or_none there none)
-  address_same (Err e) (Err d) (address_cut there size cut) (address_unsized here other) = absurd cc
-  address_same (Err e) (Err d) (address_cut there size cut) (address_cut here more last) = refl
+  -- an address is the only result
+  address-is : {x : ℕ} → HasAddress greatest section s x → (r : Result ℕ Error) → AddressAt greatest section s r
+      → r ≡ Ok x
+  address-is has (Ok x) is = grind arith
+  address-is has (Err e) (address_unplaced none) = absurd (place_or_none has.placed none)
+  address-is has (Err e) (address_unsized here other) = let size = has.sized in absurd cc
+  address-is has (Err e) (address_cut here size cut) = absurd (omega (arith, has.held.within))
 
   -- a slot has exactly one address or error
   pub addresses_exactly_one : HasOne (AddressAt greatest section s)
   addresses_exactly_one =
-      (address_some.0, address_some.1, λ other is. address_same other address_some.0 is address_some.1)
+      one_with_place (AddressAt greatest section s) (λ e. address_unplaced) (λ x has. has.placed) (λ e is. grind arith)
+      (λ there.
+      one_by_test (is_number_size s.width) (λ size.
+      one_unless (length section.bytes) (place s + s.width) (end_fault (after (place s) section))
+      (address_cut there size) (address_cut-is there size) (λ within.
+      let x = number_of section.is_big (take s.width (drop (place s) section.bytes)) in
+      let held : Holds section s x = record { within = within; encoded = refl } in
+      let has : HasAddress greatest section s x = record { placed = there; sized = size; held = held } in
+      (Ok x, has, address-is has)))
+      (λ other. (Err (UnsupportedAddressSize s.width), address_unsized there other, unsized-is there other)))
 
 -- each way a lookup of a word can return
 pub ruleset word_steps = (word_taken, word_fails, word_unplaced)

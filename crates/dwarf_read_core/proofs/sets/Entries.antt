@@ -1,11 +1,10 @@
 -- Bytes have exactly one list of entries, and `next` returns the first.
-use Rattle.dwarf_read_core.proofs.Common.{common_steps, ◌≡◌, ◌≢◌, ◌∙◌, ℕ, zero, suc, ◌+◌, ◌-◌, ◌*◌, ◌/◌, ◌<◌, ◌≤◌, Bool, cond, ◌∷◌, sum_by-cons, true, List, [], length, take, Result, Ok, Err, refl, sym, ap, subst, arith, inl, inr, cases_lt, sum_by, IsTrue, le-leb, lt-leb, leb, UnsupportedOffset, Error, end_fault, is_number_size, ReadsNoAddress, ReadsNoWord, Input, after, TakesNumber, HasOne, Entries, RepresentsAddresses, RepresentsStringOffsets, ComesFirst, least_taken, length-drop}
+use Rattle.dwarf_read_core.proofs.Common.{common_steps, ◌≡◌, ◌≢◌, ◌∙◌, ℕ, zero, suc, ◌+◌, ◌-◌, ◌*◌, ◌/◌, ◌<◌, ◌≤◌, Bool, cond, ◌∷◌, sum_by-cons, true, List, [], length, take, Result, Ok, Err, refl, sym, ap, subst, arith, inl, inr, cases_lt, sum_by, IsTrue, lt-leb, leb, UnsupportedOffset, Error, end_fault, is_number_size, ReadsNoAddress, ReadsNoWord, Input, after, TakesNumber, HasOne, Entries, ComesFirst, least_taken, length-drop}
 use Rattle.std.specs.Prelude.{if◌then◌else◌, nat_lt, slice_get, count_by, is_ok, IfSome}
 use Rattle.std.proofs.lemmas.Nat.{div-mul-add}
 use Rattle.std.proofs.Math.Nat.{suc-mul}
 use Rattle.std.proofs.lemmas.Bool.{cases_Bool}
 use Rattle.dwarf_base_core.specs.declared.common.Format.{Format}
-use Rattle.dwarf_base_core.specs.declared.common.Format.TheVariants.{Dwarf32, Dwarf64}
 use Rattle.dwarf_base_core.specs.Format.{word_size}
 use Rattle.dwarf_base_core.specs.Number.{number_of}
 use Rattle.dwarf_read_core.specs.Entries.{AreNumbers, EntryAt, HasNoEntry, entry_cut, entry_too_great}
@@ -62,81 +61,48 @@ module _ (fits : ℕ → Bool) where
   -- the bytes that remain have exactly one list of numbers
   pub numbers_exactly_one : (entries : Entries) → 0 < entries.width → HasOne (AreNumbers fits entries)
   numbers_exactly_one entries positive =
-      items-exactly_one (entry_exactly_one fits entries.width) (entry_least fits entries.width)
-      (omega (arith, positive))
-      entries.rest
+      items-exactly_one (entry_exactly_one fits entries.width) (entry_least fits entries.width) positive entries.rest
 
   -- numbers consume no more bytes than there are
   pub numbers_bounded : (entries : Entries) (items : List (Result ℕ Error)) → AreNumbers fits entries items
       → sum_by (least_taken entries.width) items ≤ length entries.rest.bytes
   numbers_bounded entries items are = items-bounded (entry_least fits entries.width) are
 
-  module _ (width : ℕ) (positive : 0 < width) (old new : Input) (some : old.bytes ≢ []) where
+  module _ (width : ℕ) (old new : Input) (some : old.bytes ≢ []) where
     -- a number that is read, and fits, is the first item
-    number_first : {x : ℕ} → TakesNumber width old x new → IsTrue (fits x)
+    pub number_first : {x : ℕ} → 0 < width → TakesNumber width old x new → IsTrue (fits x)
         → ComesFirst (AreNumbers fits) (entries_in width old) (Ok x) (entries_in width new)
-    number_first {x} takes fit =
-        let taken : TakesNumber width old x (after width old) =
-        record { enough = takes.enough; encoded = takes.encoded; left = refl } in
-        item-first (entry_exactly_one fits width) (entry_least fits width) (omega (arith, positive)) old new some
-        (record { number = taken; fitting = fit }) takes.left
+    number_first {x} positive takes fit =
+        item-first (entry_exactly_one fits width) (entry_least fits width) positive old new some
+        (record { number = subst (TakesNumber width old x) takes.left takes; fitting = fit }) takes.left
 
     -- an error in place of a number is the first item, after which nothing remains
-    number_error_first : {e : Error} {left : Input} → HasNoEntry fits width old e → left.bytes ≡ []
-        → ComesFirst (AreNumbers fits) (entries_in width old) (Err e) (entries_in width left)
-    number_error_first {left = left} lacks empty = error-first (entry_exactly_one fits width) old left some lacks empty
-
--- ---- addresses
+    pub number_error_first : {e : Error} → HasNoEntry fits width old e → new.bytes ≡ []
+        → ComesFirst (AreNumbers fits) (entries_in width old) (Err e) (entries_in width new)
+    number_error_first lacks empty = error-first (entry_exactly_one fits width) old new some lacks empty
 
 -- a size of addresses is above 0
 pub size-positive : (width : ℕ) → IsTrue (is_number_size width) → 0 < width
 size-positive width sized = grind arith
 
-module _ (width : ℕ) (old new : Input) (sized : IsTrue (is_number_size width)) (some : old.bytes ≢ []) where
-  -- an address that is read is the first item
-  pub address_first : {x : ℕ} → TakesNumber width old x new
-      → ComesFirst RepresentsAddresses (entries_in width old) (Ok x) (entries_in width new)
-  address_first takes = number_first (λ x. true) width (size-positive width sized) old new some takes refl
-
-  -- an address that is cut is the first item, as an error after which nothing remains
-  pub address_error_first : {e : Error} {left : Input} → ReadsNoAddress width old e new → left.bytes ≡ []
-      → ComesFirst RepresentsAddresses (entries_in width old) (Err e) (entries_in width left)
-  address_error_first (inl size) empty = absurd (let n = size.none in cc)
-  address_error_first (inr (_, short)) empty =
-      number_error_first (λ x. true) width (size-positive width sized) old new some
-      (rw short.fault (entry_cut short.short)) empty
-
--- ---- offsets of strings
-
 -- a word has at least one byte
 pub word_size-positive : (format : Format) → 0 < word_size format
-word_size-positive Dwarf32 = omega arith
-word_size-positive Dwarf64 = omega arith
+word_size-positive format = grind arith
 
-module _ (greatest : ℕ) (format : Format) (old new : Input) (some : old.bytes ≢ []) where
-  -- a string offset that is read is the first item
-  pub string_offset_first : {x : ℕ} → TakesNumber (word_size format) old x new → x ≤ greatest
-      → ComesFirst (RepresentsStringOffsets greatest) (entries_in (word_size format) old) (Ok x)
-      (entries_in (word_size format) new)
-  string_offset_first {x} takes fit =
-      number_first (λ x. leb x greatest) (word_size format) (word_size-positive format) old new some takes
-      (le-leb x greatest fit)
+module _ {width : ℕ} {old new : Input} {e : Error} where
+  -- an address that isn't read is cut
+  pub address_not_read : IsTrue (is_number_size width) → ReadsNoAddress width old e new
+      → HasNoEntry (λ x. true) width old e
+  address_not_read sized (inl size) = absurd (let n = size.none in cc)
+  address_not_read sized (inr (_, short)) = rw short.fault (entry_cut short.short)
 
-  -- a string offset that is cut or too great is the first item, as an error after which nothing remains
-  pub string_offset_error_first : {e : Error} {left : Input} → ReadsNoWord greatest (word_size format) old e new
-      → left.bytes ≡ [] → ComesFirst (RepresentsStringOffsets greatest) (entries_in (word_size format) old)
-      (Err e) (entries_in (word_size format) left)
-  string_offset_error_first {e} {left} failed empty =
-      number_error_first (λ x. leb x greatest) (word_size format) (word_size-positive format) old new some
-      (lacks failed) empty
-    where
-      lacks : ReadsNoWord greatest (word_size format) old e new
-          → HasNoEntry (λ x. leb x greatest) (word_size format) old e
-      lacks (inl short) = rw short.fault (entry_cut short.short)
-      lacks (inr unfit) =
-          let taken : TakesNumber (word_size format) old unfit.number (after (word_size format) old) =
-          record { enough = unfit.taken.enough; encoded = unfit.taken.encoded; left = refl } in
-          rw unfit.fault (entry_too_great taken (lt-leb unfit.number greatest unfit.over))
+  -- a string offset that isn't read is cut or too great
+  pub string_offset_not_read : {greatest : ℕ} → ReadsNoWord greatest width old e new
+      → HasNoEntry (λ x. leb x greatest) width old e
+  string_offset_not_read (inl short) = rw short.fault (entry_cut short.short)
+  string_offset_not_read {greatest} (inr over) =
+      let taken = subst (TakesNumber width old over.number) over.taken.left over.taken in
+      rw over.fault (entry_too_great taken (lt-leb over.number greatest over.over))
 
 -- ---- entries by their index, and how many there are
 
@@ -154,13 +120,9 @@ module _ {fits : ℕ → Bool} {width : ℕ} where
       → AreItems (λ i. i) (EntryAt fits width) (λ _ i. after width i) old items
       → (index : ℕ) → IfSome (slice_get items index) (EntryAt fits width (after (index * width) old))
   item_at (none empty) index = tt
-  item_at (more {old = old} {x = x} some has others) zero =
-      subst (λ (i : Input). EntryAt fits width i (Ok x)) (after_none width old) has
-  item_at (more {old = old} {items = items} some has others) (suc index) =
-      subst (λ (i : Input). IfSome (slice_get items index) (EntryAt fits width i)) (after_entry width index old)
-      (item_at others index)
-  item_at (first_error {old = old} {e = e} some has) zero =
-      subst (λ (i : Input). EntryAt fits width i (Err e)) (after_none width old) has
+  item_at (more {old = old} some has others) zero = rw (← after_none width old) has
+  item_at (more {old = old} some has others) (suc index) = rw (← after_entry width index old) (item_at others index)
+  item_at (first_error {old = old} some has) zero = rw (← after_none width old) has
   item_at (first_error some has) (suc index) = tt
 
 -- the item with an index is the number of the bytes at its place
@@ -178,11 +140,9 @@ module _ (width : ℕ) (positive : 0 < width) where
   counted (none empty) = (omega arith, omega (arith, ap length empty, positive))
   counted (more {old = old} {x = x} {items = items} some has others) =
       let following = counted others in
-      let one : count_by is_ok (Ok x ∷ items) ≡ 1 + count_by is_ok items =
-      sum_by-cons (λ (r : Result ℕ Error). cond (is_ok r) 1 0) (Ok x) items in
-      let long = length-drop width old.bytes in
-      let all : (1 + count_by is_ok items) * width ≡ count_by is_ok items * width + width = grind (arith, suc-mul) in
-      rw one (
+      let all : count_by is_ok (Ok x ∷ items) * width ≡ count_by is_ok items * width + width =
+      rw (sum_by-cons (λ (r : Result ℕ Error). cond (is_ok r) 1 0) (Ok x) items) (grind (arith, suc-mul)) in
+      let long = length-drop width old.bytes in (
         omega (arith, following.0, long, all, has.number.enough),
         omega (arith, following.1, long, all, has.number.enough),
       )

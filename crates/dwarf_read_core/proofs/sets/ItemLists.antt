@@ -1,15 +1,10 @@
 -- Bytes have exactly one list of items, and a call returns the first.
-use Rattle.dwarf_read_core.proofs.Common.{common_steps, ◌≡◌, ◌≢◌, ℕ, zero, suc, ◌+◌, ◌<◌, ◌≤◌, List, [], ◌∷◌, ◌++◌, length, Result, Ok, Err, refl, sym, subst, ◌∙◌, arith, inl, inr, ◌⊎◌, sum_by, sum_by-cons, Error, Input, HasOne, least_taken, ComesFirst}
+use Rattle.dwarf_read_core.proofs.Common.{common_steps, ◌≡◌, ◌≢◌, ℕ, zero, suc, ◌+◌, ◌<◌, ◌≤◌, List, [], ◌∷◌, ◌++◌, length, Result, Ok, Err, refl, sym, ◌∙◌, arith, sum_by, sum_by-cons, Error, Input, HasOne, least_taken, ComesFirst}
 use Rattle.dwarf_read_core.specs.Items.{AreItems, none, more, first_error}
 
 -- bytes that aren't empty are at least one
 pub bytes-some : (bytes : List ℕ) → bytes ≢ [] → 1 ≤ length bytes
 bytes-some bytes some = grind (arith, common_steps)
-
--- bytes are empty, or they aren't
-bytes-none_or_some : (bytes : List ℕ) → (bytes ≡ []) ⊎ (bytes ≢ [])
-bytes-none_or_some [] = inl refl
-bytes-none_or_some (b ∷ bytes) = inr (λ e. cc)
 
 -- bytes that aren't empty stay so with more bytes after them
 pub bytes-still_some : (bytes following : List ℕ) → bytes ≢ [] → bytes ++ following ≢ []
@@ -31,8 +26,7 @@ module _ {S A : Type 0} {rest : S → Input} {Is : S → Result A Error → Type
       → AreItems rest Is following old items → sum_by (least_taken n) items ≤ length (rest old).bytes
   items-bounded least (none e) = omega arith
   items-bounded {n} least (more {old = old} {x = x} {items = items} some is others) =
-      rw (sum_by-cons (least_taken n) (Ok x) items)
-      (let b = items-bounded least others in let l = least.by old x is in omega (arith, b, l))
+      rw (sum_by-cons (least_taken n) (Ok x) items) (omega (arith, items-bounded least others, least.by old x is))
   items-bounded {n} least (first_error {old = old} {e = e} some is) =
       rw (sum_by-cons (least_taken n) (Err e) []) (omega (arith, bytes-some (rest old).bytes some))
 
@@ -44,28 +38,24 @@ module _ {S A : Type 0} {rest : S → Input} {Is : S → Result A Error → Type
     items-same (none e) (more some is others) = absurd (some e)
     items-same (none e) (first_error some is) = absurd (some e)
     items-same (more some is others) (none e) = absurd (some e)
-    items-same {old} (more {x = x} some is others) (more {x = y} {items = ys} full has after) =
-        let both = same_of_one (one old) is has in
+    items-same (more {x = x} some is others) (more {x = y} full has after) =
+        let both = same_of_one (one _) is has in
         let same : x ≡ y = cc in
-        let left =
-        items-same others (subst (λ (z : A). AreItems rest Is following (following z old) ys) (sym same) after) in
+        let left = items-same others (rw (← same) at after) in
         λ i. Ok (same i) ∷ left i
-    items-same {old} (more some is others) (first_error full has) =
-        absurd (let both = same_of_one (one old) is has in cc)
+    items-same (more some is others) (first_error full has) = absurd (let both = same_of_one (one _) is has in cc)
     items-same (first_error some is) (none e) = absurd (some e)
-    items-same {old} (first_error some is) (more full has others) =
-        absurd (let both = same_of_one (one old) is has in cc)
-    items-same {old} (first_error {e = d} some is) (first_error {e = e} full has) =
-        let both = same_of_one (one old) is has in let same : d ≡ e = cc in λ i. Err (same i) ∷ []
+    items-same (first_error some is) (more full has others) = absurd (let both = same_of_one (one _) is has in cc)
+    items-same (first_error {e = d} some is) (first_error {e = e} full has) =
+        let both = same_of_one (one _) is has in
+        let same : d ≡ e = cc in
+        λ i. Err (same i) ∷ []
 
     -- an error is the first item, and no others are after it
     pub error-first : (old left : S) {e : Error} → (rest old).bytes ≢ [] → Is old (Err e) → (rest left).bytes ≡ []
         → ComesFirst (AreItems rest Is following) old (Err e) left
-    error-first old left {e} some is empty = (
-      ([], none empty),
-      λ others has. subst (λ (all : List (Result A Error)). AreItems rest Is following old (Err e ∷ all))
-          (items-same (none empty) has) (first_error some is),
-    )
+    error-first old left some is empty =
+        (([], none empty), λ others has. rw (← items-same (none empty) has) (first_error some is))
 
     -- ---- if each value has at least one byte
     module _ {n : ℕ} (least : TakesLeast rest Is following n) (positive : 1 ≤ n) where
@@ -73,19 +63,17 @@ module _ {S A : Type 0} {rest : S → Input} {Is : S → Result A Error → Type
       items-some : (steps : ℕ) (old : S) → length (rest old).bytes < steps
           → (items : List (Result A Error)) × AreItems rest Is following old items
       items-some zero old few = absurd (omega arith)
-      items-some (suc steps) old few =
-          go (items-some steps) (bytes-none_or_some (rest old).bytes) (one old).0 (one old).1
+      items-some (suc steps) old few = go (items-some steps) (rest old).bytes refl (one old).0 (one old).1
         where
           go : ((s : S) → length (rest s).bytes < steps
               → (items : List (Result A Error)) × AreItems rest Is following s items)
-              → ((rest old).bytes ≡ []) ⊎ ((rest old).bytes ≢ []) → (r : Result A Error) → Is old r
+              → (bytes : List ℕ) → (rest old).bytes ≡ bytes → (r : Result A Error) → Is old r
               → (items : List (Result A Error)) × AreItems rest Is following old items
-          go again (inl empty) r is = ([], none empty)
-          go again (inr some) (Err e) is = (Err e ∷ [], first_error some is)
-          go again (inr some) (Ok x) is =
-              let others = again (following x old)
-              (let l = least.by old x is in omega (arith, l, positive, few)) in
-              (Ok x ∷ others.0, more some is others.1)
+          go again [] empty r is = ([], none empty)
+          go again (b ∷ bytes) full (Err e) is = (Err e ∷ [], first_error (λ empty. cc) is)
+          go again (b ∷ bytes) full (Ok x) is =
+              let others = again (following x old) (omega (arith, least.by old x is, positive, few)) in
+              (Ok x ∷ others.0, more (λ empty. cc) is others.1)
 
       -- bytes have exactly one list of items
       pub items-exactly_one : (old : S) → HasOne (AreItems rest Is following old)
@@ -97,10 +85,8 @@ module _ {S A : Type 0} {rest : S → Input} {Is : S → Result A Error → Type
       pub item-first : (old new : S) {x : A} → (rest old).bytes ≢ [] → Is old (Ok x) → new ≡ following x old
           → ComesFirst (AreItems rest Is following) old (Ok x) new
       item-first old new some is left =
-          let found = items-exactly_one new in (
-            (found.0, found.1),
-            λ others has. more some is (subst (λ (s : S). AreItems rest Is following s others) left has),
-          )
+          let found = items-exactly_one new in
+          ((found.0, found.1), λ others has. more some is (rw left at has))
 
   -- what is known of a first item: bytes remain, and it is the item there
   pub first-is : {old : S} {r : Result A Error} {items : List (Result A Error)}

@@ -1,5 +1,5 @@
 -- Each set of a list is where its offset says.
-use Rattle.dwarf_read_core.proofs.Common.{◌≡◌, ◌∙◌, ℕ, zero, suc, ◌+◌, ◌-◌, ◌≤◌, List, length, take, drop, Some, Result, Ok, sym, ap, subst, arith, length-drop, Error, Input, after, Set, Headers}
+use Rattle.dwarf_read_core.proofs.Common.{common_steps, ◌≡◌, ◌∙◌, ℕ, zero, suc, ◌+◌, ◌-◌, ◌≤◌, List, length, take, drop, Some, Result, Ok, sym, ap, subst, arith, Error, Input, after, Set, Headers}
 use Rattle.std.specs.Prelude.{slice_get}
 use Rattle.std.proofs.lemmas.List.{drop-drop, drop-take, length-take}
 use Rattle.dwarf_base_core.specs.Format.{initial_length_size}
@@ -11,12 +11,7 @@ use Rattle.dwarf_read_core.specs.Sets.{HasSet, SetAt, after_set, set_size}
 -- a part of what remains after k bytes is a part of all, k bytes later
 range_after : {k offset n : ℕ} {rest part : Input} → k ≤ length rest.bytes → HoldsRange (after k rest) offset n part
     → HoldsRange rest (k + offset) n part
-range_after {k} {offset} {n} {rest} {part} enough held = record {
-  within = omega (arith, enough, held.within, length-drop k rest.bytes);
-  content = held.content ∙ ap (take n) (drop-drop offset k rest.bytes);
-  place = omega (arith, held.place);
-  order = held.order;
-}
+range_after {k} {offset} {n} {rest} {part} enough held = grind (arith, common_steps, drop-drop)
 
 module _ {H : Type 0} {header : Header H} {size : ℕ} (is_header : IsHeader size header) {greatest : ℕ} where
   -- the entries of a set are the part after its initial length and its header

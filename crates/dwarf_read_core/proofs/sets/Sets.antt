@@ -1,133 +1,29 @@
 -- Bytes have exactly one list of sets, a set stays with more bytes appended, and what a reader reads of it is it.
-use Rattle.dwarf_read_core.proofs.Common.{◌≡◌, ◌≢◌, ◌∙◌, ℕ, ◌+◌, ◌-◌, ◌≤◌, List, [], ◌∷◌, length, drop, Result, Ok, Err, refl, sym, ap, subst, arith, Bool, ◌⊎◌, inl, inr, cases_lt, sum_by, length-append, length-drop, take-append-le, drop-append-le, Error, CloneRanOutOfMemory, end_fault, IsTooShort, Input, after, first, Takes, HasOne, IsNotEof, followed_by, ComesFirst, least_taken, Set, Headers, RepresentsSets, followed_headers, rest-length, takes-both}
+use Rattle.dwarf_read_core.proofs.Common.{◌≡◌, ◌≢◌, ◌∙◌, ℕ, ◌+◌, ◌-◌, ◌<◌, ◌≤◌, List, [], ◌∷◌, length, Result, Ok, Err, refl, sym, ap, subst, arith, Bool, ◌⊎◌, inl, inr, cases_lt, sum_by, length-append, length-drop, take-append-le, drop-append-le, Error, CloneRanOutOfMemory, end_fault, IsTooShort, Input, after, first, Takes, HasOne, IsNotEof, followed_by, ComesFirst, least_taken, Set, Headers, RepresentsSets, followed_headers, rest-length, takes-both}
+use Rattle.std.specs.Prelude.{if◌then◌else◌, nat_lt}
 use Rattle.std.proofs.lemmas.List.{length-take}
 use Rattle.dwarf_base_core.specs.declared.common.Format.{Format}
 use Rattle.dwarf_base_core.specs.Format.{initial_length_size}
-use Rattle.dwarf_reader_core.specs.InitialLength.{HasLength, HasNoLength, LengthAt}
+use Rattle.dwarf_reader_core.specs.InitialLength.{HasLength, LengthAt}
 use Rattle.dwarf_reader_core.proofs.InitialLengths.{exactly_one_length, length_taken, length_more, no_length-more}
 use Rattle.dwarf_reader_core.specs.Headers.{Header, IsHeader}
 use Rattle.dwarf_read_core.specs.Items.{first_error}
-use Rattle.dwarf_read_core.specs.Sets.{HasSet, HasNoSet, set_unmeasured, set_cut, set_headless, SetAt, set_size, unit_of, after_set}
-use Rattle.dwarf_read_core.proofs.sets.ItemLists.{bytes-still_some, same_of_one, TakesLeast, items-exactly_one, items-bounded, item-first, error-first, first-is, items-none, no_first-is}
+use Rattle.dwarf_read_core.specs.Sets.{HasSet, HasNoSet, set_unmeasured, set_cut, set_headless, SetAt, set_size, after_set}
+use Rattle.dwarf_read_core.proofs.sets.ItemLists.{bytes-still_some, items-same, TakesLeast, items-exactly_one, items-bounded, item-first, error-first, first-is, items-none}
 
 -- an initial length has at least four bytes
 initial_length_size-least : (format : Format) → 4 ≤ initial_length_size format
 initial_length_size-least format = grind arith
 
--- ---- exactly one initial length
+-- the sets that remain, by the offset of the first and the bytes
+abbrev headers_at : ℕ → Input → Headers
+headers_at offset rest = record { offset = offset; rest = rest }
 
--- two initial lengths are the same
-record SameLength (format : Format) (n : ℕ) (mid : Input) (others : Format) (m : ℕ) (new : Input) : Type 0 where
-  formats : format ≡ others
-  lengths : n ≡ m
-  following : mid ≡ new
-
--- a result for an initial length, and what remains
-abbrev Length : Type 0
-Length = Result (Format × ℕ) Error × Input
-
--- two results for an initial length are the same
-length_result-same : (greatest : ℕ) (old : Input) {x y : Length} → LengthAt greatest old x → LengthAt greatest old y
-    → x ≡ y
-length_result-same greatest old a b = same_of_one (exactly_one_length greatest old) a b
-
-module _ {greatest : ℕ} {old : Input} where
-  -- two initial lengths of the same bytes are the same
-  length-same : {format others : Format} {n m : ℕ} {mid new : Input} → HasLength greatest old format n mid
-      → HasLength greatest old others m new → SameLength format n mid others m new
-  length-same {format} {others} {n} {m} {mid} {new} a b =
-      let same = length_result-same greatest old {x = (Ok (format, n), mid)} {y = (Ok (others, m), new)} a b in
-      let results : ◌≡◌ {A = Result (Format × ℕ) Error} (Ok (format, n)) (Ok (others, m)) = λ i. (same i).0 in
-      let both : ◌≡◌ {A = Format × ℕ} (format, n) (others, m) = cc in
-      record { formats = λ i. (both i).0; lengths = λ i. (both i).1; following = λ i. (same i).1 }
-
-  -- bytes with an initial length have no error in its place
-  length_not_none : {format : Format} {n : ℕ} {mid new : Input} {e : Error} → HasLength greatest old format n mid
-      → HasNoLength greatest old e new → ⊥
-  length_not_none {format} {n} {mid} {new} {e} a b =
-      let same = length_result-same greatest old {x = (Ok (format, n), mid)} {y = (Err e, new)} a b in
-      let results : ◌≡◌ {A = Result (Format × ℕ) Error} (Ok (format, n)) (Err e) = λ i. (same i).0 in
-      cc
-
-  -- bytes have one error in its place
-  no_length-same : {d e : Error} {mid new : Input} → HasNoLength greatest old d mid → HasNoLength greatest old e new
-      → d ≡ e
-  no_length-same {d} {e} {mid} {new} a b =
-      let same = length_result-same greatest old {x = (Err d, mid)} {y = (Err e, new)} a b in
-      let results : ◌≡◌ {A = Result (Format × ℕ) Error} (Err d) (Err e) = λ i. (same i).0 in
-      cc
-
--- ---- exactly one set
-module _ {H : Type 0} {header : Header H} {size : ℕ} (is_header : IsHeader size header) where
-  -- two results for a header at the front of the same bytes are the same
-  said-same : (unit : Input) {r s : Result (H × Input) Error} → header unit r → header unit s → r ≡ s
-  said-same unit a b = same_of_one (is_header.one unit) a b
-
-  module _ {greatest : ℕ} where
-    -- bytes that begin with a set have no error in its place
-    set_not_none : {headers : Headers} {s : Set H} {e : Error} → HasSet header greatest headers s
-        → HasNoSet header greatest headers.rest e → ⊥
-    set_not_none has (set_unmeasured lacks) = length_not_none has.measured lacks
-    set_not_none {headers} {s} has (set_cut {format = f} {n = n} {mid = mid} measured short) =
-        let same = length-same has.measured measured in
-        let long = length-drop (initial_length_size s.format) headers.rest.bytes in
-        let left = ap (λ (i : Input). length i.bytes) same.following in
-        omega (arith, long, left, has.within, same.lengths, short)
-    set_not_none {headers} {s} {e} has (set_headless {n = n} {mid = mid} measured enough lacks) =
-        let same = length-same has.measured measured in
-        let unit : first n mid ≡ unit_of s headers.rest = λ i. first (sym same.lengths i) (sym same.following i) in
-        let both = said-same _ has.said (subst (λ (i : Input). header i (Err e)) unit lacks) in
-        cc
-
-    -- bytes begin with one set
-    set-same : {headers : Headers} {s t : Set H} → HasSet header greatest headers s → HasSet header greatest headers t
-        → s ≡ t
-    set-same {headers} {s} {t} a b =
-        let same = length-same a.measured b.measured in
-        let unit : unit_of t headers.rest ≡ unit_of s headers.rest =
-        λ i. first (sym same.lengths i) (sym same.following i) in
-        let both = said-same _ a.said (subst (λ (u : Input). header u (Ok (t.header, t.entries))) unit b.said) in
-        let parts : ◌≡◌ {A = H × Input} (s.header, s.entries) (t.header, t.entries) = cc in
-        let here : s.offset ≡ t.offset = a.here ∙ sym b.here in
-        λ i. record {
-          offset = here i;
-          format = same.formats i;
-          unit_length = same.lengths i;
-          header = (parts i).0;
-          entries = (parts i).1;
-        }
-
-    -- bytes that don't begin with a set have one error
-    no_set-same : {old : Input} {d e : Error} → HasNoSet header greatest old d → HasNoSet header greatest old e → d ≡ e
-    no_set-same (set_unmeasured lacks) (set_unmeasured other) = no_length-same lacks other
-    no_set-same (set_unmeasured lacks) (set_cut measured short) = absurd (length_not_none measured lacks)
-    no_set-same (set_unmeasured lacks) (set_headless measured enough headless) =
-        absurd (length_not_none measured lacks)
-    no_set-same (set_cut measured short) (set_unmeasured lacks) = absurd (length_not_none measured lacks)
-    no_set-same (set_headless measured enough headless) (set_unmeasured lacks) =
-        absurd (length_not_none measured lacks)
-    no_set-same (set_cut a short) (set_cut b few) = ap end_fault (length-same a b).following
-    no_set-same (set_cut a short) (set_headless b enough headless) =
-        let same = length-same a b in
-        let left = ap (λ (i : Input). length i.bytes) same.following in
-        absurd (omega (arith, short, enough, left, same.lengths))
-    no_set-same (set_headless a enough headless) (set_cut b short) =
-        let same = length-same a b in
-        let left = ap (λ (i : Input). length i.bytes) same.following in
-        absurd (omega (arith, short, enough, left, same.lengths))
-    no_set-same {d = d} {e = e} (set_headless a enough headless) (set_headless b many lacks) =
-        let same = length-same a b in
-        let both = said-same _ (subst (λ (i : Input). header i (Err d)) (λ i. first (same.lengths i) (same.following i))
-        headless) lacks in
-        cc
-
-  -- two results for the first set are the same
-  set_result-same : (greatest : ℕ) (headers : Headers) (r s : Result (Set H) Error) → SetAt header greatest headers r
-      → SetAt header greatest headers s → r ≡ s
-  set_result-same greatest headers (Ok s) (Ok t) a b = let same = set-same a b in λ i. Ok (same i)
-  set_result-same greatest headers (Ok s) (Err e) a b = absurd (set_not_none a b)
-  set_result-same greatest headers (Err e) (Ok s) a b = absurd (set_not_none b a)
-  set_result-same greatest headers (Err d) (Err e) a b = let same = no_set-same a b in λ i. Err (same i)
+-- the result for a set at an offset, of a format and a length, by the result for its header
+abbrev set_said : {H : Type 0} → ℕ → Format → ℕ → Result (H × Input) Error → Result (Set H) Error
+set_said offset format n (Ok x) =
+    Ok (record { offset = offset; format = format; unit_length = n; header = x.0; entries = x.1 })
+set_said offset format n (Err e) = Err e
 
 -- ---- what a reader reads of a set
 
@@ -137,27 +33,21 @@ pub set_taken : {greatest : ℕ} {old following new : Input} {format : Format} {
     → Takes n following new → Takes (initial_length_size format + n) old new
 set_taken measured taken = takes-both (length_taken measured) taken
 
-module _ {H : Type 0} {header : Header H} {greatest : ℕ} {old : Input} {format : Format} {n : ℕ} {following : Input}
+module _ {H : Type 0} (header : Header H) {greatest : ℕ} {old : Input} {format : Format} {n : ℕ} {following : Input}
     (measured : HasLength greatest old format n following) where
-  -- an initial length, a part of that length, and a header in it are a set
-  pub set_read : (offset : ℕ) {unit new : Input} → unit ≡ first n following → Takes n following new → {said : H}
-      {entries : Input} → header unit (Ok (said, entries))
-      → HasSet header greatest (record { offset = offset; rest = old })
-      (record { offset = offset; format = format; unit_length = n; header = said; entries = entries })
-  set_read offset {unit} is taken {said} {entries} has =
+  -- an initial length, a part of that length, and a header in it are a set; if the header is an error, so is the set
+  pub said_read : (offset : ℕ) {unit new : Input} → unit ≡ first n following → Takes n following new
+      → (r : Result (H × Input) Error) → header unit r
+      → SetAt header greatest (headers_at offset old) (set_said offset format n r)
+  said_read offset is taken (Ok x) said =
       let front = length_taken measured in
-      let part : unit ≡ first n (after (initial_length_size format) old) = is ∙ ap (first n) front.left in
       record {
         here = refl;
         measured = subst (HasLength greatest old format n) front.left measured;
         within = (takes-both front taken).enough;
-        said = subst (λ (i : Input). header i (Ok (said, entries))) part has;
+        said = subst (λ (i : Input). header i (Ok x)) (is ∙ ap (first n) front.left) said;
       }
-
-  -- if the header is an error, so is the set
-  pub headless_read : {unit new : Input} → unit ≡ first n following → Takes n following new → {e : Error}
-      → header unit (Err e) → HasNoSet header greatest old e
-  headless_read is taken {e} lacks =
+  said_read offset is taken (Err e) lacks =
       set_headless measured taken.enough (subst (λ (i : Input). header i (Err e)) is lacks)
 
   -- what a reader returns without a part of that length is the error of the set, or memory ran out
@@ -167,57 +57,78 @@ module _ {H : Type 0} {header : Header H} {greatest : ℕ} {old : Input} {format
   unit_cut_read is_free (inl short) = inl (rw short.fault (set_cut measured short.short))
   unit_cut_read is_free (inr want) = inr want.0
 
--- ---- there is a set or an error
+-- ---- exactly one set
+
+-- a result for an initial length, and what remains
+abbrev Length : Type 0
+Length = Result (Format × ℕ) Error × Input
 
 module _ {H : Type 0} {header : Header H} {size : ℕ} (is_header : IsHeader size header) (greatest : ℕ) where
-  -- there is a result for the first set
-  set_result-some : (headers : Headers) → (r : Result (Set H) Error) × SetAt header greatest headers r
-  set_result-some headers = go (exactly_one_length greatest headers.rest).0 (exactly_one_length greatest headers.rest).1
-    where
-      unit_some : {format : Format} {n : ℕ} {mid : Input} → HasLength greatest headers.rest format n mid
-          → n ≤ length mid.bytes → (r : Result (H × Input) Error) → header (first n mid) r
-          → (r : Result (Set H) Error) × SetAt header greatest headers r
-      unit_some {format} {n} {mid} measured enough (Ok x) said =
-          let taken : Takes n mid (after n mid) = record { enough = enough; left = refl } in (
-            Ok (record {
-              offset = headers.offset;
-              format = format;
-              unit_length = n;
-              header = x.0;
-              entries = x.1;
-            }),
-            set_read measured headers.offset refl taken said,
-          )
-      unit_some measured enough (Err e) lacks = (Err e, set_headless measured enough lacks)
+  -- the result for a set at an offset by the result for its initial length
+  abbrev set_of : ℕ → Length → Result (Set H) Error
+  set_of offset (Err e, new) = Err e
+  set_of offset (Ok (format, n), mid) =
+      if nat_lt (length mid.bytes) n then Err (end_fault mid) else
+      set_said offset format n (is_header.one (first n mid)).0
 
-      go : (x : Result (Format × ℕ) Error × Input) → LengthAt greatest headers.rest x
-          → (r : Result (Set H) Error) × SetAt header greatest headers r
-      go (Err e, new) lacks = (Err e, set_unmeasured lacks)
-      go (Ok (format, n), mid) measured =
-          elim (cases_lt (length mid.bytes) n) [
-            | inl short ↦ (Err (end_fault mid), set_cut measured short)
-            | inr enough ↦
-                unit_some measured enough (is_header.one (first n mid)).0 (is_header.one (first n mid)).1
-          ]
+  module _ (offset : ℕ) (format : Format) (n : ℕ) (mid : Input) where
+    -- a set whose part is cut is the error
+    set_cut-is : length mid.bytes < n → Err (end_fault mid) ≡ set_of offset (Ok (format, n), mid)
+    set_cut-is short = grind arith
 
-  -- there is exactly one result for the first set
-  set_exactly_one : (headers : Headers) → HasOne (SetAt header greatest headers)
-  set_exactly_one headers =
-      let some = set_result-some headers in
-      (some.0, some.1, λ other is. set_result-same is_header greatest headers other some.0 is some.1)
+    -- a set that isn't is what its header says
+    set_said-is : n ≤ length mid.bytes → (r : Result (H × Input) Error) → header (first n mid) r
+        → set_said offset format n r ≡ set_of offset (Ok (format, n), mid)
+    set_said-is enough r has =
+        let whole : set_said offset format n (is_header.one (first n mid)).0 ≡ set_of offset (Ok (format, n), mid) =
+        grind arith in
+        ap (set_said offset format n) ((is_header.one (first n mid)).2 r has) ∙ whole
+
+  module _ (headers : Headers) where
+    -- each result for the initial length gives the same result for the first set
+    set_of-one : (x : Length) → LengthAt greatest headers.rest x
+        → set_of headers.offset x ≡ set_of headers.offset (exactly_one_length greatest headers.rest).0
+    set_of-one x is = ap (set_of headers.offset) ((exactly_one_length greatest headers.rest).2 x is)
+
+    -- each result for the first set is that one
+    set-is : (r : Result (Set H) Error) → SetAt header greatest headers r
+        → r ≡ set_of headers.offset (exactly_one_length greatest headers.rest).0
+    set-is (Ok s) has =
+        let long = length-drop (initial_length_size s.format) headers.rest.bytes in
+        (λ i. Ok (record s { offset = has.here i }))
+        ∙ set_said-is _ _ _ _ (omega (arith, long, has.within)) (Ok (s.header, s.entries)) has.said
+        ∙ set_of-one (Ok (s.format, s.unit_length), _) has.measured
+    set-is (Err e) (set_unmeasured {new = new} lacks) = set_of-one (Err e, new) lacks
+    set-is (Err e) (set_cut {format = f} {n = n} {mid = mid} measured short) =
+        set_cut-is _ _ _ _ short ∙ set_of-one (Ok (f, n), mid) measured
+    set-is (Err e) (set_headless {format = f} {n = n} {mid = mid} measured enough lacks) =
+        set_said-is _ _ _ _ enough (Err e) lacks ∙ set_of-one (Ok (f, n), mid) measured
+
+    -- there is a result for the first set
+    set_some : (x : Length) → LengthAt greatest headers.rest x
+        → (r : Result (Set H) Error) × SetAt header greatest headers r
+    set_some (Err e, new) lacks = (Err e, set_unmeasured lacks)
+    set_some (Ok (format, n), mid) measured =
+        elim (cases_lt (length mid.bytes) n) [
+          | inl short ↦ (Err (end_fault mid), set_cut measured short)
+          | inr enough ↦
+              let one = is_header.one (first n mid) in
+              let taken : Takes n mid (after n mid) = record { enough = enough; left = refl } in
+              (set_said headers.offset format n one.0, said_read header measured headers.offset refl taken one.0 one.1)
+        ]
+
+    -- there is exactly one result for the first set
+    set_exactly_one : HasOne (SetAt header greatest headers)
+    set_exactly_one =
+        let measured = exactly_one_length greatest headers.rest in
+        let some = set_some measured.0 measured.1 in
+        (some.0, some.1, λ other is. set-is other is ∙ sym (set-is some.0 some.1))
 
   -- a set has at least the four bytes of its length, and those of its header
   set_least : TakesLeast (λ (h : Headers). h.rest) (SetAt header greatest) after_set (4 + size)
   set_least = record {
     by = λ headers s has. let unit = is_header.sized _ _ _ has.said in
-        omega (
-          arith,
-          has.within,
-          unit.enough,
-          length-drop (set_size s) headers.rest.bytes,
-          length-take s.unit_length (drop (initial_length_size s.format) headers.rest.bytes),
-          initial_length_size-least s.format,
-        );
+        omega (arith, has.within, unit.enough, length-drop {A = ℕ}, length-take {A = ℕ}, initial_length_size-least);
   }
 
   -- the bytes that remain have exactly one list of sets
@@ -231,33 +142,33 @@ module _ {H : Type 0} {header : Header H} {size : ℕ} (is_header : IsHeader siz
 
   -- ---- appended bytes
 
+  -- what is said in a part of the bytes stays the result for the set when others are appended
+  said_kept : (more : List ℕ) (headers : Headers) {format : Format} {n : ℕ} {mid : Input}
+      → HasLength greatest headers.rest format n mid → n ≤ length mid.bytes → (r : Result (H × Input) Error)
+      → header (first n mid) r
+      → SetAt header greatest (followed_headers more headers) (set_said headers.offset format n r)
+  said_kept more headers {n = n} {mid = mid} measured enough r has =
+      let unit : first n mid ≡ first n (followed_by mid more) = grind (arith, take-append-le) in
+      let taken : Takes n (followed_by mid more) (after n (followed_by mid more)) =
+      record { enough = omega (arith, enough, length-append mid.bytes more); left = refl } in
+      said_read header (length_more more measured) headers.offset unit taken r has
+
   -- bytes still begin with a set when others are appended
   set_kept : (more : List ℕ) {headers : Headers} {s : Set H} → HasSet header greatest headers s
       → HasSet header greatest (followed_headers more headers) s
   set_kept more {headers} {s} has =
-      let front = initial_length_size s.format in
-      let long = length-drop front headers.rest.bytes in
-      let mid : followed_by (after front headers.rest) more ≡ after front (followed_by headers.rest more) =
-      grind (arith, drop-append-le, has.within) in
-      let unit : unit_of s headers.rest ≡ unit_of s (followed_by headers.rest more) =
-      grind (arith, drop-append-le, take-append-le, long, has.within) in
-      record {
-        here = has.here;
-        measured = subst (HasLength greatest (followed_by headers.rest more) s.format s.unit_length) mid
-            (length_more more has.measured);
-        within = omega (arith, has.within, length-append headers.rest.bytes more);
-        said = subst (λ (i : Input). header i (Ok (s.header, s.entries))) unit has.said;
-      }
+      let long = length-drop (initial_length_size s.format) headers.rest.bytes in
+      let kept =
+      said_kept more headers has.measured (omega (arith, long, has.within)) (Ok (s.header, s.entries)) has.said in
+      record { here = has.here; measured = kept.measured; within = kept.within; said = kept.said }
 
   -- they still don't, with the same error, unless bytes are missing
   no_set_kept : (more : List ℕ) {old : Input} {e : Error} → HasNoSet header greatest old e → IsNotEof e
       → HasNoSet header greatest (followed_by old more) e
   no_set_kept more (set_unmeasured lacks) settled = set_unmeasured (no_length-more more lacks settled)
   no_set_kept more (set_cut {mid = mid} measured short) settled = absurd (settled mid.position refl)
-  no_set_kept more {e = e} (set_headless {n = n} {mid = mid} measured enough lacks) settled =
-      let unit : first n mid ≡ first n (followed_by mid more) = grind (arith, take-append-le) in
-      set_headless (length_more more measured) (omega (arith, enough, length-append mid.bytes more))
-      (subst (λ (i : Input). header i (Err e)) unit lacks)
+  no_set_kept more {old} {e} (set_headless measured enough lacks) settled =
+      said_kept more (headers_at 0 old) measured enough (Err e) lacks
 
   -- the first set stays the first when bytes are appended
   pub set_more : (headers : Headers) (s : Set H) (items others : List (Result (Set H) Error)) (more : List ℕ)
@@ -265,32 +176,19 @@ module _ {H : Type 0} {header : Header H} {size : ℕ} (is_header : IsHeader siz
       → RepresentsSets header greatest (followed_headers more headers) others
       → (rest : List (Result (Set H) Error)) × (others ≡ Ok s ∷ rest)
   set_more headers s items others more are has =
-      let there = first-is are in go others has (set_kept more there.1) (bytes-still_some _ more there.0)
-    where
-      go : (others : List (Result (Set H) Error))
-          → RepresentsSets header greatest (followed_headers more headers) others
-          → HasSet header greatest (followed_headers more headers) s
-          → (followed_by headers.rest more).bytes ≢ []
-          → (rest : List (Result (Set H) Error)) × (others ≡ Ok s ∷ rest)
-      go [] are kept some = absurd (some (no_first-is are))
-      go (r ∷ rest) are kept some =
-          let same : r ≡ Ok s =
-          set_result-same is_header greatest (followed_headers more headers) r (Ok s) (first-is are).1 kept in
-          (rest, λ i. same i ∷ rest)
+      let there = first-is are in
+      let first = item-first set_exactly_one set_least (omega arith) _ _
+      (bytes-still_some _ more there.0) (set_kept more there.1) refl in
+      (first.0.0, items-same set_exactly_one has (first.1 first.0.0 first.0.1))
 
   -- an error, unless it is an `UnexpectedEof`, stays the only item of the sets when bytes are appended
   pub set_error_more : (headers : Headers) (e : Error) (more : List ℕ)
       → RepresentsSets header greatest headers (Err e ∷ []) → IsNotEof e
       → RepresentsSets header greatest (followed_headers more headers) (Err e ∷ [])
   set_error_more headers e more are settled =
-      let there = first-is are in
-      first_error (bytes-still_some _ more there.0) (no_set_kept more there.1 settled)
+      first_error (bytes-still_some _ more (first-is are).0) (no_set_kept more (first-is are).1 settled)
 
   -- ---- what `next` returns
-
-  -- the sets that remain, by the offset of the first and the bytes
-  abbrev headers_at : ℕ → Input → Headers
-  headers_at offset rest = record { offset = offset; rest = rest }
 
   -- an error in place of a set is the first item, or memory ran out; nothing remains after either
   pub set_error_first : (offset place : ℕ) (rest left : Input) {e : Error} (is_free : Bool) → rest.bytes ≢ []
@@ -341,6 +239,4 @@ module _ {H : Type 0} {header : Header H} {size : ℕ} (is_header : IsHeader siz
   pub set_bound : {headers : Headers} {s : Set H} {new : Input} → HasSet header greatest headers s
       → Takes (set_size s) headers.rest new → length new.bytes + (4 + size) ≤ length headers.rest.bytes
   set_bound {headers} {s} {new} has taken =
-      let l = set_least.by headers s has in
-      let left = ap (λ (i : Input). length i.bytes) taken.left in
-      omega (arith, l, left)
+      omega (arith, set_least.by headers s has, ap (λ (i : Input). length i.bytes) taken.left)

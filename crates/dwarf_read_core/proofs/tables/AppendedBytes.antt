@@ -1,6 +1,7 @@
 -- Appended bytes change no result that is final.
-use Rattle.dwarf_read_core.proofs.Common.{zero, suc, ◌<◌, ◌≤◌, inl, inr, ◌≡◌, ℕ, List, [], ◌∷◌, ◌++◌, length, take, Result, append_assoc, arith, cases_lt, length-append, drop-append-le, length-take-le, take-append-le, Input, Error, Kind, IsEncoding, NoneIsLast, IsMalformed, Table, by_null, IsTable, closed_by_null, closed_by_end, followed_by, IsNotEof, HasError, number_bad, tag_zero, children_bad, name_zero, form_zero, IsFirstError, in_declaration, repeated, Answer, outside, table, first_error, end_of, IsFinal, Answers}
+use Rattle.dwarf_read_core.proofs.Common.{zero, suc, ◌<◌, ◌≤◌, ◌≡◌, ℕ, List, [], ◌∷◌, ◌++◌, length, take, Result, append_assoc, arith, cases_lt, length-append, drop-append-le, length-take-le, Input, Error, Kind, IsEncoding, NoneIsLast, IsMalformed, Table, by_null, IsTableBefore, closed_by_null, closed_by_end, followed_by, IsNotEof, HasError, number_bad, tag_zero, children_bad, name_zero, form_zero, IsFirstError, in_declaration, repeated, Answer, outside, table, first_error, end_of, IsFinal, Answers}
 use Rattle.dwarf_read_core.proofs.sets.ItemLists.{bytes-still_some}
+use Rattle.dwarf_read_core.proofs.Common.{common_steps}
 
 -- ---- bad numbers
 
@@ -10,10 +11,8 @@ unended : (n : ℕ) (bytes more : List ℕ) → length bytes < n → n ≤ lengt
 unended n [] more long fits h = tt
 unended zero (x ∷ bytes) more long fits h = absurd (omega arith)
 unended (suc zero) (x ∷ bytes) more long fits h = absurd (omega arith)
-unended (suc (suc n)) (x ∷ []) [] long fits h = absurd (omega arith)
-unended (suc (suc n)) (x ∷ []) (m ∷ more) long fits h = (h.0, tt)
-unended (suc (suc n)) (x ∷ y ∷ bytes) more long fits h =
-    (h.0, unended (suc n) (y ∷ bytes) more (omega arith) (omega arith) h.1)
+unended (suc (suc n)) (x ∷ []) more long fits h = grind arith
+unended (suc (suc n)) (x ∷ y ∷ bytes) more long fits h = grind (arith, (unended (suc n) (y ∷ bytes) more))
 
 -- if none of the bytes is the last of an encoding, neither is one of their front
 all_front : (bytes more : List ℕ) → NoneIsLast (bytes ++ more) → NoneIsLast bytes
@@ -22,30 +21,16 @@ all_front (x ∷ bytes) more h = (h.0, all_front bytes more h.1)
 
 -- bytes that begin with a bad number still do with more bytes after them
 bad_more : (k : Kind) (bytes more : List ℕ) → IsMalformed k bytes → IsMalformed k (bytes ++ more)
-bad_more k bytes more bad = record {
-  no_number = λ number n h. elim (cases_lt (length bytes) n) [
-    | inl long ↦ bad.not_cut (record {
-      short = let w = h.is_number.within in omega (arith, length-take-le n (bytes ++ more) h.enough);
-      unended = unended n bytes more long h.enough h.is_number.encoding;
-    })
-    | inr le ↦ bad.no_number number n
-        (record { enough = le; is_number = rw (take-append-le n bytes more le) at h.is_number })
-  ];
-  not_cut = λ c. bad.not_cut (record {
-    short = let h = c.short in omega (arith, length-append bytes more);
-    unended = all_front bytes more c.unended;
-  });
-}
+bad_more k bytes more bad = grind (arith, common_steps, cases_lt, length-take-le, unended, all_front)
 
 -- ---- tables and errors
 
 -- bytes that begin with a table that a code of value 0 closes still do with more bytes after them
-table_more : {bytes : List ℕ} {t : Table} (more : List ℕ) → IsTable bytes t → t.close ≡ by_null
-    → IsTable (bytes ++ more) t
-table_more more (_, closed_by_null bytes zero_code rest ds are is) final =
-    rw (append_assoc (bytes ++ zero_code) rest more)
-    (rest ++ more, closed_by_null bytes zero_code (rest ++ more) ds are is)
-table_more more (_, closed_by_end bytes ds are) final = absurd cc
+pub table_more : {bytes rest : List ℕ} {t : Table} (more : List ℕ) → IsTableBefore bytes t rest → t.close ≡ by_null
+    → IsTableBefore (bytes ++ more) t (rest ++ more)
+table_more more (closed_by_null bytes zero_code rest ds are is) final =
+    rw (append_assoc (bytes ++ zero_code) rest more) (closed_by_null bytes zero_code (rest ++ more) ds are is)
+table_more more (closed_by_end bytes ds are) final = absurd cc
 
 -- an error in a declaration, unless it is an `UnexpectedEof`, stays the error with more bytes appended
 declaration_error_more : {end : ℕ} {bytes : List ℕ} {e : Error} (longer : ℕ) (more : List ℕ) → HasError end bytes e
@@ -75,7 +60,7 @@ pub answer_more : {section : Input} {offset : ℕ} {r : Result Table Error} (mor
     → IsFinal r → Answer (followed_by section more) offset r
 answer_more {section} {offset} more (table t le is) final =
     table t (omega (arith, length-append section.bytes more, le))
-    (rw (drop-append-le offset section.bytes more le) (table_more more is final))
+    (is.0 ++ more, rw (drop-append-le offset section.bytes more le) (table_more more is.1 final))
 answer_more {section} {offset} more (first_error e le is) final =
     first_error e (omega (arith, length-append section.bytes more, le))
     (rw (drop-append-le offset section.bytes more le)

@@ -1,6 +1,5 @@
 -- Two abbreviations are equal exactly if they are the same declaration.
-use Rattle.dwarf_read_core.proofs.Common.{arith, ◌≡◌, true, List, [], ◌∷◌, refl, eqb, ◌↔◌, IsTrue, All, booleans_Decides, and_parts, eqb-true, All-head, All-tail, Declaration, Specification}
-use Rattle.std.specs.Bool.{beq}
+use Rattle.dwarf_read_core.proofs.Common.{arith, ◌≡◌, true, List, [], ◌∷◌, refl, ◌↔◌, IsTrue, All, All-head, All-tail, Declaration, Specification}
 use Rattle.std.specs.Cmp.Lexicographic.{pointwise}
 use Rattle.dwarf_read_core.specs.Equality.{HasValueByForm, same_declaration, same_declaration_equiv, same_specification}
 
@@ -22,15 +21,7 @@ same_all (s ∷ ss) (t ∷ ts) of_s of_t same =
 -- two declarations that the test finds equal are equal if their values are as their forms say
 same_by_parts : (a b : Declaration) → All HasValueByForm a.attributes → All HasValueByForm b.attributes
     → same_declaration a b ≡ true → a ≡ b
-same_by_parts a b of_a of_b same =
-    let parts = and_parts (beq a.children b.children) _ same in
-    let more = and_parts (eqb a.code b.code) _ parts.1 in
-    let most = and_parts (eqb a.tag b.tag) _ more.1 in
-    let children = (booleans_Decides a.children b.children).0 parts.0 in
-    let code = eqb-true a.code b.code more.0 in
-    let tag = eqb-true a.tag b.tag most.0 in
-    let attributes = same_all a.attributes b.attributes of_a of_b most.1 in
-    λ i. record { code = code i; tag = tag i; children = children i; attributes = attributes i }
+same_by_parts a b of_a of_b same = grind (arith, (same_all a.attributes b.attributes of_a of_b))
 
 -- the test finds two declarations equal exactly if they are equal, if their values are as their forms say
 pub same_declaration_is_equality : (a b : Declaration) → All HasValueByForm a.attributes

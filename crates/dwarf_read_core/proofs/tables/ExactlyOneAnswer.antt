@@ -1,5 +1,5 @@
 -- A section has exactly one result at each offset, and the parser returns it.
-use Rattle.dwarf_read_core.proofs.Common.{common_steps, ◌≡◌, ◌≢◌, ℕ, ◌+◌, ◌≤◌, cond, ltb, List, length, drop, None, Result, Ok, Err, IfErr, refl, sym, ap, subst, ◌∙◌, arith, inl, inr, lt-ltb, le-ltb, empty, length-drop, nil_from_length, Error, OutOfMemory, Input, end_of, Takes, end_fault, IsTooShort, HasOutcome, returned, failed, IsTable, HasOne, Answer, Answers, IsFirstError, TakesNoMemory, outside, table, first_error, declaration_at, table_in, cases_lt}
+use Rattle.dwarf_read_core.proofs.Common.{common_steps, ◌≡◌, ◌≢◌, ℕ, ◌+◌, ◌≤◌, cond, ltb, List, length, drop, None, Result, Ok, Err, IfErr, refl, sym, arith, inl, inr, lt-ltb, le-ltb, empty, length-drop, nil_from_length, Error, OutOfMemory, Input, end_of, Takes, end_fault, IsTooShort, HasOutcome, returned, failed, IsTable, HasOne, Answer, Answers, IsFirstError, TakesNoMemory, outside, table, first_error, declaration_at, table_in, cases_lt}
 use Rattle.std.specs.Result.{IsErrAnd}
 use Rattle.dwarf_read_core.proofs.tables.ReadingNumbers.{end_after}
 use Rattle.dwarf_read_core.proofs.tables.ReadingIsComplete.{zero_again, end_again}
@@ -44,11 +44,7 @@ pub answer_read : (r : TableRead) (section : Input) (offset : ℕ) (rest : Input
     → table_in (end_of rest) empty rest.bytes ≡ r → Answer section offset r
 unfolding answer_at
 answer_read r section offset rest takes read =
-    let e : end_of rest ≡ end_of section = ap end_of takes.left ∙ end_after offset section takes.enough in
-    let b : rest.bytes ≡ drop offset section.bytes = ap (λ (i : Input). i.bytes) takes.left in
-    let same : table_in (end_of rest) empty rest.bytes ≡ answer_at section offset =
-    rw (e, b, le-ltb (length section.bytes) offset takes.enough) refl in
-    subst (Answer section offset) (sym same ∙ read) (is_answer section offset)
+    grind (arith, is_answer section offset, end_after offset section takes.enough)
 
 -- an error that `?` propagates is the section's result at the offset, if it is read there, unless memory ran out
 pub error_read : {X : Type 0} (r : Result X Error) (e : Error) (section : Input) (offset : ℕ) (rest : Input)
@@ -65,8 +61,7 @@ answer_exactly_one section offset = (answer_at section offset, is_answer section
 -- the error of skipping to an offset past the section's end is the section's result there
 pub outside_of : (section : Input) (offset : ℕ) (e : Error) (new : Input) → IsTooShort offset section e new
     → Answer section offset (Err e)
-outside_of section offset e new short =
-    subst (λ (x : Error). Answer section offset (Err x)) (sym short.fault) (outside short.short)
+outside_of section offset e new short = rw short.fault (outside short.short)
 
 -- no declaration is read at an offset that needs no memory: at the end, past it, or at a code of value 0
 pub nothing_declared : (end : ℕ) (section : Input) (offset : ℕ) (rest : List ℕ) → TakesNoMemory section offset

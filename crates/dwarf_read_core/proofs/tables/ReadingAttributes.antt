@@ -28,24 +28,15 @@ unfolding attributes_at
 attributes_enough zero m end bytes short other = absurd (omega arith)
 attributes_enough (suc n) zero end bytes short other = absurd (omega arith)
 attributes_enough (suc n) (suc m) end bytes short other =
-    go (λ rest h. attributes_enough n m end rest (omega arith) (omega arith)) (specification_at end bytes) refl
-  where
-    go : ((rest : List ℕ) → length rest < length bytes → attributes_at n end rest ≡ attributes_at m end rest)
-        → (r : Result (Option Specification × List ℕ) Error) → specification_at end bytes ≡ r
-        → (r >>= λ first. and_others first.0 first.1 (attributes_at n end first.1))
-        ≡ (r >>= λ first. and_others first.0 first.1 (attributes_at m end first.1))
-    go others (Err e) q = refl
-    go others (Ok x) q = ap (and_others x.0 x.1) (others x.1 (specification_shorter end bytes x.0 x.1 q))
+    let shorter = λ (x : Option Specification × List ℕ). specification_shorter end bytes x.0 x.1 in
+    grind (arith, shorter, (attributes_enough n m end))
 
 -- reading a list of specifications is reading the first, and then the others unless it is the null one
 next : (end : ℕ) (bytes : List ℕ) (x : Option Specification × List ℕ) → specification_at end bytes ≡ Ok x
     → attributes_in end bytes ≡ and_others x.0 x.1 (attributes_in end x.1)
 unfolding attributes_in attributes_at
 next end bytes x q =
-    let h = specification_shorter end bytes x.0 x.1 q in
-    attributes_enough (length bytes + 1) (suc (length bytes)) end bytes (omega arith) (omega arith)
-    ∙ rw q (ap (and_others x.0 x.1) (attributes_enough (length bytes) (length x.1 + 1) end x.1 (omega arith)
-    (omega arith)))
+    grind (arith, attributes_enough, (specification_shorter end bytes x.0 x.1 q))
 
 -- reading a list of specifications fails with the error of the first one
 pub attributes_fail : (end : ℕ) (bytes : List ℕ) (e : Error) → specification_at end bytes ≡ Err e
@@ -55,17 +46,12 @@ attributes_fail end bytes e q = grind arith
 
 -- ---- as the loop does
 
--- a specification before those that are read, and a list before both, is the list with that one at its end
-front-regrouped : (front : List Specification) (s : Specification) (read : AttributesRead)
-    → with_front front (read >>= λ x. Ok (s ∷ x.0, x.1)) ≡ with_front (front ++ s ∷ []) read
-front-regrouped front s read = grind (arith, append_assoc)
-
 -- reading after a list of specifications goes on after the list with the next one at its end
 pub front-goes_on : (front : List Specification) (end : ℕ) (bytes : List ℕ) (s : Specification) (after : List ℕ)
     (total : AttributesRead) → specification_at end bytes ≡ Ok (Some s, after)
     → with_front front (attributes_in end bytes) ≡ total
     → with_front (front ++ s ∷ []) (attributes_in end after) ≡ total
-front-goes_on front end bytes s after total q so_far = grind (arith, front-regrouped, next end bytes (Some s, after) q)
+front-goes_on front end bytes s after total q so_far = grind (arith, append_assoc, next end bytes (Some s, after) q)
 
 -- reading after a list of specifications ends with that list if the null one is next
 pub front-ends : (front : List Specification) (end : ℕ) (bytes : List ℕ) (o : Option Specification) (after : List ℕ)
@@ -146,20 +132,13 @@ attributes_after end front bytes whole d parts is =
 
 -- ---- what is in the grammar is read
 
--- one specification before others before a reading are all of them before that reading
-twice : (s : Specification) (ss : List Specification) (read : AttributesRead)
-    → (with_front ss read >>= λ x. Ok (s ∷ x.0, x.1)) ≡ with_front (s ∷ ss) read
-twice s ss read = grind arith
-
 -- the bytes of specifications are read as those, before what is read after them
 pub attributes_again : (end : ℕ) (bytes rest : List ℕ) (ss : List Specification)
     → Sequence IsSpecification bytes ss → attributes_in end (bytes ++ rest) ≡ with_front ss (attributes_in end rest)
 attributes_again end bytes rest [] e = rw e (sym (front-begins (attributes_in end rest)))
 attributes_again end bytes rest (s ∷ ss) q =
-    rw (q.2, append_assoc) (next end (q.0 ++ (q.1 ++ rest)) (Some s, q.1 ++ rest)
-    (specification_again end q.0 (q.1 ++ rest) s q.3)
-    ∙ ap (λ (read : AttributesRead). read >>= λ x. Ok (s ∷ x.0, x.1)) (attributes_again end q.1 rest ss q.4)
-    ∙ twice s ss (attributes_in end rest))
+    let h = next end (q.0 ++ (q.1 ++ rest)) (Some s, q.1 ++ rest) (specification_again end q.0 (q.1 ++ rest) s q.3) in
+    grind (arith, append_assoc, h, (attributes_again end q.1 rest ss q.4))
 
 -- the bytes of the null specification are read as an empty list, whatever follows
 pub attributes_end : (end : ℕ) (bytes rest : List ℕ) → IsNull bytes → attributes_in end (bytes ++ rest) ≡ Ok ([], rest)

@@ -1,5 +1,5 @@
 -- What the grammar has at the front is read, and so is each of its errors.
-use Rattle.dwarf_read_core.proofs.Common.{common_steps, ◌≡◌, ◌≢◌, ℕ, ◌<◌, Bool, eqb, List, [], ◌∷◌, ◌++◌, Option, Some, None, Result, Ok, Err, refl, sym, ap, ◌∙◌, append_assoc, arith, ne_eqb, append-nil, nil_from_length, Error, AttributeNameZero, AttributeFormZero, Kind, unsigned64, unsigned16, overflow_error, IsNumber, eof, Declaration, implicit_const, children_byte, IsCode, IsHead, IsFront, IsDeclaration, IsBeginning, before_code, before_tag, before_name, before_form, before_value, HasError, number_cut, number_bad, children_cut, tag_zero, children_bad, name_zero, form_zero, ◌>>=◌, number_at, value_at, specification_at, attributes_in, tag_at, children_at, declaration_of, declared_at, coded_at, declaration_at}
+use Rattle.dwarf_read_core.proofs.Common.{common_steps, ◌≡◌, ◌≢◌, ℕ, Bool, eqb, List, [], ◌∷◌, ◌++◌, Option, Some, None, Result, Ok, Err, refl, sym, ap, ◌∙◌, append_assoc, arith, ne_eqb, append-nil, nil_from_length, Error, AttributeNameZero, AttributeFormZero, Kind, unsigned64, unsigned16, overflow_error, IsNumber, eof, Declaration, implicit_const, children_byte, IsCode, IsHead, IsFront, IsDeclaration, IsBeginning, before_code, before_tag, before_name, before_form, before_value, HasError, number_cut, number_bad, children_cut, tag_zero, children_bad, name_zero, form_zero, ◌>>=◌, number_at, value_at, specification_at, attributes_in, tag_at, children_at, declaration_of, declared_at, coded_at, declaration_at}
 use Rattle.dwarf_read_core.proofs.tables.ReadingNumbers.{encoding-begins, positive-nonzero, number_at-string, number_at-cut, number_at-bad}
 use Rattle.dwarf_read_core.proofs.tables.ReadingAttributes.{with_front, AttributesRead, attributes_fail, attributes_again, attributes_end}
 
@@ -32,20 +32,13 @@ code_again end front rest code is =
     let some = encoding-begins front rest is.is_code.encoding in
     rw (some, number_at-string unsigned64 end front rest code is.is_code, positive-nonzero code is.nonzero) refl
 
--- a tag above 0 is read as that tag, and the rest remains
-tag_again : (end : ℕ) (front rest : List ℕ) (tag : ℕ) → IsNumber unsigned16 front tag → 0 < tag
-    → tag_at end (front ++ rest) ≡ Ok (tag, rest)
-unfolding tag_at
-tag_again end front rest tag is lt =
-    rw (number_at-string unsigned16 end front rest tag is, positive-nonzero tag lt) refl
-
 -- a declaration that begins with a code and a tag is read as these two and what follows the tag
 head_again : (end : ℕ) (front rest : List ℕ) (code tag : ℕ) → IsHead front code tag
     → declaration_at end (front ++ rest) ≡ after_tag end code tag rest
-unfolding declared_at
+unfolding declared_at tag_at
 head_again end front rest code tag is =
     rw (is.parts, append_assoc, code_again end is.first (is.second ++ rest) code is.is_code)
-    (rw (tag_again end is.second rest tag is.is_tag is.tagged) refl)
+    (rw (number_at-string unsigned16 end is.second rest tag is.is_tag, positive-nonzero tag is.tagged) refl)
 
 -- the byte for children is read as what it says, and the rest remains
 children_again : (end : ℕ) (children : Bool) (rest : List ℕ)

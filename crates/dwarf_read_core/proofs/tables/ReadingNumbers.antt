@@ -1,5 +1,5 @@
 -- The function that reads a LEB128 number returns what the definition says, and nothing else.
-use Rattle.dwarf_read_core.proofs.Common.{common_steps, ◌≡◌, ℕ, zero, suc, ◌<◌, ◌≤◌, false, eqb, ltb, List, [], ◌∷◌, ◌++◌, length, drop, Option, Some, None, Result, Ok, Err, refl, sym, ap, ◌∙◌, arith, ◌⊎◌, inl, inr, length-append, length-drop, take-append-drop, take, ne_eqb, eqb-false, ltb-true, lt-ltb, le-ltb, Error, Kind, Number, limit, value, is_in_range, overflow_error, IsEncoding, NoneIsLast, IsNumber, HasNumber, IsTruncated, IsMalformed, ReadsNumber, ReadsNoNumber, Input, end_of, after, eof, encoding_at, number_from, number_at, HasOutcome, returned, failed, outcome-cond, IfOk, MatchOption, nat_tests}
+use Rattle.dwarf_read_core.proofs.Common.{common_steps, ◌≡◌, ℕ, zero, suc, ◌<◌, ◌≤◌, false, eqb, ltb, List, [], ◌∷◌, ◌++◌, length, drop, Option, Some, None, Result, Ok, Err, refl, sym, ap, ◌∙◌, arith, ◌⊎◌, inl, inr, length-append, length-drop, take-append-drop, take, ne_eqb, ltb-true, lt-ltb, le-ltb, Error, Kind, Number, limit, value, is_in_range, overflow_error, IsEncoding, NoneIsLast, IsNumber, HasNumber, IsTruncated, IsMalformed, ReadsNumber, ReadsNoNumber, Input, end_of, after, eof, encoding_at, number_from, number_at, HasOutcome, returned, failed, outcome-cond, IfOk, MatchOption, nat_tests}
 use Rattle.std.proofs.Math.Seq.{take-append_seam}
 
 -- an encoding of a number has at least one byte
@@ -8,7 +8,7 @@ encoding-nonempty bytes h = grind (arith, common_steps)
 
 -- a number that the test finds not equal to 0 is above 0
 pub number-positive : (n : ℕ) → eqb n 0 ≡ false → 0 < n
-number-positive n e = let h = eqb-false n 0 e in omega arith
+number-positive n e = grind arith
 
 -- the test finds a number above 0 not equal to 0
 pub positive-nonzero : (n : ℕ) → 0 < n → eqb n 0 ≡ false
@@ -120,11 +120,8 @@ found_has {k = k} {bytes = bytes} {number = number} {rest = rest} f =
 -- fewer bytes remain after a number that is read; `grind` finds the lemma by the call that it states first
 pub number_shorter : (k : Kind) (end : ℕ) (bytes : List ℕ) → (number_at k end bytes ≡ number_at k end bytes)
     × IfOk (number_at k end bytes) (λ x. length x.1 < length bytes)
-number_shorter k end bytes = (refl, go (number_outcome k end bytes))
-  where
-    go : {r : Result (Number k × List ℕ) Error} → HasOutcome (λ x. Found k bytes x.0 x.1) (IsNumberFault k end bytes) r
-        → IfOk r (λ x. length x.1 < length bytes)
-    go found = grind (arith, common_steps, encoding-nonempty, length-append)
+number_shorter k end bytes =
+    (refl, grind (arith, common_steps, (number_outcome k end bytes), encoding-nonempty, length-append))
 
 -- bad bytes are read as the error of a bad number
 pub number_at-bad : (k : Kind) (end : ℕ) (bytes : List ℕ) → IsMalformed k bytes

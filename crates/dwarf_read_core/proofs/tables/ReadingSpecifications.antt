@@ -1,6 +1,6 @@
 -- A specification that is read, or its error, is what the grammar says, and conversely.
 use Rattle.dwarf_read_core.proofs.Common.{common_steps, ◌≡◌, ℕ, ◌<◌, ◌≤◌, true, eqb, ℤ, List, [], ◌++◌, length, Option, Some, None, Ok, refl, subst, append_assoc, arith, length-append, eqb-true, eqb-false, eq-eqb, ne_eqb, AttributeNameZero, AttributeFormZero, Kind, unsigned16, signed64, IsNumber, Specification, Declaration, implicit_const, IsImplicit, IsSpecification, IsNull, IsFront, IsBeginning, before_name, before_form, before_value, HasError, number_cut, number_bad, name_zero, form_zero, number_at, value_at, specification_of, specification_at, HasOutcome, returned, failed, outcome-bind, outcome-cond, outcome-map}
-use Rattle.dwarf_read_core.proofs.tables.ReadingNumbers.{encoding-nonempty, number-positive, positive-nonzero, number_at-string, number_outcome, number_shorter, Found}
+use Rattle.dwarf_read_core.proofs.tables.ReadingNumbers.{encoding-nonempty, number-positive, number_at-string, number_outcome, number_shorter, Found}
 
 -- ---- what is read, value or error, is in the grammar
 
@@ -110,9 +110,7 @@ unfolding specification_at
 specification_again end bytes rest s is =
     let name = number_at-string unsigned16 end is.name (is.form ++ (is.value ++ rest)) s.name is.is_name in
     let form = number_at-string unsigned16 end is.form (is.value ++ rest) s.form is.is_form in
-    let value = value_read_again end s.form is.value rest s.value is.is_value in
-    rw (is.parts, append_assoc (is.name ++ is.form) is.value rest, append_assoc is.name is.form (is.value ++ rest))
-    (rw (name, form, positive-nonzero s.name is.named, positive-nonzero s.form is.formed, value) refl)
+    grind (arith, append_assoc, name, form, value_read_again end s.form is.value rest s.value is.is_value)
 
 -- the bytes of the null specification are read as the null one, whatever follows
 pub null_again : (end : ℕ) (bytes rest : List ℕ) → IsNull bytes → specification_at end (bytes ++ rest) ≡ Ok (None, rest)

@@ -54,23 +54,17 @@ total_put k d (e ∷ es) none = grind (arith, common_steps, attributes, sum_by-c
 -- the map of declarations with distinct codes has as many entries as there are declarations
 len_is : (ds : List Declaration) → AreDistinct ds → len (by_code_of ds) ≡ length ds
 len_is [] h = len-empty nat_cmp Declaration
-len_is (d ∷ ds) h =
-    len-insert nat_cmp_total (by_code_of ds) d.code d ∙ rw (fresh_code ds d.code h.0, len_is ds h.1) (omega arith)
+len_is (d ∷ ds) h = grind (arith, (len-insert {X = Declaration} nat_cmp_total), fresh_code, (len_is ds h.1))
 
 -- the map of declarations with distinct codes has as many attributes as the declarations together
 count_is : (ds : List Declaration) → AreDistinct ds
     → attribute_count (by_code_of ds) ≡ sum_by (λ d. length d.attributes) ds
-count_is [] h =
-    let none : entries (by_code_of []) ≡ [] = nil_from_length (entries (by_code_of []))
-    (sym (len-entries (by_code_of [])) ∙ len-empty nat_cmp Declaration) in
-    ap total none
+count_is [] h = ap total (nil_from_length _ (sym (len-entries (by_code_of [])) ∙ len-empty nat_cmp Declaration))
 count_is (d ∷ ds) h =
-    let new : is_some (find nat_cmp d.code (entries (by_code_of ds)))
-    ≡ false = ap is_some (sym (get-entries (by_code_of ds) d.code)) ∙ fresh_code ds d.code h.0 in
-    ap total (entries-insert nat_cmp_total (by_code_of ds) d.code d)
-    ∙ total_put d.code d (entries (by_code_of ds)) new
-    ∙ ap (λ (n : ℕ). length d.attributes + n) (count_is ds h.1)
-    ∙ sym (sum_by-cons (λ (x : Declaration). length x.attributes) d ds)
+    let new = ap is_some (sym (get-entries (by_code_of ds) d.code)) ∙ fresh_code ds d.code h.0 in
+    let more = total_put d.code d (entries (by_code_of ds)) new in
+    rw (entries-insert nat_cmp_total (by_code_of ds) d.code d)
+    (omega (arith, more, sum_by-cons (λ (x : Declaration). length x.attributes) d ds, count_is ds h.1))
 
 -- the bytes of a table are at least five for each declaration and two for each attribute
 table_bound : {bytes : List ℕ} {t : Table} → IsTable bytes t

@@ -1,6 +1,7 @@
 -- In place of a table a section has one of eight errors.
-use Rattle.dwarf_read_core.proofs.Common.{ℕ, List, Err, Error, Input, Answer, outside, first_error, IsFirstError, in_declaration, repeated, HasError, number_cut, number_bad, children_cut, tag_zero, children_bad, name_zero, form_zero}
+use Rattle.dwarf_read_core.proofs.Common.{ℕ, List, Err, Error, Input, Answer, IsFirstError, HasError, number_cut, number_bad, children_cut, tag_zero, children_bad, name_zero, form_zero}
 use Rattle.dwarf_read_core.specs.Answer.{IsTableError, missing_bytes, bad_number, zero_tag, bad_children, zero_name, zero_form, same_code}
+use Rattle.dwarf_read_core.proofs.Common.{arith}
 
 -- the error of bytes that begin like a declaration is one of them
 error_is : {end : ℕ} {bytes : List ℕ} {e : Error} → HasError end bytes e → IsTableError e
@@ -14,10 +15,8 @@ error_is (form_zero front name form rest d n is number some zero) = zero_form
 
 -- so is the first error of bytes that don't begin with a table
 first_is : {end : ℕ} {bytes : List ℕ} {e : Error} → IsFirstError end bytes e → IsTableError e
-first_is (in_declaration bytes rest ds e are some is) = error_is is
-first_is (repeated bytes declaration rest ds d are is again) = same_code d.code
+first_is h = grind (arith, error_is, same_code)
 
 -- the error in place of a table is one of them
 pub table_error : (section : Input) (offset : ℕ) (e : Error) → Answer section offset (Err e) → IsTableError e
-table_error section offset _ (outside past) = missing_bytes _
-table_error section offset e (first_error _ within is) = first_is is
+table_error section offset e h = grind (arith, first_is, missing_bytes)

@@ -1,5 +1,5 @@
 -- A whole table that is read, or its first error, is what the grammar says, and conversely.
-use Rattle.dwarf_read_core.proofs.Common.{◌≡◌, ◌≢◌, ℕ, zero, suc, ◌<◌, ◌≤◌, false, List, [], ◌∷◌, ◌++◌, length, Option, Some, None, Ok, Err, refl, sym, ap, subst, ◌∙◌, append_assoc, arith, append-nil, length-append, empty, insert, contains_key, Error, DuplicateAbbreviationCode, Declaration, Sequence, IsDeclaration, AreDistinct, AreDeclarations, ByCode, Table, closed, by_code_of, IsTable, IsTableBefore, closed_by_null, closed_by_end, IsFirstError, in_declaration, repeated, close_of, by_null, by_end, and_declared, table_at, table_in, HasOutcome, returned, failed, outcome-bind, outcome-cond, outcome-map, outcome-ok, declaration_at}
+use Rattle.dwarf_read_core.proofs.Common.{◌≡◌, ◌≢◌, ℕ, zero, suc, ◌<◌, ◌≤◌, false, List, [], ◌∷◌, ◌++◌, length, Option, Some, None, Ok, Err, refl, sym, ap, ◌∙◌, append_assoc, arith, append-nil, length-append, empty, insert, contains_key, Error, DuplicateAbbreviationCode, Declaration, Sequence, IsDeclaration, AreDistinct, AreDeclarations, ByCode, Table, closed, by_code_of, IsTable, IsTableBefore, closed_by_null, closed_by_end, IsFirstError, in_declaration, repeated, close_of, by_null, by_end, and_declared, table_at, table_in, HasOutcome, returned, failed, outcome-bind, outcome-cond, outcome-map, outcome-ok, declaration_at}
 use Rattle.dwarf_read_core.proofs.tables.ReadingNumbers.{encoding-begins, encoding-nonempty}
 use Rattle.dwarf_read_core.proofs.tables.ReadingAttributes.{Sequence-push}
 use Rattle.dwarf_read_core.proofs.tables.ReadingIsSound.{DeclarationFound, EndFound, at_end, at_zero, EntryFound, declaration_outcome, declaration_found_shorter}
@@ -55,17 +55,12 @@ begins_and_ends b (at_zero bytes rest z) =
 
 -- fewer or as many bytes are after a table as there are in all
 pub table_before_fits : {bytes rest : List ℕ} {t : Table} → IsTableBefore bytes t rest → length rest ≤ length bytes
-table_before_fits (closed_by_null bytes zero_code rest ds are is) =
-    omega (arith, length-append (bytes ++ zero_code) rest)
-table_before_fits (closed_by_end bytes ds are) = omega arith
+table_before_fits h = grind (arith, length-append)
 
 -- fewer bytes are after a table than there are in all, unless there are none
 pub table_before_takes : {bytes rest : List ℕ} {t : Table} → IsTableBefore bytes t rest → 0 < length bytes
     → length rest < length bytes
-table_before_takes (closed_by_null bytes zero_code rest ds are is) some =
-    let nonempty = encoding-nonempty zero_code is.encoding in
-    omega (arith, nonempty, length-append (bytes ++ zero_code) rest, length-append bytes zero_code)
-table_before_takes (closed_by_end bytes ds are) some = omega (arith, some)
+table_before_takes h some = grind (arith, length-append, encoding-nonempty)
 
 -- a declaration with a new code that is read after some declarations is one more of them
 pub begins_with_read : {whole bytes rest : List ℕ} {t : ByCode} (end : ℕ) (d : Declaration) → BeginsWith whole t bytes
@@ -120,11 +115,10 @@ feed end seen bytes rest [] e h = rw (e, append-nil seen) refl
 feed end seen bytes rest (d ∷ ds) q h =
     let new = distinct_front seen ds d h in
     let regrouped : (seen ++ d ∷ []) ++ ds ≡ seen ++ (d ∷ ds) = append_assoc seen (d ∷ []) ds in
-    rw (q.2, append_assoc) (table_goes_on end (by_code_of seen) (q.0 ++ (q.1 ++ rest)) d (q.1 ++ rest)
-    (declaration_again end q.0 (q.1 ++ rest) d q.3) (fresh_code seen d.code new)
-    ∙ ap (λ (t : ByCode). table_in end t (q.1 ++ rest)) (sym (table_push seen d new))
-    ∙ feed end (seen ++ d ∷ []) q.1 rest ds q.4 (subst AreDistinct (sym regrouped) h)
-    ∙ ap (λ (xs : List Declaration). table_in end (by_code_of xs) rest) regrouped)
+    let goes_on = table_goes_on end (by_code_of seen) (q.0 ++ (q.1 ++ rest)) d (q.1 ++ rest)
+    (declaration_again end q.0 (q.1 ++ rest) d q.3) (fresh_code seen d.code new) in
+    let others = feed end (seen ++ d ∷ []) q.1 rest ds q.4 (rw regrouped h) in
+    rw (q.2, append_assoc, goes_on, ← table_push seen d new) (rw regrouped at others)
 
 -- bytes that begin with a table are read as that table
 pub table_read_again : {bytes : List ℕ} {t : Table} (end : ℕ) → IsTable bytes t

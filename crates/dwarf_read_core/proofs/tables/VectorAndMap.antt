@@ -1,19 +1,17 @@
 -- A vector of the first abbreviations, and the others, are one finite map.
-use Rattle.dwarf_read_core.proofs.Common.{common_steps, ◌≡◌, ℕ, zero, suc, ◌+◌, ◌<◌, ◌≤◌, get_or, ◌++◌, arith, true, false, cond, List, [], ◌∷◌, length, Some, None, Result, Ok, Err, OnOk, OnErr, refl, sym, ap, ◌∙◌, ◌⊎◌, length-append, is_some, nat_cmp, Less, nat_cmp_total, eq_by_cmp_equiv, lookup, keys_of, values_of, is_at, find, get, insert, contains_key, values, from_entries, get-from_entries, get-insert, same_map, nat_cmp-IsAntisymmetric, len, len-empty, len-entries, entries, entries-insert, AllByRecursion, IsStrictlySortedBy, cases_lt, nil_from_length, Declaration, ByCode}
+use Rattle.dwarf_read_core.proofs.Common.{common_steps, ◌≡◌, ℕ, zero, suc, ◌+◌, ◌<◌, ◌≤◌, get_or, ◌++◌, arith, true, false, cond, List, [], ◌∷◌, length, Some, None, Result, Ok, Err, OnOk, OnErr, refl, sym, ap, ◌∙◌, ◌⊎◌, length-append, is_some, nat_cmp, Less, nat_cmp_total, eq_by_cmp_equiv, lookup, keys_of, values_of, is_at, get, insert, contains_key, values, from_entries, get-from_entries, get-insert, same_map, nat_cmp-IsAntisymmetric, len, len-empty, len-entries, entries, entries-insert, AllByRecursion, IsStrictlySortedBy, cases_lt, nil_from_length, Declaration, ByCode}
 use Rattle.dwarf_read_core.specs.Others.{Adds, at_code, at_place}
 use Rattle.std.specs.FinMap.Entries.{put, by_order}
 use Rattle.dwarf_read_core.specs.Views.{numbered, entries_of, AreKeyed}
 
 module _ {X : Type 0} where
-  -- a search for a code and a lookup of the code find the same entry
-  find_is_lookup : (es : List (ℕ × X)) (q : ℕ) → find nat_cmp q es ≡ lookup (is_at (nat_cmp q)) es
-  find_is_lookup [] q = refl
-  find_is_lookup (e ∷ es) q = ap (cond (is_at (nat_cmp q) e.0) (Some e.1)) (find_is_lookup es q)
-
   -- the map that entries make has at a code what a lookup of the code finds
   pub get_is_lookup : (es : List (ℕ × X)) (q : ℕ)
       → get (from_entries {R = nat_cmp} es) q ≡ lookup (is_at (nat_cmp q)) es
-  get_is_lookup es q = get-from_entries nat_cmp_total es q ∙ find_is_lookup es q
+  get_is_lookup [] q = get-from_entries nat_cmp_total [] q
+  get_is_lookup (e ∷ es) q =
+      get-insert nat_cmp_total (from_entries es) e.0 e.1 q
+      ∙ ap (cond (is_at (nat_cmp q) e.0) (Some e.1)) (get_is_lookup es q)
 
   -- if entries are changed at one code, the map that they make is changed by an insertion
   pub inserted : (es fs : List (ℕ × X)) (k : ℕ) (d : X)
@@ -51,8 +49,8 @@ pub entries_kept : (es : Entries) → IsStrictlySortedBy nat_cmp (keys_of es)
     → entries (from_entries {R = nat_cmp} es) ≡ es
 unfolding IsStrictlySortedBy
 entries_kept [] h =
-    nil_from_length (entries (from_entries {R = nat_cmp} []))
-    (sym (len-entries (from_entries {R = nat_cmp} [])) ∙ len-empty nat_cmp Declaration)
+    nil_from_length _
+    (sym (len-entries (from_entries {X = Declaration} {R = nat_cmp} [])) ∙ len-empty nat_cmp Declaration)
 entries_kept (e ∷ es) h =
     entries-insert nat_cmp_total (from_entries es) e.0 e.1 ∙ ap (put nat_cmp e.0 e.1) (entries_kept es h.1)
     ∙ put_first e.0 e.1 es h.0
@@ -171,12 +169,6 @@ module _ (ds : List Declaration) (es : Entries) (kept : AreKeyed ds es)
 
 -- ---- what stays true of vector and others
 
--- if entries are changed at one code, by a declaration with that code, all declarations still have their codes
-keyed_by_update : (es fs : Entries) (code : ℕ) (d : Declaration) → Updates es fs code d → d.code ≡ code → 0 < code
-    → ((q : ℕ) (x : Declaration) → at_code q es ≡ Some x → (x.code ≡ q) × (0 < q)) → (q : ℕ) (x : Declaration)
-    → at_code q fs ≡ Some x → (x.code ≡ q) × (0 < q)
-keyed_by_update es fs code d h same above keyed q x found = grind arith
-
 module _ (ds : List Declaration) (es : Entries) (code : ℕ) where
   -- a declaration that is found among the others has the code that it is found under
   pub keyed_in_map : (d : Declaration) → AreKeyed ds es → at_code code es ≡ Some d → (d.code ≡ code) × (0 < code)
@@ -190,15 +182,14 @@ module _ (ds : List Declaration) (es : Entries) (code : ℕ) where
   -- a push of a declaration with the vector's next code, which the others lack, leaves all at their codes
   pub keyed_pushed : (d : Declaration) → code ≡ 1 + length ds → d.code ≡ code → at_code code es ≡ None → AreKeyed ds es
       → AreKeyed (ds ++ d ∷ []) es
-  keyed_pushed d e same none kept = grind (arith, common_steps, keyed_by_update, at_push, cases_lt, length-append)
+  keyed_pushed d e same none kept = grind (arith, common_steps, at_push, cases_lt, length-append)
 
 -- an insertion among the others at a code above the vector's leaves all declarations at their codes
 pub keyed_put : (ds : List Declaration) (es fs : Entries) (code : ℕ) (d : Declaration) → length ds < code
     → Updates es fs code d → d.code ≡ code → AreKeyed ds es → AreKeyed ds fs
 keyed_put ds es fs code d lt h same kept = record {
   apart = λ q le. grind (arith, h q, kept.apart q);
-  keyed = keyed_by_update (entries_of ds es) (entries_of ds fs) code d
-      (λ q. at_insert 1 q code ds d es fs (omega arith) (h q)) same (omega arith) kept.keyed;
+  keyed = λ q x found. grind (arith, h q, at_insert, kept.keyed q x);
 }
 
 -- all stay at their codes if a declaration above the vector's codes is added to the others, or nothing changes

@@ -1,13 +1,11 @@
-use Rattle.dwarf_read_core.proofs.Common.{arith, length, ap, subst, List, ℕ, Ok, Input, end_of, length-drop, debug_abbrev_reader}
+use Rattle.dwarf_read_core.proofs.Common.{arith, ap, ℕ, Ok, Input, end_of, length-drop, debug_abbrev_reader}
 use Rattle.dwarf_read_core.proofs.tables.ExactlyOneAnswer.{answer_read, error_read, nothing_declared, outside_of}
 use Rattle.dwarf_read_core.proofs.tables.TableBounds.{answer_bound}
 use Rattle.dwarf_read_core.proofs.tables.TablesAreRead.{table_before_fits}
-use Rattle.dwarf_read_core.specs.Grammar.{IsTableBefore}
-use Rattle.std.proofs.lemmas.Result.{err_from_is_err_and}
 use Rattle.dwarf_read_core.proofs.read.abbrev.DebugAbbrev.abbreviations_and_end.Goals as goal
 
 pub returns-in_err-skip-clause-err : goal.returns-in_err-skip-clause-err
-returns-in_err-skip-clause-err g c = grind (arith, err_from_is_err_and, outside_of)
+returns-in_err-skip-clause-err g c = grind (arith, outside_of)
 
 pub returns-in_err-abbreviations-clause-err : goal.returns-in_err-abbreviations-clause-err
 returns-in_err-abbreviations-clause-err g c =
@@ -27,12 +25,8 @@ returns-in_err-abbreviations-clause-memory g c =
 
 pub sub-requires : goal.sub-requires
 sub-requires g c =
-    let takes = rw c.in_ok-input.ensures.ok at c.in_ok-skip.ensures.ok in
-    let bytes = ap (λ (i : Input). length i.bytes) takes.left in
-    let whole = ap (λ (i : Input). length i.bytes) c.in_ok-input.ensures.ok in
-    let following = c.in_ok-abbreviations.ensures.after in
-    g.met.R.Offset.ReaderOffset.can_sub_law _ _
-    (omega (arith, c.len.ensures, table_before_fits following, bytes, whole, c.len-len.ensures, length-drop {A = ℕ}))
+    let fits = table_before_fits c.in_ok-abbreviations.ensures.after in
+    grind (arith, fits, length-drop {A = ℕ}, g.met.R.Offset.ReaderOffset.can_sub_law)
 
 pub returns-clause-answer : goal.returns-clause-answer
 returns-clause-answer g c =
@@ -42,26 +36,13 @@ returns-clause-answer g c =
 
 pub returns-clause-end : goal.returns-clause-end
 returns-clause-end g c =
-    let view = g.R.Reader.view in
     let takes = rw c.in_ok-input.ensures.ok at c.in_ok-skip.ensures.ok in
-    let bytes = ap (λ (i : Input). length i.bytes) takes.left in
-    let whole = ap (λ (i : Input). length i.bytes) c.in_ok-input.ensures.ok in
     let following = c.in_ok-abbreviations.ensures.after in
+    let fits = table_before_fits following in
     let less = g.met.R.Offset.ReaderOffset.sub_law _ _ _ c.sub.ensures in (
-      (view c.parse.new.input).bytes,
-      rw c.trim.ensures
-          (subst (λ (b : List ℕ). IsTableBefore b c.in_ok-abbreviations.abbreviations (view c.parse.new.input).bytes)
-          (ap (λ (i : Input). i.bytes) takes.left) following),
-      omega (
-        arith,
-        less,
-        c.len.ensures,
-        table_before_fits following,
-        bytes,
-        whole,
-        c.len-len.ensures,
-        length-drop {A = ℕ},
-      ),
+      (g.R.Reader.view c.parse.new.input).bytes,
+      rw (c.trim.ensures, ← ap (λ (i : Input). i.bytes) takes.left) following,
+      grind (arith, less, fits, length-drop {A = ℕ}),
     )
 
 pub returns-clause-bound : goal.returns-clause-bound

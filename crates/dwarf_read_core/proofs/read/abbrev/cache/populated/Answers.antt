@@ -35,18 +35,12 @@ loop-offset-preserved g c =
     let above : loop.last ≤ key = rw c.into_u64-number.ensures.number
     (subst (λ offset. loop.last ≤ number offset) read
     (loop.invariant.left_from i item (omega arith) c.loop-offset-test.true)) in
-    let count : c.if-number-last.count ≡ occurrences key seen + 1 = elim c.if-number-last.branch [
-      | then-number-last w ↦ w.count-is ∙ ap (λ (n : ℕ). n + 1)
-          (rw w.if-number-last.true loop.invariant.counted)
-      | else-number-last w ↦ w.count-is
-          ∙ sym (ap (λ (n : ℕ). n + 1) (occurrences_above key loop.last seen loop.invariant.seen_upto (omega arith)))
-    ] in
+    let count : c.if-number-last.count ≡ occurrences key seen + 1 =
+    let none = occurrences_above key loop.last seen loop.invariant.seen_upto in
+    grind (arith, c.if-number-last.branch, none, loop.invariant.counted) in
     record {
       counted = count ∙ sym (ap (occurrences key) next ∙ occurrences-push key key seen ∙ rw (eq-eqb key key refl) refl);
-      fits = elim c.if-number-last.branch [
-        | then-number-last w ↦ omega (arith, w.count-is)
-        | else-number-last w ↦ omega (arith, w.count-is)
-      ];
+      fits = grind (arith, c.if-number-last.branch);
       seen_upto = rw next (All-push (λ offset. offset ≤ key) seen key
           (λ k d within. omega (arith, loop.invariant.seen_upto k d within)) (omega arith));
       left_from = λ k d from within. rw c.into_u64-number.ensures.number

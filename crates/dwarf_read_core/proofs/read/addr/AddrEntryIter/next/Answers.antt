@@ -1,18 +1,18 @@
-use Rattle.dwarf_read_core.proofs.Common.{refl, ap, inl, rules, Input}
+use Rattle.dwarf_read_core.proofs.Common.{refl, ap, inl, rules, true, Input}
 use Rattle.dwarf_read_core.specs.Items.{none}
 use Rattle.dwarf_read_core.proofs.sets.ItemLists.{bytes-some}
-use Rattle.dwarf_read_core.proofs.sets.Entries.{address_error_first, address_first}
+use Rattle.dwarf_read_core.proofs.sets.Entries.{address_not_read, number_error_first, number_first, size-positive}
 use Rattle.dwarf_read_core.proofs.read.addr.AddrEntryIter.next.Goals as goal
 
 pub returns-in-Ok-clause-first : goal.returns-in-Ok-clause-first
 returns-in-Ok-clause-first g c =
-    rw (← c.self.view_is) (address_first _ _ _ c.in-Ok.ensures.ok.1 (search rules)
-    c.in-Ok.ensures.ok.0)
+    rw (← c.self.view_is) (number_first (λ x. true) _ _ _ (search rules) (size-positive _ c.in-Ok.ensures.ok.1)
+    c.in-Ok.ensures.ok.0 refl)
 
 pub returns-in-Err-clause-first : goal.returns-in-Err-clause-first
 returns-in-Err-clause-first g c =
-    rw (← c.self.view_is) (inl (address_error_first _ _ _ c.self.invariant
-    (search rules) c.in-Err.ensures.err (ap (λ (i : Input). i.bytes) c.empty.ensures.left)))
+    rw (← c.self.view_is) (inl (number_error_first (λ x. true) _ _ _ (search rules)
+    (address_not_read c.self.invariant c.in-Err.ensures.err) (ap (λ (i : Input). i.bytes) c.empty.ensures.left)))
 
 pub returns-then-is_empty-clause-first : goal.returns-then-is_empty-clause-first
 returns-then-is_empty-clause-first g c =

@@ -1,7 +1,7 @@
-use Rattle.dwarf_read_core.proofs.Common.{inl}
+use Rattle.dwarf_read_core.proofs.Common.{Ok, Err, inl}
 use Rattle.dwarf_read_core.specs.Sets.{set_unmeasured}
 use Rattle.dwarf_read_core.proofs.Results.{propagated-err}
-use Rattle.dwarf_read_core.proofs.sets.Sets.{headless_read, set_bound, set_read, set_taken, unit_cut_read}
+use Rattle.dwarf_read_core.proofs.sets.Sets.{said_read, set_bound, set_taken, unit_cut_read}
 use Rattle.dwarf_read_core.proofs.read.sets.SetHeader.parse.Goals as goal
 
 pub returns-in_err-length-clause-err : goal.returns-in_err-length-clause-err
@@ -11,17 +11,18 @@ returns-in_err-length-clause-err g c =
 pub returns-in_err-unit-clause-err : goal.returns-in_err-unit-clause-err
 returns-in_err-unit-clause-err g c =
     propagated-err _ _ c.from_residual-in_err-unit.ensures.1
-    (unit_cut_read c.in_ok-length.ensures.ok _ c.in_err-unit.ensures.err)
+    (unit_cut_read _ c.in_ok-length.ensures.ok _ c.in_err-unit.ensures.err)
 
 pub returns-in_err-fields-clause-err : goal.returns-in_err-fields-clause-err
 returns-in_err-fields-clause-err g c =
     propagated-err _ _ c.from_residual-in_err-fields.ensures.1
-    (inl (headless_read c.in_ok-length.ensures.ok c.in_ok-unit.ensures.part c.in_ok-unit.ensures.ok
+    (inl (said_read _ c.in_ok-length.ensures.ok 0 c.in_ok-unit.ensures.part c.in_ok-unit.ensures.ok (Err _)
     c.in_err-fields.ensures.err))
 
 pub returns-clause-ok : goal.returns-clause-ok
 returns-clause-ok g c =
-    set_read c.in_ok-length.ensures.ok _ c.in_ok-unit.ensures.part c.in_ok-unit.ensures.ok c.in_ok-fields.ensures.ok
+    said_read _ c.in_ok-length.ensures.ok _ c.in_ok-unit.ensures.part c.in_ok-unit.ensures.ok (Ok _)
+    c.in_ok-fields.ensures.ok
 
 pub returns-clause-taken : goal.returns-clause-taken
 returns-clause-taken g c = set_taken c.in_ok-length.ensures.ok c.in_ok-unit.ensures.ok

@@ -30,54 +30,29 @@ returns-in_err-value-in_default-DW_FORM_implicit_const-clause-read g c =
 
 pub returns-in-DW_AT_null-DW_FORM_null-clause-read : goal.returns-in-DW_AT_null-DW_FORM_null-clause-read
 unfolding specification_at
-returns-in-DW_AT_null-DW_FORM_null-clause-read g c =
-    let name = c.in_ok-read_uleb128_u16.ensures.ok in
-    let form = c.in_ok-read_uleb128_u16-2.ensures.ok in
-    let named : (c.in_ok-read_uleb128_u16.field-0 == 0) ≡ true = search rules in
-    let formed : (c.in_ok-read_uleb128_u16-2.field-0 == 0) ≡ true = search rules in
-    rw (number_read _ name, number_read _ form, named, formed) refl
+returns-in-DW_AT_null-DW_FORM_null-clause-read g c = grind (arith, number_steps)
 
 pub returns-in-DW_AT_null-DW_FORM_null-clause-same_end : goal.returns-in-DW_AT_null-DW_FORM_null-clause-same_end
-returns-in-DW_AT_null-DW_FORM_null-clause-same_end g c =
-    end_stays c.in_ok-read_uleb128_u16-2.ensures.ok ∙ end_stays c.in_ok-read_uleb128_u16.ensures.ok
+returns-in-DW_AT_null-DW_FORM_null-clause-same_end g c = grind (arith, number_steps)
 
 pub returns-in-DW_AT_null-default-clause-read : goal.returns-in-DW_AT_null-default-clause-read
 unfolding specification_at
-returns-in-DW_AT_null-default-clause-read g c =
-    let name = c.in_ok-read_uleb128_u16.ensures.ok in
-    let form = c.in_ok-read_uleb128_u16-2.ensures.ok in
-    let named : (c.in_ok-read_uleb128_u16.field-0 == 0) ≡ true = search rules in
-    let formed : (c.in_ok-read_uleb128_u16-2.field-0 == 0) ≡ false = search rules in
-    λ memory. rw (number_read _ name, number_read _ form, named, formed) refl
+returns-in-DW_AT_null-default-clause-read g c = grind (arith, number_steps)
 
 pub returns-in_default-DW_FORM_null-clause-read : goal.returns-in_default-DW_FORM_null-clause-read
 unfolding specification_at
-returns-in_default-DW_FORM_null-clause-read g c =
-    let name = c.in_ok-read_uleb128_u16.ensures.ok in
-    let form = c.in_ok-read_uleb128_u16-2.ensures.ok in
-    let named : (c.in_ok-read_uleb128_u16.field-0 == 0) ≡ false = search rules in
-    let formed : (c.in_ok-read_uleb128_u16-2.field-0 == 0) ≡ true = search rules in
-    λ memory. rw (number_read _ name, number_read _ form, named, formed) refl
+returns-in_default-DW_FORM_null-clause-read g c = grind (arith, number_steps)
 
 pub returns-in_default-clause-read : goal.returns-in_default-clause-read
 unfolding specification_at value_at
-returns-in_default-clause-read g c =
-    let name = c.in_ok-read_uleb128_u16.ensures.ok in
-    let form = c.in_ok-read_uleb128_u16-2.ensures.ok in
-    let named : (c.in_ok-read_uleb128_u16.field-0 == 0) ≡ false = search rules in
-    let formed : (c.in_ok-read_uleb128_u16-2.field-0 == 0) ≡ false = search rules in
-    let other : (c.in_ok-read_uleb128_u16-2.field-0 == implicit_const) ≡ false = search rules in
-    rw (number_read _ name, number_read _ form, named, formed, other, c.new-in_default.ensures) refl
+returns-in_default-clause-read g c = grind (arith, number_steps)
 
 pub returns-in_default-clause-same_end : goal.returns-in_default-clause-same_end
-returns-in_default-clause-same_end g c =
-    end_stays c.in_ok-read_uleb128_u16-2.ensures.ok ∙ end_stays c.in_ok-read_uleb128_u16.ensures.ok
+returns-in_default-clause-same_end g c = grind (arith, number_steps)
 
 pub returns-in_ok-value-in_default-DW_FORM_implicit_const-clause-read : goal.returns-in_ok-value-in_default-DW_FORM_implicit_const-clause-read
 unfolding specification_at value_at
 returns-in_ok-value-in_default-DW_FORM_implicit_const-clause-read g c = grind (arith, number_steps)
 
 pub returns-in_ok-value-in_default-DW_FORM_implicit_const-clause-same_end : goal.returns-in_ok-value-in_default-DW_FORM_implicit_const-clause-same_end
-returns-in_ok-value-in_default-DW_FORM_implicit_const-clause-same_end g c =
-    end_stays c.in_ok-value-in_default-DW_FORM_implicit_const.ensures.ok
-    ∙ end_stays c.in_ok-read_uleb128_u16-2.ensures.ok ∙ end_stays c.in_ok-read_uleb128_u16.ensures.ok
+returns-in_ok-value-in_default-DW_FORM_implicit_const-clause-same_end g c = grind (arith, number_steps)

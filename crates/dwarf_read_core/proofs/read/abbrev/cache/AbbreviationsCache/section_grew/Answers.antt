@@ -15,13 +15,8 @@ returns-clause-kept c =
     (get-shown-final old new retained c.retain.ensures.was_ordered key)
 
 pub invariant_of-self : goal.invariant_of-self
-invariant_of-self c =
-    let old = c.self.inside.abbreviations.entries in
-    let new = c.retain.new.self.entries in
-    let retained = filter_same_pairs _ (λ entry. is_final (answer_of entry.1)) _ (λ k v b w f' called. search rules)
-    old new c.retain.ensures.filtered in
-    no_memory_error_final (shown old) (shown new)
-    (get-shown-final old new retained c.retain.ensures.was_ordered) c.self.invariant
+invariant_of-self c = no_memory_error_final c.args.self.now (shown c.retain.new.self.entries) (returns-clause-kept c)
+    (rw c.self.view_is at c.self.invariant)
 
 pub returns-clause-faithful : goal.returns-clause-faithful
 returns-clause-faithful c = faithful_of_final c.args.self.now (shown c.retain.new.self.entries) (returns-clause-kept c)

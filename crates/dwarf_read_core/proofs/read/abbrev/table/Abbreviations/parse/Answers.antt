@@ -1,21 +1,10 @@
-use Rattle.dwarf_read_core.proofs.Common.{arith, rules, ◌≡◌, ◌≢◌, ℕ, List, [], true, false, Option, Some, None, Result, Ok, sym, ◌∙◌, gives_err, end_of, Error, Declaration}
+use Rattle.dwarf_read_core.proofs.Common.{arith, rules, ◌≢◌, [], sym, ◌∙◌, gives_err}
 use Rattle.dwarf_read_core.proofs.tables.ReadingTables.{declaration-coded, table_fails, table_repeats, table_steps}
 use Rattle.dwarf_read_core.proofs.tables.TablesAreRead.{begins_with_none, begins_with_read, begins_before_null, begins_before_end}
 use Rattle.dwarf_read_core.proofs.read.abbrev.table.Abbreviations.parse.Goals as goal
 
--- the end of a table and a declaration aren't both read
-not_both : {A : Type 0} {read : Result (Option Declaration × List ℕ) Error} {rest after : List ℕ} {d : Declaration}
-    → read ≡ Ok (None, rest) → read ≡ Ok (Some d, after) → A
-not_both {rest = rest} {after = after} {d = d} none some =
-    absurd (let q : Ok (None, rest) ≡ Ok (Some d, after) = sym none ∙ some in grind arith)
-
 pub returns-in_err-abbreviation-clause-ends : goal.returns-in_err-abbreviation-clause-ends
-returns-in_err-abbreviation-clause-ends g c =
-    let loop = c.declarations in
-    let some : (g.R.Reader.view loop.input).bytes ≢ [] = search rules in
-    let coded = declaration-coded (end_of (g.R.Reader.view loop.input)) _ some in
-    λ rest e. absurd (let q : false ≡ true = c.in_err-abbreviation.ensures.ends rest
-    (sym coded ∙ rw (loop.invariant.same_end, loop.invariant.first rest e) e) in cc)
+returns-in_err-abbreviation-clause-ends g c = grind (arith, table_steps, declaration-coded)
 
 pub returns-in_err-abbreviation-clause-read : goal.returns-in_err-abbreviation-clause-read
 returns-in_err-abbreviation-clause-read g c =
@@ -26,12 +15,7 @@ returns-in_err-abbreviation-clause-read g c =
     ∙ rw loop.invariant.same_end at (c.in_err-abbreviation.ensures.read memory)))
 
 pub returns-in_err-insert-clause-ends : goal.returns-in_err-insert-clause-ends
-returns-in_err-insert-clause-ends g c =
-    let loop = c.declarations in
-    let some : (g.R.Reader.view loop.input).bytes ≢ [] = search rules in
-    let read = declaration-coded _ _ some
-    ∙ rw (loop.invariant.same_end, c.in-Some.is) at c.in_ok-abbreviation.ensures.read in
-    λ rest e. not_both e (rw (loop.invariant.first rest e) at read)
+returns-in_err-insert-clause-ends g c = grind (arith, table_steps, declaration-coded)
 
 pub returns-in_err-insert-clause-read : goal.returns-in_err-insert-clause-read
 returns-in_err-insert-clause-read g c =
@@ -43,12 +27,7 @@ returns-in_err-insert-clause-read g c =
     ∙ rw (loop.invariant.same_end, c.in-Some.is) at c.in_ok-abbreviation.ensures.read) r.0))
 
 pub returns-in_default-clause-read : goal.returns-in_default-clause-read
-returns-in_default-clause-read g c =
-    let loop = c.declarations in
-    let some : (g.R.Reader.view loop.input).bytes ≢ [] = search rules in
-    let read = declaration-coded _ _ some
-    ∙ rw (loop.invariant.same_end, c.in_default.is) at c.in_ok-abbreviation.ensures.read in
-    grind (arith, table_steps)
+returns-in_default-clause-read g c = grind (arith, table_steps, declaration-coded)
 
 pub returns-in_default-clause-after : goal.returns-in_default-clause-after
 returns-in_default-clause-after g c =
@@ -62,27 +41,13 @@ pub returns-clause-read : goal.returns-clause-read
 returns-clause-read g c = grind (arith, table_steps)
 
 pub returns-clause-after : goal.returns-clause-after
-returns-clause-after g c =
-    let loop = c.declarations in
-    let none : (g.R.Reader.view loop.input).bytes ≡ [] = search rules in
-    let closes = begins_before_end loop.invariant.begins none in
-    grind arith
+returns-clause-after g c = let closes = begins_before_end c.declarations.invariant.begins in grind (arith, closes)
 
 pub declarations-init : goal.declarations-init
 declarations-init g c = grind (arith, begins_with_none)
 
 pub declarations-preserved : goal.declarations-preserved
-declarations-preserved g c =
-    let loop = c.declarations in
-    let some : (g.R.Reader.view loop.input).bytes ≢ [] = search rules in
-    let read = declaration-coded _ _ some
-    ∙ rw (loop.invariant.same_end, c.in-Some.is) at c.in_ok-abbreviation.ensures.read in
-    grind (arith, table_steps, begins_with_read)
+declarations-preserved g c = grind (arith, table_steps, declaration-coded, begins_with_read)
 
 pub declarations-smaller : goal.declarations-smaller
-declarations-smaller g c =
-    let loop = c.declarations in
-    let some : (g.R.Reader.view loop.input).bytes ≢ [] = search rules in
-    let read = declaration-coded _ _ some
-    ∙ rw (loop.invariant.same_end, c.in-Some.is) at c.in_ok-abbreviation.ensures.read in
-    grind (arith, table_steps)
+declarations-smaller g c = grind (arith, table_steps, declaration-coded)
