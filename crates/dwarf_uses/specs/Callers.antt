@@ -1,5 +1,5 @@
 -- What the small callers return.
-use Rattle.std.specs.Prelude.{◌≡◌, ℕ, false, List, [], ◌∷◌, ◌++◌, Ok, Err, ⊤}
+use Rattle.std.specs.Prelude.{◌≡◌, ◌<◌, ℕ, false, List, [], ◌∷◌, ◌++◌, length, Ok, Err, ⊤}
 use Rattle.std.specs.FinMap.{len}
 use Rattle.dwarf_read_core.specs.declared.Error.{Error}
 use Rattle.dwarf_read_core.specs.Answer.{Answer, TableEndsAt}
@@ -10,11 +10,12 @@ use Rattle.dwarf_read_core.specs.Input.{Input}
 abbrev pub section_of : List ℕ → Input
 section_of bytes = record { bytes = bytes; position = 0; is_big = false }
 
--- the tables of a section from its start up to an offset: each begins where the one before it ends
+-- the tables of a section from its start up to an offset: each begins where the one before it ends, if that isn't the
+-- section's end
 pub data AreTablesUpTo (section : Input) : List Table → ℕ → Type 0 where
   none : AreTablesUpTo section [] 0
   one_more : (tables : List Table) (table : Table) (offset end : ℕ) → AreTablesUpTo section tables offset
-      → Answer section offset (Ok table) → TableEndsAt section offset table end
+      → offset < length section.bytes → Answer section offset (Ok table) → TableEndsAt section offset table end
       → AreTablesUpTo section (tables ++ table ∷ []) end
 
 -- how many declarations the table at an offset has

@@ -24,6 +24,6 @@ loop-offset-preserved c =
     let ends = subst (λ (s : Input). TableEndsAt s offset table c.in_ok-table.end.0) section c.in_ok-table.ensures.end in
     let answer = subst (λ (s : Input). Answer s offset (Ok table)) section c.in_ok-table.ensures.answer in
     record {
-      tables = rw c.in_ok-push.ensures.items (one_more _ _ _ _ c.loop-offset.invariant.tables answer ends);
+      tables = rw c.in_ok-push.ensures.items (one_more _ _ _ _ c.loop-offset.invariant.tables (search rules) answer ends);
       within = omega (arith, ends.2);
     }
