@@ -1,4 +1,4 @@
--- The codes by which proofs tell declarations and tables apart: Rattle finds none by itself.
+-- Codes that tell declarations and tables apart in proofs. `Model` requires them, and Rattle finds none by itself.
 use Rattle.std.specs.Prelude.{◌≡◌, ℕ, ℤ, Bool, true, false, List, Option, refl}
 use Rattle.std.specs.Coded.{Coded, code_by, coded×, coded_ℕ, coded_ℤ, coded_bool, coded_list, coded_option}
 use Rattle.std.specs.FinMap.{code as map_code}
