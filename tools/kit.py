@@ -117,8 +117,9 @@ def version() -> str:
 
 
 # The lines of crates.txt: a crate, lowest first, and the libraries that it names.
-ROWS = re.findall(r"^(\w+)(?: staticlib)?:(.*?)(?:#.*)?$", text_of(f"{ROOT}/crates.txt"), re.M)
-CRATES = {name: libraries.split() for name, libraries in ROWS}
+ROWS = re.findall(r"^(\w+)( staticlib)?:(.*?)(?:#.*)?$", text_of(f"{ROOT}/crates.txt"), re.M)
+CRATES = {name: libraries.split() for name, _, libraries in ROWS}
+STATIC = [name for name, is_static, _ in ROWS if is_static]
 
 
 def below(crate: str) -> list[str]:

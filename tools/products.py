@@ -51,6 +51,11 @@ def place_of_copy(path: str, of_sources: str) -> str:
     return f"{cache()}/{os.path.basename(path)}-{key[:32]}"
 
 
+def static_library(crate: str) -> str:
+    """Where the static library of a crate is once it is built."""
+    return f"{kit.ROOT}/crates/{crate}/out/lib{crate}.a"
+
+
 def copy(source: str, target: str) -> None:
     """Copies a file. Whoever reads the target meanwhile finds the old file or the new one, whole."""
     os.makedirs(os.path.dirname(target), exist_ok=True)
@@ -114,6 +119,27 @@ def in_turn(crate: str) -> Iterator[None]:
         yield
     finally:
         os.close(handle)
+
+
+def put_library(crate: str, root: str, of_sources: str, tell: Callable[[str], object]) -> Optional[str]:
+    """Builds and keeps the static library of a crate, over the libraries that `rt ci` has left in a checkout or a copy.
+    Returns where it is, or None. What goes wrong is told."""
+    path = static_library(crate)
+    rt = kit.load_rt()
+    folder = f"{root}/crates/{crate}"
+    words = rt.rtlib.Crate(folder, root, {}).words(["--jobs", "2"])
+    tell(f"building {os.path.basename(path)}")
+    with tempfile.TemporaryDirectory(prefix="library-") as room:
+        made = f"{room}/library.a"
+        command = ["rattle", "build", *words, "--backend", "llvm", "-o", made, "--toolchain", f"{rt.KIT}/toolchain"]
+        ran = kit.run(command, cwd=folder)
+        if ran.returncode:
+            tell(ran.stdout.strip()[-2000:])
+            return None
+        if sums(crate) != of_sources:
+            tell("the sources changed meanwhile: run this again")
+            return None
+        return put(made, path, of_sources)
 
 
 @contextlib.contextmanager

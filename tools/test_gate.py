@@ -3,7 +3,9 @@ import contextlib
 import io
 import os
 import sys
+import tempfile
 import unittest
+from unittest import mock
 
 sys.dont_write_bytecode = True
 sys.path.insert(0, os.path.dirname(os.path.realpath(__file__)))
@@ -64,6 +66,29 @@ class Judging(unittest.TestCase):
             with contextlib.redirect_stdout(io.StringIO()):
                 gate.judge_proofs(now, said, ["a/b.edit"], 5)
             self.assertEqual(now.failed, failed, said)
+
+    def test_libraries(self) -> None:
+        """Static libraries are built in the checkout if `rt ci` left its own there, and none below is missing."""
+        every = [*kit.CRATES]
+        # The crates with a library before `rt ci` and after it, and how many static libraries are then built.
+        rows = [([], every, len(kit.STATIC)), (every[:1], every, 0), ([], every[1:], 0), ([], [], 0)]
+        for before, after, count in rows:
+            now = gate.Gate("")
+            with tempfile.TemporaryDirectory() as root, mock.patch.object(kit, "ROOT", root), mock.patch.multiple(
+                gate, read_bodies=mock.DEFAULT, judge_proofs=mock.DEFAULT, keep_programs=mock.DEFAULT
+            ), mock.patch.multiple(gate.products, sums=str, find=mock.DEFAULT, put_library=mock.DEFAULT) as made:
+                made["find"].return_value = None
+                for it in before:
+                    os.makedirs(f"{root}/crates/{it}/out/rlib")
+
+                def prove(*_: object, root: str = root, after: list[str] = after) -> str:
+                    for it in after:
+                        os.makedirs(f"{root}/crates/{it}/out/rlib", exist_ok=True)
+                    return ""
+
+                with mock.patch.object(now, "step", prove):
+                    self.assertTrue(gate.prove(now, 0))
+            self.assertEqual((made["put_library"].call_count, now.failed), (count, 0), (before, after))
 
 
 if __name__ == "__main__":

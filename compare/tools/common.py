@@ -15,7 +15,6 @@ import products
 PACKAGE = f"{kit.ROOT}/compare"
 OUT = f"{PACKAGE}/out"
 INCLUDE = f"{kit.ROOT}/include"
-LIBRARIES = ("dwarf_read_c", "dwarf_compare")
 DEBIAN = "/usr/share/cargo/registry"
 # How long cargo may try to reach crates.io.
 FETCH_SECONDS = 120
@@ -98,8 +97,8 @@ def make_library(source: str) -> str:
 
 def link_libraries() -> None:
     """Puts both static libraries, and the functions by which they request memory, into one folder."""
-    for crate in LIBRARIES:
-        path = f"{kit.ROOT}/crates/{crate}/out/lib{crate}.a"
+    for crate in kit.STATIC:
+        path = products.static_library(crate)
         if not products.find(path, crate) and not (shutil.which("rt") and shutil.which("rattle")):
             raise Missing("there is no rt: CONTRIBUTING.md names the kit that has it")
         words = [f"{kit.ROOT}/tools/static-library", crate]
