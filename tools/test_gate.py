@@ -81,7 +81,7 @@ class Judging(unittest.TestCase):
                 for it in before:
                     os.makedirs(f"{root}/crates/{it}/out/rlib")
 
-                def prove(*_: object, root: str = root, after: list[str] = after) -> str:
+                def prove(*_: object, env: object, root: str = root, after: list[str] = after) -> str:
                     for it in after:
                         os.makedirs(f"{root}/crates/{it}/out/rlib", exist_ok=True)
                     return ""
@@ -89,6 +89,12 @@ class Judging(unittest.TestCase):
                 with mock.patch.object(now, "step", prove):
                     self.assertTrue(gate.prove(now, 0))
             self.assertEqual((made["put_library"].call_count, now.failed), (count, 0), (before, after))
+
+    def test_jobs(self) -> None:
+        """`rt ci` makes as many checks at a time as there is room for, unless RT_JOBS says how many."""
+        for before, jobs in (({}, "3"), ({"RT_JOBS": "1"}, "1")):
+            with mock.patch.object(kit, "lanes", lambda _: 3), mock.patch.dict(os.environ, before, clear=True):
+                self.assertEqual(gate.one_processor_each()["RT_JOBS"], jobs)
 
 
 if __name__ == "__main__":
