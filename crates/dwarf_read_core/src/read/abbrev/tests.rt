@@ -16,6 +16,7 @@ use dwarf_const_core::tag::{DW_TAG_compile_unit, DW_TAG_subprogram, DwTag};
 use dwarf_reader_core::EndianSlice;
 use dwarf_reader_core::leb128::write::Leb128;
 use std::alloc::{AllocError, Global};
+use std::process::Abort;
 use std::test::Fail;
 
 fn declared(code: u64, attributes: Attributes) -> Abbreviation
@@ -36,13 +37,15 @@ fn table_of(mem: Global, codes: &[u64]) -> Result<Abbreviations> {
     Ok(table)
 }
 
-// The codes of a table, in the order in which it gives its declarations.
-fn codes_of(mem: Global, table: &Abbreviations) -> std::result::Result<Vec<u64>, AllocError> {
-    let mut codes = Vec::new(mem);
-    for abbreviation in table.iter() {
-        codes.push(abbreviation.code())?;
+// Whether a table gives exactly these codes, in this order.
+fn gives_codes(table: &Abbreviations, codes: &[u64]) -> bool {
+    let mut found = table.iter();
+    for code in codes {
+        if found.next().map(Abbreviation::code) != Some(*code) {
+            return false;
+        }
     }
-    Ok(codes)
+    found.next().is_none()
 }
 
 const ONE_TO_FOUR: &[u64] = &[1, 2, 3, 4];
@@ -84,17 +87,20 @@ static ORDERS: &[(&[u64], &[u64], usize)] = &[
 fn codes_from_one_on_are_in_the_vector(rt: HostRuntime) -> std::result::Result<(), Fail> {
     for (codes, in_order, in_vec) in ORDERS {
         let table = table_of(rt.alloc(), codes)?;
-        let lengths = (table.vec.len(), table.vec.len() + table.others.len());
-        assert_eq!(rt; lengths, (*in_vec, codes.len()), "{codes:?}");
-        let found = codes_of(rt.alloc(), &table)?;
-        assert_eq!(rt; found.as_slice(), *in_order, "{codes:?}");
-        let copied = codes_of(rt.alloc(), &table.try_clone()?)?;
-        assert_eq!(rt; copied.as_slice(), *in_order, "{codes:?}");
-        for code in *codes {
-            assert!(rt; table.get(*code).is_some(), "{code} of {codes:?}");
-        }
+        check_codes(&rt, &table, in_order, *in_vec);
+        check_codes(&rt, &table.try_clone()?, in_order, *in_vec);
     }
     Ok(())
+}
+
+// Ends the test where a table has other codes than these, or not so many of them in its vector.
+fn check_codes(rt: &impl Abort, table: &Abbreviations, codes: &[u64], in_vec: usize) {
+    let lengths = (table.vec.len(), table.vec.len() + table.others.len());
+    assert_eq!(rt; lengths, (in_vec, codes.len()), "{codes:?}");
+    assert!(rt; gives_codes(table, codes), "{codes:?}");
+    for code in codes {
+        assert!(rt; table.get(*code).is_some(), "{code} of {codes:?}");
+    }
 }
 
 #[test]
@@ -132,23 +138,20 @@ fn attributes(mem: Global, count: usize) -> std::result::Result<Attributes, Allo
 }
 
 #[test]
-fn fields_are_parsed(rt: HostRuntime) {
+fn tags_and_children_are_parsed(rt: HostRuntime) {
     let input = &mut slice(b"\x01\x02");
-    let tag = Abbreviation::parse_tag(input);
-    assert_eq!(rt; (tag, input.slice()), (Ok(DwTag(1)), b"\x02".as_slice()));
-    let tag = Abbreviation::parse_tag(&mut slice(b"\0"));
-    assert_eq!(rt; tag, Err(Error::AbbreviationTagZero));
+    assert!(rt; Abbreviation::parse_tag(input) == Ok(DwTag(1)));
+    assert!(rt; input.slice() == b"\x02".as_slice());
+    assert!(rt; Abbreviation::parse_tag(&mut slice(b"\0")) == Err(Error::AbbreviationTagZero));
     let input = &mut slice(b"\0\x01\x02");
-    let children = (
-        Abbreviation::parse_has_children(input),
-        Abbreviation::parse_has_children(input),
-        Abbreviation::parse_has_children(input),
-    );
-    let refused = Err(Error::InvalidAbbreviationChildren(DwChildren(2)));
-    assert_eq!(rt;
-        children,
-        (Ok(DW_CHILDREN_no), Ok(DW_CHILDREN_yes), refused)
-    );
+    assert!(rt; Abbreviation::parse_has_children(input) == Ok(DW_CHILDREN_no));
+    assert!(rt; Abbreviation::parse_has_children(input) == Ok(DW_CHILDREN_yes));
+    let refused = Error::InvalidAbbreviationChildren(DwChildren(2));
+    assert!(rt; Abbreviation::parse_has_children(input) == Err(refused));
+}
+
+#[test]
+fn attributes_are_parsed(rt: HostRuntime) {
     let rows: [(&[u8], Result<Option<AttributeSpecification>>, &[u8]); 3] = [
         (b"\0\0\x01", Ok(None), b"\x01"),
         (b"\0\x01\0\0", Err(Error::AttributeNameZero), b"\0\0"),
@@ -156,8 +159,8 @@ fn fields_are_parsed(rt: HostRuntime) {
     ];
     for (bytes, wanted, left) in rows {
         let input = &mut slice(bytes);
-        let parsed = AttributeSpecification::parse(input);
-        assert_eq!(rt; (parsed, input.slice()), (wanted, left), "{bytes:?}");
+        assert!(rt; AttributeSpecification::parse(input) == wanted, "{bytes:?}");
+        assert!(rt; input.slice() == left, "{bytes:?}");
     }
 }
 
@@ -182,18 +185,33 @@ fn entries_of_a_table_are_parsed(rt: HostRuntime) -> std::result::Result<(), Fai
     for (bytes, attribute, left) in rows {
         let input = &mut slice(bytes);
         let found = Abbreviation::parse(mem, input, &mut collector)?;
-        assert_eq!(rt; found.is_some(), attribute.is_some(), "{bytes:?}");
-        if let (Some(found), Some(attribute)) = (found, attribute) {
-            let head = (found.code(), found.tag(), found.has_children());
-            assert_eq!(rt; head, (1, DW_TAG_subprogram, false), "{bytes:?}");
-            assert_eq!(rt; found.attributes(), [attribute].as_slice(), "{bytes:?}");
-        }
+        check_entry(&rt, found.as_ref(), attribute, bytes);
         assert_eq!(rt; input.slice(), left, "{bytes:?}");
     }
+    Ok(())
+}
+
+// Ends the test unless there is an entry exactly if there is an attribute, which is its only one.
+fn check_entry(
+    rt: &impl Abort,
+    found: Option<&Abbreviation>,
+    attribute: Option<AttributeSpecification>,
+    bytes: &[u8],
+) {
+    assert_eq!(rt; found.is_some(), attribute.is_some(), "{bytes:?}");
+    if let (Some(found), Some(attribute)) = (found, attribute) {
+        let head = (found.code(), found.tag(), found.has_children());
+        assert!(rt; head == (1, DW_TAG_subprogram, false), "{bytes:?}");
+        assert!(rt; found.attributes() == [attribute].as_slice(), "{bytes:?}");
+    }
+}
+
+#[test]
+fn tables_are_parsed_up_to_code_0(rt: HostRuntime) -> std::result::Result<(), Fail> {
     let bytes =
         b"\x01\x02\x03\x04\x02\x2e\0\x03\x08\0\0\x01\x11\x01\x25\x0e\x13\x05\0\0\0\x05\x06\x07\x08";
     let input = &mut slice(&bytes[4..]);
-    let table = Abbreviations::parse(mem, input)?;
+    let table = Abbreviations::parse(rt.alloc(), input)?;
     assert_eq!(rt;
         (table.len(), input.slice()),
         (2, b"\x05\x06\x07\x08".as_slice())
@@ -246,9 +264,10 @@ fn room_for_a_usual_table_is_given_back(rt: HostRuntime) -> std::result::Result<
 
 #[test]
 fn equality_does_not_see_the_place(rt: HostRuntime) -> std::result::Result<(), Fail> {
-    let (five, mut six) = (attributes(rt.alloc(), 5)?, attributes(rt.alloc(), 6)?);
+    let five = attributes(rt.alloc(), 5)?;
+    let mut six = attributes(rt.alloc(), 6)?;
     six.truncate(5);
     assert_eq!(rt; (five.spilled(), six.spilled()), (false, true));
-    assert_eq!(rt; declared(1, five), declared(1, six));
+    assert!(rt; declared(1, five) == declared(1, six));
     Ok(())
 }
