@@ -207,13 +207,13 @@ fn sets_end_at_the_first_error(rt: HostRuntime) {
 // Appends the addresses of a section's sets, up to the first error.
 pub(super) fn walk<R: Reader>(section: &DebugAddr<R>, addresses: &mut Vec<u64>) -> Result<()> {
     for header in section.headers()? {
-        append_set(header, addresses)?;
+        append_set(&header?, addresses)?;
     }
     Ok(())
 }
 
-fn append_set<R: Reader>(header: Result<AddrHeader<R>>, addresses: &mut Vec<u64>) -> Result<()> {
-    for address in header?.entries()? {
+fn append_set<R: Reader>(header: &AddrHeader<R>, addresses: &mut Vec<u64>) -> Result<()> {
+    for address in header.entries()? {
         push(address, addresses)?;
     }
     Ok(())

@@ -1,6 +1,6 @@
 //! The cache of abbreviation tables.
 
-use super::tables::check_table;
+use super::tables::{check_table, table_at};
 use super::worked::{BARE, CLOSED_TABLE, ENDED, ENDED_TABLE, NO_TABLE, Table};
 use super::{end_requests, same};
 use dwarf_read_core::AbbreviationsCacheStrategy::{self, All, Duplicates};
@@ -56,8 +56,7 @@ fn populate(
 
 // Keeps the table at the front of these bytes, for an offset.
 fn set(mem: Global, cache: &mut AbbreviationsCache, offset: usize, bytes: &[u8]) -> Result<()> {
-    let section = DebugAbbrev::new(bytes, LittleEndian);
-    let table = Rc::new(mem, section.abbreviations(mem, DebugAbbrevOffset(0))?)?;
+    let table = Rc::new(mem, table_at(mem, 0, bytes, 0)?)?;
     cache.set::<Slice<'_>>(DebugAbbrevOffset(offset), table)
 }
 
@@ -88,58 +87,58 @@ fn strategies_are_compared(rt: HostRuntime) {
 fn tables_are_kept_or_read_afresh(rt: HostRuntime) {
     let mem = rt.alloc();
     let mut cache = AbbreviationsCache::new(mem);
-    let fresh: &[Row] = &[(NONE, 0, Ok(CLOSED_TABLE)), (NONE, 5, Err(eof!(0)))];
-    check_get(&rt, &cache, fresh, "new");
+    static FRESH: &[Row] = &[(NONE, 0, Ok(CLOSED_TABLE)), (NONE, 5, Err(eof!(0)))];
+    check_get(&rt, &cache, FRESH, "new");
 
     let populated = populate(&mut cache, Duplicates, ONE, UNITS);
     same(&rt, populated, Ok(()), "duplicates");
-    let kept: &[Row] = &[(NONE, 0, Ok(CLOSED_TABLE)), (NONE, 5, Ok(NO_TABLE))];
-    check_get(&rt, &cache, kept, "duplicates");
+    static TWICE: &[Row] = &[(NONE, 0, Ok(CLOSED_TABLE)), (NONE, 5, Ok(NO_TABLE))];
+    check_get(&rt, &cache, TWICE, "duplicates");
 
     same(&rt, populate(&mut cache, All, ONE, UNITS), Ok(()), "all");
-    let kept: &[Row] = &[(NONE, 0, Ok(ENDED_TABLE)), (NONE, 5, Ok(NO_TABLE))];
-    check_get(&rt, &cache, kept, "all");
+    static WHOLE: &[Row] = &[(NONE, 0, Ok(ENDED_TABLE)), (NONE, 5, Ok(NO_TABLE))];
+    check_get(&rt, &cache, WHOLE, "all");
 
     same(&rt, set(mem, &mut cache, 5, NINE), Ok(()), "set");
-    let kept: &[Row] = &[(NONE, 0, Ok(ENDED_TABLE)), (NONE, 5, Ok(NINE_TABLE))];
-    check_get(&rt, &cache, kept, "set");
+    static CHANGED: &[Row] = &[(NONE, 0, Ok(ENDED_TABLE)), (NONE, 5, Ok(NINE_TABLE))];
+    check_get(&rt, &cache, CHANGED, "set");
 
     let units = &[Ok(DebugAbbrevOffset(0)), Err(Error::OutOfMemory)];
     let refused = populate(&mut cache, All, ONE, units);
     same(&rt, refused, Err(Error::OutOfMemory), "refused");
-    check_get(&rt, &cache, kept, "refused");
+    check_get(&rt, &cache, CHANGED, "refused");
 
     same(&rt, populate(&mut cache, All, ONE, &[]), Ok(()), "none");
-    check_get(&rt, &cache, fresh, "no units");
+    check_get(&rt, &cache, FRESH, "no units");
 }
 
 // What a cache returns for the other section at 0, 5 and 7: what is kept, or else what that section has.
 #[test]
 fn offsets_are_kept_if_they_occur_often_enough(rt: HostRuntime) {
     let mut cache = AbbreviationsCache::new(rt.alloc());
-    let fresh: &[Row] = &[
+    static FRESH: &[Row] = &[
         (OTHER, 0, Ok(CLOSED_TABLE)),
         (OTHER, 5, Ok(OTHER_TABLE)),
         (OTHER, 7, Ok(CLOSED_TABLE)),
     ];
-    check_get(&rt, &cache, fresh, "new");
+    check_get(&rt, &cache, FRESH, "new");
 
     let populated = populate(&mut cache, Duplicates, ONE, UNITS);
     same(&rt, populated, Ok(()), "duplicates");
-    let kept: &[Row] = &[
+    static TWICE: &[Row] = &[
         (OTHER, 0, Ok(CLOSED_TABLE)),
         (OTHER, 5, Ok(NO_TABLE)),
         (OTHER, 7, Ok(CLOSED_TABLE)),
     ];
-    check_get(&rt, &cache, kept, "duplicates");
+    check_get(&rt, &cache, TWICE, "duplicates");
 
     same(&rt, populate(&mut cache, All, ONE, UNITS), Ok(()), "all");
-    let kept: &[Row] = &[
+    static WHOLE: &[Row] = &[
         (OTHER, 0, Ok(ENDED_TABLE)),
         (OTHER, 5, Ok(NO_TABLE)),
         (OTHER, 7, Err(eof!(0))),
     ];
-    check_get(&rt, &cache, kept, "all");
+    check_get(&rt, &cache, WHOLE, "all");
 }
 
 // Whether two calls return one table, and not two that are alike.
@@ -180,8 +179,8 @@ fn nothing_is_asked_after_an_error(rt: HostRuntime) {
     let next = next_after_populate(&mut cache, ONE, UNITS);
     let after = Ok(Some(Ok(DebugAbbrevOffset(7))));
     same(&rt, next, after, "after the error");
-    let kept: &[Row] = &[(NONE, 5, Ok(NO_TABLE))];
-    check_get(&rt, &cache, kept, "before the error");
+    static BEFORE: &[Row] = &[(NONE, 5, Ok(NO_TABLE))];
+    check_get(&rt, &cache, BEFORE, "before the error");
 }
 
 const SHORTER: &[u8] = b"\x80\0\x01\0\x02\x01\x11\0\0\0";
@@ -200,21 +199,21 @@ fn growing_sections_are_read_again(rt: HostRuntime) {
     let mut cache = AbbreviationsCache::new(rt.alloc());
     let populated = populate(&mut cache, All, SHORTER, GROWN_UNITS);
     same(&rt, populated, Ok(()), "populate");
-    let before: &[Row] = &[
+    static BEFORE: &[Row] = &[
         (LONGER, 0, Ok(CLOSED_TABLE)),
         (LONGER, 2, Err(Error::AbbreviationTagZero)),
         (LONGER, 5, Ok(ENDED_TABLE)),
         (LONGER, 11, Err(eof!(0))),
     ];
-    check_get(&rt, &cache, before, "before");
+    check_get(&rt, &cache, BEFORE, "before");
     cache.section_grew();
-    let after: &[Row] = &[
+    static AFTER: &[Row] = &[
         (LONGER, 0, Ok(CLOSED_TABLE)),
         (LONGER, 2, Err(Error::AbbreviationTagZero)),
         (LONGER, 5, Ok(CLOSED_TABLE)),
         (LONGER, 11, Ok(CLOSED_TABLE)),
     ];
-    check_get(&rt, &cache, after, "grown");
+    check_get(&rt, &cache, AFTER, "grown");
 }
 
 // What a cache keeps of the section with one declaration at 0, 5 and 7, seen by sections that have something else
@@ -246,12 +245,12 @@ fn check_changed(rt: &impl Abort, cache: &AbbreviationsCache, changed: Result<()
 fn check_replaced(rt: &impl Abort, mem: Global) -> Result<()> {
     let mut cache = populated(mem)?;
     let changed = set(mem, &mut cache, 5, NINE);
-    let rows: &[Row] = &[
+    static ROWS: &[Row] = &[
         (NONE, 0, Ok(ENDED_TABLE)),
         (NONE, 5, Ok(NINE_TABLE)),
         (OTHER, 7, Err(eof!(0))),
     ];
-    check_changed(rt, &cache, changed, rows);
+    check_changed(rt, &cache, changed, ROWS);
     Ok(())
 }
 
@@ -266,14 +265,14 @@ fn add_six(mem: Global, cache: &mut AbbreviationsCache) -> Result<()> {
 fn check_added(rt: &impl Abort, mem: Global) -> Result<()> {
     let mut cache = populated(mem)?;
     let changed = add_six(mem, &mut cache);
-    let rows: &[Row] = &[
+    static ROWS: &[Row] = &[
         (NONE, 0, Ok(ENDED_TABLE)),
         (ONE, 1, Ok(CLOSED_TABLE)),
         (NONE, 5, Ok(NO_TABLE)),
         (OTHER, 7, Err(eof!(0))),
         (ONE, 8, Ok(CLOSED_TABLE)),
     ];
-    check_changed(rt, &cache, changed, rows);
+    check_changed(rt, &cache, changed, ROWS);
     Ok(())
 }
 
@@ -281,12 +280,12 @@ fn check_added(rt: &impl Abort, mem: Global) -> Result<()> {
 fn check_all(rt: &impl Abort, mem: Global) -> Result<()> {
     let mut cache = populated(mem)?;
     let changed = populate(&mut cache, All, OTHER, UNITS);
-    let rows: &[Row] = &[
+    static ROWS: &[Row] = &[
         (ONE, 0, Ok(CLOSED_TABLE)),
         (NONE, 5, Ok(OTHER_TABLE)),
         (NONE, 7, Ok(CLOSED_TABLE)),
     ];
-    check_changed(rt, &cache, changed, rows);
+    check_changed(rt, &cache, changed, ROWS);
     Ok(())
 }
 
@@ -294,12 +293,12 @@ fn check_all(rt: &impl Abort, mem: Global) -> Result<()> {
 fn check_duplicates(rt: &impl Abort, mem: Global) -> Result<()> {
     let mut cache = populated(mem)?;
     let changed = populate(&mut cache, Duplicates, OTHER, UNITS);
-    let rows: &[Row] = &[
+    static ROWS: &[Row] = &[
         (b"\x01", 0, Err(eof!(1))),
         (NONE, 5, Ok(OTHER_TABLE)),
         (NONE, 7, Err(eof!(0))),
     ];
-    check_changed(rt, &cache, changed, rows);
+    check_changed(rt, &cache, changed, ROWS);
     Ok(())
 }
 

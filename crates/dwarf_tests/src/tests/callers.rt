@@ -53,6 +53,14 @@ fn check_lengths<R: Reader<Offset = usize>>(
 // A declaration and a code of value 0, one more such code, and two declarations.
 const THREE_TABLES: &[u8] = b"\x01\x11\0\0\0\0\0\x01\x11\0\0\0\x02\x11\0\0\0";
 
+// Bytes, the lengths of their tables, and the outcome: after the table of one unit a number is cut.
+#[rattlefmt::skip]
+static ALL: &[(&[u8], &[usize], Result<()>)] = &[
+    (THREE_TABLES, &[1, 0, 2], Ok(())),
+    (UNIT, &[], Err(eof!(9))),
+    (b"", &[], Ok(())),
+];
+
 // Ends the test unless the tables of a section have these lengths.
 fn check_all(rt: &impl Abort, mem: Global, bytes: &[u8], wanted: &[usize]) -> Result<()> {
     let tables = all_tables(mem, bytes)?;
@@ -63,18 +71,21 @@ fn check_all(rt: &impl Abort, mem: Global, bytes: &[u8], wanted: &[usize]) -> Re
     Ok(())
 }
 
+// Ends the test unless the callers that walk one section find its tables.
+fn check_walks<R: Reader<Offset = usize>>(rt: &impl Abort, mem: Global, unit: R, three: R) {
+    let unit = check_unit(rt, mem, &unit.into());
+    same(rt, unit, Ok(()), "a unit");
+    let lengths = check_lengths(rt, mem, &three.into());
+    same(rt, lengths, Ok(()), "lengths");
+}
+
 #[test]
 fn tables_are_walked(rt: HostRuntime) {
-    let unit = check_unit(&rt, rt.alloc(), &little(UNIT).into());
-    same(&rt, unit, Ok(()), "a unit");
-    let lengths = check_lengths(&rt, rt.alloc(), &little(THREE).into());
-    same(&rt, lengths, Ok(()), "lengths");
-    let all = check_all(&rt, rt.alloc(), THREE_TABLES, &[1, 0, 2]);
-    same(&rt, all, Ok(()), "all tables");
-    let cut = check_all(&rt, rt.alloc(), UNIT, &[]);
-    same(&rt, cut, Err(eof!(9)), "a number is cut after a table");
-    let none = check_all(&rt, rt.alloc(), b"", &[]);
-    same(&rt, none, Ok(()), "no tables");
+    check_walks(&rt, rt.alloc(), little(UNIT), little(THREE));
+    for (bytes, wanted, outcome) in ALL {
+        let checked = check_all(&rt, rt.alloc(), bytes, wanted);
+        same(&rt, checked, *outcome, bytes);
+    }
 }
 
 const OFFSETS: &[u8] = b"\x0c\0\0\0\x05\0\0\0\0\0\0\0\x04\0\0\0";

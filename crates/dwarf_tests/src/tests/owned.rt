@@ -191,13 +191,21 @@ fn check_addresses<R: Reader>(rt: &impl Abort, mem: Global, depth: u8, section: 
     check_depth(rt, depth, 3, are_all_addresses(mem, section), "sets");
 }
 
+// Ends the test unless a table, a string and addresses are read exactly if readers may be cloned deep enough.
+fn check_answers<R: Reader>(rt: &impl Abort, mem: Global, depth: u8, sections: (R, R, R)) {
+    let (unit, strings, sets) = sections;
+    check_tables(rt, mem, depth, &unit.into());
+    check_strings(rt, depth, &strings.into());
+    check_addresses(rt, mem, depth, &sets.into());
+}
+
 #[test]
 fn refused_clones_are_returned(rt: HostRuntime) -> std::result::Result<(), Fail> {
     let mem = rt.alloc();
     for depth in 0..4u8 {
-        check_tables(&rt, mem, depth, &owned(mem, UNIT, depth)?.into());
-        check_strings(&rt, depth, &owned(mem, STRINGS, depth)?.into());
-        check_addresses(&rt, mem, depth, &owned(mem, TWO_SETS, depth)?.into());
+        let (unit, strings) = (owned(mem, UNIT, depth)?, owned(mem, STRINGS, depth)?);
+        let sets = owned(mem, TWO_SETS, depth)?;
+        check_answers(&rt, mem, depth, (unit, strings, sets));
     }
     Ok(())
 }
@@ -267,17 +275,20 @@ fn check_lengths<R: Reader>(rt: &impl Abort, headers: &mut AddrHeaderIter<R>) ->
 }
 
 // Ends the test where a set follows an allocation that failed.
-fn check_headers(rt: &impl Abort, mem: Global) -> Result<()> {
-    let section = DebugAddr::from(owned(mem, TWO_SETS, 3)?);
+fn check_headers<R: Reader>(rt: &impl Abort, section: &DebugAddr<R>) -> Result<()> {
     let mut headers = section.headers()?;
     let checked = check_lengths(rt, &mut headers);
     check_end(rt, &mut headers, Ok(()), "sets");
     checked
 }
 
+fn check_owned(rt: &impl Abort, mem: Global) -> Result<()> {
+    check_headers(rt, &owned(mem, TWO_SETS, 3)?.into())
+}
+
 #[test]
 fn refused_memory_for_headers(rt: HostRuntime) {
-    if let Err(error) = check_headers(&rt, rt.alloc()) {
+    if let Err(error) = check_owned(&rt, rt.alloc()) {
         same(&rt, error, OutOfMemory, "sets");
     }
     end_requests(&rt, rt.alloc());

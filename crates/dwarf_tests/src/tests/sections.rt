@@ -87,13 +87,17 @@ static PLACES: &[(u64, Option<(SectionId, usize)>)] = &[
     (104, None),
 ];
 
-#[test]
-fn positions_are_looked_up(rt: HostRuntime) {
-    let section = DebugLineStr::from(reader_at(b"abc", LittleEndian, 100));
+// Ends the test where a section has another place at a position.
+fn check_places<R: Reader<Offset = usize>>(rt: &impl Abort, section: &DebugLineStr<R>) {
     for (position, wanted) in PLACES {
         let place = section.lookup_offset_id(ReaderOffsetId(*position));
-        same(&rt, place, *wanted, position);
+        same(rt, place, *wanted, position);
     }
+}
+
+#[test]
+fn positions_are_looked_up(rt: HostRuntime) {
+    check_places(&rt, &reader_at(b"abc", LittleEndian, 100).into());
 }
 
 // Ends the test where a kind of section doesn't call its loader once, with this identifier, or doesn't return what that

@@ -6,8 +6,8 @@ use dwarf_read_core::Error::{self, UnsupportedOffset};
 use dwarf_read_core::Format::{self, Dwarf32, Dwarf64};
 use dwarf_read_core::{
     DebugLineStr, DebugLineStrOffset, DebugStr, DebugStrOffset, DebugStrOffsets,
-    DebugStrOffsetsBase, DebugStrOffsetsIndex, EndianSlice, LittleEndian, Reader, Result,
-    RunTimeEndian,
+    DebugStrOffsetsBase, DebugStrOffsetsIndex, EndianSlice, LittleEndian, Reader, ReaderOffset,
+    Result, RunTimeEndian,
 };
 use std::process::Abort;
 use std::test::Fail;
@@ -62,13 +62,18 @@ fn strings_end_at_a_zero_byte(rt: HostRuntime) {
     }
 }
 
+// Ends the test where a section has a byte.
+fn check_none<R: Reader>(rt: &impl Abort, none: &DebugLineStr<R>) {
+    for offset in [0u8, 4, 8] {
+        let place = DebugLineStrOffset(R::Offset::from_u8(offset));
+        same(rt, none.get_str(place).err(), Some(eof!(0)), offset);
+    }
+}
+
 #[test]
 fn default_sections_have_no_bytes(rt: HostRuntime) {
     let none: DebugLineStr<EndianSlice<'_, LittleEndian>> = DebugLineStr::default();
-    for offset in [0, 4, 8] {
-        let error = none.get_str(DebugLineStrOffset(offset)).err();
-        same(&rt, error, Some(eof!(0)), offset);
-    }
+    check_none(&rt, &none);
 }
 
 // The offset at an index, counted from a base.

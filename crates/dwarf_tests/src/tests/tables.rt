@@ -48,7 +48,12 @@ const VALUE: Attribute = (DW_AT_name, DW_FORM_implicit_const, Some(-42));
 const LEAST_VALUE: Attribute = (DW_AT_name, DW_FORM_implicit_const, Some(i64::MIN));
 
 // The table at an offset of a section whose first position is this one.
-fn table_at(mem: Global, first: u8, bytes: &[u8], offset: usize) -> Result<Abbreviations> {
+pub(super) fn table_at(
+    mem: Global,
+    first: u8,
+    bytes: &[u8],
+    offset: usize,
+) -> Result<Abbreviations> {
     let section = DebugAbbrev::from(reader_at(bytes, LittleEndian, first));
     section.abbreviations(mem, DebugAbbrevOffset(offset))
 }
