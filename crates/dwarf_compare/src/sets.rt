@@ -1,6 +1,8 @@
 //! Loops over sets of addresses (DWARF 5, 7.27), to be measured.
 
-use dwarf_read_core::{AddrHeader, DebugAddr, EndianSlice, LittleEndian, Reader, Result};
+use dwarf_read_core::{
+    AddrHeader, DebugAddr, EndianSlice, LittleEndian, Reader, ReaderOffset, Result,
+};
 
 // The sum of the addresses of a set.
 fn sum_of_set<R: Reader>(header: &AddrHeader<R>) -> Result<u64> {
@@ -28,14 +30,13 @@ pub extern "C" fn compare_addresses(section: &[u8]) -> u64 {
 }
 
 // A sum of what each header has.
-fn sum_of_headers(section: &[u8]) -> Result<u64> {
-    let section = DebugAddr::from(EndianSlice::new(section, LittleEndian));
+fn sum_of_headers<R: Reader>(section: &DebugAddr<R>) -> Result<u64> {
     let mut sum: u64 = 0;
     for header in section.headers()? {
         let header = header?;
         sum = sum
-            .wrapping_add(header.length() as u64)
-            .wrapping_add(header.offset().0 as u64)
+            .wrapping_add(header.length().into_u64())
+            .wrapping_add(header.offset().0.into_u64())
             .wrapping_add(u64::from(header.encoding().address_size));
     }
     Ok(sum)
@@ -44,5 +45,5 @@ fn sum_of_headers(section: &[u8]) -> Result<u64> {
 /// Returns a sum of what each header of a set of addresses has, or 0 for an error.
 #[unsafe(no_mangle)]
 pub extern "C" fn compare_headers(section: &[u8]) -> u64 {
-    sum_of_headers(section).unwrap_or(0)
+    sum_of_headers(&DebugAddr::from(EndianSlice::new(section, LittleEndian))).unwrap_or(0)
 }
