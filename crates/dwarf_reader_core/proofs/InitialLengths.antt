@@ -142,6 +142,3 @@ no_length-more more (reserved takes high other) settled = reserved (number_more 
 no_length-more more (eight_cut {mid = mid} four short) settled = absurd (settled mid.position short.fault)
 no_length-more more (too_great four eight over) settled =
     too_great (number_more more four) (number_more more eight) over
-
--- the ways to read an initial length, and not to
-pub ruleset initial_lengths = (in_four_bytes, in_eight_bytes, four_cut, reserved, eight_cut, too_great)

@@ -515,7 +515,6 @@ pub trait Reader: Debug + Drop + Sized {
     /// - [`Error::UnsupportedOffset`] if the length doesn't fit the offset type. All twelve bytes
     ///   are consumed.
     #[inline]
-    #[tactic(auto, using(crate::proofs::InitialLengths::initial_lengths))]
     fn read_initial_length(&mut self) -> Result<(Self::Offset, Format)>
         ensures ok { IfOk result
             (λ found. HasLength Self.Offset.GREATEST (view self.old) found.1

@@ -1,4 +1,4 @@
-use Rattle.dwarf_reader_core.proofs.Common.{rules, signed64, true, false, arith, refl}
+use Rattle.dwarf_reader_core.proofs.Common.{◌∙◌, rules, signed64, true, false, arith, refl}
 use Rattle.dwarf_reader_core.proofs.Reading.{begun_none, cut_rejects, begun_below, begun_below_nine, next_below, next_continues, reads_signed, reads_tenth_signed, rejects_tenth_signed}
 use Rattle.dwarf_reader_core.proofs.reader.Reader.read_sleb128.Goals as goal
 
@@ -7,9 +7,9 @@ with_digit-result-requires-in-loop-index-clause-below g c = begun_below c.loop-i
 
 pub loop-index-preserved : goal.loop-index-preserved
 loop-index-preserved g c = record {
-  begun = next_continues c.loop-index.invariant.begun c.in_ok-byte.ensures.ok _ (search rules)
-      c.with_digit-result-in-loop-index.ensures;
-  order = search rules;
+  begun = next_continues c.loop-index.invariant.begun c.in_ok-byte.ensures.ok _
+      (c.if-not-has_continuation_bit-2.ensures.0 refl) c.with_digit-result-in-loop-index.ensures;
+  order = c.in_ok-byte.ensures.order ∙ c.loop-index.invariant.order;
 }
 
 pub with_sign-requires-then-not-has_continuation_bit-2-clause-below : goal.with_sign-requires-then-not-has_continuation_bit-2-clause-below
@@ -18,7 +18,7 @@ with_sign-requires-then-not-has_continuation_bit-2-clause-below g c =
 
 pub returns-then-not-has_continuation_bit-2-clause-ok : goal.returns-then-not-has_continuation_bit-2-clause-ok
 returns-then-not-has_continuation_bit-2-clause-ok g c =
-    reads_signed c.loop-index.invariant.begun c.in_ok-byte.ensures.ok _ _ _ _ (search rules) (omega arith)
+    reads_signed c.loop-index.invariant.begun c.in_ok-byte.ensures.ok _ _ _ _ (grind arith) (omega arith)
     c.with_digit-result-in-loop-index.ensures refl c.has_sign_bit-then-not-has_continuation_bit-2.ensures
     c.with_sign-then-not-has_continuation_bit-2.ensures (search rules)
 
@@ -45,7 +45,7 @@ with_sign-requires-in-127-clause-below g c = begun_below_nine c.loop-index.invar
 
 pub returns-then-not-has_continuation_bit-clause-ok : goal.returns-then-not-has_continuation_bit-clause-ok
 returns-then-not-has_continuation_bit-clause-ok g c =
-    reads_signed (begun_none _) c.in_ok-first.ensures.ok _ _ _ _ (search rules) (omega arith)
+    reads_signed (begun_none _) c.in_ok-first.ensures.ok _ _ _ _ (grind arith) (omega arith)
     c.with_digit-result.ensures refl c.has_sign_bit.ensures c.with_sign.ensures (search rules)
 
 pub returns-in_err-byte-clause-err : goal.returns-in_err-byte-clause-err

@@ -1,4 +1,4 @@
-use Rattle.dwarf_reader_core.proofs.Common.{rules, arith, unsigned64}
+use Rattle.dwarf_reader_core.proofs.Common.{◌∙◌, rules, arith, refl, unsigned64}
 use Rattle.dwarf_reader_core.proofs.Reading.{begun_below, cut_rejects, next_continues, reads_unsigned, reads_tenth_unsigned, rejects_tenth_unsigned}
 use Rattle.dwarf_reader_core.proofs.reader.Reader.read_uleb128.Goals as goal
 
@@ -7,15 +7,15 @@ with_digit-result-requires-in-loop-index-clause-below g c = begun_below c.loop-i
 
 pub loop-index-preserved : goal.loop-index-preserved
 loop-index-preserved g c = record {
-  begun = next_continues c.loop-index.invariant.begun c.in_ok-byte.ensures.ok _ (search rules)
-      c.with_digit-result-in-loop-index.ensures;
-  order = search rules;
+  begun = next_continues c.loop-index.invariant.begun c.in_ok-byte.ensures.ok _
+      (c.if-not-has_continuation_bit-2.ensures.0 refl) c.with_digit-result-in-loop-index.ensures;
+  order = c.in_ok-byte.ensures.order ∙ c.loop-index.invariant.order;
 }
 
 pub returns-then-not-has_continuation_bit-2-clause-ok : goal.returns-then-not-has_continuation_bit-2-clause-ok
 returns-then-not-has_continuation_bit-2-clause-ok g c =
-    reads_unsigned c.loop-index.invariant.begun c.in_ok-byte.ensures.ok _ (search rules) (omega arith)
-    c.with_digit-result-in-loop-index.ensures (search rules)
+    reads_unsigned c.loop-index.invariant.begun c.in_ok-byte.ensures.ok _ (grind arith) (omega arith)
+    c.with_digit-result-in-loop-index.ensures c.with_digit-result-in-loop-index.type_inv
 
 pub returns-then-byte-gt-MAX_TENTH_BYTE-clause-err : goal.returns-then-byte-gt-MAX_TENTH_BYTE-clause-err
 returns-then-byte-gt-MAX_TENTH_BYTE-clause-err g c =
