@@ -69,4 +69,4 @@ unfoldable pub use Rattle.dwarf_read_core.specs.Reading.{children_at, encoding_a
 pub use Rattle.dwarf_read_core.specs.Sections.{debug_abbrev_reader}
 pub use Rattle.dwarf_read_core.specs.Sets.{Headers, Set, RepresentsSets, followed_headers}
 pub use Rattle.dwarf_read_core.proofs.ResultLemmas.{HasOutcome, returned, failed, outcome-bind, outcome-map}
-pub use Rattle.dwarf_read_core.proofs.ResultLemmas.{gives_err, outcome-cond, outcome-ok}
+pub use Rattle.dwarf_read_core.proofs.ResultLemmas.{gives_err, Err-no_Ok, outcome-cond, outcome-ok}

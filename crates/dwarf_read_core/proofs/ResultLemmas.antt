@@ -34,6 +34,10 @@ pub outcome-ok : {A : Type 0} {Good : A → Type 0} {Bad : Error → Type 0} {r 
     → (x : A) → r ≡ Ok x → Good x
 outcome-ok h x e = grind arith
 
+-- an error is no value
+pub Err-no_Ok : {A : Type 0} {e : Error} {x : A} → Err e ≡ Ok x → ⊥
+Err-no_Ok same = cc
+
 -- an error that `?` propagates is the one that the function reads, unless memory ran out
 pub gives_err : {X Y : Type 0} (view : X → Y) {read : Result Y Error} {e : Error} (result : Result X Error)
     → IsErrAnd result (λ x. x ≡ e) → (e ≢ OutOfMemory → read ≡ Err e) → ReturnsUnlessOutOfMemory view result read

@@ -263,9 +263,3 @@ module _ {unit mid : Input} {v : ℕ} (takes : TakesNumber 2 unit v mid) where
             flat = fourth.byte ∙ flat;
             left = fourth.takes.left;
           }
-
--- what is read of a header of a set of addresses
-pub ruleset address_headers = (address_unversioned, version_cut_read, other_version_read, no_size_read, no_segment_read, other_segment_read, address_header_read)
-
--- what is read of a header of a set of string offsets
-pub ruleset string_offsets_headers = (offsets_unversioned, version_cut_read, other_version_read, padding_read, padding_cut_read)

@@ -193,7 +193,6 @@ impl HeaderFields for AddressSize {
 
     const NAME: &'static str = "AddrHeader";
 
-    #[tactic(auto, using(dwarf_reader_core::proofs::Headers::address_headers))]
     fn parse<R: Reader>(unit: &mut R) -> Result<Self> {
         let version = unit.read_u16()?;
         if version != VERSION {

@@ -142,7 +142,6 @@ impl Abbreviation {
         self.attributes.as_slice()
     }
 
-    #[tactic(auto, using(crate::proofs::tables::ReadingNumbers::number_steps), unfolding(crate::specs::Reading::tag_at))]
     pub(super) fn parse_tag<R: Reader>(input: &mut R) -> Result<DwTag>
         ensures read { ReturnsUnlessOutOfMemory (λ t. (t.0, (R.view input.new).bytes)) result
             (tag_at (end_of (R.view input.old)) (R.view input.old).bytes) }
@@ -208,7 +207,6 @@ impl Abbreviation {
     }
 
     // Reads a declaration, or `None` if a code of value 0 is in its place.
-    #[tactic(auto, using(crate::proofs::tables::ReadingNumbers::number_steps), unfolding(crate::specs::Reading::coded_at))]
     pub(super) fn parse<R: Reader>(
         mem: Global,
         input: &mut R,

@@ -39,7 +39,6 @@ impl HeaderFields for () {
 
     const NAME: &'static str = "StrOffsetsHeader";
 
-    #[tactic(auto, using(dwarf_reader_core::proofs::Headers::string_offsets_headers))]
     fn parse<R: Reader>(unit: &mut R) -> Result<()> {
         let version = unit.read_u16()?;
         if version != VERSION {

@@ -1,5 +1,14 @@
-use Rattle.std.proofs.Common.{arith}
+use Rattle.std.proofs.Common.{arith, refl}
 use Rattle.dwarf_read_core.proofs.read.abbrev.DebugAbbrev.abbreviations_strict.Goals as goal
 
 pub returns-in_err-abbreviations-clause-stable : goal.returns-in_err-abbreviations-clause-stable
 returns-in_err-abbreviations-clause-stable g c = grind arith
+
+pub returns-then-closed_by_null-clause-stable : goal.returns-then-closed_by_null-clause-stable
+returns-then-closed_by_null-clause-stable g c = grind arith
+
+pub returns-else-closed_by_null-clause-answer : goal.returns-else-closed_by_null-clause-answer
+returns-else-closed_by_null-clause-answer g c = grind arith
+
+pub returns-else-closed_by_null-clause-stable : goal.returns-else-closed_by_null-clause-stable
+returns-else-closed_by_null-clause-stable g c = λ final more. absurd (final.1 c.end_id.result.0 refl)

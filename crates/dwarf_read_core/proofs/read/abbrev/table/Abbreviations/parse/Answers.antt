@@ -1,5 +1,5 @@
 use Rattle.dwarf_read_core.proofs.Common.{arith, rules, ◌≢◌, [], sym, ◌∙◌, gives_err}
-use Rattle.dwarf_read_core.proofs.tables.ReadingTables.{declaration-coded, table_fails, table_repeats, table_steps}
+use Rattle.dwarf_read_core.proofs.tables.ReadingTables.{declaration-coded, table_fails, table_goes_on, table_repeats, table_steps}
 use Rattle.dwarf_read_core.proofs.tables.TablesAreRead.{begins_with_none, begins_with_read, begins_before_null, begins_before_end}
 use Rattle.dwarf_read_core.proofs.read.abbrev.table.Abbreviations.parse.Goals as goal
 
@@ -47,7 +47,12 @@ pub declarations-init : goal.declarations-init
 declarations-init g c = grind (arith, begins_with_none)
 
 pub declarations-preserved : goal.declarations-preserved
-declarations-preserved g c = grind (arith, table_steps, declaration-coded, begins_with_read)
+declarations-preserved g c =
+    let loop = c.declarations in
+    let some : (g.R.Reader.view loop.input).bytes ≢ [] = search rules in
+    let next = declaration-coded _ _ some
+    ∙ rw (loop.invariant.same_end, c.in-Some.is) at c.in_ok-abbreviation.ensures.read in
+    grind (arith, table_goes_on, begins_with_read, next)
 
 pub declarations-smaller : goal.declarations-smaller
 declarations-smaller g c = grind (arith, table_steps, declaration-coded)
