@@ -8,7 +8,7 @@ use Rattle.dwarf_read_core.specs.Sets.{HasSet}
 use Rattle.dwarf_read_core.proofs.sets.Entries.{numbers_counted}
 use Rattle.dwarf_read_core.proofs.sets.ItemLists.{first-is, no_first-is}
 use Rattle.dwarf_read_c.specs.declared.sets.DwarfSet.{DwarfSet}
-use Rattle.dwarf_read_c.proofs.Common.{◌≡◌, ◌≢◌, ◌∙◌, Bool, true, ℕ, ◌+◌, ◌-◌, ◌/◌, ◌<◌, ◌≤◌, ◌^◌, List, [], ◌∷◌, length, drop, Ok, Err, refl, sym, ap, subst, arith, ◌⊎◌, inl, inr, length-drop, common_steps, Error, IsTooShort, CloneRanOutOfMemory, Input, after, Headers, Set, RepresentsSets, take, section_of, sets_from, HasNoSetAt, TellsSet, set_from, outside, faulty}
+use Rattle.dwarf_read_c.proofs.Common.{◌≡◌, ◌≢◌, ◌∙◌, Bool, true, ℕ, ◌+◌, ◌-◌, ◌/◌, ◌<◌, ◌≤◌, ◌^◌, List, [], ◌∷◌, length, drop, Ok, Err, refl, sym, ap, subst, arith, ◌⊎◌, inl, inr, length-drop, common_steps, Error, IsTooShort, CloneRanOutOfMemory, Input, after, Headers, Set, RepresentsSets, take, sets_from, HasNoSetAt, TellsSet, set_from, outside, faulty}
 use Rattle.dwarf_read_c.specs.Sets.{shown}
 
 -- what is known of a set that was found at an offset
@@ -33,27 +33,25 @@ some_left : (bytes : List ℕ) (offset : ℕ) → drop offset bytes ≢ [] → o
 some_left bytes offset some = grind (arith, common_steps)
 
 -- an offset from which on there is no item is the length of the section
-pub set_after_the_last : {H : Type 0} (header : Header H) (bytes : List ℕ) (is_big : Bool) {offset : ℕ} {old : Headers}
-    → offset ≤ length bytes → old ≡ sets_after offset (section_of bytes is_big)
-    → RepresentsSets header (2 ^ 64 - 1) old [] → offset ≡ length bytes
-set_after_the_last header bytes is_big {offset} {old} within start ended =
+pub set_after_the_last : {H : Type 0} (header : Header H) (section : Input) {offset : ℕ} {old : Headers}
+    → offset ≤ length section.bytes → old ≡ sets_after offset section
+    → RepresentsSets header (2 ^ 64 - 1) old [] → offset ≡ length section.bytes
+set_after_the_last header section {offset} {old} within start ended =
     let empty = no_first-is (subst (λ (h : Headers). RepresentsSets header (2 ^ 64 - 1) h []) start ended) in
-    omega (arith, within, length-drop offset bytes, ap length empty)
+    omega (arith, within, length-drop offset section.bytes, ap length empty)
 
 -- if the first item from an offset on is a set, the section has this set there
-pub set_found : {H : Type 0} {header : Header H} {bytes : List ℕ} {is_big : Bool} {offset : ℕ} {old new : Headers}
-    {s : Set H}
-    → IsHeader 4 header → old ≡ sets_after offset (section_of bytes is_big)
-    → ComesFirst (RepresentsSets header (2 ^ 64 - 1)) old (Ok s) new
-    → FoundSet header (section_of bytes is_big) offset s
-set_found {H} {header} {bytes} {is_big} {offset} {old} {new} {s} is_header start given =
-    let rest = after offset (section_of bytes is_big) in
+pub set_found : {H : Type 0} {header : Header H} {section : Input} {offset : ℕ} {old new : Headers} {s : Set H}
+    → IsHeader 4 header → section.position ≡ 0 → old ≡ sets_after offset section
+    → ComesFirst (RepresentsSets header (2 ^ 64 - 1)) old (Ok s) new → FoundSet header section offset s
+set_found {H} {header} {section} {offset} {old} {new} {s} is_header starts start given =
+    let rest = after offset section in
     let there = subst (λ (h : Headers). RepresentsSets header (2 ^ 64 - 1) h (Ok s ∷ given.0.0)) start
     (given.1 given.0.0 given.0.1) in
     let begins = first-is there in
-    let found : HasSet header (2 ^ 64 - 1) (sets_after offset (section_of bytes is_big)) s = begins.1 in
-    let within = some_left bytes offset begins.0 in
-    let whole = length-drop offset bytes in
+    let found : HasSet header (2 ^ 64 - 1) (sets_after offset section) s = begins.1 in
+    let within = some_left section.bytes offset begins.0 in
+    let whole = length-drop offset section.bytes in
     let part = is_header.sized _ _ _ found.said in
     let long = length-take s.unit_length (drop (initial_length_size s.format) rest.bytes) in
     let unit = length-drop (initial_length_size s.format) rest.bytes in
@@ -64,21 +62,22 @@ set_found {H} {header} {bytes} {is_big} {offset} {old} {new} {s} is_header start
       has = record { here = refl; measured = found.measured; within = found.within; said = found.said };
       within = omega (arith, whole, found.within, within);
       four = omega (arith, part.enough, long);
-      first = omega (arith, place);
+      first = omega (arith, starts, place);
       rest = omega (arith, entries, cut, long, unit, found.within);
     }
 
 -- if the first item from an offset on is an error, the section has no set there, with this error
-pub set_absent : {H P : Type 0} {header : Header H} {bytes : List ℕ} {is_big : Bool} {offset : ℕ} {old new : Headers}
-    {e : Error} → old ≡ sets_after offset (section_of bytes is_big)
-    → ComesFirst (RepresentsSets header (2 ^ 64 - 1)) old (Err e) new ⊎ (CloneRanOutOfMemory true e × P)
-    → HasNoSetAt header (section_of bytes is_big) offset e
-set_absent {header = header} {bytes} {is_big} {offset} {old} {new} {e} start (inl given) =
+pub set_absent : {H P : Type 0} {header : Header H} {section : Input} {offset : ℕ} {old new : Headers} {e : Error}
+    {is_free : Bool}
+    → is_free ≡ true → old ≡ sets_after offset section
+    → ComesFirst (RepresentsSets header (2 ^ 64 - 1)) old (Err e) new ⊎ (CloneRanOutOfMemory is_free e × P)
+    → HasNoSetAt header section offset e
+set_absent {header = header} {section} {offset} {old} {new} {e} free start (inl given) =
     let there = subst (λ (h : Headers). RepresentsSets header (2 ^ 64 - 1) h (Err e ∷ given.0.0)) start
     (given.1 given.0.0 given.0.1) in
     let begins = first-is there in
-    faulty e (some_left bytes offset begins.0) begins.1
-set_absent start (inr want) = let costs = want.0.costs in absurd (cc)
+    faulty e (some_left section.bytes offset begins.0) begins.1
+set_absent free start (inr want) = let costs = want.0.costs in absurd (cc)
 
 -- what is written for C describes a set that was found
 pub set_reported : {H : Type 0} {header : Header H} {section : Input} {offset : ℕ} {s : Set H} {reported : DwarfSet}

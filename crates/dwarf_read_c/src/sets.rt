@@ -1,10 +1,7 @@
 //! Sets of addresses (DWARF 5, 7.27) and of string offsets (7.26).
 
-ghost use Rattle.std.specs.Prelude.{◌≡◌, ◌≢◌, ◌+◌, ◌<◌, ◌≤◌, ◌^◌, length, IfOk, IfErr, IfSome, IfNone};
-ghost use Rattle.dwarf_read_core.specs.Faults.{IsTooShort};
+ghost use Rattle.std.specs.Prelude.{◌≡◌, ◌≢◌, ◌+◌, ◌<◌, ◌≤◌, ◌^◌, true, length, IfOk, IfErr, IfSome, IfNone};
 ghost use Rattle.dwarf_read_core.specs.Format.{initial_length_size};
-ghost use Rattle.dwarf_read_core.specs.Input.{Takes};
-ghost use Rattle.dwarf_read_core.specs.Slice.{input_of};
 ghost use Rattle.dwarf_read_core.specs.Headers.{AddressHeaderAt, StringOffsetsHeaderAt};
 ghost use Rattle.dwarf_read_core.specs.Sets.{addresses_of, string_offsets_of};
 ghost use Rattle.dwarf_read_c.specs.Fault.{Rejects};
@@ -14,9 +11,7 @@ ghost use Rattle.dwarf_read_c.specs.Sets.{HasNoSetAt, TellsSet, set_from};
 use crate::sections::order;
 use crate::status::{DWARF_END, DWARF_OK};
 use dwarf_fault::{DwarfFault, reject};
-use dwarf_read_core::{
-    DebugAddr, DebugStrOffsets, EndianSlice, Error, Format, Reader, RunTimeEndian,
-};
+use dwarf_read_core::{DebugAddr, DebugStrOffsets, EndianSlice, Error, Format, Reader};
 
 /// A set of addresses or of string offsets. Its entries are the numbers from `first_entry` up to
 /// `next`.
@@ -76,7 +71,8 @@ pub extern "C" fn dwarf_address_set(
     ensures no_set { result ≢ DWARF_OK → set.new ≡ set.old }
     ensures no_fault { result ≡ DWARF_OK → fault.new ≡ fault.old }
 {
-    match address_set_at(section, is_big, offset) {
+    let section = EndianSlice::new(section, order(is_big));
+    match address_set_at(section, offset) {
         Ok(Some(found)) => {
             *set = found;
             DWARF_OK
@@ -115,7 +111,8 @@ pub extern "C" fn dwarf_str_offset_set(
     ensures no_set { result ≢ DWARF_OK → set.new ≡ set.old }
     ensures no_fault { result ≡ DWARF_OK → fault.new ≡ fault.old }
 {
-    match str_offset_set_at(section, is_big, offset) {
+    let section = EndianSlice::new(section, order(is_big));
+    match str_offset_set_at(section, offset) {
         Ok(Some(found)) => {
             *set = found;
             DWARF_OK
@@ -127,14 +124,19 @@ pub extern "C" fn dwarf_str_offset_set(
 
 // Returns the set of addresses at an offset, or `None` at the section's end.
 #[tactic(auto, using(crate::proofs::SetLemmas::set_outside))]
-fn address_set_at(section: &[u8], is_big: bool, offset: usize) -> Result<Option<DwarfSet>, Error>
-    ensures found { let s = section_of section.now is_big in
+fn address_set_at<R: Reader<Offset = usize>>(
+    mut section: R,
+    offset: usize,
+) -> Result<Option<DwarfSet>, Error>
+    requires starts { (R.view section).position ≡ 0 }
+    requires clones { R.clone_is_free ≡ true }
+    ensures found { let s = R.view section in
         IfOk result (λ found. IfSome found (TellsSet AddressHeaderAt addresses_of s offset)) }
-    ensures end { IfOk result (λ found. IfNone found (offset ≡ length section.now)) }
-    ensures err { IfErr result (HasNoSetAt AddressHeaderAt (section_of section.now is_big) offset) }
+    ensures end { IfOk result (λ found. IfNone found (offset ≡ length (R.view section).bytes)) }
+    ensures err { IfErr result (HasNoSetAt AddressHeaderAt (R.view section) offset) }
 {
-    let addresses = DebugAddr::from(bytes_from(section, is_big, offset)?);
-    match addresses.headers()?.next()? {
+    section.skip(offset)?;
+    match DebugAddr::from(section).headers()?.next()? {
         Some(header) => {
             let (length, encoding) = (header.length(), header.encoding());
             Ok(Some(set_from(offset, encoding.format, length, encoding.address_size)))
@@ -145,37 +147,25 @@ fn address_set_at(section: &[u8], is_big: bool, offset: usize) -> Result<Option<
 
 // Returns the set of string offsets at an offset, or `None` at the section's end.
 #[tactic(auto, using(crate::proofs::SetLemmas::set_outside))]
-fn str_offset_set_at(section: &[u8], is_big: bool, offset: usize) -> Result<Option<DwarfSet>, Error>
-    ensures found { let s = section_of section.now is_big in IfOk result
+fn str_offset_set_at<R: Reader<Offset = usize>>(
+    mut section: R,
+    offset: usize,
+) -> Result<Option<DwarfSet>, Error>
+    requires starts { (R.view section).position ≡ 0 }
+    requires clones { R.clone_is_free ≡ true }
+    ensures found { let s = R.view section in IfOk result
         (λ found. IfSome found (TellsSet StringOffsetsHeaderAt string_offsets_of s offset)) }
-    ensures end { IfOk result (λ found. IfNone found (offset ≡ length section.now)) }
-    ensures err { IfErr result
-        (HasNoSetAt StringOffsetsHeaderAt (section_of section.now is_big) offset) }
+    ensures end { IfOk result (λ found. IfNone found (offset ≡ length (R.view section).bytes)) }
+    ensures err { IfErr result (HasNoSetAt StringOffsetsHeaderAt (R.view section) offset) }
 {
-    let offsets = DebugStrOffsets::from(bytes_from(section, is_big, offset)?);
-    match offsets.headers()?.next()? {
+    section.skip(offset)?;
+    match DebugStrOffsets::from(section).headers()?.next()? {
         Some(header) => {
             let (length, format) = (header.length(), header.format());
             Ok(Some(set_from(offset, format, length, format.word_size())))
         }
         None => Ok(None),
     }
-}
-
-// Returns the bytes of a section from an offset on.
-fn bytes_from<'input>(
-    section: &'input [u8],
-    is_big: bool,
-    offset: usize,
-) -> Result<EndianSlice<'input, RunTimeEndian>, Error>
-    ensures ok { IfOk result
-        (λ rest. Takes offset (section_of section.now is_big) (input_of rest)) }
-    ensures err { let s = section_of section.now is_big in
-        IfErr result (λ e. IsTooShort offset s e s) }
-{
-    let mut bytes = EndianSlice::new(section, order(is_big));
-    bytes.skip(offset)?;
-    Ok(bytes)
 }
 
 // Returns a set whose header has four bytes, as C sees it.
