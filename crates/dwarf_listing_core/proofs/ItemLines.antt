@@ -1,16 +1,9 @@
 -- The texts of consecutive items.
-use Rattle.dwarf_listing_core.proofs.Common.{arith, ◌≡◌, ℕ, ◌-◌, length, Bool, List, [], ◌∷◌, ◌++◌, Option, Some, Result, Ok, Err, refl, sym, ap, ◌∙◌, append_assoc, inl, inr, Error, OutOfMemory, Set, Joins, ListsItemsOf, ListsRun, nothing, bad_item, bad_text, item, in_front, SetListing, HasSets, ListsLine, ListsSection, ListsSet}
+use Rattle.dwarf_listing_core.proofs.Common.{arith, ◌≡◌, ℕ, Bool, List, [], ◌∷◌, ◌++◌, Option, Some, Result, Ok, Err, refl, sym, ap, ◌∙◌, append_assoc, inl, inr, Error, OutOfMemory, Set, Joins, ListsItemsOf, ListsRun, nothing, bad_item, bad_text, item, in_front, SetListing, HasSets, ListsLine, ListsSection, ListsSet}
 use Rattle.std.proofs.Common.{subst}
 use Rattle.std.specs.Prelude.{◌≢◌, Vec, vec_items}
 use Rattle.std.specs.declared.alloc.Global.{Global}
 use Rattle.dwarf_read_core.specs.Lookups.{UnlessOutOfMemory}
-use Rattle.std.specs.declared.cmp.PartialEq.{Ghosts as PartialEq}
-use Rattle.std.specs.declared.default.Default.{Ghosts as Default}
-use Rattle.std.specs.declared.fmt.Debug.{Ghosts as Debug}
-use Rattle.dwarf_read_core.specs.declared.EndianSlice.{EndianSlice}
-use Rattle.dwarf_read_core.specs.declared.Endianity.{Ghosts as Endianity}
-use Rattle.dwarf_read_core.specs.declared.RunTimeEndian.{RunTimeEndian}
-use Rattle.dwarf_read_core.specs.Endian.{is_big_at_run_time}
 use Rattle.dwarf_read_core.specs.Input.{Input}
 use Rattle.dwarf_read_core.specs.Items.{GivesFirst}
 use Rattle.dwarf_read_core.specs.Sets.{Headers, HeadersOf, remaining_of, seen_by}
@@ -78,30 +71,19 @@ module _ {I X A : Type 0} (Represents : I → List (Result A Error) → Type 0) 
       let following = items_of_run others (λ same. memory (ap (in_front text) same)) in
       (Ok (view x) ∷ following.0, first.1 following.0 following.1, (Ok text, h, (rest, following.2, refl)))
 
-module _ {endianity : Endianity RunTimeEndian} {debug : Debug RunTimeEndian} {default : Default RunTimeEndian}
-    {eq : PartialEq RunTimeEndian} where
-  -- the input that represents a slice whose byte order is chosen at run time
-  abbrev pub slice_input : EndianSlice RunTimeEndian endianity debug default eq → Input
-  slice_input s = record {
-    bytes = s.slice.now;
-    position = s.end - length s.slice.now;
-    is_big = is_big_at_run_time s.endian;
-  }
-
-  -- the text of what an iterator over the sets of a section yields is that of these sets
-  pub text_of_sets : {H : Type 0} (listing : SetListing H) (is_free : Bool)
-      (now : HeadersOf (EndianSlice RunTimeEndian endianity debug default eq)) {start : Headers}
-      → remaining_of slice_input now ≡ start → (result : Result (Vec ℕ Global) Error)
-      → UnlessOutOfMemory (ListsRun (GivesFirst (λ h. HasSets listing (remaining_of slice_input h))
-      (seen_by slice_input) is_free) (λ x. ListsSet listing (seen_by slice_input x)) now) vec_items result
-      → UnlessOutOfMemory (ListsSection listing start) vec_items result
-  text_of_sets listing is_free now {start} same = listed_otherwise vec_items sets
-    where
-      sets : (listed : Result (List ℕ) Error) → listed ≢ Err OutOfMemory
-          → ListsRun (GivesFirst (λ h. HasSets listing (remaining_of slice_input h)) (seen_by slice_input) is_free)
-          (λ x. ListsSet listing (seen_by slice_input x)) now listed → ListsSection listing start listed
-      sets listed memory run = subst (λ h. ListsSection listing h listed) same (items_of_run
-          (λ h. HasSets listing (remaining_of slice_input h)) (seen_by slice_input) (ListsSet listing) run memory)
+-- the text of what an iterator over the sets of a section yields is that of these sets
+pub text_of_sets : {R H : Type 0} (view : R → Input) (listing : SetListing H) (is_free : Bool) (now : HeadersOf R)
+    {start : Headers} → remaining_of view now ≡ start → (result : Result (Vec ℕ Global) Error)
+    → UnlessOutOfMemory (ListsRun (GivesFirst (λ h. HasSets listing (remaining_of view h)) (seen_by view) is_free)
+    (λ x. ListsSet listing (seen_by view x)) now) vec_items result
+    → UnlessOutOfMemory (ListsSection listing start) vec_items result
+text_of_sets view listing is_free now {start} same = listed_otherwise vec_items sets
+  where
+    sets : (listed : Result (List ℕ) Error) → listed ≢ Err OutOfMemory
+        → ListsRun (GivesFirst (λ h. HasSets listing (remaining_of view h)) (seen_by view) is_free)
+        (λ x. ListsSet listing (seen_by view x)) now listed → ListsSection listing start listed
+    sets listed memory run = subst (λ h. ListsSection listing h listed) same (items_of_run
+        (λ h. HasSets listing (remaining_of view h)) (seen_by view) (ListsSet listing) run memory)
 
 -- the line of a set and the lines that its entries append are those of the set
 pub set_appended : {H X : Type 0} (listing : SetListing H) (s : Set H) (view : X → ℕ) (is_free : Bool)

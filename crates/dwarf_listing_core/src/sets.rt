@@ -1,12 +1,13 @@
 //! The lines of sets of addresses and of string offsets.
 
-ghost use Rattle.std.specs.Prelude.{◌≡◌, ◌<◌, ◌≤◌, ◌++◌, ℕ, List, Result, Ok, false, drop, OnOk, vec_items};
+ghost use Rattle.std.specs.Prelude.{◌≡◌, ◌<◌, ◌≤◌, ◌-◌, ◌^◌, ◌++◌, ℕ, List, Result, Ok, false, drop, OnOk, vec_items};
 ghost use Rattle.std.specs.Fmt.{digit_glyph};
 ghost use Rattle.std.specs.Iterator.{IsFinite};
 ghost use Rattle.dwarf_read_core.specs.ErrorText.{hexadecimal};
 ghost use Rattle.dwarf_read_core.specs.Lookups.{UnlessOutOfMemory};
+ghost use Rattle.dwarf_read_core.specs.Sets.{Headers};
 ghost use Rattle.dwarf_listing_core.specs.Items.{Joins, ListsRun};
-ghost use Rattle.dwarf_listing_core.specs.Sets.{ListsAddresses, ListsStringOffsets, address_header_line, address_line, offset_header_line, offset_line};
+ghost use Rattle.dwarf_listing_core.specs.Sets.{ListsAddresses, ListsSection, ListsStringOffsets, address_header_line, address_line, address_listing, offset_header_line, offset_line, offset_listing};
 
 use dwarf_read_core::{
     AddrHeader, DebugAddr, DebugStrOffset, DebugStrOffsets, EndianSlice, Error, Reader,
@@ -27,8 +28,15 @@ use std::io::Write;
 pub fn addresses(mem: Global, section: &[u8], endian: RunTimeEndian) -> Result<Vec<u8>, Error>
     ensures { UnlessOutOfMemory (ListsAddresses endian section.now) vec_items result }
 {
-    let debug_addr = DebugAddr::from(EndianSlice::new(section, endian));
-    text_of(mem, debug_addr.headers()?)
+    addresses_from(mem, EndianSlice::new(section, endian))
+}
+
+// Returns the lines of the sets of addresses that a reader has.
+fn addresses_from<R: Reader<Offset = usize>>(mem: Global, section: R) -> Result<Vec<u8>, Error>
+    ensures { let sets : Headers = record { offset = 0; rest = R.view section } in
+        UnlessOutOfMemory (ListsSection address_listing sets) vec_items result }
+{
+    text_of(mem, DebugAddr::from(section).headers()?)
 }
 
 /// Returns the sets of string offsets of a whole `.debug_str_offsets`: a line for each header, such
@@ -40,8 +48,15 @@ pub fn addresses(mem: Global, section: &[u8], endian: RunTimeEndian) -> Result<V
 pub fn string_offsets(mem: Global, section: &[u8], endian: RunTimeEndian) -> Result<Vec<u8>, Error>
     ensures { UnlessOutOfMemory (ListsStringOffsets endian section.now) vec_items result }
 {
-    let debug_str_offsets = DebugStrOffsets::from(EndianSlice::new(section, endian));
-    text_of(mem, debug_str_offsets.headers()?)
+    string_offsets_from(mem, EndianSlice::new(section, endian))
+}
+
+// Returns the lines of the sets of string offsets that a reader has.
+fn string_offsets_from<R: Reader<Offset = usize>>(mem: Global, section: R) -> Result<Vec<u8>, Error>
+    ensures { let sets : Headers = record { offset = 0; rest = R.view section } in
+        UnlessOutOfMemory (ListsSection (offset_listing (2 ^ 64 - 1)) sets) vec_items result }
+{
+    text_of(mem, DebugStrOffsets::from(section).headers()?)
 }
 
 /// An item of a section, such as a set or an entry of a set, which is listed by lines.
