@@ -99,34 +99,39 @@ pub extern "C" fn compare_grown(
 fn grown_at(mem: Global, section: &[u8], before: usize, offset: usize) -> Result<Rc<Abbreviations>>
     ensures { Answers (answer_of result) (section_of section.now) offset }
 {
-    let cache = filled_before(mem, section, before.min(section.len()), offset)?;
-    cache.get(
-        &DebugAbbrev::new(section, LittleEndian),
-        DebugAbbrevOffset(offset),
-    )
+    let before = before.min(section.len());
+    let mut cache = filled(mem, &section[..before], &[offset])?;
+    cache.section_grew();
+    cached_at(&cache, section, offset)
 }
 
-// A cache that was filled at an offset of the first bytes of a section, and told that the section
-// grew.
-fn filled_before(
-    mem: Global,
-    section: &[u8],
-    before: usize,
-    offset: usize,
-) -> Result<AbbreviationsCache>
-    requires { before ≤ length section.now }
+// A cache that is filled with the tables at these offsets.
+pub(crate) fn filled(mem: Global, section: &[u8], offsets: &[usize]) -> Result<AbbreviationsCache>
     ensures ok { IfOk result (λ cache. IsFaithful cache (section_of section.now)) }
     ensures err { IfErr result (λ e. e ≡ Error.OutOfMemory) }
 {
     let mut cache = AbbreviationsCache::new(mem);
-    let shorter = DebugAbbrev::new(&section[..before], LittleEndian);
-    let offsets = [offset];
+    let section = DebugAbbrev::new(section, LittleEndian);
     let units = offsets
         .iter()
         .map(|offset| Ok::<_, Error>(DebugAbbrevOffset(*offset)));
-    cache.populate(AbbreviationsCacheStrategy::All, &shorter, units)?;
-    cache.section_grew();
+    cache.populate(AbbreviationsCacheStrategy::All, &section, units)?;
     Ok(cache)
+}
+
+// What a cache returns for an offset of a section.
+pub(crate) fn cached_at(
+    cache: &AbbreviationsCache,
+    section: &[u8],
+    offset: usize,
+) -> Result<Rc<Abbreviations>>
+    ensures { IsFaithful cache.now (section_of section.now)
+        → Answers (answer_of result) (section_of section.now) offset }
+{
+    cache.get(
+        &DebugAbbrev::new(section, LittleEndian),
+        DebugAbbrevOffset(offset),
+    )
 }
 
 /// Writes to `tags` the tag of the abbreviation with each code of `codes` in the table at `offset`

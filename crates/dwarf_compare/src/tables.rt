@@ -1,11 +1,8 @@
 //! Loops over abbreviation tables (DWARF 5, 7.5.3), to be measured, and over their cache, to be
 //! compared.
 
-use crate::single::{table_at, tag_of};
-use dwarf_read_core::{
-    Abbreviation, Abbreviations, AbbreviationsCache, AbbreviationsCacheStrategy,
-    AttributeSpecification, DebugAbbrev, DebugAbbrevOffset, Error, LittleEndian, Result,
-};
+use crate::single::{cached_at, filled, table_at, tag_of};
+use dwarf_read_core::{Abbreviation, Abbreviations, AbbreviationsCache, AttributeSpecification};
 use std::alloc::Global;
 
 // What an error counts as.
@@ -96,23 +93,11 @@ pub extern "C" fn compare_walk(mem: Global, section: &[u8], offset: usize) -> u6
     }
 }
 
-// A cache that is filled with the tables at these offsets.
-fn filled(mem: Global, section: &[u8], offsets: &[usize]) -> Result<AbbreviationsCache> {
-    let mut cache = AbbreviationsCache::new(mem);
-    let section = DebugAbbrev::new(section, LittleEndian);
-    let units = offsets
-        .iter()
-        .map(|offset| Ok::<_, Error>(DebugAbbrevOffset(*offset)));
-    cache.populate(AbbreviationsCacheStrategy::All, &section, units)?;
-    Ok(cache)
-}
-
 // How many abbreviations the tables have together that a cache returns.
 fn get_cached(cache: &AbbreviationsCache, section: &[u8], offsets: &[usize]) -> usize {
-    let section = DebugAbbrev::new(section, LittleEndian);
     let mut sum: usize = 0;
     for offset in offsets {
-        sum = sum.wrapping_add(match cache.get(&section, DebugAbbrevOffset(*offset)) {
+        sum = sum.wrapping_add(match cached_at(cache, section, *offset) {
             Ok(table) => table.len(),
             Err(_) => FAILED,
         });
