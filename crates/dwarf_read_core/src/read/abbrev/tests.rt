@@ -93,7 +93,7 @@ fn codes_from_one_on_are_in_the_vector(rt: HostRuntime) -> std::result::Result<(
     Ok(())
 }
 
-// Ends the test where a table has other codes than these, or not so many of them in its vector.
+// Ends the test where a table has other codes than these, or another number of them in its vector.
 fn check_codes(rt: &impl Abort, table: &Abbreviations, codes: &[u64], in_vec: usize) {
     let lengths = (table.vec.len(), table.vec.len() + table.others.len());
     assert_eq!(rt; lengths, (in_vec, codes.len()), "{codes:?}");
@@ -191,7 +191,7 @@ fn entries_of_a_table_are_parsed(rt: HostRuntime) -> std::result::Result<(), Fai
     Ok(())
 }
 
-// Ends the test unless there is an entry exactly if there is an attribute, which is its only one.
+// Ends the test unless an entry with only this attribute was found, or none where `None` is wanted.
 fn check_entry(
     rt: &impl Abort,
     found: Option<&Abbreviation>,
