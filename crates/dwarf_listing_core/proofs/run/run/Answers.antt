@@ -48,3 +48,24 @@ returns-clause-write g c failed =
     → IfSome (g.I.Read.remaining c.args.input.now) (λ left. c.if-reads_input.bytes.items ≡ left) =
     grind (arith, common_steps) in
     has_text words _ command _ _ named read c.in_ok-text.ensures
+
+pub returns-clause-written : goal.returns-clause-written
+returns-clause-written g c = grind arith
+
+pub returns-clause-end : goal.returns-clause-end
+returns-clause-end g c = grind arith
+
+pub returns-clause-memory : goal.returns-clause-memory
+returns-clause-memory g c = grind arith
+
+pub returns-clause-unread : goal.returns-clause-unread
+returns-clause-unread g c = grind arith
+
+pub returns-clause-section : goal.returns-clause-section
+returns-clause-section g c = grind arith
+
+pub returns-clause-usage : goal.returns-clause-usage
+returns-clause-usage g c = grind arith
+
+pub returns-clause-read : goal.returns-clause-read
+returns-clause-read g c = grind arith

@@ -1,0 +1,54 @@
+use Rattle.dwarf_listing_core.proofs.Common.{arith, ◌≡◌, ◌≢◌, Bool, Result, Err}
+use Rattle.std.specs.Prelude.{◌⊎◌}
+use Rattle.dwarf_listing_core.specs.Fault.{IsMemoryFault, IsReadFault}
+use Rattle.dwarf_listing_core.specs.declared.fault.Fault.{Fault}
+use Rattle.dwarf_listing_core.specs.declared.fault.Fault.TheVariants.{Read, Write}
+use Rattle.dwarf_listing_core.specs.declared.many.fault.ManyFault.{ManyFault}
+use Rattle.dwarf_listing_core.specs.declared.many.fault.ManyFault.TheVariants.{Other, ReadSection, ReadOffsets}
+use Rattle.dwarf_listing_core.proofs.many.run_many.Goals as goal
+
+-- what a run returns of the error of an input is that of memory, if it isn't the given one
+other_of_reading : (error fault : Fault) (named given : ManyFault) → IsReadFault error → (error ≡ Read → given ≡ named)
+    → (error ≢ Read → given ≡ Other error) → named ≢ Other fault
+    → ◌≡◌ {A = Result Bool ManyFault} (Err given) (Err (Other fault)) → (fault ≡ Write) ⊎ IsMemoryFault fault
+other_of_reading error fault named given read if_read if_other differs same = grind arith
+
+pub returns-in-Err-clause-first : goal.returns-in-Err-clause-first
+returns-in-Err-clause-first g c = grind arith
+
+pub returns-in-Err-clause-line : goal.returns-in-Err-clause-line
+returns-in-Err-clause-line g c = grind arith
+
+pub returns-in-Err-clause-lines_last : goal.returns-in-Err-clause-lines_last
+returns-in-Err-clause-lines_last g c = grind arith
+
+pub returns-in-Err-clause-stopped : goal.returns-in-Err-clause-stopped
+returns-in-Err-clause-stopped g c = grind arith
+
+pub returns-in-Err-clause-offsets_second : goal.returns-in-Err-clause-offsets_second
+returns-in-Err-clause-offsets_second g c = grind arith
+
+pub returns-in-Err-read_input-clause-first : goal.returns-in-Err-read_input-clause-first
+returns-in-Err-read_input-clause-first g c = grind arith
+
+pub returns-in-Err-read_input-clause-line : goal.returns-in-Err-read_input-clause-line
+returns-in-Err-read_input-clause-line g c = grind arith
+
+pub returns-in-Err-read_input-clause-section_first : goal.returns-in-Err-read_input-clause-section_first
+returns-in-Err-read_input-clause-section_first g c = grind arith
+
+pub returns-in-Err-read_input-clause-lines_last : goal.returns-in-Err-read_input-clause-lines_last
+returns-in-Err-read_input-clause-lines_last g c = grind arith
+
+pub returns-in-Err-read_input-clause-stopped : goal.returns-in-Err-read_input-clause-stopped
+returns-in-Err-read_input-clause-stopped g c = grind arith
+
+pub returns-in-Err-clause-other : goal.returns-in-Err-clause-other
+returns-in-Err-clause-other g c fault =
+    other_of_reading _ fault ReadSection _ c.in-Err.ensures.faults c.of_reading.ensures.read
+    c.of_reading.ensures.other (grind arith)
+
+pub returns-in-Err-read_input-clause-other : goal.returns-in-Err-read_input-clause-other
+returns-in-Err-read_input-clause-other g c fault =
+    other_of_reading _ fault ReadOffsets _ c.in-Err-read_input.ensures.faults c.of_reading-in-Err-read_input.ensures.read
+    c.of_reading-in-Err-read_input.ensures.other (grind arith)
