@@ -136,3 +136,42 @@ pub(crate) fn check(call: impl FnOnce(&mut sys::Fault) -> u32) -> Result<u32> {
         _ => Err(Error(fault)),
     }
 }
+
+#[cfg(test)]
+mod tests {
+    use super::*;
+
+    // The text of each error without a value, or with the value 0.
+    fn text_of(kind: ErrorKind) -> &'static str {
+        match kind {
+            ErrorKind::UnexpectedEof => "unexpected end of input",
+            ErrorKind::BadUnsignedLeb128 => "unsigned LEB128 overflow",
+            ErrorKind::BadSignedLeb128 => "signed LEB128 overflow",
+            ErrorKind::AbbreviationTagZero => "invalid abbreviation tag: zero",
+            ErrorKind::InvalidAbbreviationChildren => "invalid abbreviation children: 0x0",
+            ErrorKind::AttributeNameZero => "invalid attribute name: zero",
+            ErrorKind::AttributeFormZero => "invalid attribute form: zero",
+            ErrorKind::DuplicateAbbreviationCode => "duplicate abbreviation code: 0",
+            ErrorKind::UnknownReservedLength => "unknown reserved length: 0x0",
+            ErrorKind::UnsupportedOffset => "offset overflow",
+            ErrorKind::UnknownVersion => "unknown DWARF version: 0",
+            ErrorKind::UnsupportedAddressSize => "unsupported address size: 0",
+            ErrorKind::UnsupportedSegmentSize => "unsupported segment size: 0",
+            ErrorKind::UnsupportedOffsetSize => "unsupported offset size: 0",
+            ErrorKind::BadUtf8 => "invalid UTF-8",
+            ErrorKind::AddressOverflow => "address overflow",
+            ErrorKind::UnsupportedRegister => "unsupported register: 0x0",
+            ErrorKind::OutOfMemory => "out of memory",
+            ErrorKind::UnterminatedAbbreviations => "unterminated abbreviation table",
+        }
+    }
+
+    // The library's text of a number, which is proved, shows that the number is that of the kind.
+    #[test]
+    fn numbers_are_those_of_the_library() {
+        for (number, kind) in (1..).zip(KINDS) {
+            let error = Error(sys::Fault { kind: number, value: 0 });
+            assert_eq!((error.kind(), error.to_string().as_str()), (kind, text_of(kind)));
+        }
+    }
+}
