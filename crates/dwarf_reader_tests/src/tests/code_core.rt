@@ -155,6 +155,7 @@ fn texts_are_padded(rt: HostRuntime) -> Result<(), Fail> {
     let text = format!(in mem; "{alias:->25} {address:<37}|")?;
     let wanted = "---DW_CFA_GNU_window_save Unknown DwAddr: 18446744073709551615 |";
     same(&rt, text.as_str(), wanted, "an alias and an address");
-    same(&rt, alias.0, 0x2d, "the alias");
+    // No table has this row, since the value has the name of the constant that is declared first.
+    same(&rt, alias.0, 0x2d, "DW_CFA_AARCH64_negate_ra_state=0x2d");
     Ok(())
 }
