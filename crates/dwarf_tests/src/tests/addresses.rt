@@ -1,6 +1,6 @@
 //! Addresses by their index, and the sets of addresses.
 
-use super::worked::{CUT_SET, FOUR_ADDRESSES, TWO_SETS, twenty_words};
+use super::worked::{CUT_SET, FOUR_ADDRESSES, TWO_SETS};
 use super::{check_end, reader_at, same};
 use dwarf_read_core::Error::{
     UnknownReservedLength, UnknownVersion, UnsupportedAddressSize, UnsupportedOffset,
@@ -12,7 +12,7 @@ use dwarf_read_core::{
     AddrEntryIter, AddrHeader, AddrHeaderIter, DebugAddr, DebugAddrBase, DebugAddrIndex, Encoding,
     EndianSlice, LittleEndian, Reader, ReaderOffset, Result,
 };
-use std::alloc::Global;
+use std::alloc::{AllocError, Global};
 use std::fmt::Debug;
 use std::process::Abort;
 use std::test::Fail;
@@ -83,20 +83,39 @@ fn addresses_are_looked_up(rt: HostRuntime) {
     }
 }
 
-// Ends the test where twenty addresses of a size aren't 1000 and what follows.
-fn check_twenty(rt: &impl Abort, bytes: &[u8], size: u8, base: usize) {
-    for index in 0..20usize {
-        let address = address_in(bytes, Little, size, base, index);
-        same(rt, address, Ok(1000 + index as u64), (size, base, index));
+// Sizes and bases of twenty addresses.
+static TWENTY: &[(u8, usize)] = &[(4, 8), (4, 16), (8, 8), (8, 16)];
+
+// As many bytes as the base says, and then the addresses 1000 to 1019 of a size of four or eight.
+fn twenty_addresses(
+    mem: Global,
+    size: u8,
+    base: usize,
+) -> std::result::Result<Vec<u8>, AllocError> {
+    let mut bytes = Vec::new(mem);
+    for _ in 0..base {
+        bytes.push(0xaa)?;
     }
+    for address in 1000..1020u64 {
+        let whole = address.to_le_bytes();
+        if size == 4 {
+            bytes.extend_from_slice(&whole[..4])?;
+        } else {
+            bytes.extend_from_slice(&whole)?;
+        }
+    }
+    Ok(bytes)
 }
 
 #[test]
 fn twenty_addresses_are_looked_up(rt: HostRuntime) -> std::result::Result<(), Fail> {
-    let words = twenty_words(rt.alloc(), Dwarf32, false)?;
-    check_twenty(&rt, &words, 4, 8);
-    let words = twenty_words(rt.alloc(), Dwarf64, false)?;
-    check_twenty(&rt, &words, 8, 16);
+    for (size, base) in TWENTY {
+        let bytes = twenty_addresses(rt.alloc(), *size, *base)?;
+        for index in 0..20usize {
+            let address = address_in(&bytes, Little, *size, *base, index);
+            same(&rt, address, Ok(1000 + index as u64), (*size, *base, index));
+        }
+    }
     Ok(())
 }
 

@@ -1,13 +1,16 @@
-//! Copies of the sets of addresses and of string offsets, and of their iterators. That a copy is what it is a copy of
-//! is proved (`is_clone`). So these tests show that each kind of copy can be made.
+//! Copies of the sets of addresses and of string offsets, and of their iterators and a table's. That a copy is what it
+//! is a copy of is proved (`is_clone`). So these tests show that each kind of copy can be made.
 
 use super::string_offset_sets::TWO_SETS as TWO_OFFSET_SETS;
-use super::worked::{FOUR_ADDRESSES, TWO_SETS};
+use super::tables::table_at;
+use super::worked::{FOUR_ADDRESSES, THREE, TWO_SETS};
 use super::{little, same};
 use dwarf_read_core::{
-    AddrEntryIter, AddrHeader, DebugAddr, DebugStrOffset, DebugStrOffsets, Error, HeaderFields,
-    Reader, ReaderOffset, Result, SetHeader, SetHeaderIter, StrOffsetsEntryIter, StrOffsetsHeader,
+    AbbreviationsIter, AddrEntryIter, AddrHeader, DebugAddr, DebugStrOffset, DebugStrOffsets,
+    Error, HeaderFields, Reader, ReaderOffset, Result, SetHeader, SetHeaderIter,
+    StrOffsetsEntryIter, StrOffsetsHeader,
 };
+use std::alloc::Global;
 use std::process::Abort;
 
 // The first set, by a copied iterator.
@@ -68,8 +71,28 @@ fn check_offsets<R: Reader + Clone + PartialEq>(
     check_offset(rt, &header)
 }
 
+fn next_code(abbreviations: &mut AbbreviationsIter<'_>) -> Option<u64> {
+    Some(abbreviations.next()?.code())
+}
+
+// Before each of three abbreviations, and after the last, a copy of the iterator is as far as the iterator.
+fn check_copies(rt: &impl Abort, mut rest: AbbreviationsIter<'_>) -> Result<()> {
+    for wanted in [Some(1), Some(2), Some(3), None] {
+        let copied = next_code(&mut rest.clone()?);
+        same(rt, (copied, next_code(&mut rest)), (wanted, wanted), wanted);
+    }
+    Ok(())
+}
+
+fn check_abbreviations(rt: &impl Abort, mem: Global) -> Result<()> {
+    let table = table_at(mem, 0, THREE, 0)?;
+    check_copies(rt, table.iter())
+}
+
 #[test]
 fn copies_are_read_alike(rt: HostRuntime) {
+    let abbreviations = check_abbreviations(&rt, rt.alloc());
+    same(&rt, abbreviations, Ok(()), "abbreviations");
     let addresses = check_addresses(&rt, &little(TWO_SETS).into());
     same(&rt, addresses, Ok(()), "addresses");
     let offsets = check_offsets(&rt, &little(TWO_OFFSET_SETS).into());

@@ -167,6 +167,7 @@ static ERRORS: &[(u8, &[u8], usize, Error)] = &[
     // A number is out of range, or longer than it may be.
     (0, b"\x80\x80\x80\x80\x80\x80\x80\x80\x80\x02", 0, BadUnsignedLeb128),
     (0, b"\x01\x91\x80\x80\0", 0, BadUnsignedLeb128),
+    (0, b"\x01\x80\x80\x80", 0, BadUnsignedLeb128),
     (0, b"\x01\x2e\0\x03\x21\x80\x80\x80\x80\x80\x80\x80\x80\x80\x01\0\0\0", 0, BadSignedLeb128),
     // A field has a value that it may not have.
     (0, b"\x01\0\x02", 0, AbbreviationTagZero),
@@ -394,23 +395,25 @@ fn one_copied_or_refused(rt: &impl Abort, abbreviation: &Abbreviation) {
 }
 
 // The sizes of values with addresses of four bytes, in the 32-bit format in version 2 and in version
-// 3, and in the 64-bit format in version 2 and in version 3; and the forms that have these.
+// 3, and in the 64-bit format in version 2 and in version 3; the same with addresses of eight bytes;
+// and the forms that have these.
 #[rattlefmt::skip]
-static SIZES: &[([Option<usize>; 4], &[DwForm])] = &[
-    ([Some(4); 4], &[DW_FORM_addr]),
-    ([Some(0); 4], &[DW_FORM_implicit_const, DW_FORM_flag_present]),
-    ([Some(1); 4], &[DW_FORM_data1, DW_FORM_flag, DW_FORM_strx1, DW_FORM_ref1, DW_FORM_addrx1]),
-    ([Some(2); 4], &[DW_FORM_data2, DW_FORM_ref2, DW_FORM_addrx2, DW_FORM_strx2]),
-    ([Some(3); 4], &[DW_FORM_addrx3, DW_FORM_strx3]),
-    ([Some(4); 4], &[DW_FORM_data4, DW_FORM_ref_sup4, DW_FORM_ref4, DW_FORM_strx4, DW_FORM_addrx4]),
-    ([Some(8); 4], &[DW_FORM_data8, DW_FORM_ref8, DW_FORM_ref_sig8, DW_FORM_ref_sup8]),
-    ([Some(16); 4], &[DW_FORM_data16]),
-    ([Some(4), Some(4), Some(8), Some(8)], &[
+static SIZES: &[([[Option<usize>; 4]; 2], &[DwForm])] = &[
+    ([[Some(4); 4], [Some(8); 4]], &[DW_FORM_addr]),
+    ([[Some(0); 4]; 2], &[DW_FORM_implicit_const, DW_FORM_flag_present]),
+    ([[Some(1); 4]; 2], &[DW_FORM_data1, DW_FORM_flag, DW_FORM_strx1, DW_FORM_ref1, DW_FORM_addrx1]),
+    ([[Some(2); 4]; 2], &[DW_FORM_data2, DW_FORM_ref2, DW_FORM_addrx2, DW_FORM_strx2]),
+    ([[Some(3); 4]; 2], &[DW_FORM_addrx3, DW_FORM_strx3]),
+    ([[Some(4); 4]; 2], &[DW_FORM_data4, DW_FORM_ref_sup4, DW_FORM_ref4, DW_FORM_strx4, DW_FORM_addrx4]),
+    ([[Some(8); 4]; 2], &[DW_FORM_data8, DW_FORM_ref8, DW_FORM_ref_sig8, DW_FORM_ref_sup8]),
+    ([[Some(16); 4]; 2], &[DW_FORM_data16]),
+    ([[Some(4), Some(4), Some(8), Some(8)]; 2], &[
         DW_FORM_sec_offset, DW_FORM_GNU_ref_alt, DW_FORM_strp, DW_FORM_strp_sup,
         DW_FORM_GNU_strp_alt, DW_FORM_line_strp,
     ]),
-    ([Some(4), Some(4), Some(4), Some(8)], &[DW_FORM_ref_addr]),
-    ([None; 4], &[
+    ([[Some(4), Some(4), Some(4), Some(8)], [Some(8), Some(4), Some(8), Some(8)]],
+        &[DW_FORM_ref_addr]),
+    ([[None; 4]; 2], &[
         DW_FORM_null, DW_FORM_ref, DW_FORM_block2, DW_FORM_block4, DW_FORM_string, DW_FORM_block,
         DW_FORM_block1, DW_FORM_sdata, DW_FORM_udata, DW_FORM_ref_udata, DW_FORM_indirect,
         DW_FORM_exprloc, DW_FORM_strx, DW_FORM_addrx, DW_FORM_loclistx, DW_FORM_rnglistx,
@@ -418,24 +421,28 @@ static SIZES: &[([Option<usize>; 4], &[DwForm])] = &[
     ]),
 ];
 
-fn sizes_of(form: DwForm) -> [Option<usize>; 4] {
+fn sizes_of(form: DwForm) -> [[Option<usize>; 4]; 2] {
     let value = if form == DW_FORM_implicit_const {
         Some(0)
     } else {
         None
     };
     let attribute = AttributeSpecification::new(DW_AT_name, form, value);
+    [sizes_with(&attribute, 4), sizes_with(&attribute, 8)]
+}
+
+fn sizes_with(attribute: &AttributeSpecification, address_size: u8) -> [Option<usize>; 4] {
     [
-        attribute.size(encoding(Format::Dwarf32, 2)),
-        attribute.size(encoding(Format::Dwarf32, 3)),
-        attribute.size(encoding(Format::Dwarf64, 2)),
-        attribute.size(encoding(Format::Dwarf64, 3)),
+        attribute.size(encoding(address_size, Format::Dwarf32, 2)),
+        attribute.size(encoding(address_size, Format::Dwarf32, 3)),
+        attribute.size(encoding(address_size, Format::Dwarf64, 2)),
+        attribute.size(encoding(address_size, Format::Dwarf64, 3)),
     ]
 }
 
-fn encoding(format: Format, version: u16) -> Encoding {
+fn encoding(address_size: u8, format: Format, version: u16) -> Encoding {
     Encoding {
-        address_size: 4,
+        address_size,
         format,
         version,
     }

@@ -14,6 +14,9 @@ const LONG: &[u8] = &[
 
 const NINE: &[u8] = &[0x80, 0x80, 0x80, 0x80, 0x80, 0x80, 0x80, 0x80, 0x80];
 
+// As many bytes as a number of 64 bits may have. None of them is its last.
+const TEN: &[u8] = &[0x80, 0x80, 0x80, 0x80, 0x80, 0x80, 0x80, 0x80, 0x80, 0x80];
+
 #[rattlefmt::skip]
 static UNSIGNED: Numbers = &[
     (&[0x02], Ok(2), 1),
@@ -28,6 +31,7 @@ static UNSIGNED: Numbers = &[
         10,
     ),
     (LONG, Err(Error::BadUnsignedLeb128), 10),
+    (TEN, Err(Error::BadUnsignedLeb128), 10),
     (NINE, Err(eof!(9)), 9),
     (&[0x80], Err(eof!(1)), 1),
     (&[], Err(eof!(0)), 0),
@@ -53,6 +57,7 @@ static SHORT: Numbers = &[
     (&[0xff, 0xff, 0x03], Ok(0xffff), 3),
     (&[0x80, 0x80, 0x04], Err(Error::BadUnsignedLeb128), 3),
     (&[0x80, 0x80, 0x80, 0x03], Err(Error::BadUnsignedLeb128), 3),
+    (&[0x80, 0x80, 0x80], Err(Error::BadUnsignedLeb128), 3),
     (&[0x80, 0x80], Err(eof!(2)), 2),
     (&[0x80], Err(eof!(1)), 1),
 ];
@@ -68,6 +73,7 @@ static WORDS: Numbers = &[
 static SIGNED: Numbers = &[
     (&[0x02], Ok(2), 1),
     (&[0x7e], Ok(-2), 1),
+    (&[0xff, 0x7f], Ok(-1), 2),
     (&[0xff, 0x00], Ok(127), 2),
     (&[0x81, 0x7f], Ok(-127), 2),
     (&[0x80, 0x01], Ok(128), 2),
@@ -77,6 +83,7 @@ static SIGNED: Numbers = &[
     (&[0x80, 0x80, 0x80, 0x80, 0x80, 0x80, 0x80, 0x80, 0x40], Ok(-(1 << 62)), 9),
     (&[0x80, 0x80, 0x80, 0x80, 0x80, 0x80, 0x80, 0x80, 0x80, 0x7f], Ok(-(1 << 63)), 10),
     (LONG, Err(Error::BadSignedLeb128), 10),
+    (TEN, Err(Error::BadSignedLeb128), 10),
     (NINE, Err(eof!(9)), 9),
     (&[0x80], Err(eof!(1)), 1),
 ];
