@@ -130,8 +130,14 @@ uint32_t dwarf_str_offset(const uint8_t *section, size_t len, bool is_big, bool 
                           size_t index, size_t *offset, struct dwarf_fault *fault);
 
 /* Reads the address at an index, counted from 0, of those that follow each other from `base` on in
-   .debug_addr. Each has `size` bytes: 1, 2, 4 or 8. The errors are those of dwarf_str_offset, and before
-   the last of them DWARF_UNSUPPORTED_ADDRESS_SIZE for any other size. */
+   .debug_addr. Each has `size` bytes: 1, 2, 4 or 8.
+
+   The first of these errors:
+    - DWARF_UNEXPECTED_EOF at 0 if `base` is past the end;
+    - DWARF_UNSUPPORTED_OFFSET if the index times `size` is 2^64 or more;
+    - DWARF_UNEXPECTED_EOF at `base` if the address would begin past the end;
+    - DWARF_UNSUPPORTED_ADDRESS_SIZE if `size` isn't 1, 2, 4 or 8;
+    - DWARF_UNEXPECTED_EOF at the address if it ends past the end. */
 uint32_t dwarf_address(const uint8_t *section, size_t len, bool is_big, uint8_t size, size_t base,
                        size_t index, uint64_t *address, struct dwarf_fault *fault);
 
@@ -301,7 +307,7 @@ uint32_t dwarf_tag_name(uint16_t tag, char *name, size_t room, size_t *len);
 uint32_t dwarf_attribute_name(uint16_t attribute, char *name, size_t room, size_t *len);
 uint32_t dwarf_form_name(uint16_t form, char *name, size_t room, size_t *len);
 
-/* The families of constants. tools/constants lists them. */
+/* The families of constants. (Generated.) */
 enum {
     DWARF_FAMILY_TAG = 1,                    /* Tags: what kind of thing an entry describes */
     DWARF_FAMILY_AT = 2,                     /* Attributes: what a value of an entry is about */
