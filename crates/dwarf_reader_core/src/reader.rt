@@ -358,7 +358,7 @@ pub trait Reader: Debug + Drop + Sized {
         Ok(self.endian().read_u128(&bytes))
     }
 
-    /// Reads a number of `n` bytes, at most eight.
+    /// Reads a number of `n` bytes. The caller has to make sure that `n` is at most eight.
     ///
     /// # Errors
     ///

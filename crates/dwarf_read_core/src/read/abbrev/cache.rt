@@ -22,9 +22,9 @@ use std::rc::Rc;
 /// Which tables a cache of abbreviations keeps.
 #[derive(Debug, Clone, Copy, PartialEq, Eq)]
 pub enum AbbreviationsCacheStrategy {
-    /// Those that more than one unit uses.
+    /// Those at offsets that occur at least twice.
     Duplicates,
-    /// Those that any unit uses.
+    /// Those at every offset that occurs.
     All,
 }
 
