@@ -1,10 +1,12 @@
 """Tests of how the gate and `tools/tests` judge what their steps say."""
 import contextlib
+import glob
 import io
 import os
 import sys
 import tempfile
 import unittest
+from typing import Optional
 from unittest import mock
 
 sys.dont_write_bytecode = True
@@ -13,6 +15,7 @@ import kit
 
 gate = kit.load("gate", f"{kit.ROOT}/tools/gate")
 tests = kit.load("tests", f"{kit.ROOT}/tools/tests")
+wrong_bodies = gate.wrong_bodies
 PROVED = "".join(f"rt: {it} proved\n" for it in kit.CRATES)
 REFUSED = "rt: must-fail a/b.edit: refused, as it must be: src/lib.rt:1:1: error\n"
 RAN = "test result: ok. 2 passed; 0 failed\ntest result: ok. 3 passed; 0 failed\n"
@@ -50,6 +53,11 @@ class Judging(unittest.TestCase):
         for said, counts in rows:
             self.assertEqual(tests.counts(said), counts, said)
 
+    @staticmethod
+    def judge(body: str, line: str) -> Optional[str]:
+        """What `judge` says if this one line agrees with what the wrong body says."""
+        return None if (body, line) == ("a/b.edit", "src/lib.rt:1:1: error") else "is refused elsewhere"
+
     def test_proofs(self) -> None:
         kept = PROVED.replace(f"rt: {[*kit.CRATES][0]} proved", f"rt: {[*kit.CRATES][0]} is kept: an earlier run")
         by_name = REFUSED.replace("be: ", "be (only because a proof file names what the edit took away): ")
@@ -58,12 +66,13 @@ class Judging(unittest.TestCase):
             (kept + REFUSED + RAN, 0),
             (PROVED.partition("\n")[2] + REFUSED + RAN, 1),
             (PROVED + by_name + RAN, 1),
+            (PROVED + REFUSED.replace("lib.rt:1:1", "lib.rt:2:1") + RAN, 1),
             (PROVED + RAN, 1),
             (PROVED + REFUSED, 1),
         ]
         for said, failed in rows:
             now = gate.Gate("")
-            with contextlib.redirect_stdout(io.StringIO()):
+            with contextlib.redirect_stdout(io.StringIO()), mock.patch.object(wrong_bodies, "judge", self.judge):
                 gate.judge_proofs(now, said, ["a/b.edit"], 5)
             self.assertEqual(now.failed, failed, said)
 
@@ -95,6 +104,90 @@ class Judging(unittest.TestCase):
         for before, jobs in (({}, "3"), ({"RT_JOBS": "1"}, "1")):
             with mock.patch.object(kit, "lanes", lambda _: 3), mock.patch.dict(os.environ, before, clear=True):
                 self.assertEqual(gate.one_processor_each()["RT_JOBS"], jobs)
+
+
+class Refusals(unittest.TestCase):
+    """What a wrong body says of the function that refuses it, beside what `rt` prints."""
+
+    SOURCE = """\
+// A comment about fn comment() { and a text "fn text() {".
+pub trait Reads<T>: Drop {
+    /// Reads.
+    fn read(&self) -> u8
+        ensures ok { true }
+    { 0 }
+}
+impl<R: Reads<Vec<u8>>> fmt::Display for Pair<'_, R> {
+    ghost output = { text };
+
+    #[inline]
+    fn fmt(&self, rt: &impl Abort) -> Result<()> {
+        Ok(())
+    }
+}
+fn planted() -> u8 { 1 } impl Pair {
+    fn first(&self) -> u8 { self.0 }
+}
+fn free() {}
+"""
+    GOAL = "it is not proved that what the function ensures holds when it returns (`returns-in-Some-clause-ok`)"
+
+    def test_places(self) -> None:
+        # The row and the column of a place, and the function there.
+        rows = [
+            ((4, 5), "Reads::read"),
+            ((6, 7), "Reads::read"),
+            ((11, 5), "PairDisplay::fmt"),
+            ((12, 5), "PairDisplay::fmt"),
+            ((13, 9), "PairDisplay::fmt"),
+            ((16, 1), "planted"),
+            ((16, 22), "planted"),
+            ((17, 5), "Pair::first"),
+            ((19, 1), "free"),
+        ]
+        self.assertEqual(wrong_bodies.function_of("src/lib.rt:1:1: error: no", lambda _: "struct S;"), "no function")
+        for (row, column), function in rows:
+            line = f"note: src/lib.rt:{row}:{column}: {self.GOAL}"
+            self.assertEqual(wrong_bodies.function_of(line, lambda _: self.SOURCE), function, line)
+
+    def test_disagreements(self) -> None:
+        at = "note: src/lib.rt:17:5: "
+        proof = "proofs/read/Pair/first/Answers.antt:3:1: error: "
+        # The first line of a wrong body, what `rt` prints, and whether they agree.
+        rows = [
+            ("# refused by Pair::first", f"{at}an index", True),
+            ("# refused by Pair::first, clause ok", f"{at}{self.GOAL}", True),
+            ("# refused by Pair::first, clauses err, end and ok", f"{at}{self.GOAL}", True),
+            ("# refused by Pair::first, clause ok", f"{at}{self.GOAL[:-5]}", True),
+            ("# refused by Pair::first, clause ok", f"{proof}`returns-clause-ok`: no", True),
+            ("# refused by free", "src/lib.rt:19:1: error: no", True),
+            ("# refused by first", "proofs/first/Answers.antt:1:1: error: no", True),
+            ("# refused by Pair::first", f"{at}{self.GOAL}", False),
+            ("# refused by Pair::first, clause okay", f"{at}{self.GOAL}", False),
+            ("# refused by Pair::first, clause err", f"{proof}`returns-clause-ok`: no", False),
+            ("# refused by Pair::second, clause ok", f"{at}{self.GOAL}", False),
+            ("# refused by first, clause ok", f"{at}{self.GOAL}", False),
+            ("# refused by free", f"{proof}no", False),
+            ("# refused by free", "proofs/tables/Free.antt:1:1: error: no", False),
+            ("# refused by free", "", False),
+            ("# refused by Pair::first, which reads", f"{at}an index", False),
+            ("file: src/lib.rt", f"{at}an index", False),
+        ]
+        for note, line, agree in rows:
+            why = wrong_bodies.disagreement(note, line, lambda _: self.SOURCE)
+            self.assertEqual(why is None, agree, (note, line, why))
+
+    def test_notes(self) -> None:
+        """The first line of each wrong body names a function that the sources have, and no line is too long."""
+        for path in sorted(glob.glob(f"{kit.ROOT}/crates/*/must-fail/*.edit")):
+            folder = os.path.dirname(os.path.dirname(path))
+            note = kit.text_of(path).partition("\n")[0]
+            found = wrong_bodies.NOTE.fullmatch(note)
+            self.assertTrue(found, (path, note))
+            texts = kit.load_rt().read_edit(path, folder)[0]
+            texts = [*texts.values(), *(text for _, text in kit.sources(os.path.basename(folder)))]
+            self.assertIn(found[1], [name for it in texts for _, name in wrong_bodies.functions(it)], path)
+            self.assertLessEqual(max(map(len, kit.text_of(path).splitlines())), 160, path)
 
 
 if __name__ == "__main__":
