@@ -1,14 +1,12 @@
 """The headers of an ELF file, and the bytes of its sections as they are stored.
 
-pyelftools has the layouts of the headers. Their bytes are read here, so that a place that a malformed file names is
-looked at first. An exception `Unlisted` says in our words why a part of a file can't be read.
+An exception `Unlisted` says why a part of a file can't be read, also if the file names a place that it doesn't have.
 """
 from __future__ import annotations
 
+import struct
 import typing
 from dataclasses import dataclass
-
-from elftools.elf.structs import ELFStructs
 
 if typing.TYPE_CHECKING:
     from debug_file import Section
@@ -18,6 +16,9 @@ MAGIC = b"\x7fELF"
 # What replaces the number of the section of the names if that is too large, and the flag of a compressed section.
 XINDEX = 0xFFFF
 COMPRESSED = 0x800
+# Types of files and of sections.
+ET_REL, ET_CORE = 1, 4
+SHT_SYMTAB, SHT_RELA, SHT_NOBITS, SHT_REL, SHT_CREL = 2, 4, 8, 9, 0x40000014
 # At most this many bytes of a section's name are read, and at a time these many bytes of a section.
 NAME_BYTES = 1 << 12
 CHUNK = 1 << 20
@@ -37,6 +38,26 @@ class Unopened(Unlisted):
 
 # What finds the tables of relocations of some bytes. Most have none.
 Tables = typing.Callable[[], "typing.Sequence[Relocations]"]
+
+
+class Layouts(typing.NamedTuple):
+    """The layouts of headers in a class of ELF, with the fields that are needed here."""
+
+    # The type, the machine, where the section headers are, the size and the number of these, and which has the names.
+    file: struct.Struct
+    # The name, the type, the flags, where the section is, its size, the fields link and info.
+    section: struct.Struct
+    # The type, and the size of the inflated section.
+    compression: struct.Struct
+
+
+def layouts(bits: int, order: str) -> Layouts:
+    mark = "<" if order == "little" else ">"
+    if bits == 64:
+        forms = "16x2H20xQ10x3H", "2IQ8x2Q2I16x", "I4xQ8x"
+    else:
+        forms = "16x2H12xI10x3H", "3I4x4I8x", "2I4x"
+    return Layouts(*(struct.Struct(mark + it) for it in forms))
 
 
 class Say(typing.Protocol):
@@ -99,7 +120,7 @@ class Header:
 
     number: int
     name: str
-    kind: str | int
+    kind: int
     flags: int
     start: int
     size: int
@@ -122,51 +143,48 @@ class ElfFile:
             raise Unlisted(f"the ELF file has an unknown class or byte order: its first bytes are {mark.hex(' ')}")
         self.bits = 32 * mark[4]
         self.order: typing.Literal["little", "big"] = "little" if mark[5] == 1 else "big"
-        self.structs = ELFStructs(little_endian=mark[5] == 1, elfclass=self.bits)
-        self.structs.create_basic_structs()
-        self.header = self.parsed(self.structs.Elf_Ehdr, 0, "the header of the file")
-        self.kind = self.header["e_type"]
-        system = self.header["e_ident"]["EI_OSABI"]
-        self.structs.create_advanced_structs(self.kind, self.header["e_machine"], system)
-        # The library has no name for each number.
-        self.machine = int.from_bytes(whole[18:20], self.order)
-        self.headers = list(self.read_headers())
+        self.layouts = layouts(self.bits, self.order)
+        fields = self.parsed(self.layouts.file, 0, "the header of the file")
+        self.kind, self.machine, *places = fields
+        self.headers = list(self.read_headers(*places))
 
-    def parsed(self, layout: typing.Any, at: int, what: str) -> typing.Any:
-        """What is at a place of the file, by one of the library's layouts, which have no types."""
-        row = self.whole[at : at + layout.sizeof()]
-        if len(row) < layout.sizeof():
+    def parsed(self, layout: struct.Struct, at: int, what: str) -> tuple[int, ...]:
+        """The fields of a header at a place of the file."""
+        row = self.whole[at : at + layout.size]
+        if len(row) < layout.size:
             raise Unlisted(f"{what}, at 0x{at:x}, is past the end of the file")
-        return layout.parse(row)
+        return layout.unpack(row)
 
-    def read_headers(self) -> typing.Iterator[Header]:
+    def read_headers(self, start: int, size: int, count: int, of_names: int) -> typing.Iterator[Header]:
         """Reads the headers of all sections but the first, which is none."""
-        start, size = self.header["e_shoff"], self.header["e_shentsize"]
         if not start:
-            what = "is a core file, which has" if self.kind == "ET_CORE" else "has"
+            what = "is a core file, which has" if self.kind == ET_CORE else "has"
             raise Unlisted(f"the file {what} no section headers")
-        layout = self.structs.Elf_Shdr
-        if size != layout.sizeof():
+        layout = self.layouts.section
+        if size != layout.size:
             raise Unlisted(f"the file says that a section header has {size} bytes")
-        first = self.parsed(layout, start, "the first section header")
+        first = Header(0, "", *self.parsed(layout, start, "the first section header")[1:])
         # Numbers that don't fit their fields are in the first header.
-        wanted = self.header["e_shnum"] or first["sh_size"]
+        wanted = count or first.size
         there = min(wanted, (len(self.whole) - start) // size)
         if there < wanted:
             self.say(f"the file ends before {wanted - there} of its {wanted} section headers, at 0x{start:x}")
-        number = self.header["e_shstrndx"]
-        number = first["sh_link"] if number == XINDEX else number
+        names = self.names(start, first.link if of_names == XINDEX else of_names, there)
+        for it in range(1, there):
+            name, *fields = self.parsed(layout, start + it * size, f"the header of section {it}")
+            if name >= len(names):
+                self.say(f"section {it} has its name at 0x{name:x}, past the end of the names")
+                continue
+            text = names[name : name + NAME_BYTES].partition(b"\0")[0]
+            yield Header(it, text.decode(errors="replace"), *fields)
+
+    def names(self, start: int, number: int, there: int) -> Body:
+        """The names of the sections, which are in one of the sections that are there."""
         if not 0 < number < there:
             raise Unlisted(f"the names of the sections are in section {number}, which the file lacks")
-        row = self.parsed(layout, start + number * size, "the header of the names")
-        names = self.whole.part(row["sh_offset"], row["sh_size"])
+        layout = self.layouts.section
+        header = Header(number, "", *self.parsed(layout, start + number * layout.size, "the header of the names")[1:])
+        names = self.whole.part(header.start, header.size)
         if not names:
-            raise Unlisted(f"the names of the sections, at 0x{row['sh_offset']:x}, are past the end of the file")
-        for it in range(1, there):
-            row = self.parsed(layout, start + it * size, f"the header of section {it}")
-            if row["sh_name"] >= len(names):
-                self.say(f"section {it} has its name at 0x{row['sh_name']:x}, past the end of the names")
-                continue
-            text = names[row["sh_name"] : row["sh_name"] + NAME_BYTES].partition(b"\0")[0]
-            fields = (row[f"sh_{field}"] for field in ("type", "flags", "offset", "size", "link", "info"))
-            yield Header(it, text.decode(errors="replace"), *fields)
+            raise Unlisted(f"the names of the sections, at 0x{header.start:x}, are past the end of the file")
+        return names

@@ -18,6 +18,7 @@ import typing
 import zlib
 from dataclasses import dataclass
 
+from debug_elf import ET_REL, SHT_CREL, SHT_NOBITS, SHT_REL, SHT_RELA, SHT_SYMTAB
 from debug_elf import Body, ElfFile, Header, Say, Unlisted
 from debug_relocations import Relocations
 
@@ -30,8 +31,7 @@ UNITS = ("debug_info", "debug_types")
 INDEXES = ("debug_cu_index", "debug_tu_index")
 # The columns of the index of a package: DW_SECT_INFO, DW_SECT_TYPES, DW_SECT_ABBREV, DW_SECT_STR_OFFSETS.
 COLUMNS = {1: "debug_info", 2: "debug_types", 3: "debug_abbrev", 6: "debug_str_offsets"}
-CREL = 0x40000014
-TABLES_OF_RELOCATIONS = ("SHT_REL", "SHT_RELA", CREL)
+TABLES_OF_RELOCATIONS = (SHT_REL, SHT_RELA, SHT_CREL)
 # A row of such an index: the offset and the size of each contribution, by its section.
 Row = dict[str, tuple[int, int]]
 # What inflates at most a number of bytes. It returns them, and whether the compressed bytes end there.
@@ -172,7 +172,7 @@ class DebugFile(ElfFile):
     def body(self, section: Section) -> Body:
         """The bytes of a section, inflated."""
         header = section.header
-        if header.kind == "SHT_NOBITS":
+        if header.kind == SHT_NOBITS:
             raise Unlisted("has no bytes in this file (SHT_NOBITS)")
         if header.size and header.start >= len(self.whole):
             raise Unlisted(f"begins at 0x{header.start:x}, past the end of the file")
@@ -199,11 +199,12 @@ class DebugFile(ElfFile):
 
     def compression(self, raw: Body) -> tuple[int, int, int]:
         """The type of a compressed section, the size that it inflates to, and where its bytes begin."""
-        layout = self.structs.Elf_Chdr
-        row = raw[: layout.sizeof()]
-        if len(row) < layout.sizeof():
-            raise Unlisted(f"is compressed, and has {len(row)} of the {layout.sizeof()} bytes of the header of that")
-        return int.from_bytes(row[:4], self.order), layout.parse(row)["ch_size"], len(row)
+        layout = self.layouts.compression
+        row = raw[: layout.size]
+        if len(row) < layout.size:
+            raise Unlisted(f"is compressed, and has {len(row)} of the {layout.size} bytes of the header of that")
+        kind, size = layout.unpack(row)
+        return kind, size, len(row)
 
     def stated_size(self, section: Section) -> int:
         """The size of a section whose bytes can't be had: what the header of its compression says, or else 0."""
@@ -227,17 +228,17 @@ class DebugFile(ElfFile):
         return self.tables_of_relocations[section.number]
 
     def read_relocations(self, section: Section) -> list[Relocations]:
-        headers = self.relocations.get(section.number, []) if self.kind == "ET_REL" else []
+        headers = self.relocations.get(section.number, []) if self.kind == ET_REL else []
         tables = []
         for header in headers:
-            if header.kind == CREL:
+            if header.kind == SHT_CREL:
                 raise Unlisted("has compact relocations (SHT_CREL), which aren't read")
             named = next((it for it in self.headers if it.number == header.link), None)
-            if not named or named.kind != "SHT_SYMTAB":
+            if not named or named.kind != SHT_SYMTAB:
                 raise Unlisted(f"has relocations whose symbols are to be in section {header.link}, and aren't")
             body = self.part(header, f"the table of the relocations of {section}")
             symbols = self.part(named, "the table of the symbols")
-            tables.append(Relocations(self, body, symbols, header.kind == "SHT_RELA"))
+            tables.append(Relocations(self, body, symbols, header.kind == SHT_RELA))
         return tables
 
     def inflated(self, section: Section, raw: bytes, size: int, inflate: Inflate) -> bytes:

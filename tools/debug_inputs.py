@@ -12,7 +12,7 @@ import typing
 import zlib
 from dataclasses import dataclass
 
-from debug_elf import MAGIC, Body, ElfFile, Unlisted, Unopened
+from debug_elf import MAGIC, SHT_NOBITS, Body, ElfFile, Unlisted, Unopened
 
 STANDARD_INPUT = "-"
 ARCHIVE, THIN_ARCHIVE = b"!<arch>\n", b"!<thin>\n"
@@ -216,7 +216,7 @@ def link_of(file: ElfFile) -> DebugLink | None:
     found = DebugLink()
     for header in file.headers:
         body = file.whole.part(header.start, min(header.size, 1 << 12))
-        if header.kind == "SHT_NOBITS":
+        if header.kind == SHT_NOBITS:
             continue
         if header.name == ".gnu_debuglink":
             data = body[:]

@@ -150,9 +150,9 @@ def worked_cases() -> int:
     return sum(len(re.findall(r"^\$ dwarf_list\b", it, re.M)) for it in texts)
 
 
-def script_tests(pattern: str = "test_*.py") -> int:
-    """How many tests the scripts have in files of this pattern."""
-    return sum(len(re.findall(r"^    def test_", text_of(it), re.M)) for it in glob.glob(f"{ROOT}/tools/{pattern}"))
+def script_tests() -> int:
+    """How many tests the scripts have."""
+    return sum(len(re.findall(r"^    def test_", text_of(it), re.M)) for it in glob.glob(f"{ROOT}/tools/test_*.py"))
 
 
 def lanes(memory: int) -> int:

@@ -1,7 +1,7 @@
 #!/usr/bin/env python3
 """Tests what reads ELF files for `dwarf_elf`, on files that are made here: `python3 tools/test_debug_file.py`.
 
-pyelftools is needed, as for `dwarf_elf`. The whole tool is compared with other programs by `tools/compare-elf`.
+The whole tool is compared with other programs by `tools/compare-elf`.
 """
 from __future__ import annotations
 
@@ -13,6 +13,7 @@ import sys
 import tempfile
 import typing
 import unittest
+import zlib
 from unittest import mock
 
 sys.dont_write_bytecode = True
@@ -36,7 +37,9 @@ def body(data: bytes) -> Body:
     return Body(io.BytesIO(data), 0, len(data))
 
 
-def elf(sections: list[Section], machine: int = 62, bits: int = 64, order: str = "little", kind: int = 1) -> bytes:
+def elf(
+    sections: list[Section], machine: int = 62, bits: int = 64, order: str = "little", kind: int = 1, flags: int = 0
+) -> bytes:
     """An ELF file with these sections."""
     is_long = bits == 64
     mark = "<" if order == "little" else ">"
@@ -46,7 +49,7 @@ def elf(sections: list[Section], machine: int = 62, bits: int = 64, order: str =
     data = b""
     for name, type_, content, link, info in [*sections, (".shstrtab", STRTAB, names, 0, 0)]:
         at = names.index(b"\0" + name.encode() + b"\0") + 1
-        fields = at, type_, 0, 0, base + len(data), len(content), link, info, 1, 0
+        fields = at, type_, flags, 0, base + len(data), len(content), link, info, 1, 0
         headers.append(struct.pack(f"{mark}2I4Q2I2Q" if is_long else f"{mark}10I", *fields))
         data += content
     first = bytes(len(headers[0]))
@@ -174,6 +177,15 @@ class Headers(unittest.TestCase):
                 file, told = read(elf([(".debug_str", PROGBITS, b"one\0", 0, 0)], 62, bits, order))
                 self.assertEqual([(it.name, file.body(it)[:]) for it in file.sections], [(".debug_str", b"one\0")])
                 self.assertEqual(told, [])
+
+    def test_that_a_compressed_section_is_read(self) -> None:
+        text = b"one\0" * 9
+        for bits, form in ((32, "3I"), (64, "2I2Q")):
+            for order, mark in (("little", "<"), ("big", ">")):
+                fields = (1, len(text), 1) if bits == 32 else (1, 0, len(text), 1)
+                packed = struct.pack(mark + form, *fields) + zlib.compress(text)
+                file, told = read(elf([(".debug_str", PROGBITS, packed, 0, 0)], 62, bits, order, flags=0x800))
+                self.assertEqual(([file.body(it)[:] for it in file.sections], told), ([text], []))
 
     # Where a field is, its form, a number, and what is said of the whole file.
     WHOLE = (
