@@ -4,6 +4,9 @@ An exception `Unlisted` says why a part of a file can't be read, also if the fil
 """
 from __future__ import annotations
 
+import contextlib
+import io
+import os
 import struct
 import typing
 from dataclasses import dataclass
@@ -106,6 +109,17 @@ class Body:
         """At most this many bytes from an offset on: those that are there."""
         there = min(size, max(0, self.size - at))
         return Body(self.file, self.start + at, there, tables)
+
+    def write_to(self, out: typing.BinaryIO, at: int, end: int) -> None:
+        """Writes the bytes from an offset on, up to another one. The system copies those that a file has as they are."""
+        if not self.tables():
+            out.flush()
+            # What it doesn't copy is read, and an error is that of reading.
+            with contextlib.suppress(OSError, io.UnsupportedOperation):
+                while sent := os.sendfile(out.fileno(), self.file.fileno(), self.start + at, end - at):
+                    at += sent
+        for _, chunk in self.chunks(at, end):
+            out.write(chunk)
 
     def chunks(self, at: int = 0, end: int | None = None, size: int = CHUNK) -> typing.Iterator[tuple[int, bytes]]:
         """The bytes from an offset on, up to another one, with the offset of each chunk."""

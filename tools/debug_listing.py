@@ -2,6 +2,7 @@
 from __future__ import annotations
 
 import functools
+import os
 import pathlib
 import re
 import subprocess
@@ -38,11 +39,18 @@ BEGINNING = re.compile(r"error(?: at 0x[0-9a-f]+)?: ")
 Take = typing.Callable[[typing.IO[bytes]], None]
 
 
-def run(words: list[str], source: str, take: Take) -> tuple[int, str]:
-    """Runs a program with a file as its standard input. A function takes the output. Returns the exit status, and the
-    errors as one line."""
-    with open(source, "rb") as file, open(f"{source}.errors", "w+b") as errors:
-        with subprocess.Popen(words, stdin=file, stdout=subprocess.PIPE, stderr=errors) as child:
+def in_memory() -> typing.BinaryIO:
+    """A file without a name, which is gone once no process has it open."""
+    return open(os.memfd_create("dwarf_elf"), "w+b")
+
+
+def run(words: list[str], source: typing.BinaryIO, take: Take, others: tuple[int, ...] = ()) -> tuple[int, str]:
+    """Runs a program with a file as its standard input, and maybe with others that are open. A function takes the
+    output. Returns the exit status, and the errors as one line."""
+    source.flush()
+    os.lseek(source.fileno(), 0, os.SEEK_SET)
+    with in_memory() as errors:
+        with subprocess.Popen(words, stdin=source, stdout=subprocess.PIPE, stderr=errors, pass_fds=others) as child:
             assert child.stdout
             try:
                 take(child.stdout)
@@ -107,9 +115,9 @@ def lack_of(command: str) -> str:
 
 
 class Listing:
-    """The listing of a file by a command. The programs read each section from a file in a folder."""
+    """The listing of a file by a command. The programs read each section from a file in memory."""
 
-    def __init__(self, file: DebugFile, command: str, report: Report, output: Text, folder: str):
+    def __init__(self, file: DebugFile, command: str, report: Report, output: Text):
         self.file = file
         self.command = command
         self.report = report
@@ -117,8 +125,7 @@ class Listing:
         # What the programs call the command and the byte order.
         self.kind = command.replace("line-", "")
         self.order = "le" if file.order == "little" else "be"
-        self.path = f"{folder}/section"
-        self.offsets = f"{folder}/offsets"
+        self.kept = in_memory()
         self.errors = 0
         self.strings: SetStrings | None = None
 
@@ -162,10 +169,11 @@ class Listing:
         """Writes bytes of a section into the file that the programs read: those of some parts, or all."""
         if parts is None:
             parts = [(0, len(body))]
-        with open(self.path, "wb") as file:
-            file.write(before)
-            for start, end in parts:
-                file.writelines(chunk for _, chunk in body.chunks(start, end))
+        self.kept.seek(0)
+        self.kept.truncate()
+        self.kept.write(before)
+        for start, end in parts:
+            body.write_to(self.kept, start, end)
 
     def tell(self, what: str, section: Section, offset: int | None, error: str, status: int) -> None:
         """Reports an error that a program found at an offset."""
@@ -193,9 +201,12 @@ class Listing:
 
     def many(self, offsets: typing.Iterable[int], options: list[str], take: Take) -> tuple[int, str]:
         """Lists what is at each of these offsets. Returns the exit status and the error."""
-        with open(self.offsets, "w", encoding="ascii") as file:
-            file.writelines(f"{it}\n" for it in offsets)
-        return run([self.program("dwarf_list_many"), *options, self.kind, self.path], self.offsets, take)
+        with in_memory() as file:
+            file.writelines(b"%d\n" % it for it in offsets)
+            file.flush()
+            number = file.fileno()
+            words = [self.program("dwarf_list_many"), *options, self.kind, "-", f"/dev/fd/{number}"]
+            return run(words, self.kept, take, (number,))
 
     def list_strings(self, section: Section, body: Body) -> None:
         """Lists all strings of a section. Only the last can have an error, since a zero byte ends each other one."""
@@ -213,7 +224,7 @@ class Listing:
         self.keep(body)
         show = self.output.table if self.command == "abbrev" else self.output.string
         words = [self.program("dwarf_list"), self.kind, str(offset)]
-        status, error = run(words, self.path, lambda output: show(output, offset))
+        status, error = run(words, self.kept, lambda output: show(output, offset))
         if status:
             self.tell(f"{section} at 0x{offset:x}", section, offset, error, status)
 
@@ -304,7 +315,7 @@ class Listing:
                 lines = (title(it) if it.startswith(b"set ") else it for it in output)
             self.output.sets(lines, self.strings)
 
-        return run([self.program("dwarf_list"), self.command, self.order], self.path, take)
+        return run([self.program("dwarf_list"), self.command, self.order], self.kept, take)
 
     def is_listed(self, body: Body) -> bool:
         """Whether all sets of a section are listed, by one process. If there is an error, none is."""
