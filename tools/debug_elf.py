@@ -111,7 +111,8 @@ class Body:
         return Body(self.file, self.start + at, there, tables)
 
     def write_to(self, out: typing.BinaryIO, at: int, end: int) -> None:
-        """Writes the bytes from an offset on, up to another one. The system copies those that a file has as they are."""
+        """Writes the bytes from an offset on, up to another one. The system copies those that a file has as they
+        are."""
         if not self.tables():
             out.flush()
             # What it doesn't copy is read, and an error is that of reading.

@@ -2,6 +2,7 @@
 from __future__ import annotations
 
 import functools
+import mmap
 import os
 import pathlib
 import re
@@ -28,15 +29,26 @@ SECTIONS = {
 # The bytes of the longest header of a set, and the sizes that an address may have.
 SET_HEADER_BYTES = 16
 ADDRESS_SIZES = (1, 2, 4, 8)
-# Strings and abbreviations are read by these many bytes at a time.
+# Strings are read by these many bytes at a time.
 STRING_BYTES = 1 << 8
-WINDOW_BYTES = 1 << 12
-# DW_FORM_implicit_const, the form whose value is in the table.
-IMPLICIT_CONST = 0x21
+# The numbers of a table, whose encodings may be longer than they need to be. The section's end may cut the last. The
+# form DW_FORM_implicit_const, 0x21, has its value in the table.
+ZERO = rb"\x80*\0"
+NUMBER = rb"[\x80-\xff]*(?:[\0-\x7f]|\Z)"
+NOT_ZERO = rb"(?!%b)%b" % (ZERO, NUMBER)
+WITH_VALUE = rb"(?:\x21|\xa1\x80*\0)"
+# A declaration with its attributes, more of these, and what ends a table. The last group is what ends a declaration. A
+# match takes memory for each attribute, so it has some of them.
+ATTRIBUTE = rb"(?:%b(?:%b%b|(?!%b)%b))" % (NOT_ZERO, WITH_VALUE, NUMBER, WITH_VALUE, NOT_ZERO)
+ATTRIBUTES = rb"%b{0,200}(%b(?:%b|[\x80-\xff]*\Z)|\Z)?" % (ATTRIBUTE, ZERO, ZERO)
+DECLARATION = re.compile(rb"%b%b(?:[\0\1]|\Z)%b" % (NOT_ZERO, NOT_ZERO, ATTRIBUTES))
+MORE = re.compile(ATTRIBUTES)
+NULL = re.compile(rb"\x80*(?:\0|\Z)")
 # How a program begins the line of an error.
 BEGINNING = re.compile(r"error(?: at 0x[0-9a-f]+)?: ")
 # What takes the output of a program.
 Take = typing.Callable[[typing.IO[bytes]], None]
+Data = typing.Union[bytes, mmap.mmap]
 
 
 def in_memory() -> typing.BinaryIO:
@@ -135,7 +147,7 @@ class Listing:
             self.report.note("the programs are unproved; ./dwarf_list --prove builds proved ones", "")
         return found
 
-    def list_all(self, offset: int | None, has_strings: bool) -> None:
+    def list_all(self, offset: int | None, options: set[str]) -> None:
         """Lists what is at an offset of each section, or everything."""
         sections = sections_of(self.file, self.command)
         if self.command == "sections":
@@ -149,11 +161,11 @@ class Listing:
                 if offset is not None:
                     self.list_one(section, body, offset)
                 elif self.command == "abbrev":
-                    self.list_tables(section, body, tables[section])
+                    self.list_tables(section, body, tables[section], "--all" in options)
                 elif self.kind == "str":
                     self.list_strings(section, body)
                 else:
-                    self.list_sets(section, body, has_strings)
+                    self.list_sets(section, body, "--strings" in options)
 
     def list_sizes(self, sections: list[Section]) -> None:
         """Lists the names and sizes of the sections, and reports those that can't be read."""
@@ -174,6 +186,12 @@ class Listing:
         self.kept.write(before)
         for start, end in parts:
             body.write_to(self.kept, start, end)
+        self.kept.flush()
+
+    def mapped(self) -> Data:
+        """The bytes that are kept."""
+        number = self.kept.fileno()
+        return mmap.mmap(number, 0, access=mmap.ACCESS_READ) if os.fstat(number).st_size else b""
 
     def tell(self, what: str, section: Section, offset: int | None, error: str, status: int) -> None:
         """Reports an error that a program found at an offset."""
@@ -228,20 +246,20 @@ class Listing:
         if status:
             self.tell(f"{section} at 0x{offset:x}", section, offset, error, status)
 
-    def list_tables(self, section: Section, body: Body, units: dict[int, Unit]) -> None:
-        """Lists the tables of a section, whose offsets come with the first unit that names each. Without such offsets
-        the tables are those that follow each other."""
-        for offset in sorted(units):
-            if offset > len(body):
-                end = f"past the end of {section} (0x{len(body):x} bytes)"
-                self.report.say(f"{units[offset]} names the table at 0x{offset:x}, {end}")
+    def list_tables(self, section: Section, body: Body, units: dict[int, Unit], has_all: bool) -> None:
+        """Lists the tables of a section, whose offsets come with the first unit that names each, and then maybe those
+        in other bytes. Without such offsets the tables are those that follow each other."""
+        for offset in sorted(it for it in units if it > len(body)):
+            past = f"past the end of {section} (0x{len(body):x} bytes)"
+            self.report.say(f"{units[offset]} names the table at 0x{offset:x}, {past}")
+        self.keep(body)
         offsets = sorted(it for it in units if it <= len(body))
         if units:
             self.parts(section, body)
+            offsets += self.unnamed(section, body, offsets, has_all)
         else:
             self.report.note(f"no unit names a table of {section}, so the tables are listed in turn, from 0x0 on")
-            offsets = self.walk(section, body)
-        self.keep(body)
+            offsets = self.walk(section, body, 0, len(body))
         self.errors = 0
         on_error = lambda *error: self.take_error(section, *error)
         status, error = self.many(offsets, ["--keep-going"], lambda output: self.output.tables(output, on_error))
@@ -249,23 +267,34 @@ class Listing:
         if status and not (self.errors and error == ENDED.format(1)):
             self.report.say(f"{section}: {error}", status, section=section)
 
+    def unnamed(self, section: Section, body: Body, offsets: list[int], is_listed: bool) -> list[int]:
+        """Reports the parts of a section that no unit names, if units name the tables at these offsets. Returns where
+        the tables there begin if they are listed."""
+        found = []
+        how = "" if is_listed else ", and --all lists the tables there"
+        for start, end in parts_between(self.mapped(), offsets):
+            self.report.note(f"no unit names the bytes from 0x{start:x} to 0x{end:x} of {section}{how}")
+            if is_listed:
+                found += self.walk(section, body, start, end)
+        return found
+
     def take_error(self, section: Section, offset: int, status: int, error: str) -> None:
         """Reports an error at an offset, which the program writes among the tables."""
         self.errors += 1
         self.tell(f"{section}: error at 0x{offset:x}", section, offset, error, status)
 
-    def walk(self, section: Section, body: Body) -> list[int]:
-        """Where the tables of a section begin, if each begins where the one before ends."""
+    def walk(self, section: Section, body: Body, at: int, end: int) -> list[int]:
+        """Where the tables in a part of a section begin, if each begins where the one before ends."""
+        data = self.mapped()
         found = []
-        at = 0
         try:
-            while at < len(body):
+            while at < end:
                 zeros = self.file.zeros(section, body, at)
                 if zeros:
                     at += zeros
                 else:
                     found.append(at)
-                    at = end_of_table(body, at)
+                    at = end_of_table(data, at)
         except Unlisted as error:
             self.report.say(f"the table at 0x{at:x} of {section} {error}, and what follows isn't listed")
         return found
@@ -470,54 +499,31 @@ def places_of_strings(body: Body) -> typing.Iterator[tuple[int, int]]:
         yield start, len(body)
 
 
-class Cursor:
-    """A place in a section, which is read byte by byte. At the end of the section an EOFError is raised."""
-
-    def __init__(self, body: Body, at: int):
-        self.body = body
-        self.at = at
-        # The bytes that were read last, and where they begin.
-        self.window = b""
-        self.start = at
-
-    def byte(self) -> int:
-        if self.at - self.start == len(self.window):
-            self.start = self.at
-            self.window = self.body[self.at : self.at + WINDOW_BYTES]
-            if not self.window:
-                raise EOFError
-        self.at += 1
-        return self.window[self.at - 1 - self.start]
-
-    def number(self) -> int:
-        """The value of an unsigned LEB128 number. A signed one is passed over too, and has another value."""
-        value = 0
-        shift = 0
-        while True:
-            byte = self.byte()
-            value |= (byte & 0x7F) << shift
-            shift += 7
-            if byte < 0x80:
-                return value
-
-
-def end_of_table(body: Body, at: int) -> int:
+def end_of_table(data: Data, at: int) -> int:
     """Where the table ends that begins at an offset: after the code 0, or at the section's end."""
-    cursor = Cursor(body, at)
-    try:
-        while cursor.number():
-            if not cursor.number() or cursor.byte() > 1:
-                raise Unlisted("is malformed")
-            name, form = 1, 1
-            while name and form:
-                name, form = cursor.number(), cursor.number()
-                if form == IMPLICIT_CONST:
-                    cursor.number()
-            if name or form:
-                raise Unlisted("is malformed")
-    except EOFError:
-        return len(body)
-    return cursor.at
+    pattern = DECLARATION
+    while at < len(data) and (found := pattern.match(data, at)):
+        if found.end() == at:
+            break
+        at = found.end()
+        pattern = MORE if found[1] is None else DECLARATION
+    last = NULL.match(data, at) if pattern is DECLARATION else None
+    if not last:
+        raise Unlisted("is malformed")
+    return last.end()
+
+
+def parts_between(data: Data, offsets: list[int]) -> typing.Iterator[tuple[int, int]]:
+    """The parts of a section that are in no table at these offsets, which rise. Where a malformed table ends isn't
+    known, so it counts up to the next one."""
+    end = 0
+    for at, following in zip([*offsets, len(data)], [*offsets[1:], len(data), len(data)]):
+        if at > end:
+            yield end, at
+        try:
+            end = max(end, end_of_table(data, at))
+        except Unlisted:
+            end = max(end, following)
 
 
 def joined(sets: list[Span]) -> typing.Iterator[tuple[int, int]]:
