@@ -39,8 +39,15 @@ class Unopened(Unlisted):
     status = 3
 
 
+# What is called with a place at which a relocation can't be applied, and with the reason.
+OnError = typing.Callable[[int, Unlisted], object]
 # What finds the tables of relocations of some bytes. Most have none.
 Tables = typing.Callable[[], "typing.Sequence[Relocations]"]
+
+
+def end_by(_: int, error: Unlisted) -> typing.NoReturn:
+    """Ends what is read at a relocation that can't be applied."""
+    raise error
 
 
 class Layouts(typing.NamedTuple):
@@ -84,6 +91,11 @@ class Body:
 
     def __getitem__(self, part: slice) -> bytes:
         at, end, _ = part.indices(self.size)
+        return self.read(at, end, end_by)
+
+    def read(self, at: int, end: int, on_error: OnError) -> bytes:
+        """The bytes from an offset on, up to another one. If a function ends nothing, the bytes at a place that it is
+        called with are those of the file."""
         if at >= end:
             return b""
         tables = self.tables()
@@ -93,7 +105,7 @@ class Body:
         low = max(0, at - 7)
         data = bytearray(self.stored(low, min(self.size, end + 7)))
         for table in tables:
-            table.apply(data, low, at, end)
+            table.apply(data, low, at, end, on_error)
         return bytes(data[at - low : end - low])
 
     def stored(self, at: int, end: int) -> bytes:
@@ -110,17 +122,16 @@ class Body:
         there = min(size, max(0, self.size - at))
         return Body(self.file, self.start + at, there, tables)
 
-    def write_to(self, out: typing.BinaryIO, at: int, end: int) -> None:
-        """Writes the bytes from an offset on, up to another one. The system copies those that a file has as they
-        are."""
+    def write_to(self, out: typing.BinaryIO, at: int, end: int, on_error: OnError) -> None:
+        """Writes the bytes that `read` returns. The system copies those that a file has as they are."""
         if not self.tables():
             out.flush()
             # What it doesn't copy is read, and an error is that of reading.
             with contextlib.suppress(OSError, io.UnsupportedOperation):
                 while sent := os.sendfile(out.fileno(), self.file.fileno(), self.start + at, end - at):
                     at += sent
-        for _, chunk in self.chunks(at, end):
-            out.write(chunk)
+        for low in range(at, end, CHUNK):
+            out.write(self.read(low, min(low + CHUNK, end), on_error))
 
     def chunks(self, at: int = 0, end: int | None = None, size: int = CHUNK) -> typing.Iterator[tuple[int, bytes]]:
         """The bytes from an offset on, up to another one, with the offset of each chunk."""

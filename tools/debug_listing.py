@@ -46,6 +46,7 @@ MORE = re.compile(ATTRIBUTES)
 NULL = re.compile(rb"\x80*(?:\0|\Z)")
 # How a program begins the line of an error.
 BEGINNING = re.compile(r"error(?: at 0x[0-9a-f]+)?: ")
+Parts = typing.Iterable[tuple[int, int]]
 # What takes the output of a program.
 Take = typing.Callable[[typing.IO[bytes]], None]
 Data = typing.Union[bytes, mmap.mmap]
@@ -177,15 +178,21 @@ class Listing:
                 size = self.file.stated_size(section)
             self.output.size(section, size)
 
-    def keep(self, body: Body, parts: typing.Iterable[tuple[int, int]] | None = None, before: bytes = b"") -> None:
-        """Writes bytes of a section into the file that the programs read: those of some parts, or all."""
+    def keep(self, section: Section, body: Body, parts: Parts | None = None, before: bytes = b"") -> None:
+        """Writes bytes of a section into the file that the programs read: those of some parts, or all. Where a
+        relocation can't be applied, that is reported, and the bytes are those of the file."""
+
+        def on_error(offset: int, error: Unlisted) -> None:
+            text = f"{error}, so the bytes there are listed as they are in the file"
+            self.report.say(f"{section} {text}", section=section, offset=offset, error=text)
+
         if parts is None:
             parts = [(0, len(body))]
         self.kept.seek(0)
         self.kept.truncate()
         self.kept.write(before)
         for start, end in parts:
-            body.write_to(self.kept, start, end)
+            body.write_to(self.kept, start, end, on_error)
         self.kept.flush()
 
     def mapped(self) -> Data:
@@ -228,7 +235,7 @@ class Listing:
 
     def list_strings(self, section: Section, body: Body) -> None:
         """Lists all strings of a section. Only the last can have an error, since a zero byte ends each other one."""
-        self.keep(body)
+        self.keep(section, body)
         offsets = (start for start, _ in places_of_strings(body))
         take = lambda output: self.output.strings(output, places_of_strings(body))
         status, error = self.many(offsets, [], take)
@@ -239,7 +246,7 @@ class Listing:
 
     def list_one(self, section: Section, body: Body, offset: int) -> None:
         """Lists the table or the string at an offset of a section."""
-        self.keep(body)
+        self.keep(section, body)
         show = self.output.table if self.command == "abbrev" else self.output.string
         words = [self.program("dwarf_list"), self.kind, str(offset)]
         status, error = run(words, self.kept, lambda output: show(output, offset))
@@ -252,7 +259,7 @@ class Listing:
         for offset in sorted(it for it in units if it > len(body)):
             past = f"past the end of {section} (0x{len(body):x} bytes)"
             self.report.say(f"{units[offset]} names the table at 0x{offset:x}, {past}")
-        self.keep(body)
+        self.keep(section, body)
         offsets = sorted(it for it in units if it <= len(body))
         if units:
             self.parts(section, body)
@@ -306,7 +313,7 @@ class Listing:
         self.strings = self.strings_of(section) if has_strings else None
         units = self.file.units(section.family)
         is_old = [it.version < 5 for it in units]
-        if not (units and all(is_old)) and self.is_listed(body):
+        if not (units and all(is_old)) and self.is_listed(section, body):
             self.tell_missing(section)
             return
         for start, end in self.parts(section, body):
@@ -346,12 +353,9 @@ class Listing:
 
         return run([self.program("dwarf_list"), self.command, self.order], self.kept, take)
 
-    def is_listed(self, body: Body) -> bool:
+    def is_listed(self, section: Section, body: Body) -> bool:
         """Whether all sets of a section are listed, by one process. If there is an error, none is."""
-        try:
-            self.keep(body)
-        except Unlisted:
-            return False
+        self.keep(section, body)
         return not self.run_sets()[0]
 
     def list_with_headers(self, section: Section, body: Body, at: int, end: int, units: list[Unit]) -> None:
@@ -406,11 +410,8 @@ class Listing:
         starts = iter([it.start for it in sets])
         # The program counts from the first of these sets.
         title = lambda line: b"set %d%s" % (next(starts), line[line.index(b":") :])
-        try:
-            self.keep(body, joined(sets))
-            status, error = self.run_sets(title)
-        except Unlisted as fault:
-            status, error = 1, f"{fault}, and isn't listed"
+        self.keep(section, body, joined(sets))
+        status, error = self.run_sets(title)
         if status and len(sets) > 1:
             self.list_together(section, body, sets[: len(sets) // 2])
             self.list_together(section, body, sets[len(sets) // 2 :])
@@ -476,7 +477,7 @@ class Listing:
             return
         mark = b"\xff\xff\xff\xff" if width == 8 else b""
         length = (len(fields) + many).to_bytes(width, self.file.order)
-        self.keep(body, [(start, start + many)], mark + length + fields)
+        self.keep(section, body, [(start, start + many)], mark + length + fields)
         last = f"address size {size}" if is_addr else f"{8 * size}-bit"
         title = f"set 0x{start:x}: no header, {many} bytes, {last}\n".encode()
         status, error = self.run_sets(lambda line: title)

@@ -7,19 +7,19 @@ import functools
 import struct
 import typing
 
-from debug_elf import Body, ElfFile, Unlisted
+from debug_elf import Body, ElfFile, OnError, Unlisted
 
 # The relocations that store a symbol's value plus an addend: the bytes of each type, by the machine's number. Those of
-# places of threads are among them, unless a machine counts these from elsewhere.
+# variables of threads are among them.
 ABSOLUTE = {
     2: {3: 4, 23: 4, 76: 4},  # SPARC
     3: {1: 4, 32: 4},  # x86
-    4: {1: 4},  # 68000
-    8: {2: 4, 18: 8},  # MIPS
+    4: {1: 4, 31: 4},  # 68000
+    8: {2: 4, 18: 8, 39: 4, 41: 8},  # MIPS
     15: {1: 4, 41: 4, 80: 8, 244: 4, 245: 8},  # PA-RISC
     18: {3: 4, 23: 4, 76: 4},  # SPARC V8+
-    20: {1: 4, 24: 4},  # PowerPC
-    21: {1: 4, 24: 4, 38: 8, 43: 8},  # PowerPC of 64 bits
+    20: {1: 4, 24: 4, 78: 4},  # PowerPC
+    21: {1: 4, 24: 4, 38: 8, 43: 8, 78: 8},  # PowerPC of 64 bits
     22: {4: 4, 22: 8, 52: 4, 53: 8},  # S/390
     40: {2: 4, 106: 4},  # ARM
     43: {3: 4, 23: 4, 32: 8, 54: 8, 76: 4, 77: 8},  # SPARC V9
@@ -34,7 +34,7 @@ ABSOLUTE = {
     183: {1: 4, 257: 8, 258: 4},  # AArch64
     195: {4: 4, 0x43: 4},  # ARCv2
     224: {3: 8, 6: 4},  # AMD's graphics processors
-    243: {1: 4, 2: 8, 54: 1, 55: 2, 56: 4},  # RISC-V
+    243: {1: 4, 2: 8, 8: 4, 9: 8, 54: 1, 55: 2, 56: 4},  # RISC-V
     247: {2: 8, 3: 4},  # BPF
     258: {1: 4, 2: 8},  # LoongArch
     0x9026: {1: 4, 2: 8, 33: 8},  # Alpha
@@ -52,7 +52,17 @@ SUBTRACTED = {
     258: {52: 1, 53: 2, 55: 4, 56: 8},  # LoongArch
 }
 TABLES = ((0, ABSOLUTE), (1, ADDED), (-1, SUBTRACTED))
+# Some machines count the variables of threads from this place after the start of their block, by these types.
+PAST_START = {
+    4: (0x8000, (31,)),
+    8: (0x8000, (39, 41)),
+    20: (0x8000, (78,)),
+    21: (0x8000, (78,)),
+    243: (0x800, (8, 9)),
+}
 MIPS = 8
+# The section of a symbol that has no address yet, and an alignment instead.
+SHN_COMMON = 0xFFF2
 
 
 class Relocation(typing.NamedTuple):
@@ -76,6 +86,7 @@ class Relocations:
         self.symbols = symbols
         tables = [(sign, it.get(self.machine, {})) for sign, it in TABLES]
         self.sizes = {kind: (size, sign) for sign, it in tables for kind, size in it.items()}
+        self.place_past_start, self.types_past_start = PAST_START.get(elf.machine, (0, ()))
         mark = "<" if elf.order == "little" else ">"
         word = "q" if self.is_long else "i"
         self.row = struct.Struct(f"{mark}2{word.upper()}{word * has_addends}")
@@ -99,8 +110,6 @@ class Relocations:
     def between(self, low: int, end: int) -> typing.Iterator[Relocation]:
         """The relocations of a part."""
         places, numbers = self.places
-        if places and not self.sizes:
-            raise Unlisted(f"has relocations of the machine {self.machine}, which aren't known here")
         for number in numbers[bisect.bisect_left(places, low) : bisect.bisect_left(places, end)]:
             at = number * self.row.size
             place, info, *addend = self.row.unpack(self.body[at : at + self.row.size])
@@ -115,22 +124,40 @@ class Relocations:
             return info & 0xFFFFFFFF, int.from_bytes((info >> 32).to_bytes(4, "little"), "big")
         return info >> 32, info & 0xFFFFFFFF
 
-    def apply(self, data: bytearray, low: int, at: int, end: int) -> None:
-        """Applies the relocations of a part, whose bytes are there from a lower offset on."""
-        for place, symbol, kind, addend in self.between(low, end):
-            size, sign = self.sizes.get(kind, (0, 0))
+    def apply(self, data: bytearray, low: int, at: int, end: int, on_error: OnError) -> None:
+        """Applies the relocations of a part, whose bytes are there from a lower offset on. A function is called with
+        each place at which that isn't possible."""
+        for it in self.between(low, end):
+            size, sign = self.sizes.get(it.kind, (0, 0))
             # Type 0 is none, and one before the part may end there.
-            if kind == 0 or place + size <= at and place < at:
+            if it.kind == 0 or it.place + size <= at and it.place < at:
                 continue
-            if not size:
-                raise Unlisted(f"has a relocation at 0x{place:x} of type {kind}, which isn't known here")
-            part = slice(place - low, place - low + size)
-            if part.stop > len(data):
-                raise Unlisted(f"has a relocation at 0x{place:x} that is past the end")
-            stored = int.from_bytes(data[part], self.order)
-            value = self.symbol(symbol)[0] + (stored if addend is None else addend)
+            part = slice(it.place - low, it.place - low + size)
+            try:
+                self.expect_known(it, size)
+                if part.stop > len(data):
+                    raise Unlisted(f"has a relocation at 0x{it.place:x} that is past the end")
+                stored = int.from_bytes(data[part], self.order)
+                value = self.value(it, stored)
+            except Unlisted as error:
+                on_error(it.place, error)
+                continue
             value = stored + sign * value if sign else value
             data[part] = (value % (1 << 8 * size)).to_bytes(size, self.order)
+
+    def expect_known(self, it: Relocation, size: int) -> None:
+        """Raises an exception unless the machine and the type of a relocation, which has a size then, are known."""
+        if not self.sizes:
+            raise Unlisted(f"has relocations of the machine {self.machine}, which aren't known here")
+        if not size:
+            raise Unlisted(f"has a relocation at 0x{it.place:x} of type {it.kind}, which isn't known here")
+
+    def value(self, it: Relocation, stored: int) -> int:
+        """The value of a relocation's symbol, with its addend or the one that is stored."""
+        value, section = self.symbol(it.symbol)
+        value = 0 if section == SHN_COMMON else value
+        past = self.place_past_start if it.kind in self.types_past_start else 0
+        return value + (stored if it.addend is None else it.addend) - past
 
     def symbol(self, number: int) -> tuple[int, int]:
         """The value of a symbol, and the number of its section."""

@@ -67,21 +67,26 @@ def read(data: bytes) -> tuple[DebugFile, list[str]]:
     return DebugFile(body(data), lambda text, **_: told.append(str(text))), told
 
 
-def with_relocation(machine: int, bits: int, order: str, kind: int, stored: int = 0) -> bytes:
-    """An object whose unit has a relocation for the place of its table: a symbol of value 0x20, and the addend 0x10."""
+def with_relocation(
+    machine: int, bits: int, order: str, kind: int, stored: int = 0, addend: int = 0x10, where: int = 2
+) -> bytes:
+    """An object with a relocation at offset 8 of .debug_info and .debug_addr: in the first it is the place of a unit's
+    table. Its symbol has the value 0x20, and is in the section of the names unless another one is given."""
     mark = "<" if order == "little" else ">"
     unit = struct.pack(f"{mark}IHBBI", 8, 5, 1, 8, stored)
     if bits == 64:
-        symbols = bytes(24) + struct.pack(f"{mark}IBBHQQ", 0, 3, 0, 2, 0x20, 0)
-        row = struct.pack(f"{mark}QQq", 8, 1 << 32 | kind, 0x10)
+        symbols = bytes(24) + struct.pack(f"{mark}IBBHQQ", 0, 3, 0, where, 0x20, 0)
+        row = struct.pack(f"{mark}QQq", 8, 1 << 32 | kind, addend)
     else:
-        symbols = bytes(16) + struct.pack(f"{mark}IIIBBH", 0, 0x20, 0, 3, 0, 2)
-        row = struct.pack(f"{mark}IIi", 8, 1 << 8 | kind, 0x10)
+        symbols = bytes(16) + struct.pack(f"{mark}IIIBBH", 0, 0x20, 0, 3, 0, where)
+        row = struct.pack(f"{mark}IIi", 8, 1 << 8 | kind, addend)
     sections = [
         (".debug_info", PROGBITS, unit, 0, 0),
         (".debug_abbrev", PROGBITS, bytes(0x100), 0, 0),
         (".symtab", SYMTAB, symbols, 0, 0),
         (".rela.debug_info", RELA, row, 3, 1),
+        (".debug_addr", PROGBITS, bytes(range(24)), 0, 0),
+        (".rela.debug_addr", RELA, row, 3, 5),
     ]
     return elf(sections, machine, bits, order)
 
@@ -121,6 +126,50 @@ class Relocations(unittest.TestCase):
                 file, told = read(with_relocation(machine, 64, "little", kind))
                 self.assertEqual(file.tables(), {file.named("debug_abbrev")[0]: {}})
                 self.assertEqual([said in it for it in told], [True])
+
+
+    # The machine's number, the class, the type, its bytes, and from where it counts.
+    THREADS = (
+        (4, 32, 31, 4, 0x8000),  # 68000
+        (8, 32, 39, 4, 0x8000),  # MIPS
+        (8, 64, 41, 8, 0x8000),
+        (20, 32, 78, 4, 0x8000),  # PowerPC
+        (21, 64, 78, 8, 0x8000),  # PowerPC of 64 bits
+        (22, 64, 53, 8, 0),  # S/390
+        (43, 64, 77, 8, 0),  # SPARC V9
+        (243, 64, 8, 4, 0x800),  # RISC-V
+        (243, 64, 9, 8, 0x800),
+    )
+
+    def written(self, data: bytes) -> tuple[bytes, list[tuple[int, str]]]:
+        """The bytes of .debug_addr that are listed, and what is told of places in it."""
+        file, _ = read(data)
+        body = file.body(file.named("debug_addr")[0])
+        told: list[tuple[int, str]] = []
+        text = io.BytesIO()
+        body.write_to(text, 0, len(body), lambda place, error: told.append((place, str(error))))
+        return text.getvalue(), told
+
+    def test_variables_of_threads(self) -> None:
+        for machine, bits, kind, size, past in self.THREADS:
+            data = with_relocation(machine, bits, "big", kind, addend=past + 0x10)
+            wanted = bytes(range(8)) + (0x30).to_bytes(size, "big") + bytes(range(8 + size, 24))
+            with self.subTest(machine=machine, kind=kind):
+                self.assertEqual(self.written(data), (wanted, []))
+
+    def test_that_a_common_symbol_has_no_address(self) -> None:
+        data = with_relocation(62, 64, "little", 1, where=0xFFF2)
+        self.assertEqual(self.written(data), (bytes(range(8)) + struct.pack("<Q", 0x10) + bytes(range(16, 24)), []))
+
+    def test_that_the_bytes_at_an_unknown_one_stay(self) -> None:
+        rows = (
+            (62, 99, "has a relocation at 0x8 of type 99, which isn't known here"),
+            (0x1234, 1, "has relocations of the machine 4660, which aren't known here"),
+        )
+        for machine, kind, said in rows:
+            with self.subTest(said=said):
+                data = with_relocation(machine, 64, "little", kind)
+                self.assertEqual(self.written(data), (bytes(range(24)), [(8, said)]))
 
 
 def index(rows: typing.Sequence[Row], version: int = 5, columns: tuple[int, ...] = (1, 3, 6)) -> bytes:
