@@ -19,8 +19,12 @@ ARCHIVE, THIN_ARCHIVE = b"!<arch>\n", b"!<thin>\n"
 # The header of an archive's member: its name, and after fields that aren't needed here its size.
 MEMBER_BYTES = 60
 MEMBER = re.compile(rb"(.{16}).{32}([0-9]+) *`\n", re.S)
+# What is in place of a long name: where it is, and of a member of an archive in a thin one where it is there.
+LONG_NAME = re.compile(rb"/([0-9]+)(?::([0-9]+))?")
 # What a file is that isn't an ELF file, by its first bytes.
 KINDS = (
+    (ARCHIVE, "an archive"),
+    (THIN_ARCHIVE, "a thin archive"),
     (b"MZ", "a PE file"),
     (b"\xfe\xed\xfa\xce", "a Mach-O file"),
     (b"\xfe\xed\xfa\xcf", "a Mach-O file"),
@@ -69,6 +73,8 @@ def title(path: str) -> str:
 
 def opened(path: str) -> Body:
     """The bytes of a file. A file that has no places, such as a pipe, is read whole."""
+    if path == STANDARD_INPUT and sys.stdin is None:
+        raise Unopened("it is closed")
     try:
         file = sys.stdin.buffer if path == STANDARD_INPUT else open(path, "rb")
         if file.seekable():
@@ -89,6 +95,10 @@ class Input:
     opened: typing.Callable[[], Body]
 
 
+# A member of an archive: where its header is, its name, and what opens it.
+Member = tuple[int, str, typing.Callable[[], Body]]
+
+
 class Archive:
     """An archive that `ar` has written. A thin one has only the names of its members' files."""
 
@@ -98,8 +108,8 @@ class Archive:
         self.is_thin = whole[:8] == THIN_ARCHIVE
         self.names = b""
 
-    def members(self) -> typing.Iterator[tuple[str, Body | None]]:
-        """The members with their names. A member of a thin archive has no bytes here."""
+    def members(self) -> typing.Iterator[Member]:
+        """The members, without the indexes of symbols and of names."""
         at = len(ARCHIVE)
         while at < len(self.whole):
             found = MEMBER.fullmatch(self.whole[at : at + MEMBER_BYTES])
@@ -110,12 +120,16 @@ class Archive:
             begin = at + MEMBER_BYTES
             if field == b"//":
                 self.names = self.whole[begin : begin + size]
-            is_index = field in (b"/", b"//", b"/SYM64/") or field.startswith(b"__.SYMDEF")
+            is_index = field in (b"/", b"//", b"/SYM64/")
+            name, skipped = (b"", 0) if is_index else self.name(field, begin)
             is_inside = is_index or not self.is_thin
-            if not is_index:
-                name, skipped = self.name(field, begin)
-                body = self.whole.part(begin + skipped, size - skipped) if is_inside else None
-                yield plain(name), body
+            if is_inside:
+                body = self.whole.part(begin + skipped, size - skipped)
+                # Other systems name the index so, with more after it.
+                if not is_index and not name.startswith(b"__.SYMDEF"):
+                    yield at, plain(name), functools.partial(itself, body)
+            else:
+                yield at, *self.outside(plain(name), field)
             at = begin + (size + size % 2 if is_inside else 0)
 
     def name(self, field: bytes, begin: int) -> tuple[bytes, int]:
@@ -123,22 +137,50 @@ class Archive:
         if field.startswith(b"#1/") and field[3:].isdigit():
             size = int(field[3:])
             return self.whole[begin : begin + size].rstrip(b"\0"), size
-        if field.startswith(b"/") and field[1:].isdigit():
-            # A long name is in the table of names, where a newline ends it.
-            return self.names[int(field[1:]) :].partition(b"\n")[0].removesuffix(b"/"), 0
+        long = LONG_NAME.fullmatch(field)
+        if long:
+            # It is in the table of names, where a newline ends it.
+            return self.names[int(long[1]) :].partition(b"\n")[0].removesuffix(b"/"), 0
         return field.removesuffix(b"/"), 0
 
-    def opened(self, name: str, body: Body | None) -> Body:
-        """The bytes of a member."""
-        return opened(os.path.join(os.path.dirname(self.path), name)) if body is None else body
+    def outside(self, name: str, field: bytes) -> tuple[str, typing.Callable[[], Body]]:
+        """The name of a member of a thin archive, and what opens it: a file, or a member of another archive. The field
+        of the name has the offset of that member's header."""
+        path = os.path.join(os.path.dirname(self.path), name)
+        long = LONG_NAME.fullmatch(field)
+        if not long or not long[2]:
+            return name, functools.partial(opened, path)
+        try:
+            for at, inner, open_it in Archive(path, opened(path)).members():
+                if at == int(long[2]):
+                    return f"{name}({inner})", open_it
+            why = Unlisted(f"this archive has no member at 0x{int(long[2]):x}")
+        except Unlisted as error:
+            why = error
+        return name, functools.partial(fail, why)
+
+
+def itself(body: Body) -> Body:
+    return body
+
+
+def fail(why: Unlisted) -> Body:
+    raise why
+
+
+def split(path: str) -> tuple[str, str | None]:
+    """The file that an argument names, and maybe the member of it in parentheses."""
+    if path.endswith(")") and not os.path.lexists(path):
+        ends = [it.start() for it in re.finditer(r"(?<=.)\((?=.+\))", path, re.S)]
+        # Both names may have parentheses.
+        for end in sorted(ends, key=lambda it: not os.path.lexists(path[:it])):
+            return path[:end], path[end + 1 : -1]
+    return path, None
 
 
 def inputs(path: str) -> typing.Iterator[Input]:
     """What an argument names: a file, all members of an archive, or the members with the name in parentheses."""
-    found = re.fullmatch(r"(.+)\((.+)\)", path, re.S)
-    wanted = None
-    if found and not os.path.lexists(path):
-        path, wanted = found[1], found[2]
+    path, wanted = split(path)
     whole = opened(path)
     if whole[:8] not in (ARCHIVE, THIN_ARCHIVE):
         if wanted:
@@ -147,10 +189,10 @@ def inputs(path: str) -> typing.Iterator[Input]:
         return
     archive = Archive(path, whole)
     count = 0
-    for name, body in archive.members():
+    for _, name, open_it in archive.members():
         if wanted in (None, name):
             count += 1
-            yield Input(f"{path}({name})", path, True, functools.partial(archive.opened, name, body))
+            yield Input(f"{path}({name})", path, True, open_it)
     if not count:
         raise Unlisted(f"the archive has no member {wanted}" if wanted else "the archive has no members")
 
@@ -180,7 +222,7 @@ class DebugLink:
         return f"{DEBUG_FOLDER}/.build-id/{name}" if self.build_id else ""
 
     def places(self, path: str) -> list[tuple[str, bool]]:
-        """Where the file may be, and whether its checksum is compared there."""
+        """Where the file may be, and whether it is looked for by its name."""
         folder = os.path.dirname(os.path.realpath(path))
         found = [(self.by_build_id(), False)] if self.build_id else []
         if self.name:
@@ -194,12 +236,14 @@ class DebugLink:
 
     def find(self, path: str, say: typing.Callable[[str], object]) -> str:
         """Where the file is, or nothing."""
-        for place, is_checked in self.places(path):
+        for place, is_by_name in self.places(path):
             if not os.path.isfile(place):
                 continue
-            if not is_checked or checksum(opened(place)) == self.checksum:
+            what = "checksum" if is_by_name else "build-id"
+            same = checksum(opened(place)) == self.checksum if is_by_name else build_id_of(place) == self.build_id
+            if same:
                 return place
-            say(f"{place} isn't the file with the debug information, since its checksum differs")
+            say(f"{place} isn't the file with the debug information, since its {what} differs")
         return ""
 
 
@@ -209,6 +253,15 @@ def checksum(body: Body) -> int:
     for _, chunk in body.chunks():
         found = zlib.crc32(chunk, found)
     return found
+
+
+def build_id_of(path: str) -> str:
+    """The build-id of a file, or an empty text."""
+    try:
+        link = link_of(ElfFile(opened(path), lambda *_, **__: None))
+    except Unlisted:
+        return ""
+    return link.build_id if link else ""
 
 
 def link_of(file: ElfFile) -> DebugLink | None:

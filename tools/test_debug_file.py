@@ -21,6 +21,7 @@ sys.path.insert(0, os.path.dirname(os.path.realpath(__file__)))
 
 from debug_elf import Body, Unlisted
 from debug_file import DebugFile
+import debug_inputs
 from debug_inputs import DebugLink, inputs, kind_of, link_of
 from debug_listing import Span, end_of_table, joined, parts_between, places_of_strings
 from debug_output import Json
@@ -275,6 +276,10 @@ class Headers(unittest.TestCase):
                 self.assertEqual([said in it for it in told], [True], told)
 
 
+# What is said of a file that has another build-id.
+NOT_BY_ID = "{} isn't the file with the debug information, since its build-id differs"
+
+
 def member(name: str, data: bytes) -> bytes:
     """A member of an archive."""
     return name.ljust(16).encode() + b" " * 32 + f"{len(data):<10}`\n".encode() + data + b"\n" * (len(data) % 2)
@@ -310,10 +315,34 @@ class Inputs(unittest.TestCase):
         path = self.path("bsd.a", b"!<arch>\n" + member("#1/8", b"long.o\0\0" + b"one"))
         self.assertEqual(self.listed(path), [("bsd.a(long.o)", b"one")])
 
+    def test_that_an_index_of_symbols_is_no_member(self) -> None:
+        rows = ("__.SYMDEF", b"x"), ("#1/12", b"__.SYMDEF\0\0\0x"), ("#1/20", b"__.SYMDEF SORTED\0\0\0\0x")
+        for row in rows:
+            path = self.path("all.a", b"!<arch>\n" + member(*row) + member("x.o/", b"one"))
+            with self.subTest(row=row):
+                self.assertEqual(self.listed(path), [("all.a(x.o)", b"one")])
+
     def test_members_of_a_thin_archive(self) -> None:
         self.path("b.o", b"two")
         path = self.path("thin.a", b"!<thin>\n" + member("//", b"b.o/\n") + member("/0", b"two")[:60])
         self.assertEqual(self.listed(path), [("thin.a(b.o)", b"two")])
+
+    def test_members_of_an_archive_in_a_thin_one(self) -> None:
+        self.path("in.a", b"!<arch>\n" + member("x.o/", b"one") + member("y.o/", b"two"))
+        names = member("//", b"in.a/\nno.a/\n")
+        path = self.path("thin.a", b"!<thin>\n" + names + member("/0:72", b"two")[:60])
+        for word in (path, f"{path}(in.a(y.o))"):
+            self.assertEqual(self.listed(word), [("thin.a(in.a(y.o))", b"two")])
+        for field, said in (("/0:9", "has no member at 0x9"), ("/6:72", "No such file")):
+            path = self.path("thin.a", b"!<thin>\n" + names + member(field, b"two")[:60])
+            with self.subTest(said=said), self.assertRaises(Unlisted) as error:
+                self.listed(path)
+            self.assertIn(said, str(error.exception))
+
+    def test_names_with_parentheses(self) -> None:
+        path = self.path("a(1).a", b"!<arch>\n" + member("x(2).o/", b"one"))
+        for word in (path, f"{path}(x(2).o)"):
+            self.assertEqual(self.listed(word), [("a(1).a(x(2).o)", b"one")])
 
     def test_what_is_wrong_with_an_archive(self) -> None:
         path = self.path("all.a", b"!<arch>\n" + member("x.o/", b"one") + b"hello")
@@ -331,6 +360,8 @@ class Inputs(unittest.TestCase):
         rows = (
             (b"", "an empty one"),
             (b"#!/bin/sh\n", "a script"),
+            (b"!<arch>\n", "an archive"),
+            (b"!<thin>\n", "a thin archive"),
             (b"\x4c\x01\3\0" + bytes(16), "a COFF object"),
             (b"x", ""),
         )
@@ -349,6 +380,17 @@ class Inputs(unittest.TestCase):
         told: list[str] = []
         self.assertEqual(DebugLink("a.debug", 1).find(f"{self.folder.name}/a", told.append), "")
         self.assertEqual(len(told), 1)
+
+
+    def test_the_file_by_a_build_id(self) -> None:
+        note = (".note.gnu.build-id", NOTE, struct.pack("<III", 4, 2, 3) + b"GNU\0\xab\xcd", 0, 0)
+        os.makedirs(f"{self.folder.name}/.build-id/ab")
+        for data, said in ((elf([note]), 0), (elf([]), 1), (b"no ELF file", 1)):
+            place = self.path(".build-id/ab/cd.debug", data)
+            told: list[str] = []
+            with self.subTest(data=data), mock.patch.object(debug_inputs, "DEBUG_FOLDER", self.folder.name):
+                found = DebugLink(build_id="abcd").find("/a", told.append)
+                self.assertEqual((found, told.count(NOT_BY_ID.format(place))), ("" if said else place, said))
 
 
 class Places(unittest.TestCase):
