@@ -25,6 +25,8 @@ SHT_SYMTAB, SHT_RELA, SHT_NOBITS, SHT_REL, SHT_CREL = 2, 4, 8, 9, 0x40000014
 # At most this many bytes of a section's name are read, and at a time these many bytes of a section.
 NAME_BYTES = 1 << 12
 CHUNK = 1 << 20
+# After this many errors in a section the rest of it isn't read.
+ERRORS = 1000
 
 
 class Unlisted(Exception):

@@ -9,6 +9,7 @@ memory: a section may inflate to 256 MiB, or to 64 times its compressed size if 
 from __future__ import annotations
 
 import bisect
+import collections
 import contextlib
 import functools
 import io
@@ -19,11 +20,13 @@ import zlib
 from dataclasses import dataclass
 
 from debug_elf import ET_REL, SHT_CREL, SHT_NOBITS, SHT_REL, SHT_RELA, SHT_SYMTAB
-from debug_elf import Body, ElfFile, Header, Say, Unlisted
+from debug_elf import ERRORS, Body, ElfFile, Header, Say, Unlisted
 from debug_relocations import Relocations
 
 INFLATED_BYTES = 1 << 28
 INFLATED_TIMES = 64
+# Padding is read by these many bytes at a time.
+PADDING_BYTES = 1 << 12
 # A section's name: of early debug information that an object keeps for link-time optimization, compressed
 # by the linkers before SHF_COMPRESSED, and for the other half of a split object.
 NAME = re.compile(r"(\.gnu\.debuglto_)?\.(z?)(debug\w*)(\.dwo)?")
@@ -130,6 +133,8 @@ class DebugFile(ElfFile):
         super().__init__(whole, say)
         self.mark = "<" if self.order == "little" else ">"
         self.sections: list[Section] = []
+        # How many errors the units of a section have, by its number.
+        self.errors: collections.Counter[int] = collections.Counter()
         # The headers of the tables of relocations, and these tables, by the number of the section that they are for.
         self.relocations: dict[int, list[Header]] = {}
         self.tables_of_relocations: dict[int, list[Relocations]] = {}
@@ -154,7 +159,22 @@ class DebugFile(ElfFile):
         try:
             yield
         except Unlisted as error:
-            self.say(f"{what} {error}", section=what if isinstance(what, Section) else what.section)
+            if isinstance(what, Section):
+                self.say(f"{what} {error}", section=what)
+            else:
+                self.tell_of(what, str(error))
+
+    def tell_of(self, unit: Unit, text: str) -> None:
+        """Tells what is wrong with a unit."""
+        self.errors[unit.section.number] += 1
+        self.say(f"{unit} {text}", section=unit.section)
+
+    def has_many_errors(self, section: Section) -> bool:
+        """Whether so many units of a section have errors that the rest isn't read, which is told then."""
+        if self.errors[section.number] < ERRORS:
+            return False
+        self.say(f"{section} has {ERRORS} errors, and the rest of its units isn't read", section=section)
+        return True
 
     def named(self, *bases: str) -> list[Section]:
         """The sections whose names have one of these words."""
@@ -279,7 +299,7 @@ class DebugFile(ElfFile):
         if body[at : at + 4] != bytes(4):
             return 0
         found = 0
-        for _, chunk in body.chunks(at):
+        for _, chunk in body.chunks(at, size=PADDING_BYTES):
             many = (len(chunk) - len(chunk.lstrip(b"\0"))) // 4 * 4
             found += many
             if many < len(chunk):
@@ -300,7 +320,7 @@ class DebugFile(ElfFile):
         """The units of a section, each of which begins where the one before ends."""
         found = []
         at = 0
-        while at < len(body):
+        while at < len(body) and not self.has_many_errors(section):
             unit = Unit(section, at)
             try:
                 padding = self.zeros(section, body, at)
@@ -309,11 +329,11 @@ class DebugFile(ElfFile):
                     continue
                 length, unit.word, begin = self.initial_length(body, at)
             except Unlisted as error:
-                self.say(f"{unit} {error}, and what follows isn't read")
+                self.tell_of(unit, f"{error}, and what follows isn't read")
                 break
             at = begin + length
             if at > len(body):
-                self.say(f"{unit} has the length 0x{length:x}, which is past the section's end")
+                self.tell_of(unit, f"has the length 0x{length:x}, which is past the section's end")
             with self.telling(unit):
                 self.read_header(unit, body, begin, min(at, len(body)))
                 found.append(unit)
@@ -338,6 +358,8 @@ class DebugFile(ElfFile):
                 continue
             own = [it for it in homes if it.family == family]
             for unit in self.units(family):
+                if self.has_many_errors(unit.section):
+                    continue
                 with self.telling(unit):
                     homes[self.home(unit, own)].setdefault(self.place_of_table(unit), unit)
         return homes

@@ -2,6 +2,7 @@
 from __future__ import annotations
 
 import functools
+import itertools
 import mmap
 import os
 import pathlib
@@ -10,13 +11,11 @@ import subprocess
 import sys
 import typing
 
-from debug_elf import Body, Unlisted
+from debug_elf import ERRORS, Body, Unlisted
 from debug_file import DebugFile, Section, Unit
 from debug_output import Report, Text
 
 ROOT = pathlib.Path(__file__).resolve().parent.parent
-# After this many errors in a section the rest of it isn't listed, since each takes a process.
-ERRORS = 1000
 # What is reported of a program that ended with a status and said nothing.
 ENDED = "the program ended with status {}"
 SECTIONS = {
@@ -182,9 +181,14 @@ class Listing:
         """Writes bytes of a section into the file that the programs read: those of some parts, or all. Where a
         relocation can't be applied, that is reported, and the bytes are those of the file."""
 
+        numbers = itertools.count()
+
         def on_error(offset: int, error: Unlisted) -> None:
             text = f"{error}, so the bytes there are listed as they are in the file"
-            self.report.say(f"{section} {text}", section=section, offset=offset, error=text)
+            if next(numbers) < ERRORS:
+                self.report.say(f"{section} {text}", section=section, offset=offset, error=text)
+            else:
+                self.report.say(f"{section} has more such relocations, which aren't named", section=section)
 
         if parts is None:
             parts = [(0, len(body))]
@@ -287,6 +291,8 @@ class Listing:
 
     def take_error(self, section: Section, offset: int, status: int, error: str) -> None:
         """Reports an error at an offset, which the program writes among the tables."""
+        if self.errors == ERRORS:
+            raise Unlisted(f"has {ERRORS} errors, and the rest isn't listed")
         self.errors += 1
         self.tell(f"{section}: error at 0x{offset:x}", section, offset, error, status)
 

@@ -41,6 +41,20 @@ def put(text: str) -> None:
     sys.stdout.buffer.write(text.encode(errors="backslashreplace"))
 
 
+def blocks(output: typing.IO[bytes]) -> typing.Iterator[bytes]:
+    """The lines of a program, many at a time."""
+    rest = b""
+    while chunk := output.read(1 << 16):
+        lines, newline, last = chunk.rpartition(b"\n")
+        if newline:
+            yield rest + lines + newline
+            rest = last
+        else:
+            rest += chunk
+    if rest:
+        yield rest
+
+
 class Text:
     """The listing as the programs print it, below the names of files and sections."""
 
@@ -55,14 +69,16 @@ class Text:
     def size(self, section: Section, size: int) -> None:
         put(f"{section.name:28} {size:10}\n")
 
-    def tables(self, lines: Lines, on_error: OnError) -> None:
+    def tables(self, output: typing.IO[bytes], on_error: OnError) -> None:
         """Prints the tables at several offsets, each after its title. Errors at offsets are told instead."""
-        for line in lines:
-            found = ERROR.match(line)
-            if found:
-                on_error(int(found[1], 16), int(found[2]), found[3].decode())
-            else:
-                sys.stdout.buffer.write(line)
+        for block in blocks(output):
+            # Few blocks have an error, and the others are printed at once.
+            for line in block.splitlines(True) if b"error at" in block else [block]:
+                found = ERROR.match(line)
+                if found:
+                    on_error(int(found[1], 16), int(found[2]), found[3].decode())
+                else:
+                    sys.stdout.buffer.write(line)
 
     def table(self, lines: Lines, offset: int) -> None:
         sys.stdout.buffer.writelines(lines)
@@ -118,10 +134,10 @@ class Json(Text):
     def size(self, section: Section, size: int) -> None:
         self.put_of(section, size=size)
 
-    def tables(self, lines: Lines, on_error: OnError) -> None:
+    def tables(self, output: typing.IO[bytes], on_error: OnError) -> None:
         offset: int | None = None
         table: list[bytes] = []
-        for line in lines:
+        for line in output:
             title = TABLE.match(line)
             error = ERROR.match(line)
             if not title and not error:

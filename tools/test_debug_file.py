@@ -19,12 +19,12 @@ from unittest import mock
 sys.dont_write_bytecode = True
 sys.path.insert(0, os.path.dirname(os.path.realpath(__file__)))
 
-from debug_elf import Body, Unlisted
+from debug_elf import ERRORS, Body, Unlisted
 from debug_file import DebugFile
 import debug_inputs
 from debug_inputs import DebugLink, inputs, kind_of, link_of
 from debug_listing import Span, end_of_table, joined, parts_between, places_of_strings
-from debug_output import Json
+from debug_output import Json, Text
 
 # Types of sections.
 PROGBITS, SYMTAB, STRTAB, RELA, NOTE = 1, 2, 3, 4, 7
@@ -171,6 +171,35 @@ class Relocations(unittest.TestCase):
             with self.subTest(said=said):
                 data = with_relocation(machine, 64, "little", kind)
                 self.assertEqual(self.written(data), (bytes(range(24)), [(8, said)]))
+
+
+class CountingFile(io.BytesIO):
+    """A file that counts the bytes that are read of it."""
+
+    count = 0
+
+    def read(self, size: typing.Optional[int] = -1) -> bytes:
+        found = super().read(size)
+        self.count += len(found)
+        return found
+
+
+class ManyErrors(unittest.TestCase):
+    UNIT = struct.pack("<IHBBI", 8, 9, 1, 8, 0)
+
+    def test_that_the_rest_of_the_units_is_not_read(self) -> None:
+        file, told = read(elf([(".debug_info", PROGBITS, self.UNIT * (ERRORS + 500), 0, 0)]))
+        self.assertEqual(file.tables(), {})
+        self.assertEqual(len(told), ERRORS + 1)
+        self.assertEqual(told[-1], f"section 1 .debug_info has {ERRORS} errors, and the rest of its units isn't read")
+
+    def test_that_little_is_read_of_padding(self) -> None:
+        units = 50
+        data = elf([(".debug_info", PROGBITS, (self.UNIT + bytes(4)) * units + b"x" * (1 << 20), 0, 0)])
+        counting = CountingFile(data)
+        file = DebugFile(Body(counting, 0, len(data)), lambda *_, **__: None)
+        file.tables()
+        self.assertLess(counting.count, units * (1 << 13))
 
 
 def index(rows: typing.Sequence[Row], version: int = 5, columns: tuple[int, ...] = (1, 3, 6)) -> bytes:
@@ -470,8 +499,19 @@ class Objects(unittest.TestCase):
         one = {"code": 1, "tag": "Unknown DwTag: 4660", "children": False, "attributes": attributes}
         wanted = [{"offset": 16, "abbreviations": [one]}, {"offset": 48, "abbreviations": []}]
         errors: list[typing.Any] = []
-        self.assertEqual(self.printed(lambda it: it.tables(lines, lambda *error: errors.append(error))), wanted)
+        output = io.BytesIO(b"".join(lines))
+        self.assertEqual(self.printed(lambda it: it.tables(output, lambda *error: errors.append(error))), wanted)
         self.assertEqual(errors, [(32, 1, "invalid abbreviation tag: zero")])
+
+    def test_that_errors_are_found_in_many_lines(self) -> None:
+        good = b"1 DW_TAG_member no\n" * 5000
+        one, last = b"error at 0x20, status 1: one\n", b"error at 0x30, status 1: last"
+        errors: list[typing.Any] = []
+        text = io.BytesIO()
+        with mock.patch.object(sys, "stdout", mock.Mock(buffer=text)):
+            Text().tables(io.BytesIO(one + good + one + good + last), lambda *error: errors.append(error))
+        self.assertEqual(text.getvalue(), good + good)
+        self.assertEqual(errors, [(32, 1, "one"), (32, 1, "one"), (48, 1, "last")])
 
     def test_strings(self) -> None:
         # A newline in a string ends none, a byte that isn't UTF-8 is printed as a number, and the last has an error.
