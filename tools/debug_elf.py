@@ -25,6 +25,8 @@ SHT_SYMTAB, SHT_RELA, SHT_NOBITS, SHT_REL, SHT_CREL = 2, 4, 8, 9, 0x40000014
 # At most this many bytes of a section's name are read, and at a time these many bytes of a section.
 NAME_BYTES = 1 << 12
 CHUNK = 1 << 20
+# How many bytes before the last part that was read a stream still has.
+BEFORE = 64
 # After this many errors in a section the rest of it isn't read.
 ERRORS = 1000
 
@@ -119,6 +121,13 @@ class Body:
             error.filename = getattr(self.file, "name", None)
             raise
 
+    def has(self, at: int) -> bool:
+        """Whether there is a byte at an offset."""
+        return at < self.size
+
+    def finish(self) -> None:
+        """Reads what is still to be read, so that all that is wrong with the bytes is told."""
+
     def part(self, at: int, size: int, tables: Tables = tuple) -> Body:
         """At most this many bytes from an offset on: those that are there."""
         there = min(size, max(0, self.size - at))
@@ -140,6 +149,36 @@ class Body:
         end = self.size if end is None else end
         for low in range(at, end, size):
             yield low, self[low : min(low + size, end)]
+
+
+class Stream(Body):
+    """Bytes that are made as they are read, from the first on. A window of them is in memory: what is read begins at
+    most a few bytes before what was read last. The size is the one that is stated, until the end is reached."""
+
+    def __init__(self, parts: typing.Iterator[bytes], size: int, tables: Tables):
+        super().__init__(io.BytesIO(), 0, size, tables)
+        self.parts = parts
+        self.low = 0
+        self.window = b""
+
+    def has(self, at: int) -> bool:
+        return bool(self.stored(at, at + 1))
+
+    def finish(self) -> None:
+        for _ in self.parts:
+            pass
+
+    def stored(self, at: int, end: int) -> bytes:
+        assert at >= self.low
+        while self.low + len(self.window) < end:
+            part = next(self.parts, None)
+            if part is None:
+                self.size = self.low + len(self.window)
+                break
+            dropped = max(0, min(at - BEFORE - self.low, len(self.window)))
+            self.low += dropped
+            self.window = self.window[dropped:] + part
+        return self.window[at - self.low : end - self.low]
 
 
 @dataclass(eq=False)

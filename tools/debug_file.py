@@ -3,8 +3,9 @@
 What can't be read is told by the function that the caller gives, and the rest is read too. An exception `Unlisted` is
 raised for a file or a section of which nothing can be read, and for bytes with a relocation that isn't known.
 
-The bytes of a section are read when they are requested. They are inflated if they are compressed, which takes
-memory: a section may inflate to 256 MiB, or to 64 times its compressed size if that is more.
+The bytes of a section are read when they are requested. If they are compressed, those of units are inflated as they are
+read, and others at once, which takes memory. A section may inflate to 256 MiB, or to 64 times its compressed size if
+that is more.
 """
 from __future__ import annotations
 
@@ -20,11 +21,14 @@ import zlib
 from dataclasses import dataclass
 
 from debug_elf import ET_REL, SHT_CREL, SHT_NOBITS, SHT_REL, SHT_RELA, SHT_SYMTAB
-from debug_elf import ERRORS, Body, ElfFile, Header, Say, Unlisted
+from debug_elf import ERRORS, Body, ElfFile, Header, Say, Stream, Unlisted
 from debug_relocations import Relocations
 
 INFLATED_BYTES = 1 << 28
 INFLATED_TIMES = 64
+# Compressed bytes are read by these many at a time, and inflated to at most these many.
+PACKED_BYTES = 1 << 16
+INFLATED_AT_ONCE = 1 << 20
 # Padding is read by these many bytes at a time.
 PADDING_BYTES = 1 << 12
 # A section's name: of early debug information that an object keeps for link-time optimization, compressed
@@ -37,32 +41,54 @@ COLUMNS = {1: "debug_info", 2: "debug_types", 3: "debug_abbrev", 6: "debug_str_o
 TABLES_OF_RELOCATIONS = (SHT_REL, SHT_RELA, SHT_CREL)
 # A row of such an index: the offset and the size of each contribution, by its section.
 Row = dict[str, tuple[int, int]]
-# What inflates at most a number of bytes. It returns them, and whether the compressed bytes end there.
-Inflate = typing.Callable[[bytes, int], tuple[bytes, bool]]
+# What inflates bytes. It yields some of them at a time, and raises an EOFError if the compressed ones end too early.
+Inflate = typing.Callable[[Body], typing.Iterator[bytes]]
 
 
-def by_zlib(raw: bytes, limit: int) -> tuple[bytes, bool]:
-    """At most this many of the bytes, and whether the compressed bytes end there."""
+def by_zlib(raw: Body) -> typing.Iterator[bytes]:
     stream = zlib.decompressobj()
-    return stream.decompress(raw, limit), stream.eof
+    for _, packed in raw.chunks(size=PACKED_BYTES):
+        while packed and not stream.eof:
+            yield stream.decompress(packed, INFLATED_AT_ONCE)
+            packed = stream.unconsumed_tail
+        if stream.eof:
+            return
+    yield stream.flush()
+    if not stream.eof:
+        raise EOFError
 
 
-def by_zstd(raw: bytes, limit: int) -> tuple[bytes, bool]:
-    """The same of the other compression. Python has it from 3.14 on, and else a library may be installed."""
+def by_zstd(raw: Body) -> typing.Iterator[bytes]:
+    """Python has this compression from 3.14 on, and else a library may be installed."""
     try:
         from compression import zstd
-
-        stream = zstd.ZstdDecompressor()
-        return stream.decompress(raw, limit), stream.eof
     except ImportError:
         import zstandard
 
-    reader = zstandard.ZstdDecompressor().stream_reader(io.BytesIO(raw))
-    return reader.read(limit), not reader.read(1)
+        reader = zstandard.ZstdDecompressor().stream_reader(io.BytesIO(raw[:]))
+        while chunk := reader.read(INFLATED_AT_ONCE):
+            yield chunk
+        return
+    stream = zstd.ZstdDecompressor()
+    for _, packed in raw.chunks(size=PACKED_BYTES):
+        yield stream.decompress(packed, INFLATED_AT_ONCE)
+        while not stream.eof and not stream.needs_input:
+            yield stream.decompress(b"", INFLATED_AT_ONCE)
+        if stream.eof:
+            return
+    raise EOFError
 
 
 # By the numbers of the ELF specification.
 INFLATE: dict[int, Inflate] = {1: by_zlib, 2: by_zstd}
+
+
+class Packed(typing.NamedTuple):
+    """The bytes of a compressed section, what inflates them, and to how many."""
+
+    raw: Body
+    inflate: Inflate
+    size: int
 
 
 @dataclass(eq=False)
@@ -189,29 +215,53 @@ class DebugFile(ElfFile):
 
     # The bytes of sections.
 
-    def body(self, section: Section) -> Body:
-        """The bytes of a section, inflated."""
+    def stored(self, section: Section) -> Body:
+        """The bytes of a section, as the file has them."""
         header = section.header
         if header.kind == SHT_NOBITS:
             raise Unlisted("has no bytes in this file (SHT_NOBITS)")
         if header.size and header.start >= len(self.whole):
             raise Unlisted(f"begins at 0x{header.start:x}, past the end of the file")
-        raw = self.part(header, section)
-        tables = functools.partial(self.relocations_of, section)
-        if self.is_old_compressed(header, raw):
-            size = int.from_bytes(raw[4:12], "big")
-            inflate: Inflate = by_zlib
-            packed = raw[12:]
-        elif header.is_compressed:
+        return self.part(header, section)
+
+    def packed(self, section: Section, raw: Body) -> Packed | None:
+        """How a section is compressed, or None if it isn't."""
+        if self.is_old_compressed(section.header, raw):
+            found = Packed(raw.part(12, len(raw)), by_zlib, int.from_bytes(raw[4:12], "big"))
+        elif section.header.is_compressed:
             kind, size, begin = self.compression(raw)
             if kind not in INFLATE:
                 raise Unlisted(f"can't be inflated: its compression type {kind} is unknown")
-            inflate = INFLATE[kind]
-            packed = raw[begin:]
+            found = Packed(raw.part(begin, len(raw)), INFLATE[kind], size)
         else:
-            return raw.part(0, len(raw), tables)
-        whole = self.inflated(section, packed, size, inflate)
-        return Body(io.BytesIO(whole), 0, len(whole), tables)
+            return None
+        limit = max(INFLATED_BYTES, INFLATED_TIMES * len(found.raw))
+        if found.size > limit:
+            many = len(found.raw)
+            raise Unlisted(f"claims {found.size} bytes in {many} compressed ones, and at most {limit} are read")
+        return found
+
+    def size(self, section: Section) -> int:
+        """The size of a section: of a compressed one, what its header says."""
+        raw = self.stored(section)
+        packed = self.packed(section, raw)
+        return packed.size if packed else len(raw)
+
+    def body(self, section: Section) -> Body:
+        """The bytes of a section, inflated."""
+        stream = self.stream(section)
+        if not isinstance(stream, Stream):
+            return stream
+        whole = io.BytesIO()
+        whole.writelines(stream.parts)
+        return Body(whole, 0, whole.tell(), stream.tables)
+
+    def stream(self, section: Section) -> Body:
+        """The same, to be read from the first byte on."""
+        raw = self.stored(section)
+        packed = self.packed(section, raw)
+        tables = functools.partial(self.relocations_of, section)
+        return Stream(self.inflated(section, packed), packed.size, tables) if packed else raw.part(0, len(raw), tables)
 
     def is_old_compressed(self, header: Header, raw: Body) -> bool:
         """Whether a section is compressed as before SHF_COMPRESSED."""
@@ -261,26 +311,30 @@ class DebugFile(ElfFile):
             tables.append(Relocations(self, body, symbols, header.kind == SHT_RELA))
         return tables
 
-    def inflated(self, section: Section, raw: bytes, size: int, inflate: Inflate) -> bytes:
-        """The bytes that are compressed, of which there are to be this many."""
-        limit = max(INFLATED_BYTES, INFLATED_TIMES * len(raw))
-        if size > limit:
-            raise Unlisted(f"claims {size} bytes in {len(raw)} compressed ones, and at most {limit} are read")
+    def inflated(self, section: Section, packed: Packed) -> typing.Iterator[bytes]:
+        """The bytes of a compressed section, at most as many as there are to be. If there are others, that is told."""
+        found = 0
+        is_whole = True
         try:
-            # One byte more, to see whether there are too many.
-            body, is_whole = inflate(raw, size + 1)
+            for chunk in packed.inflate(packed.raw):
+                found += len(chunk)
+                yield chunk if found <= packed.size else chunk[: packed.size - found]
+                if found > packed.size:
+                    break
+        except EOFError:
+            is_whole = False
         except ImportError as error:
             how = "`apt-get install python3-zstandard` or `pip install zstandard` helps"
             raise Unlisted(f"is compressed by zstd, which this Python can't inflate: {how}") from error
+        except (OSError, MemoryError):
+            raise
         except Exception as error:
             # The library says last what is wrong, such as "Error -3 while decompressing data: invalid block type".
             why = str(error).rpartition(": ")[2] or "its bytes aren't compressed so"
             raise Unlisted(f"can't be inflated: {why}") from error
-        if len(body) != size or not is_whole:
-            found = "other bytes" if len(body) == size else f"{len(body)}"
-            found = "more" if len(body) > size else found
-            self.say(f"{section} is to inflate to {size} bytes, and inflates to {found}")
-        return body[:size]
+        if found != packed.size or not is_whole:
+            what = "more" if found > packed.size else f"{found}" if found < packed.size else "other bytes"
+            self.say(f"{section} is to inflate to {packed.size} bytes, and inflates to {what}")
 
     # Units.
 
@@ -313,14 +367,16 @@ class DebugFile(ElfFile):
         for section in self.named(*UNITS):
             if section.family == family:
                 with self.telling(section):
-                    found += self.walk(section, self.body(section))
+                    body = self.stream(section)
+                    found += self.walk(section, body)
+                    body.finish()
         return found
 
     def walk(self, section: Section, body: Body) -> list[Unit]:
         """The units of a section, each of which begins where the one before ends."""
         found = []
         at = 0
-        while at < len(body) and not self.has_many_errors(section):
+        while body.has(at) and not self.has_many_errors(section):
             unit = Unit(section, at)
             try:
                 padding = self.zeros(section, body, at)

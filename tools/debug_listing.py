@@ -171,7 +171,7 @@ class Listing:
         """Lists the names and sizes of the sections, and reports those that can't be read."""
         for section in sections:
             try:
-                size = len(self.file.body(section))
+                size = self.file.size(section)
             except Unlisted as error:
                 self.report.say(f"{section} {error}", section=section)
                 size = self.file.stated_size(section)

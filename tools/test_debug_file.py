@@ -19,7 +19,7 @@ from unittest import mock
 sys.dont_write_bytecode = True
 sys.path.insert(0, os.path.dirname(os.path.realpath(__file__)))
 
-from debug_elf import ERRORS, Body, Unlisted
+from debug_elf import ERRORS, Body, Stream, Unlisted
 from debug_file import DebugFile
 import debug_inputs
 from debug_inputs import DebugLink, inputs, kind_of, link_of
@@ -171,6 +171,57 @@ class Relocations(unittest.TestCase):
             with self.subTest(said=said):
                 data = with_relocation(machine, 64, "little", kind)
                 self.assertEqual(self.written(data), (bytes(range(24)), [(8, said)]))
+
+
+class Compressed(unittest.TestCase):
+    # Units of DWARF 4 and 5, whose tables are at other offsets, with padding between some.
+    UNITS = b"".join(
+        struct.pack("<IHIB", 1007, 4, it, 8) + bytes(range(250)) * 4
+        if it % 2
+        else struct.pack("<IHBBI", 1008, 5, 1, 8, it) + bytes(range(250)) * 4 + bytes(4)
+        for it in range(4000)
+    )
+
+    def file(self, size: int, packed: bytes) -> tuple[DebugFile, list[str]]:
+        data = struct.pack("<2I2Q", 1, 0, size, 1) + packed
+        return read(elf([(".debug_info", PROGBITS, data, 0, 0)], flags=0x800))
+
+    def test_that_units_are_read_as_they_are_inflated(self) -> None:
+        file, told = self.file(len(self.UNITS), zlib.compress(self.UNITS))
+        body = file.stream(file.sections[0])
+        assert isinstance(body, Stream)
+        units = file.walk(file.sections[0], body)
+        self.assertEqual([it.table for it in units], list(range(4000)))
+        self.assertEqual([it.version for it in units], [5, 4] * 2000)
+        self.assertLess(len(body.window), 3 << 20)
+        # What is told is the padding.
+        self.assertEqual(len(told), 2000)
+
+    def test_what_is_wrong_with_compressed_units(self) -> None:
+        packed = zlib.compress(self.UNITS[:1012])
+        rows: tuple[tuple[int, bytes, list[str]], ...] = (
+            (1012, packed, []),
+            (1013, packed, ["to inflate to 1013 bytes, and inflates to 1012"]),
+            (1000, packed, ["has the length 0x3f0, which is past", "to inflate to 1000 bytes, and inflates to more"]),
+            (1012, packed[:-1], ["to inflate to 1012 bytes, and inflates to other bytes"]),
+            (1012, b"x" + packed, ["can't be inflated: incorrect header check"]),
+        )
+        for size, data, said in rows:
+            file, told = self.file(size, data)
+            self.assertEqual(file.size(file.sections[0]), size)
+            self.assertEqual(told, [])
+            file.units(("", ""))
+            with self.subTest(size=size, said=said):
+                self.assertEqual([any(one in it for it in told) for one in said], [True] * len(said), told)
+                self.assertEqual(len(told), len(said), told)
+                if data is not rows[-1][1]:
+                    self.assertEqual(file.body(file.sections[0])[:], self.UNITS[: min(size, 1012)])
+
+
+    def test_that_units_after_an_error_are_inflated(self) -> None:
+        file, told = self.file(13, zlib.compress(struct.pack("<I8x", 0xFFFFFFF5)))
+        file.units(("", ""))
+        self.assertEqual(["reserved length" in told[0], "inflates to 12" in told[-1], len(told)], [True, True, 2])
 
 
 class CountingFile(io.BytesIO):
