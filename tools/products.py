@@ -56,6 +56,11 @@ def static_library(crate: str) -> str:
     return f"{kit.ROOT}/crates/{crate}/out/lib{crate}.a"
 
 
+def unproved_library() -> str:
+    """Where the library for C is that `tools/static-library --unproved` builds."""
+    return f"{kit.ROOT}/crates/dwarf_read_c/out/libdwarf_read_unproved.a"
+
+
 def copy(source: str, target: str) -> None:
     """Copies a file. Whoever reads the target meanwhile finds the old file or the new one, whole."""
     os.makedirs(os.path.dirname(target), exist_ok=True)
@@ -122,13 +127,13 @@ def in_turn(crate: str) -> Iterator[None]:
 
 
 def put_library(crate: str, root: str, of_sources: str, tell: Callable[[str], object]) -> Optional[str]:
-    """Builds and keeps the static library of a crate, over the libraries that `rt ci` has left in a checkout or a copy.
-    Returns where it is, or None. What goes wrong is told."""
+    """Proves, builds and keeps the static library of a crate, over the libraries that `rt ci` has left in a checkout or a
+    copy. Returns where it is, or None. What goes wrong is told."""
     path = static_library(crate)
     rt = kit.load_rt()
     folder = f"{root}/crates/{crate}"
     words = rt.rtlib.Crate(folder, root, {}).words(["--jobs", "2"])
-    tell(f"building {os.path.basename(path)}")
+    tell(f"proving {crate}, and building {os.path.basename(path)}")
     with tempfile.TemporaryDirectory(prefix="library-") as room:
         made = f"{room}/library.a"
         command = ["rattle", "build", *words, "--backend", "llvm", "-o", made, "--toolchain", f"{rt.KIT}/toolchain"]
@@ -140,6 +145,17 @@ def put_library(crate: str, root: str, of_sources: str, tell: Callable[[str], ob
             tell("the sources changed meanwhile: run this again")
             return None
         return put(made, path, of_sources)
+
+
+def copy_crates(crates: Sequence[str], folder: str) -> None:
+    """Copies the sources of these crates that a folder lacks, with their lines of crates.txt."""
+    for it in crates:
+        if not os.path.exists(f"{folder}/crates/{it}"):
+            # Wrong bodies say nothing of a product.
+            ignored = shutil.ignore_patterns("out", "must-fail")
+            shutil.copytree(f"{kit.ROOT}/crates/{it}", f"{folder}/crates/{it}", ignore=ignored)
+    lines = kit.text_of(f"{kit.ROOT}/crates.txt").splitlines(True)
+    kit.put(f"{folder}/crates.txt", "".join(it for it in lines if re.split(r"\W", it)[0] in crates))
 
 
 @contextlib.contextmanager
@@ -156,12 +172,7 @@ def proved(crates: Sequence[str], tell: Callable[[str], object]) -> Iterator[Opt
 
     needed = [it for it in kit.CRATES if it in crates or any(it in kit.below(above) for above in crates)]
     with tempfile.TemporaryDirectory(prefix="proved-") as folder:
-        for it in needed:
-            # Wrong bodies say nothing of a product.
-            ignored = shutil.ignore_patterns("out", "must-fail")
-            shutil.copytree(f"{kit.ROOT}/crates/{it}", f"{folder}/crates/{it}", ignore=ignored)
-        lines = kit.text_of(f"{kit.ROOT}/crates.txt").splitlines(True)
-        kit.put(f"{folder}/crates.txt", "".join(it for it in lines if re.split(r"\W", it)[0] in needed))
+        copy_crates(needed, folder)
         shutil.copyfile(f"{kit.ROOT}/HANDLES", f"{folder}/HANDLES")
         ran = kit.run([kit.of_path("rt"), "ci"], see, cwd=folder)
         if ran.returncode:
