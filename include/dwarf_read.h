@@ -227,8 +227,8 @@ struct dwarf_abbreviation {
     size_t attribute_count;
 };
 
-/* An attribute of an abbreviation. */
-struct dwarf_attribute {
+/* An attribute of an abbreviation. The dwarf2.h of GNU has an enum dwarf_attribute. */
+struct dwarf_attribute_spec {
     uint16_t name;
     uint16_t form;
     int64_t implicit_const; /* the value in the table for DW_FORM_implicit_const, otherwise 0 */
@@ -250,7 +250,7 @@ uint32_t dwarf_table_measure(const uint8_t *section, size_t len, size_t offset,
    of dwarf_table_measure. */
 uint32_t dwarf_table_read(const uint8_t *section, size_t len, size_t offset,
                           struct dwarf_abbreviation *abbreviations, size_t abbreviation_room,
-                          struct dwarf_attribute *attributes, size_t attribute_room,
+                          struct dwarf_attribute_spec *attributes, size_t attribute_room,
                           struct dwarf_measure *measure, struct dwarf_fault *fault);
 
 /* The same calls for a section that still grows, and for checking what a producer wrote: the section's end
@@ -260,7 +260,7 @@ uint32_t dwarf_table_measure_strict(const uint8_t *section, size_t len, size_t o
                                     struct dwarf_measure *measure, struct dwarf_fault *fault);
 uint32_t dwarf_table_read_strict(const uint8_t *section, size_t len, size_t offset,
                                  struct dwarf_abbreviation *abbreviations, size_t abbreviation_room,
-                                 struct dwarf_attribute *attributes, size_t attribute_room,
+                                 struct dwarf_attribute_spec *attributes, size_t attribute_room,
                                  struct dwarf_measure *measure, struct dwarf_fault *fault);
 
 /* Finds the abbreviation with a code among those of a table, which are in the order of their codes as

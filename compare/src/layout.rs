@@ -33,7 +33,7 @@ pub fn check(include: &str) {
         layout!(Fault, "dwarf_fault", kind, value),
         layout!(Measure, "dwarf_measure", abbreviations, attributes, end, closed_by_null),
         layout!(Abbreviation, "dwarf_abbreviation", code, tag, has_children, first_attribute, attribute_count),
-        layout!(Attribute, "dwarf_attribute", name, form, implicit_const),
+        layout!(Attribute, "dwarf_attribute_spec", name, form, implicit_const),
         layout!(Set, "dwarf_set", next, unit_length, first_entry, entry_count, word_size, entry_size),
     ];
     let source = format!("{}/layout.c", env::var("OUT_DIR").expect("cargo names it"));

@@ -323,7 +323,7 @@ static bool is_abbreviation(struct dwarf_abbreviation it, struct dwarf_abbreviat
            it.first_attribute == wanted.first_attribute && it.attribute_count == wanted.attribute_count;
 }
 
-static bool is_attribute(struct dwarf_attribute it, struct dwarf_attribute wanted) {
+static bool is_attribute(struct dwarf_attribute_spec it, struct dwarf_attribute_spec wanted) {
     return it.name == wanted.name && it.form == wanted.form && it.implicit_const == wanted.implicit_const;
 }
 
@@ -341,16 +341,16 @@ static void check_measures(measure_call *call, const struct measure_row *rows, s
 }
 
 typedef uint32_t read_call(const uint8_t *section, size_t len, size_t offset, struct dwarf_abbreviation *abbreviations,
-                           size_t abbreviation_room, struct dwarf_attribute *attributes, size_t attribute_room,
+                           size_t abbreviation_room, struct dwarf_attribute_spec *attributes, size_t attribute_room,
                            struct dwarf_measure *measure, struct dwarf_fault *fault);
 
 /* There are too few places for attributes at first, and then more than are needed. */
 static void check_tables(read_call *call) {
     static const struct dwarf_abbreviation wanted[] = {{1, 0x11, 1, 0, 2}, {2, 0x2e, 0, 2, 1}, {7, 7, 7, 7, 7}};
-    static const struct dwarf_attribute its_wanted[] = {{3, 8, 0}, {0x13, 5, 0}, {3, 0x21, -42}, {7, 7, 7}};
+    static const struct dwarf_attribute_spec its_wanted[] = {{3, 8, 0}, {0x13, 5, 0}, {3, 0x21, -42}, {7, 7, 7}};
     static const struct dwarf_measure whole = {2, 3, 18, 1};
     struct dwarf_abbreviation ours[] = {{7, 7, 7, 7, 7}, {7, 7, 7, 7, 7}, {7, 7, 7, 7, 7}};
-    struct dwarf_attribute its[] = {{7, 7, 7}, {7, 7, 7}, {7, 7, 7}, {7, 7, 7}};
+    struct dwarf_attribute_spec its[] = {{7, 7, 7}, {7, 7, 7}, {7, 7, 7}, {7, 7, 7}};
     struct dwarf_measure measure = {7, 7, 7, 7};
     struct dwarf_fault fault = {7, 7};
     uint32_t status = call(table, sizeof table, 0, ours, 3, its, 2, &measure, &fault);

@@ -82,7 +82,7 @@ static bool is_text(const char *text, const char *wanted) {
 static bool is_well(void) {
     static const uint8_t section[] = {2, 0x2e, 0, 3, 0x21, 0x56, 0, 0, 1, 0x11, 1, 3, 8, 0, 0, 0};
     struct dwarf_abbreviation rows[2];
-    struct dwarf_attribute attributes[2];
+    struct dwarf_attribute_spec attributes[2];
     struct dwarf_measure measure;
     struct dwarf_fault fault = {0, 0};
     char text[DWARF_TEXT_ROOM];

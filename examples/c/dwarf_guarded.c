@@ -240,7 +240,7 @@ struct table_calls {
     uint32_t (*measure)(const uint8_t *section, size_t len, size_t offset, struct dwarf_measure *measure,
                         struct dwarf_fault *fault);
     uint32_t (*read)(const uint8_t *section, size_t len, size_t offset, struct dwarf_abbreviation *abbreviations,
-                     size_t abbreviation_room, struct dwarf_attribute *attributes, size_t attribute_room,
+                     size_t abbreviation_room, struct dwarf_attribute_spec *attributes, size_t attribute_room,
                      struct dwarf_measure *measure, struct dwarf_fault *fault);
 };
 
@@ -255,7 +255,7 @@ static void call_table_read(const struct table_calls *calling, const uint8_t *by
     begin(calling->read_name);
     struct dwarf_measure *measure = (struct dwarf_measure *)output(sizeof *measure);
     struct dwarf_abbreviation *abbreviations = (struct dwarf_abbreviation *)output(room * sizeof *abbreviations);
-    struct dwarf_attribute *attributes = (struct dwarf_attribute *)output(attribute_room * sizeof *attributes);
+    struct dwarf_attribute_spec *attributes = (struct dwarf_attribute_spec *)output(attribute_room * sizeof *attributes);
     uint32_t status = calling->read(bytes, len, offset, abbreviations, room, attributes, attribute_room, measure,
                                     fault());
     end();
@@ -305,7 +305,7 @@ static uint32_t read_table(const struct table_calls *calling, const uint8_t *byt
     /* An abbreviation has at least five bytes, and an attribute two. */
     size_t room = len / 5, more = len / 2;
     struct dwarf_abbreviation *abbreviations = (struct dwarf_abbreviation *)output(room * sizeof *abbreviations);
-    struct dwarf_attribute *attributes = (struct dwarf_attribute *)output(more * sizeof *attributes);
+    struct dwarf_attribute_spec *attributes = (struct dwarf_attribute_spec *)output(more * sizeof *attributes);
     return calling->read(bytes, len, 0, abbreviations, room, attributes, more, measure, fault());
 }
 

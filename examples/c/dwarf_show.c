@@ -67,7 +67,7 @@ static void print_name(name_call *call, const char *type, uint16_t value) {
     }
 }
 
-static void print_attribute(const struct dwarf_attribute *attribute) {
+static void print_attribute(const struct dwarf_attribute_spec *attribute) {
     fputs("  ", stdout);
     print_name(dwarf_attribute_string, "DwAt", attribute->name);
     putchar(' ');
@@ -88,8 +88,8 @@ static int show_table(struct bytes section, size_t offset) {
     size_t attribute_count = measure.attributes;
     struct dwarf_abbreviation *abbreviations =
         (struct dwarf_abbreviation *)or_die(malloc((count + 1) * sizeof *abbreviations));
-    struct dwarf_attribute *attributes =
-        (struct dwarf_attribute *)or_die(malloc((attribute_count + 1) * sizeof *attributes));
+    struct dwarf_attribute_spec *attributes =
+        (struct dwarf_attribute_spec *)or_die(malloc((attribute_count + 1) * sizeof *attributes));
     uint32_t status = dwarf_table_read(section.items, section.len, offset, abbreviations, count,
                                        attributes, attribute_count, &measure, &fault);
     if (status != DWARF_OK) {

@@ -80,7 +80,7 @@ fn layouts() -> String {
             first_attribute,
             attribute_count
         ),
-        layout!(Attribute, "dwarf_attribute", name, form, implicit_const),
+        layout!(Attribute, "dwarf_attribute_spec", name, form, implicit_const),
         layout!(
             Set,
             "dwarf_set",

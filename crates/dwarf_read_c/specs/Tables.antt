@@ -6,7 +6,7 @@ use Rattle.dwarf_read_core.specs.Input.{Input}
 use Rattle.dwarf_read_core.specs.Answer.{TableEndsAt}
 use Rattle.dwarf_read_core.specs.Grammar.{Declaration, Specification, Table, attribute_count, is_by_null}
 use Rattle.dwarf_read_c.specs.declared.tables.DwarfAbbreviation.{DwarfAbbreviation}
-use Rattle.dwarf_read_c.specs.declared.tables.DwarfAttribute.{DwarfAttribute}
+use Rattle.dwarf_read_c.specs.declared.tables.DwarfAttributeSpec.{DwarfAttributeSpec}
 use Rattle.dwarf_read_c.specs.declared.tables.DwarfMeasure.{DwarfMeasure}
 
 -- 1 for true, and 0 for false
@@ -28,7 +28,7 @@ abbrev pub Measures : DwarfMeasure → Input → ℕ → Table → Type 0
 Measures m section offset t = (end : ℕ) × TableEndsAt section offset t end × (m ≡ measure_of t end)
 
 -- a specification; one without a value has the value 0
-abbrev pub attribute_of : Specification → DwarfAttribute
+abbrev pub attribute_of : Specification → DwarfAttributeSpec
 attribute_of s = record { name = s.name; form = s.form; implicit_const = unwrap_or s.value (pos 0) }
 
 -- a declaration whose attributes begin at this index
@@ -51,10 +51,10 @@ abbrev pub abbreviations_of : Table → List DwarfAbbreviation
 abbreviations_of t = laid_from 0 (values t.by_code)
 
 -- the attributes of consecutive declarations
-abbrev pub attributes_in : List Declaration → List DwarfAttribute
+abbrev pub attributes_in : List Declaration → List DwarfAttributeSpec
 attributes_in ds = flat_map (λ d. map attribute_of d.attributes) ds
 
-abbrev pub attributes_of : Table → List DwarfAttribute
+abbrev pub attributes_of : Table → List DwarfAttributeSpec
 attributes_of t = attributes_in (values t.by_code)
 
 -- there are fewer places for abbreviations, or for attributes, than the table has

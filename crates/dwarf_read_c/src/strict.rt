@@ -11,7 +11,7 @@ ghost use Rattle.dwarf_read_c.specs.Tables.{LacksRoom, Measures, abbreviations_o
 
 use crate::status::{DWARF_NO_ROOM, DWARF_OK};
 use crate::tables::{
-    DwarfAbbreviation, DwarfAttribute, DwarfMeasure, measure_of, put_table, table_at,
+    DwarfAbbreviation, DwarfAttributeSpec, DwarfMeasure, measure_of, put_table, table_at,
 };
 use dwarf_fault::{DwarfFault, reject};
 use dwarf_read_core::{Abbreviations, Error, ReaderOffsetId};
@@ -71,7 +71,7 @@ pub extern "C" fn dwarf_table_read_strict(
     section: &[u8],
     offset: usize,
     abbreviations: &mut [DwarfAbbreviation],
-    attributes: &mut [DwarfAttribute],
+    attributes: &mut [DwarfAttributeSpec],
     measure: &mut DwarfMeasure,
     fault: &mut DwarfFault,
 ) -> u32

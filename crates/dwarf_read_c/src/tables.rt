@@ -50,7 +50,7 @@ pub struct DwarfAbbreviation {
 /// An attribute of an abbreviation.
 #[repr(C)]
 #[derive(Clone, Copy)]
-pub struct DwarfAttribute {
+pub struct DwarfAttributeSpec {
     pub name: u16,
     pub form: u16,
     /// The value that is in the table itself, if the form is `DW_FORM_implicit_const`. It is 0 for
@@ -118,7 +118,7 @@ pub extern "C" fn dwarf_table_read(
     section: &[u8],
     offset: usize,
     abbreviations: &mut [DwarfAbbreviation],
-    attributes: &mut [DwarfAttribute],
+    attributes: &mut [DwarfAttributeSpec],
     measure: &mut DwarfMeasure,
     fault: &mut DwarfFault,
 ) -> u32
@@ -186,7 +186,7 @@ pub(crate) fn put_table(
     table: &Abbreviations,
     end: usize,
     abbreviations: &mut [DwarfAbbreviation],
-    attributes: &mut [DwarfAttribute],
+    attributes: &mut [DwarfAttributeSpec],
     measure: &mut DwarfMeasure,
 ) -> u32
     requires { attribute_count table.now.by_code < 2 ^ 64 }
@@ -231,7 +231,7 @@ fn fill_abbreviations(table: &Abbreviations, places: &mut [DwarfAbbreviation])
 
 // Writes the attributes of all abbreviations, in the order of their codes, to the front of the
 // places.
-fn fill_attributes(table: &Abbreviations, places: &mut [DwarfAttribute])
+fn fill_attributes(table: &Abbreviations, places: &mut [DwarfAttributeSpec])
     requires { attribute_count table.now.by_code ≤ length places.old }
     ensures { Fills (attributes_of table.now) places.old places.new }
 {
@@ -245,7 +245,7 @@ fn fill_attributes(table: &Abbreviations, places: &mut [DwarfAttribute])
 }
 
 // Writes the attributes of one abbreviation, each to the place of its index.
-fn fill_each(attributes: &[AttributeSpecification], places: &mut [DwarfAttribute])
+fn fill_each(attributes: &[AttributeSpecification], places: &mut [DwarfAttributeSpec])
     requires { length attributes.now ≡ length places.old }
     ensures { places.new ≡ map attribute_of attributes.now }
 {
@@ -254,10 +254,10 @@ fn fill_each(attributes: &[AttributeSpecification], places: &mut [DwarfAttribute
     }
 }
 
-fn attribute_of(attribute: &AttributeSpecification) -> DwarfAttribute
+fn attribute_of(attribute: &AttributeSpecification) -> DwarfAttributeSpec
     ensures { result ≡ attribute_of attribute.now }
 {
-    DwarfAttribute {
+    DwarfAttributeSpec {
         name: attribute.name().0,
         form: attribute.form().0,
         implicit_const: attribute.implicit_const_value().unwrap_or(0),
