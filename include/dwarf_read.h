@@ -71,11 +71,13 @@ enum {
     DWARF_UNKNOWN_VERSION = 11,            /* the value is the version */
     DWARF_UNSUPPORTED_ADDRESS_SIZE = 12,   /* the value is the size */
     DWARF_UNSUPPORTED_SEGMENT_SIZE = 13,   /* the value is the size */
-    DWARF_UNSUPPORTED_OFFSET_SIZE = 14,    /* the value is the size */
+    DWARF_OUT_OF_MEMORY = 18,
+
+    /* No call here returns these. dwarf_fault_text has their texts. */
+    DWARF_UNSUPPORTED_OFFSET_SIZE = 14, /* the value is the size */
     DWARF_BAD_UTF8 = 15,
     DWARF_ADDRESS_OVERFLOW = 16,
-    DWARF_UNSUPPORTED_REGISTER = 17, /* the value is the register */
-    DWARF_OUT_OF_MEMORY = 18,
+    DWARF_UNSUPPORTED_REGISTER = 17,       /* the value is the register */
     DWARF_UNTERMINATED_ABBREVIATIONS = 19, /* the value is the position */
 
     DWARF_NO_ROOM = 100, /* fewer places than items */
@@ -203,7 +205,7 @@ uint32_t dwarf_str_offset_set(const uint8_t *section, size_t len, bool is_big, s
 /*
  * ABBREVIATION TABLES (7.5.3).
  *
- * These four calls allocate memory for the table, and free it before they return. They return
+ * These two calls allocate memory for the table, and free it before they return. They return
  * DWARF_OUT_OF_MEMORY if an allocation fails. They may not be called in a signal handler.
  *
  * Each call parses the whole table. So read into places that are kept from table to table, and let them grow
@@ -215,7 +217,7 @@ struct dwarf_measure {
     size_t abbreviations;
     size_t attributes;      /* of all abbreviations together */
     size_t end;             /* the offset after the code that closes the table, or `len` */
-    uint8_t closed_by_null; /* 1 if a code of value 0 closes the table, 0 if the section's end does */
+    uint8_t closed_by_null; /* 1 if a code of value 0 closes the table, 0 if only the section's end does */
 };
 
 /* An abbreviation. */
@@ -252,16 +254,6 @@ uint32_t dwarf_table_read(const uint8_t *section, size_t len, size_t offset,
                           struct dwarf_abbreviation *abbreviations, size_t abbreviation_room,
                           struct dwarf_attribute_spec *attributes, size_t attribute_room,
                           struct dwarf_measure *measure, struct dwarf_fault *fault);
-
-/* The same calls for a section that still grows, and for checking what a producer wrote: the section's end
-   closes no table. A table that only that end closes, also one at `len`, is the error
-   DWARF_UNTERMINATED_ABBREVIATIONS at `len`. All other results are those of the calls above. */
-uint32_t dwarf_table_measure_strict(const uint8_t *section, size_t len, size_t offset,
-                                    struct dwarf_measure *measure, struct dwarf_fault *fault);
-uint32_t dwarf_table_read_strict(const uint8_t *section, size_t len, size_t offset,
-                                 struct dwarf_abbreviation *abbreviations, size_t abbreviation_room,
-                                 struct dwarf_attribute_spec *attributes, size_t attribute_room,
-                                 struct dwarf_measure *measure, struct dwarf_fault *fault);
 
 /* Finds the abbreviation with a code among those of a table, which are in the order of their codes as
    dwarf_table_read writes them. Returns null if there is none. */
@@ -302,10 +294,6 @@ uint32_t dwarf_form_size(uint16_t form, uint16_t version, uint8_t address_size, 
  * many bytes it has. The call returns DWARF_OK; DWARF_NO_ROOM if there are fewer places, and then only
  * `len` is written; or DWARF_NO_NAME if there is no name or text, and then nothing is written.
  */
-
-uint32_t dwarf_tag_name(uint16_t tag, char *name, size_t room, size_t *len);
-uint32_t dwarf_attribute_name(uint16_t attribute, char *name, size_t room, size_t *len);
-uint32_t dwarf_form_name(uint16_t form, char *name, size_t room, size_t *len);
 
 /* The families of constants. (Generated.) */
 enum {
@@ -348,6 +336,19 @@ enum {
    for a number that no family has. */
 uint32_t dwarf_constant_name(uint32_t family, uint64_t value, char *name, size_t room, size_t *len);
 
+/* The same calls for a tag, an attribute and a form. */
+static inline uint32_t dwarf_tag_name(uint16_t tag, char *name, size_t room, size_t *len) {
+    return dwarf_constant_name(DWARF_FAMILY_TAG, tag, name, room, len);
+}
+
+static inline uint32_t dwarf_attribute_name(uint16_t attribute, char *name, size_t room, size_t *len) {
+    return dwarf_constant_name(DWARF_FAMILY_AT, attribute, name, room, len);
+}
+
+static inline uint32_t dwarf_form_name(uint16_t form, char *name, size_t room, size_t *len) {
+    return dwarf_constant_name(DWARF_FAMILY_FORM, form, name, room, len);
+}
+
 /* Writes the text of an error. The call allocates memory, and frees it before it returns. It returns
    DWARF_OUT_OF_MEMORY if an allocation fails; then nothing is written. It may not be called in a signal
    handler. */
@@ -356,7 +357,7 @@ uint32_t dwarf_fault_text(const struct dwarf_fault *fault, char *text, size_t ro
 /*
  * NAMES AND TEXTS AS STRINGS OF C.
  *
- * Each of these five functions writes a name or a text with a zero byte after it, and returns the
+ * Each of these functions writes a name or a text with a zero byte after it, and returns the
  * pointer to it. It returns null and writes nothing if the call above returns another status than
  * DWARF_OK, or if there is no place for the zero byte.
  */

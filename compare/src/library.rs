@@ -75,7 +75,7 @@ extern "C" {
     pub fn dwarf_str_offset_set(
         bytes: Byte, len: usize, is_big: bool, offset: usize, set: &mut Set, fault: &mut Fault,
     ) -> u32;
-    pub fn dwarf_table_measure_strict(
+    pub fn dwarf_table_measure(
         bytes: Byte, len: usize, offset: usize, measure: &mut Measure, fault: &mut Fault,
     ) -> u32;
     pub fn dwarf_table_read(

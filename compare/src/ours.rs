@@ -156,11 +156,16 @@ fn returned<T: Default>(call: impl FnOnce(&mut T, &mut Fault) -> u32, shown: imp
     }
 }
 
-/// The table at an offset, strictly read.
+/// The table at an offset, which a code of value 0 has to close.
 pub fn strict(bytes: &[u8], offset: usize) -> Answer {
     let (data, len) = (bytes.as_ptr(), bytes.len());
-    let call = |it: &mut _, fault: &mut _| unsafe { dwarf_table_measure_strict(data, len, offset, it, fault) };
-    returned(call, |it: Measure| Answer::value(it.abbreviations as u64))
+    let call = |it: &mut _, fault: &mut _| unsafe { dwarf_table_measure(data, len, offset, it, fault) };
+    returned(call, |it: Measure| {
+        if it.closed_by_null == 0 {
+            return Answer::Fault { kind: "UnterminatedAbbreviations", value: Some(len as u64), rest: None };
+        }
+        Answer::value(it.abbreviations as u64)
+    })
 }
 
 fn found(bytes: &[u8], offset: usize, codes: &[u64]) -> Answer {

@@ -31,7 +31,7 @@ plants! {
     Order "order",
     /// A number that is too long takes a byte too many.
     Consumed "consumed",
-    /// A table that the section's end closes has no error when it is read strictly.
+    /// A table that the section's end closes is taken for one that a code of value 0 closes.
     Missing "missing",
     /// A repeated code passes if it is greater than the number of declarations.
     Duplicate "duplicate",

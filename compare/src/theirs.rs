@@ -42,7 +42,7 @@ impl Theirs {
     pub fn wanted(&self, question: &Question, bytes: &[u8], ours: Answer) -> Answer {
         let is_unclosed = match (question.what, &ours) {
             (What::Table, Answer::Table { close, .. }) => matches!(close, Some((false, _))),
-            // The library's strict reading says whether the table of these codes is closed.
+            // The library says whether a code of value 0 closes the table of these codes.
             (What::Found, Answer::Tags(_)) => {
                 let strict = crate::ours::strict(bytes, question.at);
                 strict.reached() == "UnterminatedAbbreviations"

@@ -287,8 +287,7 @@ static void check_texts(void) {
 /* A subprogram with a constant name, and then a unit with a string and a language. */
 static const uint8_t table[] = {2, 0x2e, 0, 3, 0x21, 0x56, 0, 0, 1, 0x11, 1, 3, 8, 0x13, 5, 0, 0, 0};
 
-/* Offsets and lengths, what measuring the table there returns and writes, and the value of the error: by the call that
-   takes the section's end for the table's, and by the strict one. */
+/* Offsets and lengths, what measuring the table there returns and writes, and the value of the error. */
 static const struct measure_row {
     size_t offset, len;
     uint32_t status;
@@ -297,19 +296,12 @@ static const struct measure_row {
 } measures[] = {
     {0, 18, DWARF_OK, {2, 3, 18, 1}, 0},
     {0, 17, DWARF_OK, {2, 3, 17, 0}, 0},
+    {0, 16, DWARF_UNEXPECTED_EOF, {7, 7, 7, 7}, 16},
     {17, 18, DWARF_OK, {0, 0, 18, 1}, 0},
     {18, 18, DWARF_OK, {0, 0, 18, 0}, 0},
     {19, 18, DWARF_UNEXPECTED_EOF, {7, 7, 7, 7}, 0},
     {SIZE_MAX, 18, DWARF_UNEXPECTED_EOF, {7, 7, 7, 7}, 0},
     {1, 18, DWARF_ABBREVIATION_TAG_ZERO, {7, 7, 7, 7}, 0},
-    {3, 18, DWARF_INVALID_ABBREVIATION_CHILDREN, {7, 7, 7, 7}, 0x56},
-}, strict_measures[] = {
-    {0, 18, DWARF_OK, {2, 3, 18, 1}, 0},
-    {0, 17, DWARF_UNTERMINATED_ABBREVIATIONS, {7, 7, 7, 7}, 17},
-    {0, 16, DWARF_UNEXPECTED_EOF, {7, 7, 7, 7}, 16},
-    {17, 18, DWARF_OK, {0, 0, 18, 1}, 0},
-    {18, 18, DWARF_UNTERMINATED_ABBREVIATIONS, {7, 7, 7, 7}, 18},
-    {19, 18, DWARF_UNEXPECTED_EOF, {7, 7, 7, 7}, 0},
     {3, 18, DWARF_INVALID_ABBREVIATION_CHILDREN, {7, 7, 7, 7}, 0x56},
 };
 
@@ -327,25 +319,18 @@ static bool is_attribute(struct dwarf_attribute_spec it, struct dwarf_attribute_
     return it.name == wanted.name && it.form == wanted.form && it.implicit_const == wanted.implicit_const;
 }
 
-typedef uint32_t measure_call(const uint8_t *section, size_t len, size_t offset, struct dwarf_measure *measure,
-                              struct dwarf_fault *fault);
-
-static void check_measures(measure_call *call, const struct measure_row *rows, size_t count) {
-    for (size_t i = 0; i < count; i++) {
+static void check_measures(void) {
+    for (size_t i = 0; i < sizeof measures / sizeof *measures; i++) {
         struct dwarf_measure measure = {7, 7, 7, 7};
         struct dwarf_fault fault = {7, 7};
-        uint32_t status = call(table, rows[i].len, rows[i].offset, &measure, &fault);
-        check(status == rows[i].status && is_reported(fault, status, rows[i].error), "a measure");
-        check(is_measure(measure, rows[i].measure), "its numbers");
+        uint32_t status = dwarf_table_measure(table, measures[i].len, measures[i].offset, &measure, &fault);
+        check(status == measures[i].status && is_reported(fault, status, measures[i].error), "a measure");
+        check(is_measure(measure, measures[i].measure), "its numbers");
     }
 }
 
-typedef uint32_t read_call(const uint8_t *section, size_t len, size_t offset, struct dwarf_abbreviation *abbreviations,
-                           size_t abbreviation_room, struct dwarf_attribute_spec *attributes, size_t attribute_room,
-                           struct dwarf_measure *measure, struct dwarf_fault *fault);
-
 /* There are too few places for attributes at first, and then more than are needed. */
-static void check_tables(read_call *call) {
+static void check_tables(void) {
     static const struct dwarf_abbreviation wanted[] = {{1, 0x11, 1, 0, 2}, {2, 0x2e, 0, 2, 1}, {7, 7, 7, 7, 7}};
     static const struct dwarf_attribute_spec its_wanted[] = {{3, 8, 0}, {0x13, 5, 0}, {3, 0x21, -42}, {7, 7, 7}};
     static const struct dwarf_measure whole = {2, 3, 18, 1};
@@ -353,10 +338,10 @@ static void check_tables(read_call *call) {
     struct dwarf_attribute_spec its[] = {{7, 7, 7}, {7, 7, 7}, {7, 7, 7}, {7, 7, 7}};
     struct dwarf_measure measure = {7, 7, 7, 7};
     struct dwarf_fault fault = {7, 7};
-    uint32_t status = call(table, sizeof table, 0, ours, 3, its, 2, &measure, &fault);
+    uint32_t status = dwarf_table_read(table, sizeof table, 0, ours, 3, its, 2, &measure, &fault);
     check(status == DWARF_NO_ROOM && is_measure(measure, whole) && is_fault(fault, 7, 7), "few places");
     check(is_abbreviation(ours[0], wanted[2]) && is_attribute(its[0], its_wanted[3]), "places without room");
-    status = call(table, sizeof table, 0, ours, 3, its, 4, &measure, &fault);
+    status = dwarf_table_read(table, sizeof table, 0, ours, 3, its, 4, &measure, &fault);
     check(status == DWARF_OK && is_measure(measure, whole) && is_fault(fault, 7, 7), "a table");
     for (size_t i = 0; i < 3; i++) {
         check(is_abbreviation(ours[i], wanted[i]), "an abbreviation");
@@ -368,14 +353,11 @@ static void check_tables(read_call *call) {
 
 /* An empty section is a table that nothing closes. */
 static void check_empty_tables(void) {
-    static const struct dwarf_measure empty = {0, 0, 0, 0}, unchanged = {7, 7, 7, 7};
+    static const struct dwarf_measure empty = {0, 0, 0, 0};
     struct dwarf_measure measure = {7, 7, 7, 7};
     struct dwarf_fault fault = {7, 7};
-    uint32_t status = dwarf_table_read_strict(NULL, 0, 0, NULL, 0, NULL, 0, &measure, &fault);
-    check(status == DWARF_UNTERMINATED_ABBREVIATIONS && is_fault(fault, 19, 0), "an unclosed table");
-    check(is_measure(measure, unchanged), "its measure");
-    status = dwarf_table_read(NULL, 0, 0, NULL, 0, NULL, 0, &measure, &fault);
-    check(status == DWARF_OK && is_measure(measure, empty), "an empty table");
+    uint32_t status = dwarf_table_read(NULL, 0, 0, NULL, 0, NULL, 0, &measure, &fault);
+    check(status == DWARF_OK && is_measure(measure, empty) && is_fault(fault, 7, 7), "an empty table");
 }
 
 /* Strings, string offsets and addresses. */
@@ -428,10 +410,8 @@ int main(void) {
     check_worked_sets(dwarf_str_offset_set, offset_sets, sizeof offset_sets / sizeof *offset_sets);
     check_no_room();
     check_texts();
-    check_measures(dwarf_table_measure, measures, sizeof measures / sizeof *measures);
-    check_measures(dwarf_table_measure_strict, strict_measures, sizeof strict_measures / sizeof *strict_measures);
-    check_tables(dwarf_table_read);
-    check_tables(dwarf_table_read_strict);
+    check_measures();
+    check_tables();
     check_empty_tables();
     check_lookups();
     check_offsets();

@@ -234,30 +234,14 @@ static void call_sets(const uint8_t *bytes, size_t len, size_t offset, bool is_b
     end();
 }
 
-/* A call that measures a table and one that reads it, with their names. */
-struct table_calls {
-    const char *measure_name, *read_name;
-    uint32_t (*measure)(const uint8_t *section, size_t len, size_t offset, struct dwarf_measure *measure,
-                        struct dwarf_fault *fault);
-    uint32_t (*read)(const uint8_t *section, size_t len, size_t offset, struct dwarf_abbreviation *abbreviations,
-                     size_t abbreviation_room, struct dwarf_attribute_spec *attributes, size_t attribute_room,
-                     struct dwarf_measure *measure, struct dwarf_fault *fault);
-};
-
-static const struct table_calls
-    usual = {"dwarf_table_measure", "dwarf_table_read", dwarf_table_measure, dwarf_table_read},
-    strict = {"dwarf_table_measure_strict", "dwarf_table_read_strict", dwarf_table_measure_strict,
-              dwarf_table_read_strict};
-
 /* Reads a table into this many places, and searches it for each code that it may have. */
-static void call_table_read(const struct table_calls *calling, const uint8_t *bytes, size_t len, size_t offset,
-                            size_t room, size_t attribute_room) {
-    begin(calling->read_name);
+static void call_table_read(const uint8_t *bytes, size_t len, size_t offset, size_t room, size_t attribute_room) {
+    begin("dwarf_table_read");
     struct dwarf_measure *measure = (struct dwarf_measure *)output(sizeof *measure);
     struct dwarf_abbreviation *abbreviations = (struct dwarf_abbreviation *)output(room * sizeof *abbreviations);
     struct dwarf_attribute_spec *attributes = (struct dwarf_attribute_spec *)output(attribute_room * sizeof *attributes);
-    uint32_t status = calling->read(bytes, len, offset, abbreviations, room, attributes, attribute_room, measure,
-                                    fault());
+    uint32_t status = dwarf_table_read(bytes, len, offset, abbreviations, room, attributes, attribute_room, measure,
+                                       fault());
     end();
     if (status != DWARF_OK) {
         return;
@@ -276,41 +260,40 @@ static void call_table_read(const struct table_calls *calling, const uint8_t *by
     }
 }
 
-static void call_tables(const struct table_calls *calling, const uint8_t *bytes, size_t len, size_t offset) {
-    begin(calling->measure_name);
+static void call_tables(const uint8_t *bytes, size_t len, size_t offset) {
+    begin("dwarf_table_measure");
     struct dwarf_measure *measure = (struct dwarf_measure *)output(sizeof *measure);
-    uint32_t status = calling->measure(bytes, len, offset, measure, fault());
+    uint32_t status = dwarf_table_measure(bytes, len, offset, measure, fault());
     end();
     size_t count = status == DWARF_OK ? measure->abbreviations : 1;
     size_t attributes = status == DWARF_OK ? measure->attributes : 1;
-    call_table_read(calling, bytes, len, offset, count, attributes);
-    call_table_read(calling, bytes, len, offset, count + 1, attributes + 1);
-    call_table_read(calling, bytes, len, offset, count - (count != 0), attributes);
-    call_table_read(calling, bytes, len, offset, count, attributes - (attributes != 0));
+    call_table_read(bytes, len, offset, count, attributes);
+    call_table_read(bytes, len, offset, count + 1, attributes + 1);
+    call_table_read(bytes, len, offset, count - (count != 0), attributes);
+    call_table_read(bytes, len, offset, count, attributes - (attributes != 0));
 }
 
 /*
  * The calls that allocate memory.
  */
 
-typedef uint32_t allocating_call(const struct table_calls *calling, const uint8_t *bytes, size_t len);
+typedef uint32_t allocating_call(const uint8_t *bytes, size_t len);
 
-static uint32_t measure_table(const struct table_calls *calling, const uint8_t *bytes, size_t len) {
+static uint32_t measure_table(const uint8_t *bytes, size_t len) {
     struct dwarf_measure *measure = (struct dwarf_measure *)output(sizeof *measure);
-    return calling->measure(bytes, len, 0, measure, fault());
+    return dwarf_table_measure(bytes, len, 0, measure, fault());
 }
 
-static uint32_t read_table(const struct table_calls *calling, const uint8_t *bytes, size_t len) {
+static uint32_t read_table(const uint8_t *bytes, size_t len) {
     struct dwarf_measure *measure = (struct dwarf_measure *)output(sizeof *measure);
     /* An abbreviation has at least five bytes, and an attribute two. */
     size_t room = len / 5, more = len / 2;
     struct dwarf_abbreviation *abbreviations = (struct dwarf_abbreviation *)output(room * sizeof *abbreviations);
     struct dwarf_attribute_spec *attributes = (struct dwarf_attribute_spec *)output(more * sizeof *attributes);
-    return calling->read(bytes, len, 0, abbreviations, room, attributes, more, measure, fault());
+    return dwarf_table_read(bytes, len, 0, abbreviations, room, attributes, more, measure, fault());
 }
 
-static uint32_t write_text(const struct table_calls *calling, const uint8_t *bytes, size_t len) {
-    (void)calling;
+static uint32_t write_text(const uint8_t *bytes, size_t len) {
     struct dwarf_fault *it = fault();
     it->kind = DWARF_UNKNOWN_VERSION;
     it->value = len == 0 ? 0 : bytes[0];
@@ -318,16 +301,15 @@ static uint32_t write_text(const struct table_calls *calling, const uint8_t *byt
 }
 
 /* Makes a call, and makes it again with its first allocation failing, then its second, and so on. */
-static void call_failing(allocating_call *allocating, const struct table_calls *calling, const char *name,
-                         const uint8_t *bytes, size_t len) {
+static void call_failing(allocating_call *allocating, const char *name, const uint8_t *bytes, size_t len) {
     begin(name);
-    uint32_t whole = allocating(calling, bytes, len), status;
+    uint32_t whole = allocating(bytes, len), status;
     end();
     size_t number = 0;
     do {
         failing = ++number;
         begin(name);
-        status = allocating(calling, bytes, len);
+        status = allocating(bytes, len);
         end();
         if (status != whole && (failing != 0 || status != DWARF_OUT_OF_MEMORY)) {
             die("it has another status if an allocation fails");
@@ -352,15 +334,12 @@ static void call_on_cuts(const uint8_t *bytes, size_t len) {
                 call_lookups(given, cut, offset, is_big == 1);
                 call_sets(given, cut, offset, is_big == 1);
             }
-            call_tables(&usual, given, cut, offset);
-            call_tables(&strict, given, cut, offset);
+            call_tables(given, cut, offset);
         }
     }
-    call_failing(measure_table, &usual, "dwarf_table_measure without memory", section.given, len);
-    call_failing(read_table, &usual, "dwarf_table_read without memory", section.given, len);
-    call_failing(measure_table, &strict, "dwarf_table_measure_strict without memory", section.given, len);
-    call_failing(read_table, &strict, "dwarf_table_read_strict without memory", section.given, len);
-    call_failing(write_text, NULL, "dwarf_fault_text without memory", section.given, len);
+    call_failing(measure_table, "dwarf_table_measure without memory", section.given, len);
+    call_failing(read_table, "dwarf_table_read without memory", section.given, len);
+    call_failing(write_text, "dwarf_fault_text without memory", section.given, len);
 }
 
 /*

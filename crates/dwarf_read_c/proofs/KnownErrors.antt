@@ -1,6 +1,6 @@
 -- The errors that a call for C can return have numbers of their own.
 use Rattle.dwarf_read_core.specs.declared.Error.TheVariants.{OutOfMemory}
-use Rattle.dwarf_read_core.specs.Answer.{Answers, AnswersStrictly, IsFirstError}
+use Rattle.dwarf_read_core.specs.Answer.{Answers, IsFirstError}
 use Rattle.dwarf_read_core.specs.Headers.{AddressHeaderAt, HasNoVersion, Header, StringOffsetsHeaderAt}
 use Rattle.dwarf_read_core.specs.InitialLength.{HasNoLength}
 use Rattle.dwarf_read_core.specs.Sets.{set_cut, set_headless, set_unmeasured}
@@ -89,15 +89,3 @@ known_table section offset e answers = grind (arith, known_first_error)
 -- no other error has the number of `OutOfMemory`
 pub memory_number : (e : Error) → e ≢ OutOfMemory → error_number e ≢ error_number OutOfMemory
 memory_number e other = grind arith
-
--- the error that a strict call returns in place of a table has a number of its own
-known_strict_table : (section : Input) (offset : ℕ) (e : Error) → AnswersStrictly (Err e) section offset → IsKnown e
-known_strict_table section offset e answers = grind (arith, known_first_error)
-
--- a strict call that writes the error of its reading rejects the bytes
-pub strictly_rejected : {section : Input} {offset : ℕ} {e : Error} {status : ℕ} {fault : DwarfFault}
-    → AnswersStrictly (Err e) section offset → status ≡ error_number e → fault ≡ fault_of e
-    → Rejects (λ e. AnswersStrictly (Err e) section offset) status fault
-strictly_rejected {section} {offset} {e} answers numbered reported =
-    let known = known_strict_table section offset e answers in
-    record { error = e; holds = answers; known = known; numbered = numbered; reported = reported }

@@ -17,6 +17,5 @@ pub mod room;
 pub mod sections;
 pub mod sets;
 pub mod status;
-pub mod strict;
 pub mod tables;
 pub mod texts;

@@ -146,11 +146,7 @@ pub extern "C" fn dwarf_table_read(
 }
 
 // Returns the table at an offset, and where it ends. Its attributes can be counted in a `usize`.
-pub(crate) fn table_at(
-    mem: Global,
-    section: &[u8],
-    offset: usize,
-) -> Result<(Abbreviations, usize), Error>
+fn table_at(mem: Global, section: &[u8], offset: usize) -> Result<(Abbreviations, usize), Error>
     ensures answer { let s = section_of section.now false in
         IfOk result (λ r. Answer s offset (Ok r.0) × TableEndsAt s offset r.0 r.1) }
     ensures err { IfErr result (λ e. Answers (Err e) (section_of section.now false) offset) }
@@ -164,7 +160,7 @@ pub(crate) fn table_at(
 }
 
 // Returns how large the table is, and that it ends there.
-pub(crate) fn measure_of(table: &Abbreviations, end: usize) -> DwarfMeasure
+fn measure_of(table: &Abbreviations, end: usize) -> DwarfMeasure
     requires { attribute_count table.now.by_code < 2 ^ 64 }
     ensures { result ≡ measure_of table.now end }
 {
@@ -182,7 +178,7 @@ pub(crate) fn measure_of(table: &Abbreviations, end: usize) -> DwarfMeasure
 
 // Writes the measure of a table that ends there, and its abbreviations and attributes to the front
 // of the places. If there are fewer places for either, only the measure is written.
-pub(crate) fn put_table(
+fn put_table(
     table: &Abbreviations,
     end: usize,
     abbreviations: &mut [DwarfAbbreviation],

@@ -92,6 +92,11 @@ pub struct Error(sys::Fault);
 impl Error {
     pub(crate) const OUT_OF_MEMORY: Error = Error(sys::Fault { kind: 18, value: 0 });
 
+    /// The error for a table that only the end of the section closes, at that end.
+    pub(crate) fn unterminated(end: usize) -> Error {
+        Error(sys::Fault { kind: 19, value: end as u64 })
+    }
+
     /// Which error it is.
     pub fn kind(&self) -> ErrorKind {
         KINDS[self.0.kind as usize - 1]

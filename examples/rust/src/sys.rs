@@ -59,19 +59,6 @@ pub struct Attribute {
     pub implicit_const: i64,
 }
 
-/// One of the two calls that read a table.
-pub type TableRead = unsafe extern "C" fn(
-    section: *const u8,
-    len: usize,
-    offset: usize,
-    abbreviations: *mut Abbreviation,
-    abbreviation_room: usize,
-    attributes: *mut Attribute,
-    attribute_room: usize,
-    measure: &mut Measure,
-    fault: &mut Fault,
-) -> u32;
-
 unsafe extern "C" {
     pub fn dwarf_uleb128(
         bytes: *const u8, len: usize, value: &mut u64, number_len: &mut usize, fault: &mut Fault,
@@ -99,11 +86,6 @@ unsafe extern "C" {
         fault: &mut Fault,
     ) -> u32;
     pub fn dwarf_table_read(
-        section: *const u8, len: usize, offset: usize, abbreviations: *mut Abbreviation,
-        abbreviation_room: usize, attributes: *mut Attribute, attribute_room: usize,
-        measure: &mut Measure, fault: &mut Fault,
-    ) -> u32;
-    pub fn dwarf_table_read_strict(
         section: *const u8, len: usize, offset: usize, abbreviations: *mut Abbreviation,
         abbreviation_room: usize, attributes: *mut Attribute, attribute_room: usize,
         measure: &mut Measure, fault: &mut Fault,

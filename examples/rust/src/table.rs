@@ -66,7 +66,14 @@ impl Table {
     ///
     /// `OutOfMemory` if memory runs out.
     pub fn read(section: &[u8], offset: usize) -> Result<Table> {
-        Table::read_by(sys::dwarf_table_read, section, offset)
+        let (mut table, left) = (Table::default(), section.len().saturating_sub(offset));
+        // An abbreviation has at least five bytes, and an attribute two.
+        reserve(&mut table.rows, FIRST_ROWS.min(left / 5))?;
+        reserve(&mut table.attributes, FIRST_ATTRIBUTES.min(left / 2))?;
+        table.fill(section, offset)?;
+        table.rows.shrink_to_fit();
+        table.attributes.shrink_to_fit();
+        Ok(table)
     }
 
     /// Reads the table at an offset of `.debug_abbrev`, which a code of value 0 has to close. It is
@@ -87,7 +94,8 @@ impl Table {
     /// # Ok::<(), dwarf_read::Error>(())
     /// ```
     pub fn read_strict(section: &[u8], offset: usize) -> Result<Table> {
-        Table::read_by(sys::dwarf_table_read_strict, section, offset)
+        let table = Table::read(section, offset)?;
+        if table.is_closed_by_null { Ok(table) } else { Err(Error::unterminated(section.len())) }
     }
 
     /// Reads the table at an offset of `.debug_abbrev` in place of this one, into its memory. This
@@ -97,29 +105,20 @@ impl Table {
     ///
     /// Those of [`read`](Table::read). This table is then unchanged.
     pub fn read_again(&mut self, section: &[u8], offset: usize) -> Result<()> {
-        self.fill(sys::dwarf_table_read, section, offset)
+        self.fill(section, offset)
     }
 
-    fn read_by(call: sys::TableRead, section: &[u8], offset: usize) -> Result<Table> {
-        let (mut table, left) = (Table::default(), section.len().saturating_sub(offset));
-        // An abbreviation has at least five bytes, and an attribute two.
-        reserve(&mut table.rows, FIRST_ROWS.min(left / 5))?;
-        reserve(&mut table.attributes, FIRST_ATTRIBUTES.min(left / 2))?;
-        table.fill(call, section, offset)?;
-        table.rows.shrink_to_fit();
-        table.attributes.shrink_to_fit();
-        Ok(table)
-    }
-
-    fn fill(&mut self, call: sys::TableRead, section: &[u8], offset: usize) -> Result<()> {
+    fn fill(&mut self, section: &[u8], offset: usize) -> Result<()> {
         let (bytes, len, mut measure) = (section.as_ptr(), section.len(), sys::Measure::default());
         loop {
             let (rows, row_room) = (self.rows.as_mut_ptr(), self.rows.capacity());
             let (list, list_room) = (self.attributes.as_mut_ptr(), self.attributes.capacity());
             // SAFETY: see `crate::sys`. An `Attribute` is what the call writes.
             let status = check(|fault| unsafe {
-                let list = list.cast();
-                call(bytes, len, offset, rows, row_room, list, list_room, &mut measure, fault)
+                let (list, it) = (list.cast(), &mut measure);
+                sys::dwarf_table_read(
+                    bytes, len, offset, rows, row_room, list, list_room, it, fault,
+                )
             })?;
             if status == sys::OK {
                 break;
