@@ -41,11 +41,18 @@
 #include <stddef.h>
 #include <stdint.h>
 
-/* The version of this header, which is that of the library too. */
+/* The version of this header. dwarf_read_version writes that of the library. */
 #define DWARF_READ_VERSION_MAJOR 0
-#define DWARF_READ_VERSION_MINOR 2
+#define DWARF_READ_VERSION_MINOR 3
 #define DWARF_READ_VERSION_PATCH 0
-#define DWARF_READ_VERSION "0.2.0"
+#define DWARF_READ_VERSION "0.3.0"
+
+/* The symbols of the calls that pass a struct whose fields have changed. They end in the version of that change, so
+   that a program that was compiled with the header of another version doesn't link. */
+#define dwarf_address_set dwarf_address_set_0_3
+#define dwarf_str_offset_set dwarf_str_offset_set_0_3
+#define dwarf_table_measure dwarf_table_measure_0_3
+#define dwarf_table_read dwarf_table_read_0_3
 
 /* Enough places for every name and every text of an error, with a zero byte after it. */
 #define DWARF_TEXT_ROOM 64
@@ -349,6 +356,10 @@ static inline uint32_t dwarf_form_name(uint16_t form, char *name, size_t room, s
     return dwarf_constant_name(DWARF_FAMILY_FORM, form, name, room, len);
 }
 
+/* Writes the version of the library, such as 0.3.0. The version of a library that isn't proved ends in -unproved.
+   There is always a text. */
+uint32_t dwarf_read_version(char *version, size_t room, size_t *len);
+
 /* Writes the text of an error. The call allocates memory, and frees it before it returns. It returns
    DWARF_OUT_OF_MEMORY if an allocation fails; then nothing is written. It may not be called in a signal
    handler. */
@@ -393,6 +404,12 @@ static inline const char *dwarf_constant_string(uint32_t family, uint64_t value,
     size_t len = 0;
     uint32_t status = dwarf_constant_name(family, value, name, room - (room != 0), &len);
     return dwarf_string_ended(status, name, room, len);
+}
+
+static inline const char *dwarf_read_version_string(char *version, size_t room) {
+    size_t len = 0;
+    uint32_t status = dwarf_read_version(version, room - (room != 0), &len);
+    return dwarf_string_ended(status, version, room, len);
 }
 
 static inline const char *dwarf_fault_string(const struct dwarf_fault *fault, char *text, size_t room) {

@@ -69,15 +69,19 @@ extern "C" {
         bytes: Byte, len: usize, is_big: bool, size: u8, base: usize, index: usize, address: &mut u64,
         fault: &mut Fault,
     ) -> u32;
+    #[link_name = "dwarf_address_set_0_3"]
     pub fn dwarf_address_set(
         bytes: Byte, len: usize, is_big: bool, offset: usize, set: &mut Set, fault: &mut Fault,
     ) -> u32;
+    #[link_name = "dwarf_str_offset_set_0_3"]
     pub fn dwarf_str_offset_set(
         bytes: Byte, len: usize, is_big: bool, offset: usize, set: &mut Set, fault: &mut Fault,
     ) -> u32;
+    #[link_name = "dwarf_table_measure_0_3"]
     pub fn dwarf_table_measure(
         bytes: Byte, len: usize, offset: usize, measure: &mut Measure, fault: &mut Fault,
     ) -> u32;
+    #[link_name = "dwarf_table_read_0_3"]
     pub fn dwarf_table_read(
         bytes: Byte, len: usize, offset: usize, abbreviations: *mut Abbreviation, abbreviation_room: usize,
         attributes: *mut Attribute, attribute_room: usize, measure: &mut Measure, fault: &mut Fault,

@@ -284,6 +284,16 @@ static void check_texts(void) {
     }
 }
 
+/* The version of the library is the header's, with -unproved after it if it isn't proved. */
+static void check_version(void) {
+    char text[DWARF_TEXT_ROOM];
+    size_t len = 7;
+    check(dwarf_read_version(NULL, 0, &len) == DWARF_NO_ROOM, "a version without room");
+    const char *version = dwarf_read_version_string(text, sizeof text);
+    check(version == text && strlen(text) == len, "its length");
+    check(strcmp(text, DWARF_READ_VERSION) == 0 || strcmp(text, DWARF_READ_VERSION "-unproved") == 0, "its bytes");
+}
+
 /* A subprogram with a constant name, and then a unit with a string and a language. */
 static const uint8_t table[] = {2, 0x2e, 0, 3, 0x21, 0x56, 0, 0, 1, 0x11, 1, 3, 8, 0x13, 5, 0, 0, 0};
 
@@ -410,6 +420,7 @@ int main(void) {
     check_worked_sets(dwarf_str_offset_set, offset_sets, sizeof offset_sets / sizeof *offset_sets);
     check_no_room();
     check_texts();
+    check_version();
     check_measures();
     check_tables();
     check_empty_tables();

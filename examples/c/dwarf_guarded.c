@@ -430,6 +430,23 @@ static void call_texts(void) {
     }
 }
 
+static void call_version(void) {
+    for (size_t room = 0; room <= DWARF_TEXT_ROOM; room++) {
+        begin("dwarf_read_version");
+        size_t *len = (size_t *)output(sizeof *len);
+        uint32_t status = dwarf_read_version((char *)output(room), room, len);
+        size_t all = *len;
+        end();
+        if (status != (room < all ? DWARF_NO_ROOM : DWARF_OK)) {
+            die("its status isn't that of its room");
+        }
+        begin("dwarf_read_version_string");
+        char *places = (char *)output(room);
+        check_string(dwarf_read_version_string(places, room), places, room, all);
+        end();
+    }
+}
+
 static void call_writers(void) {
     for (unsigned shift = 0; shift < 64; shift++) {
         for (size_t room = 0; room <= 10; room++) {
@@ -484,6 +501,7 @@ int main(int argc, char **argv) {
         }
         call_sizes();
         call_texts();
+        call_version();
         call_writers();
     }
     printf("%lu calls, and no byte outside was touched\n", calls);

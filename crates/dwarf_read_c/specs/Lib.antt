@@ -7,3 +7,4 @@ pub mod Names
 pub mod Families
 pub mod Forms
 pub mod Sets
+pub mod Version

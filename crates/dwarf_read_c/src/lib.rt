@@ -5,6 +5,10 @@
 //! owns all memory: a call reads the bytes that are passed and writes to the places that are
 //! passed, and no call returns a pointer. Offsets and positions are counted in bytes from the first
 //! byte that is passed.
+//!
+//! A call that passes a struct whose fields have changed has the version of that change at the end
+//! of its name, so that a program that was compiled with an older header doesn't link. The header
+//! defines its name without that end.
 
 #![tactic(auto)]
 
@@ -19,3 +23,4 @@ pub mod sets;
 pub mod status;
 pub mod tables;
 pub mod texts;
+pub mod version;

@@ -55,7 +55,7 @@ pub struct DwarfSet {
 /// - 13 (`UnsupportedSegmentSize`) if the segment size isn't 0.
 #[unsafe(no_mangle)]
 #[tactic(auto, using(crate::proofs::KnownErrors::known_address_set))]
-pub extern "C" fn dwarf_address_set(
+pub extern "C" fn dwarf_address_set_0_3(
     section: &[u8],
     is_big: bool,
     offset: usize,
@@ -91,11 +91,11 @@ pub extern "C" fn dwarf_address_set(
 ///
 /// # Errors
 ///
-/// Those of [`dwarf_address_set`] up to the version, and 1 (`UnexpectedEof`) after the version if
+/// Those of [`dwarf_address_set_0_3`] up to the version, and 1 (`UnexpectedEof`) after the version if
 /// fewer than two bytes of padding follow in the set.
 #[unsafe(no_mangle)]
 #[tactic(auto, using(crate::proofs::KnownErrors::known_str_offset_set))]
-pub extern "C" fn dwarf_str_offset_set(
+pub extern "C" fn dwarf_str_offset_set_0_3(
     section: &[u8],
     is_big: bool,
     offset: usize,

@@ -75,7 +75,7 @@ pub struct DwarfAttributeSpec {
 /// 18 (`OutOfMemory`) if memory for the table runs out.
 #[unsafe(no_mangle)]
 #[tactic(auto, using(crate::proofs::KnownErrors::known_table, crate::proofs::KnownErrors::memory_number))]
-pub extern "C" fn dwarf_table_measure(
+pub extern "C" fn dwarf_table_measure_0_3(
     mem: Global,
     section: &[u8],
     offset: usize,
@@ -102,7 +102,7 @@ pub extern "C" fn dwarf_table_measure(
 }
 
 /// Reads the table at `offset` of `.debug_abbrev`: its abbreviations in the order of their codes,
-/// and the attributes of all of them in the same order. `measure` is what [`dwarf_table_measure`]
+/// and the attributes of all of them in the same order. `measure` is what [`dwarf_table_measure_0_3`]
 /// writes. The call doesn't change the places after them.
 ///
 /// If there are fewer places than abbreviations or attributes, only `measure` is written, and the
@@ -110,10 +110,10 @@ pub extern "C" fn dwarf_table_measure(
 ///
 /// # Errors
 ///
-/// Those of [`dwarf_table_measure`].
+/// Those of [`dwarf_table_measure_0_3`].
 #[unsafe(no_mangle)]
 #[tactic(auto, using(crate::proofs::KnownErrors::known_table, crate::proofs::KnownErrors::memory_number))]
-pub extern "C" fn dwarf_table_read(
+pub extern "C" fn dwarf_table_read_0_3(
     mem: Global,
     section: &[u8],
     offset: usize,

@@ -77,14 +77,17 @@ unsafe extern "C" {
         section: *const u8, len: usize, is_big: bool, size: u8, base: usize, index: usize,
         address: &mut u64, fault: &mut Fault,
     ) -> u32;
+    #[link_name = "dwarf_address_set_0_3"]
     pub fn dwarf_address_set(
         section: *const u8, len: usize, is_big: bool, offset: usize, set: &mut Set,
         fault: &mut Fault,
     ) -> u32;
+    #[link_name = "dwarf_str_offset_set_0_3"]
     pub fn dwarf_str_offset_set(
         section: *const u8, len: usize, is_big: bool, offset: usize, set: &mut Set,
         fault: &mut Fault,
     ) -> u32;
+    #[link_name = "dwarf_table_read_0_3"]
     pub fn dwarf_table_read(
         section: *const u8, len: usize, offset: usize, abbreviations: *mut Abbreviation,
         abbreviation_room: usize, attributes: *mut Attribute, attribute_room: usize,
