@@ -78,9 +78,8 @@ extern "C" {
         bytes: Byte, len: usize, is_big: bool, offset: usize, set: &mut Set, fault: &mut Fault,
     ) -> u32;
     #[link_name = "dwarf_table_measure_0_3"]
-    pub fn dwarf_table_measure(
-        bytes: Byte, len: usize, offset: usize, measure: &mut Measure, fault: &mut Fault,
-    ) -> u32;
+    pub fn dwarf_table_measure(bytes: Byte, len: usize, offset: usize, measure: &mut Measure, fault: &mut Fault)
+        -> u32;
     #[link_name = "dwarf_table_read_0_3"]
     pub fn dwarf_table_read(
         bytes: Byte, len: usize, offset: usize, abbreviations: *mut Abbreviation, abbreviation_room: usize,
@@ -91,9 +90,8 @@ extern "C" {
 }
 
 pub const OK: u32 = 0;
-pub const NO_ROOM: u32 = 100;
 
-/// Places for tables, which are used again. There are as many as a table has needed so far.
+/// Places for tables, which are used again.
 #[derive(Default)]
 pub struct Room {
     pub abbreviations: Vec<Abbreviation>,
@@ -101,22 +99,29 @@ pub struct Room {
 }
 
 impl Room {
-    /// Reads a table by one call, or by two if there are too few places. Returns its measure, or the status with the
+    /// Reads a table into as many places as suffice for any table there. Returns its measure, or the status with the
     /// error.
     pub fn read(&mut self, bytes: &[u8], offset: usize) -> Result<Measure, (u32, Fault)> {
         let (mut measure, mut fault) = (Measure::default(), Fault::default());
-        loop {
-            let (room, more_room) = (self.abbreviations.len(), self.attributes.len());
-            let (to, more) = (self.abbreviations.as_mut_ptr(), self.attributes.as_mut_ptr());
-            let (data, len) = (bytes.as_ptr(), bytes.len());
-            match unsafe { dwarf_table_read(data, len, offset, to, room, more, more_room, &mut measure, &mut fault) } {
-                OK => return Ok(measure),
-                NO_ROOM => {
-                    self.abbreviations.resize(measure.abbreviations.max(room), Default::default());
-                    self.attributes.resize(measure.attributes.max(more_room), Default::default());
+        // A declaration has at least five bytes, and an attribute two.
+        let left = bytes.len().saturating_sub(offset);
+        let (room, more_room) = (left / 5, left / 2);
+        self.abbreviations.clear();
+        self.attributes.clear();
+        self.abbreviations.reserve(room);
+        self.attributes.reserve(more_room);
+        let (to, more) = (self.abbreviations.as_mut_ptr(), self.attributes.as_mut_ptr());
+        let (data, len) = (bytes.as_ptr(), bytes.len());
+        match unsafe { dwarf_table_read(data, len, offset, to, room, more, more_room, &mut measure, &mut fault) } {
+            OK => {
+                // The call has written as many.
+                unsafe {
+                    self.abbreviations.set_len(measure.abbreviations);
+                    self.attributes.set_len(measure.attributes);
                 }
-                status => return Err((status, fault)),
+                Ok(measure)
             }
+            status => Err((status, fault)),
         }
     }
 }

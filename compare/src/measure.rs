@@ -13,7 +13,6 @@ use gimli::{
     DebugAbbrev, DebugAbbrevOffset, DebugAddr, DebugAddrBase, DebugAddrIndex, DebugStr, DebugStrOffset,
     DebugStrOffsets, DebugStrOffsetsBase, DebugStrOffsetsIndex, EndianSlice, Format, LittleEndian, Reader,
 };
-use std::cell::RefCell;
 
 /// How many codes the tables have that are made.
 const CODES: u64 = 5000;
@@ -157,9 +156,11 @@ type Table = (usize, Vec<u64>);
 fn of_tables_for_c(name: &str, section: Vec<u8>, given: Vec<Table>, all: &mut Vec<Workload>) {
     let count = given.iter().map(|it| it.1.len()).sum();
     let (s, o) = of_tables(name, section, given, all);
-    // The places are kept from table to table, as a program in C keeps them.
-    let room = RefCell::new(Room::default());
-    let ours = move || o.iter().filter(|it| room.borrow_mut().read(s, **it).is_ok()).count() as u64;
+    // The places are made once for the section, as the loop of docs/C.md makes them.
+    let ours = move || {
+        let mut room = Room::default();
+        o.iter().filter(|it| room.read(s, **it).is_ok()).count() as u64
+    };
     let name = format!("a declaration of a table by the call for C, {name}");
     all.push(workload(name, count, move || tables(s, o), ours));
 }
@@ -205,7 +206,7 @@ fn all_of_tables(random: &mut Random, all: &mut Vec<Workload>) {
         let mut section = vec![];
         shaped_table(random, codes.iter().copied(), &mut section);
         codes.sort();
-        of_tables(name, section, vec![(0, codes)], all);
+        of_tables_for_c(name, section, vec![(0, codes)], all);
     }
     let (mut small, mut tables) = (vec![], vec![]);
     for _ in 0..400 {

@@ -1,8 +1,8 @@
 //! The proved library, by the calls of `include/dwarf_read.h` and those of `crates/dwarf_compare`.
 //!
 //! A call is safe if what the header asks of a caller holds. So it does for each call here: a slice is valid for as
-//! many items as its length says, all outputs are initialized, and an output overlaps nothing, since it is borrowed
-//! mutably.
+//! many items as its length says, a vector for as many as its capacity, and an output overlaps nothing, since it is
+//! borrowed mutably.
 
 use crate::library::*;
 use crate::plain::length_at;

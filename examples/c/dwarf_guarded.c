@@ -234,8 +234,8 @@ static void call_sets(const uint8_t *bytes, size_t len, size_t offset, bool is_b
     end();
 }
 
-/* Reads a table into this many places, and searches it for each code that it may have. */
-static void call_table_read(const uint8_t *bytes, size_t len, size_t offset, size_t room, size_t attribute_room) {
+/* Reads a table into this many places, and searches it for each code that it may have. Returns the status. */
+static uint32_t call_table_read(const uint8_t *bytes, size_t len, size_t offset, size_t room, size_t attribute_room) {
     begin("dwarf_table_read");
     struct dwarf_measure *measure = (struct dwarf_measure *)output(sizeof *measure);
     struct dwarf_abbreviation *abbreviations = (struct dwarf_abbreviation *)output(room * sizeof *abbreviations);
@@ -244,7 +244,7 @@ static void call_table_read(const uint8_t *bytes, size_t len, size_t offset, siz
                                        fault());
     end();
     if (status != DWARF_OK) {
-        return;
+        return status;
     }
     call = "dwarf_table_find";
     size_t count = measure->abbreviations, found = 0;
@@ -258,6 +258,7 @@ static void call_table_read(const uint8_t *bytes, size_t len, size_t offset, siz
     if (found != count || dwarf_table_find(abbreviations, count, UINT64_MAX) != NULL) {
         die("it didn't find a code that is there");
     }
+    return status;
 }
 
 static void call_tables(const uint8_t *bytes, size_t len, size_t offset) {
@@ -271,6 +272,11 @@ static void call_tables(const uint8_t *bytes, size_t len, size_t offset) {
     call_table_read(bytes, len, offset, count + 1, attributes + 1);
     call_table_read(bytes, len, offset, count - (count != 0), attributes);
     call_table_read(bytes, len, offset, count, attributes - (attributes != 0));
+    /* An abbreviation has at least five bytes, and an attribute two. */
+    size_t left = offset < len ? len - offset : 0;
+    if (call_table_read(bytes, len, offset, left / 5, left / 2) != status) {
+        die("its status isn't that of the measure, though there are places for every table");
+    }
 }
 
 /*
@@ -286,7 +292,6 @@ static uint32_t measure_table(const uint8_t *bytes, size_t len) {
 
 static uint32_t read_table(const uint8_t *bytes, size_t len) {
     struct dwarf_measure *measure = (struct dwarf_measure *)output(sizeof *measure);
-    /* An abbreviation has at least five bytes, and an attribute two. */
     size_t room = len / 5, more = len / 2;
     struct dwarf_abbreviation *abbreviations = (struct dwarf_abbreviation *)output(room * sizeof *abbreviations);
     struct dwarf_attribute_spec *attributes = (struct dwarf_attribute_spec *)output(more * sizeof *attributes);

@@ -25,28 +25,22 @@ struct bytes {
     size_t len;
 };
 
-static void *or_die(void *block) {
-    if (block == NULL) {
-        fputs("error: out of memory\n", stderr);
-        exit(1);
-    }
-    return block;
-}
-
-static struct bytes read_input(void) {
-    struct bytes input = {NULL, 0};
-    size_t room = 0;
-    for (;;) {
-        if (input.len == room) {
+/* Reads all of standard input. Returns false if memory runs out. */
+static bool read_input(struct bytes *input) {
+    size_t room = 0, count;
+    do {
+        if (input->len == room) {
             room = room * 2 + 4096;
-            input.items = (uint8_t *)or_die(realloc(input.items, room));
+            uint8_t *items = (uint8_t *)realloc(input->items, room);
+            if (items == NULL) {
+                return false;
+            }
+            input->items = items;
         }
-        size_t count = fread(input.items + input.len, 1, room - input.len, stdin);
-        if (count == 0) {
-            return input;
-        }
-        input.len += count;
-    }
+        count = fread(input->items + input->len, 1, room - input->len, stdin);
+        input->len += count;
+    } while (count != 0);
+    return true;
 }
 
 static int failed(const struct dwarf_fault *fault) {
@@ -78,35 +72,76 @@ static void print_attribute(const struct dwarf_attribute_spec *attribute) {
     putchar('\n');
 }
 
-static int show_table(struct bytes section, size_t offset) {
-    struct dwarf_measure measure;
-    struct dwarf_fault fault;
-    if (dwarf_table_measure(section.items, section.len, offset, &measure, &fault) != DWARF_OK) {
-        return failed(&fault);
+/* Places for the abbreviations and the attributes of a table. */
+struct places {
+    struct dwarf_abbreviation *abbreviations;
+    struct dwarf_attribute_spec *attributes;
+    size_t room, attribute_room;
+};
+
+/* Returns more places, or these if there are enough or memory runs out. What was in them is lost. */
+static void *more(void *places, size_t *room, size_t wanted, size_t size) {
+    void *made = *room < wanted ? malloc(wanted * size) : NULL;
+    if (made == NULL) {
+        return places;
     }
-    size_t count = measure.abbreviations;
-    size_t attribute_count = measure.attributes;
-    struct dwarf_abbreviation *abbreviations =
-        (struct dwarf_abbreviation *)or_die(malloc((count + 1) * sizeof *abbreviations));
-    struct dwarf_attribute_spec *attributes =
-        (struct dwarf_attribute_spec *)or_die(malloc((attribute_count + 1) * sizeof *attributes));
-    uint32_t status = dwarf_table_read(section.items, section.len, offset, abbreviations, count,
-                                       attributes, attribute_count, &measure, &fault);
-    if (status != DWARF_OK) {
-        return failed(&fault);
+    free(places);
+    *room = wanted;
+    return made;
+}
+
+/* Makes places, where there are fewer. Returns false if memory runs out. */
+static bool reserve(struct places *places, size_t room, size_t attribute_room) {
+    places->abbreviations = (struct dwarf_abbreviation *)more(places->abbreviations, &places->room, room,
+                                                              sizeof *places->abbreviations);
+    places->attributes = (struct dwarf_attribute_spec *)more(places->attributes, &places->attribute_room,
+                                                             attribute_room, sizeof *places->attributes);
+    return places->room >= room && places->attribute_room >= attribute_room;
+}
+
+/* Reads the table at an offset into places that suffice for any table there. If there isn't that much memory, the
+   first reading tells how many the table needs. */
+static uint32_t read_table(struct bytes section, size_t offset, struct places *places, struct dwarf_measure *measure,
+                           struct dwarf_fault *fault) {
+    size_t left = offset < section.len ? section.len - offset : 0;
+    bool is_enough = reserve(places, left / 5, left / 2);
+    for (;;) {
+        uint32_t status = dwarf_table_read(section.items, section.len, offset, places->abbreviations, places->room,
+                                           places->attributes, places->attribute_room, measure, fault);
+        if (status != DWARF_NO_ROOM || is_enough) {
+            return status;
+        }
+        is_enough = reserve(places, measure->abbreviations, measure->attributes);
+        if (!is_enough) {
+            fault->kind = DWARF_OUT_OF_MEMORY;
+            return DWARF_OUT_OF_MEMORY;
+        }
     }
+}
+
+static void print_table(const struct places *places, size_t count) {
     for (size_t i = 0; i < count; i++) {
-        const struct dwarf_abbreviation *it = &abbreviations[i];
+        const struct dwarf_abbreviation *it = &places->abbreviations[i];
         printf("%" PRIu64 " ", it->code);
         print_name(dwarf_tag_string, "DwTag", it->tag);
         puts(it->has_children ? " yes" : " no");
         for (size_t k = 0; k < it->attribute_count; k++) {
-            print_attribute(&attributes[it->first_attribute + k]);
+            print_attribute(&places->attributes[it->first_attribute + k]);
         }
     }
-    free(abbreviations);
-    free(attributes);
-    return 0;
+}
+
+static int show_table(struct bytes section, size_t offset) {
+    struct places places = {NULL, NULL, 0, 0};
+    struct dwarf_measure measure;
+    struct dwarf_fault fault = {0, 0};
+    uint32_t status = read_table(section, offset, &places, &measure, &fault);
+    if (status == DWARF_OK) {
+        print_table(&places, measure.abbreviations);
+    }
+    free(places.abbreviations);
+    free(places.attributes);
+    return status == DWARF_OK ? 0 : failed(&fault);
 }
 
 static int show_string(struct bytes section, size_t offset) {
@@ -231,9 +266,12 @@ int main(int argc, char **argv) {
     if (strcmp(argv[1], "uleb") == 0) {
         return show_number(number);
     }
-    struct bytes section = read_input();
+    struct bytes section = {NULL, 0};
     int status;
-    if (strcmp(argv[1], "abbrev") == 0) {
+    if (!read_input(&section)) {
+        struct dwarf_fault fault = {DWARF_OUT_OF_MEMORY, 0};
+        status = failed(&fault);
+    } else if (strcmp(argv[1], "abbrev") == 0) {
         status = show_table(section, (size_t)number);
     } else if (strcmp(argv[1], "addr") == 0 || strcmp(argv[1], "str-offsets") == 0) {
         status = show_sets(section, strcmp(argv[2], "be") == 0, strcmp(argv[1], "addr") == 0);

@@ -1,9 +1,13 @@
--- Consecutive declarations, as they are written.
+-- Consecutive declarations, as they are written, and places that suffice for them.
 use Rattle.std.proofs.Common.{set}
+use Rattle.std.proofs.lemmas.Nat.{le-div}
 use Rattle.std.proofs.lemmas.List.{length-map}
 use Rattle.std.proofs.lemmas.List.Sums.{sum_by-cons}
+use Rattle.dwarf_read_core.specs.Answer.{FitsIn}
+use Rattle.dwarf_read_core.specs.Grammar.{Table, attribute_count}
+use Rattle.dwarf_read_c.specs.Tables.{LacksRoom, measure_of}
 use Rattle.dwarf_read_c.specs.declared.tables.DwarfAbbreviation.{DwarfAbbreviation}
-use Rattle.dwarf_read_c.proofs.Common.{◌≡◌, ℕ, suc, ◌+◌, ◌<◌, List, [], ◌∷◌, ◌++◌, length, refl, sym, ap, ◌∙◌, arith, sum_by, take, common_steps, entries, len, values, len-entries, Declaration, ByCode, abbreviation_of, laid_from}
+use Rattle.dwarf_read_c.proofs.Common.{◌≡◌, ℕ, suc, ◌+◌, ◌-◌, ◌/◌, ◌<◌, ◌≤◌, ◌⊎◌, inl, inr, List, [], ◌∷◌, ◌++◌, length, refl, sym, ap, ◌∙◌, arith, sum_by, take, common_steps, entries, len, values, len-entries, Input, Declaration, ByCode, abbreviation_of, laid_from}
 
 -- how many attributes declarations have together
 abbrev pub attributes_count : List Declaration → ℕ
@@ -32,6 +36,17 @@ pub laid_set : (ds : List Declaration) (d : Declaration) (places : List DwarfAbb
     → take index places ≡ laid_from 0 ds → index < length places → first ≡ attributes_count ds
     → take (index + 1) (set places index (abbreviation_of first d)) ≡ laid_from 0 (ds ++ d ∷ [])
 laid_set ds d places index first placed within counted = grind (arith, common_steps, laid_next)
+
+-- a place for every five bytes from an offset on, and one for every two, are enough for a table that fits into them
+pub rooms-enough : (section : Input) (offset end : ℕ) (t : Table) (rows attributes : ℕ) → FitsIn section offset t
+    → (length section.bytes - offset) / 5 ≤ rows → (length section.bytes - offset) / 2 ≤ attributes
+    → LacksRoom (measure_of t end) rows attributes → ⊥
+rooms-enough section offset end t rows attributes fits enough more (inl few) =
+    let most = le-div (len t.by_code) (length section.bytes - offset) 5 (omega arith) (omega (arith, fits)) in
+    omega (arith, most, enough, few)
+rooms-enough section offset end t rows attributes fits enough more (inr few) =
+    let most = le-div (attribute_count t.by_code) (length section.bytes - offset) 2 (omega arith) (omega (arith, fits)) in
+    omega (arith, most, more, few)
 
 -- how consecutive abbreviations are written
 pub ruleset table_steps = (common_steps, length-values, length-laid_from)

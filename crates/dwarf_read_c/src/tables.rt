@@ -1,8 +1,8 @@
 //! Abbreviation tables (DWARF 5, 7.5.3).
 
-ghost use Rattle.std.specs.Prelude.{◌≡◌, ◌≢◌, ◌≤◌, ◌<◌, ◌^◌, false, Ok, Err, length, map, IfOk, IfErr, IsErrOf};
+ghost use Rattle.std.specs.Prelude.{◌≡◌, ◌≢◌, ◌≤◌, ◌<◌, ◌^◌, ◌-◌, ◌/◌, false, Ok, Err, length, map, IfOk, IfErr, IsErrOf};
 ghost use Rattle.std.specs.FinMap as finite;
-ghost use Rattle.dwarf_read_core.specs.Answer.{Answer, Answers, TableEndsAt, TakesNoMemory};
+ghost use Rattle.dwarf_read_core.specs.Answer.{Answer, Answers, FitsIn, TableEndsAt, TakesNoMemory};
 ghost use Rattle.dwarf_fault.specs.Fault.{error_number};
 ghost use Rattle.dwarf_read_core.specs.Grammar.{Table, attribute_count};
 ghost use Rattle.dwarf_read_c.specs.Fault.{Rejects};
@@ -106,7 +106,8 @@ pub extern "C" fn dwarf_table_measure_0_3(
 /// writes. The call doesn't change the places after them.
 ///
 /// If there are fewer places than abbreviations or attributes, only `measure` is written, and the
-/// call returns `DWARF_NO_ROOM`.
+/// call returns `DWARF_NO_ROOM`. It doesn't if there is a place for an abbreviation for every five
+/// bytes from `offset` on, and one for an attribute for every two: none has fewer bytes.
 ///
 /// # Errors
 ///
@@ -130,6 +131,9 @@ pub extern "C" fn dwarf_table_read_0_3(
         → (t : Table) × Answer s offset (Ok t) × Measures measure.new s offset t
         × LacksRoom measure.new (length abbreviations.old) (length attributes.old)
         × (fault.new ≡ fault.old) }
+    ensures room { let left = length section.now - offset in
+        left / 5 ≤ length abbreviations.old → left / 2 ≤ length attributes.old
+        → result ≢ DWARF_NO_ROOM }
     ensures rejected { let s = section_of section.now false in
         result ≢ DWARF_OK → result ≢ DWARF_NO_ROOM
         → Rejects (λ e. Answers (Err e) s offset) result fault.new × (measure.new ≡ measure.old) }
@@ -150,6 +154,7 @@ fn table_at(mem: Global, section: &[u8], offset: usize) -> Result<(Abbreviations
     ensures answer { let s = section_of section.now false in
         IfOk result (λ r. Answer s offset (Ok r.0) × TableEndsAt s offset r.0 r.1) }
     ensures err { IfErr result (λ e. Answers (Err e) (section_of section.now false) offset) }
+    ensures bound { IfOk result (λ r. FitsIn (section_of section.now false) offset r.0) }
     ensures memory { TakesNoMemory (section_of section.now false) offset
         → IsErrOf result Error.OutOfMemory → ⊥ }
     ensures counted { IfOk result (λ r. attribute_count r.0.by_code < 2 ^ 64) }
