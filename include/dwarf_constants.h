@@ -567,6 +567,18 @@ enum {
     DW_CFA_restore = 0xc0
 };
 
+/* Kinds of symbols in .gdb_index. */
+enum {
+    GDB_INDEX_SYMBOL_KIND_NONE = 0x00,
+    GDB_INDEX_SYMBOL_KIND_TYPE = 0x01,
+    GDB_INDEX_SYMBOL_KIND_VARIABLE = 0x02,
+    GDB_INDEX_SYMBOL_KIND_FUNCTION = 0x03,
+    GDB_INDEX_SYMBOL_KIND_OTHER = 0x04,
+    GDB_INDEX_SYMBOL_KIND_UNUSED5 = 0x05,
+    GDB_INDEX_SYMBOL_KIND_UNUSED6 = 0x06,
+    GDB_INDEX_SYMBOL_KIND_UNUSED7 = 0x07
+};
+
 /* Lists of discriminant values. */
 enum {
     DW_DSC_label = 0x00,

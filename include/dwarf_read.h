@@ -249,7 +249,9 @@ struct dwarf_attribute_spec {
 /* Measures the table at an offset of .debug_abbrev. If the bytes there don't begin with a table, the error
    is the first of them:
     - DWARF_UNEXPECTED_EOF at 0 if the offset is past the end, and at `len` if an abbreviation is cut short;
-    - DWARF_BAD_UNSIGNED_LEB128 or DWARF_BAD_SIGNED_LEB128 for a number that is too long, or out of range;
+    - DWARF_BAD_UNSIGNED_LEB128 for a code with more than ten bytes or a value of 2^64 or more, or for a tag, name or
+      form with more than three bytes or a value of 2^16 or more;
+    - DWARF_BAD_SIGNED_LEB128 for a value with more than ten bytes, or one that doesn't fit 64 bits;
     - DWARF_ABBREVIATION_TAG_ZERO, DWARF_INVALID_ABBREVIATION_CHILDREN, DWARF_ATTRIBUTE_NAME_ZERO or
       DWARF_ATTRIBUTE_FORM_ZERO for a field with a value that no abbreviation has;
     - DWARF_DUPLICATE_ABBREVIATION_CODE for a whole abbreviation with the code of an earlier one. */
@@ -364,7 +366,7 @@ static inline uint32_t dwarf_form_name(uint16_t form, char *name, size_t room, s
    There is always a text. */
 uint32_t dwarf_read_version(char *version, size_t room, size_t *len);
 
-/* Writes the text of an error. The call allocates memory, and frees it before it returns. It returns
+/* Writes the text of an error. The call allocates memory for a text, and frees it before it returns. It returns
    DWARF_OUT_OF_MEMORY if an allocation fails; then nothing is written. It may not be called in a signal
    handler. */
 uint32_t dwarf_fault_text(const struct dwarf_fault *fault, char *text, size_t room, size_t *len);

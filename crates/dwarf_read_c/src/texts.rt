@@ -1,6 +1,6 @@
 //! Texts of errors.
 
-ghost use Rattle.std.specs.Prelude.{◌≡◌, ◌≢◌, Option, option_map};
+ghost use Rattle.std.specs.Prelude.{◌≡◌, ◌≢◌, Option, None, option_map};
 ghost use Rattle.dwarf_read_core.specs.ErrorText.{error_text};
 ghost use Rattle.dwarf_fault.specs.Fault.{Means, error_number};
 ghost use Rattle.dwarf_read_c.specs.Names.{PutsName};
@@ -26,6 +26,8 @@ pub extern "C" fn dwarf_fault_text(
     ensures reported { result ≢ error_number Error.OutOfMemory
         → (error : Option Error) × Means fault.now error
         × PutsName (option_map error_text error) text.old text.new len.old len.new result }
+    // Only a text needs memory.
+    ensures memory { Means fault.now None → result ≢ error_number Error.OutOfMemory }
     ensures no_text { result ≡ error_number Error.OutOfMemory
         → (text.new ≡ text.old) × (len.new ≡ len.old) }
 {
