@@ -7,7 +7,7 @@
  * level x86-64-v2 and above.
  *
  * Link libdwarf_read.a, which `tools/install` installs. It contains all calls, and the three functions
- * of dwarf_read_heap.c that they allocate memory with. A program that defines all three is linked with
+ * of dwarf_read_heap.h that they allocate memory with. A program that defines all three is linked with
  * its own. Without an installation, link libdwarf_read_c.a and dwarf_read_heap.c.
  *
  * WHAT A CALL DOES. A call returns DWARF_OK and has written its outputs, or it returns another status.

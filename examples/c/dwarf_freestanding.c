@@ -6,6 +6,7 @@
  */
 #include "dwarf_constants.h"
 #include "dwarf_read.h"
+#include "dwarf_read_heap.h"
 
 /* Written by instructions, since a compiler may make a loop that copies a call of the same function. */
 void *memcpy(void *to, const void *from, size_t len);
@@ -36,31 +37,22 @@ void *memset(void *to, int byte, size_t len) {
 
 /* The functions that the library allocates memory with. Blocks are consecutive parts of one array, and none is
    used again. */
-struct tried {
-    bool is_block;
-    void *block;
-};
-
-struct tried rattle_alloc(size_t size, size_t align);
-struct tried rattle_realloc(void *block, size_t kept, size_t size, size_t align);
-void rattle_dealloc(void *block);
-
 static _Alignas(16) uint8_t memory[1 << 16];
 static size_t used;
 
-struct tried rattle_alloc(size_t size, size_t align) {
+struct rattle_tried rattle_alloc(size_t size, size_t align) {
     size_t begin = (used + align - 1) / align * align;
     if (size > sizeof memory - begin) {
-        struct tried none = {false, memory};
+        struct rattle_tried none = {false, memory};
         return none;
     }
-    struct tried found = {true, memory + begin};
+    struct rattle_tried found = {true, memory + begin};
     used = begin + size;
     return found;
 }
 
-struct tried rattle_realloc(void *block, size_t kept, size_t size, size_t align) {
-    struct tried found = rattle_alloc(size, align);
+struct rattle_tried rattle_realloc(void *block, size_t kept, size_t size, size_t align) {
+    struct rattle_tried found = rattle_alloc(size, align);
     if (found.is_block) {
         memcpy(found.block, block, kept < size ? kept : size);
     }

@@ -15,6 +15,7 @@
  */
 #define _DEFAULT_SOURCE
 #include "dwarf_read.h"
+#include "dwarf_read_heap.h"
 
 #include <signal.h>
 #include <stdio.h>
@@ -77,24 +78,11 @@ static void *give(struct guarded *it, size_t len) {
  * The functions that the library allocates memory with.
  */
 
-#ifdef __cplusplus
-extern "C" {
-#endif
-
-struct tried {
-    bool is_block;
-    void *block;
-};
-
-struct tried rattle_alloc(size_t size, size_t align);
-struct tried rattle_realloc(void *block, size_t kept, size_t size, size_t align);
-void rattle_dealloc(void *block);
-
-struct tried rattle_alloc(size_t size, size_t align) {
-    static char nothing; /* dwarf_read_heap.c says why no pointer may be null. */
+struct rattle_tried rattle_alloc(size_t size, size_t align) {
+    static char nothing; /* dwarf_read_heap.h says why no pointer may be null. */
     size_t at = 0;
     if (failing != 0 && --failing == 0) {
-        struct tried none = {false, &nothing};
+        struct rattle_tried none = {false, &nothing};
         return none;
     }
     while (at < BLOCKS && blocks[at].pages != NULL) {
@@ -104,7 +92,7 @@ struct tried rattle_alloc(size_t size, size_t align) {
         die("no memory for a block");
     }
     /* A block at the end is aligned, so up to `align - 1` bytes may be after it. */
-    struct tried found = {true, give(&blocks[at], (size + align - 1) / align * align)};
+    struct rattle_tried found = {true, give(&blocks[at], (size + align - 1) / align * align)};
     memset(found.block, FILLING, size);
     return found;
 }
@@ -120,18 +108,14 @@ void rattle_dealloc(void *block) {
     die("a block was freed that isn't one");
 }
 
-struct tried rattle_realloc(void *block, size_t kept, size_t size, size_t align) {
-    struct tried found = rattle_alloc(size, align);
+struct rattle_tried rattle_realloc(void *block, size_t kept, size_t size, size_t align) {
+    struct rattle_tried found = rattle_alloc(size, align);
     if (found.is_block) {
         memcpy(found.block, block, kept < size ? kept : size);
         rattle_dealloc(block);
     }
     return found;
 }
-
-#ifdef __cplusplus
-}
-#endif
 
 /*
  * Before and after a call.
@@ -239,7 +223,8 @@ static uint32_t call_table_read(const uint8_t *bytes, size_t len, size_t offset,
     begin("dwarf_table_read");
     struct dwarf_measure *measure = (struct dwarf_measure *)output(sizeof *measure);
     struct dwarf_abbreviation *abbreviations = (struct dwarf_abbreviation *)output(room * sizeof *abbreviations);
-    struct dwarf_attribute_spec *attributes = (struct dwarf_attribute_spec *)output(attribute_room * sizeof *attributes);
+    struct dwarf_attribute_spec *attributes =
+        (struct dwarf_attribute_spec *)output(attribute_room * sizeof *attributes);
     uint32_t status = dwarf_table_read(bytes, len, offset, abbreviations, room, attributes, attribute_room, measure,
                                        fault());
     end();

@@ -9,7 +9,7 @@ unsafe extern "C" {
     fn free(block: *mut c_void);
 }
 
-/// Whether the allocation succeeded, and the block. `dwarf_read_heap.c` says why it is never null.
+/// Whether the allocation succeeded, and the block. `dwarf_read_heap.h` says why it is never null.
 #[repr(C)]
 pub struct Tried {
     is_block: bool,
