@@ -19,6 +19,9 @@
  *
  * No call keeps a pointer or has a state, so any number of threads may make calls at once.
  *
+ * The library has no unwind tables. A stack walk that needs them ends in it: that of a debugger, of a heap profiler, of
+ * perf with --call-graph dwarf. So the functions that allocate memory for it must not throw.
+ *
  * The calls that are declared here are proved. The functions that are defined here in C are tested, but
  * not proved.
  *
