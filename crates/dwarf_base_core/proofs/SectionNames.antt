@@ -6,8 +6,8 @@ use Rattle.dwarf_base_core.specs.declared.common.SectionId.TheVariants.{DebugAbb
 use Rattle.dwarf_base_core.specs.Section.{section_names, NamesAreDistinct}
 
 -- the section that a name belongs to
-abbrev section_of : List ℕ → SectionId
-section_of name =
+abbrev section_named : List ℕ → SectionId
+section_named name =
     if pointwise ◌==◌ name (codes ".debug_abbrev") then DebugAbbrev else
     if pointwise ◌==◌ name (codes ".debug_addr") then DebugAddr else
     if pointwise ◌==◌ name (codes ".debug_aranges") then DebugAranges else
@@ -35,9 +35,9 @@ section_of name =
     DebugTypes
 
 -- the section that a section's name belongs to is that section
-section_of-name : (id : SectionId) → section_of (section_names id).name ≡ id
-section_of-name id = grind arith
+section_named-name : (id : SectionId) → section_named (section_names id).name ≡ id
+section_named-name id = grind arith
 
 -- no two sections have one name
 pub names_are_distinct : NamesAreDistinct
-names_are_distinct x y same = sym (section_of-name x) ∙ ap section_of same ∙ section_of-name y
+names_are_distinct x y same = sym (section_named-name x) ∙ ap section_named same ∙ section_named-name y

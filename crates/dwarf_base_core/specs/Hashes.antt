@@ -1,4 +1,4 @@
--- The bytes that an offset feeds a hasher determine its number.
+-- The bytes that an offset feeds a hasher determine its number. No public clause about a result cites this file.
 use Rattle.std.specs.Prelude.{◌≡◌, ◌↔◌, ◌-◌, ◌^◌, ◌<◌, ◌≤◌, ℕ, List, [], ◌∷◌}
 use Rattle.std.specs.Hash.{le_bytes}
 use Rattle.std.specs.Int.{from_le_bytes, w32, w64}

@@ -1,4 +1,4 @@
--- How the text of an error is written.
+-- How the text of an error is written. No public clause about a result cites this file.
 use Rattle.std.specs.Prelude.{ℕ, List, ◌++◌}
 use Rattle.std.specs.Fmt.{decimal}
 use Rattle.dwarf_base_core.specs.ErrorText.{hexadecimal}

@@ -1,12 +1,7 @@
--- The bytes of a caller as a section, and the tag of a code in a table.
-use Rattle.std.specs.Prelude.{ℕ, List, false, Option, None, Some}
+-- The tag of a code in a table.
+use Rattle.std.specs.Prelude.{ℕ, Option, None, Some}
 use Rattle.std.specs.FinMap.{get}
 use Rattle.dwarf_read_core.specs.Grammar.{Declaration, Table}
-use Rattle.dwarf_read_core.specs.Input.{Input}
-
--- the bytes of a section, the first of which has position 0
-abbrev pub section_of : List ℕ → Input
-section_of bytes = record { bytes = bytes; position = 0; is_big = false }
 
 -- the tag of a declaration, or 0 if there is none
 abbrev pub tag_of : Option Declaration → ℕ

@@ -1,14 +1,14 @@
 //! One result, with its error.
 
-ghost use Rattle.std.specs.Prelude.{◌≡◌, ◌≢◌, ◌≤◌, Ok, Err, length, map, IfOk, IfErr};
+ghost use Rattle.std.specs.Prelude.{◌≡◌, ◌≢◌, ◌≤◌, false, Ok, Err, length, map, IfOk, IfErr};
 ghost use Rattle.std.specs.FinMap as finite;
 ghost use Rattle.dwarf_read_core.specs.Answer.{Answer, Answers};
 ghost use Rattle.dwarf_read_core.specs.Cache.{IsFaithful, answer_of};
 ghost use Rattle.dwarf_read_core.specs.Grammar.{Table};
-ghost use Rattle.dwarf_read_core.specs.Input.{Input};
+ghost use Rattle.dwarf_read_core.specs.Input.{Input, section_of};
 ghost use Rattle.dwarf_read_core.specs.Leb128.{unsigned16, TakesNoEncoding, ReadsNumber, ReadsNoNumber, TakesEncoding};
 ghost use Rattle.dwarf_compare.specs.Fault.{Rejects};
-ghost use Rattle.dwarf_compare.specs.Sections.{section_of, tag_in};
+ghost use Rattle.dwarf_compare.specs.Sections.{tag_in};
 
 use dwarf_fault::{DwarfFault, reject};
 use dwarf_read_core::{
@@ -31,10 +31,10 @@ pub extern "C" fn compare_short(
     fault: &mut DwarfFault,
 ) -> u32
     ensures read { result ≡ 0 → (left : Input)
-        × ReadsNumber unsigned16 (section_of bytes.now) value.new left
+        × ReadsNumber unsigned16 (section_of bytes.now false) value.new left
         × (rest.new ≡ length left.bytes) }
     ensures rejected { result ≢ 0 → Rejects (λ e. (left : Input)
-        × ReadsNoNumber unsigned16 (section_of bytes.now) e left
+        × ReadsNoNumber unsigned16 (section_of bytes.now false) e left
         × (rest.new ≡ length left.bytes))
         result fault.new }
 {
@@ -54,9 +54,9 @@ pub extern "C" fn compare_short(
 #[unsafe(no_mangle)]
 pub extern "C" fn compare_skipped(bytes: &[u8], rest: &mut usize, fault: &mut DwarfFault) -> u32
     ensures read { result ≡ 0 → (left : Input)
-        × TakesEncoding (section_of bytes.now) left × (rest.new ≡ length left.bytes) }
+        × TakesEncoding (section_of bytes.now false) left × (rest.new ≡ length left.bytes) }
     ensures rejected { result ≢ 0 → Rejects (λ e. (left : Input)
-        × TakesNoEncoding (section_of bytes.now) e left × (rest.new ≡ length left.bytes))
+        × TakesNoEncoding (section_of bytes.now false) e left × (rest.new ≡ length left.bytes))
         result fault.new }
 {
     let mut input = EndianSlice::new(bytes, LittleEndian);
@@ -81,9 +81,9 @@ pub extern "C" fn compare_grown(
     count: &mut usize,
     fault: &mut DwarfFault,
 ) -> u32
-    ensures read { let s = section_of section.now in result ≡ 0
+    ensures read { let s = section_of section.now false in result ≡ 0
         → (t : Table) × Answer s offset (Ok t) × (count.new ≡ finite.len t.by_code) }
-    ensures rejected { let s = section_of section.now in
+    ensures rejected { let s = section_of section.now false in
         result ≢ 0 → Rejects (λ e. Answers (Err e) s offset) result fault.new }
 {
     match grown_at(mem, section, before, offset) {
@@ -97,7 +97,7 @@ pub extern "C" fn compare_grown(
 
 // What a cache has at an offset that was filled before the section grew.
 fn grown_at(mem: Global, section: &[u8], before: usize, offset: usize) -> Result<Rc<Abbreviations>>
-    ensures { Answers (answer_of result) (section_of section.now) offset }
+    ensures { Answers (answer_of result) (section_of section.now false) offset }
 {
     let before = before.min(section.len());
     let mut cache = filled(mem, &section[..before], &[offset])?;
@@ -107,7 +107,7 @@ fn grown_at(mem: Global, section: &[u8], before: usize, offset: usize) -> Result
 
 // A cache that is filled with the tables at these offsets.
 pub(crate) fn filled(mem: Global, section: &[u8], offsets: &[usize]) -> Result<AbbreviationsCache>
-    ensures ok { IfOk result (λ cache. IsFaithful cache (section_of section.now)) }
+    ensures ok { IfOk result (λ cache. IsFaithful cache (section_of section.now false)) }
     ensures err { IfErr result (λ e. e ≡ Error.OutOfMemory) }
 {
     let mut cache = AbbreviationsCache::new(mem);
@@ -125,8 +125,8 @@ pub(crate) fn cached_at(
     section: &[u8],
     offset: usize,
 ) -> Result<Rc<Abbreviations>>
-    ensures { IsFaithful cache.now (section_of section.now)
-        → Answers (answer_of result) (section_of section.now) offset }
+    ensures { IsFaithful cache.now (section_of section.now false)
+        → Answers (answer_of result) (section_of section.now false) offset }
 {
     cache.get(
         &DebugAbbrev::new(section, LittleEndian),
@@ -146,9 +146,9 @@ pub extern "C" fn compare_found(
     tags: &mut [u16],
     fault: &mut DwarfFault,
 ) -> u32
-    ensures found { let s = section_of section.now in result ≡ 0
+    ensures found { let s = section_of section.now false in result ≡ 0
         → (t : Table) × Answer s offset (Ok t) × (tags.new ≡ map (tag_in t) codes.now) }
-    ensures rejected { let s = section_of section.now in result ≢ 0 → result ≢ NO_ROOM
+    ensures rejected { let s = section_of section.now false in result ≢ 0 → result ≢ NO_ROOM
         → Rejects (λ e. Answers (Err e) s offset) result fault.new }
     ensures full { result ≡ NO_ROOM → length tags.old ≢ length codes.now }
 {
@@ -166,7 +166,7 @@ pub extern "C" fn compare_found(
 
 // The table at an offset.
 pub(crate) fn table_at(mem: Global, section: &[u8], offset: usize) -> Result<Abbreviations>
-    ensures { Answers result (section_of section.now) offset }
+    ensures { Answers result (section_of section.now false) offset }
 {
     DebugAbbrev::new(section, LittleEndian).abbreviations(mem, DebugAbbrevOffset(offset))
 }

@@ -12,20 +12,20 @@ pub use Rattle.std.proofs.lemmas.List.{take_all, take_rest}
 pub use Rattle.std.proofs.lemmas.List.{drop-take, drop-append-le, length-append, take_more_set, take-append-drop}
 pub use Rattle.dwarf_listing_core.specs.Items.{Joins, in_front, ListsItemsOf, ListsRun, nothing}
 pub use Rattle.dwarf_listing_core.specs.Items.{bad_item, bad_text, item, ListsItems}
-pub use Rattle.dwarf_read_core.specs.Sets.{Set, Headers, addresses_of, string_offsets_of, seen_by}
+pub use Rattle.dwarf_read_core.specs.Sets.{Set, Remaining, addresses_of, string_offsets_of, seen_by}
 pub use Rattle.dwarf_listing_core.specs.Lines.{hex_byte, hex_text, line, string_line}
 pub use Rattle.std.proofs.lemmas.Result.{err_from_is_err_and}
 pub use Rattle.dwarf_read_core.specs.Once.{HasOne}
 pub use Rattle.std.proofs.lemmas.Grind.{common_steps}
 pub use Rattle.dwarf_listing_core.specs.Offsets.{AreOffsets, lines_of, offset_of}
 pub use Rattle.dwarf_listing_core.specs.Tables.{table_text, attribute_line, declaration_lines}
-pub use Rattle.dwarf_listing_core.specs.Listing.{ListsBy, section_of}
+pub use Rattle.dwarf_listing_core.specs.Listing.{ListsBy}
 pub use Rattle.std.specs.Fmt.{digit_glyph, digits_onto}
 pub use Rattle.std.proofs.lemmas.Bool.Decides.{nat_tests}
 pub use Rattle.dwarf_listing_core.specs.Number.{hexadecimal_of, number_below, signed_of, unsigned_of, without_minus}
 pub use Rattle.dwarf_read_core.specs.declared.Error.TheVariants.{OutOfMemory}
 pub use Rattle.std.specs.List.{join_with_byte, after_first, before_first, position}
-pub use Rattle.dwarf_read_core.specs.Input.{Input}
+pub use Rattle.dwarf_read_core.specs.Input.{Input, section_of}
 pub use Rattle.dwarf_listing_core.specs.Command.{command_of}
 pub use Rattle.dwarf_read_core.specs.Leb128.{Kind, Number, unsigned64, signed64}
 pub use Rattle.dwarf_listing_core.specs.Text.{IsTextOf, Lists, ListsNumber}

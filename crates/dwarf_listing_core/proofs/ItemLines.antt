@@ -6,7 +6,7 @@ use Rattle.std.specs.declared.alloc.Global.{Global}
 use Rattle.dwarf_read_core.specs.Lookups.{UnlessOutOfMemory}
 use Rattle.dwarf_read_core.specs.Input.{Input}
 use Rattle.dwarf_read_core.specs.Items.{GivesFirst}
-use Rattle.dwarf_read_core.specs.Sets.{Headers, HeadersOf, remaining_of, seen_by}
+use Rattle.dwarf_read_core.specs.Sets.{Remaining, RemainingOf, remaining_of, seen_by}
 
 -- ---- the loop over an iterator
 
@@ -72,8 +72,8 @@ module _ {I X A : Type 0} (Represents : I → List (Result A Error) → Type 0) 
       (Ok (view x) ∷ following.0, first.1 following.0 following.1, (Ok text, h, (rest, following.2, refl)))
 
 -- the text of what an iterator over the sets of a section yields is that of these sets
-pub text_of_sets : {R H : Type 0} (view : R → Input) (listing : SetListing H) (is_free : Bool) (now : HeadersOf R)
-    {start : Headers} → remaining_of view now ≡ start → (result : Result (Vec ℕ Global) Error)
+pub text_of_sets : {R H : Type 0} (view : R → Input) (listing : SetListing H) (is_free : Bool) (now : RemainingOf R)
+    {start : Remaining} → remaining_of view now ≡ start → (result : Result (Vec ℕ Global) Error)
     → UnlessOutOfMemory (ListsRun (GivesFirst (λ h. HasSets listing (remaining_of view h)) (seen_by view) is_free)
     (λ x. ListsSet listing (seen_by view x)) now) vec_items result
     → UnlessOutOfMemory (ListsSection listing start) vec_items result

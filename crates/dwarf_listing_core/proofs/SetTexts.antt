@@ -1,7 +1,7 @@
 -- Sets have exactly one text or error.
-use Rattle.dwarf_listing_core.proofs.Common.{◌-◌, ◌^◌, ◌<◌, ◌∷◌, ℕ, List, [], Result, Ok, Err, refl, Error, Input, HasOne, Headers, Set, ListsItems, SetListing, HasSets, ListsLine, ListsSection, ListsSet}
+use Rattle.dwarf_listing_core.proofs.Common.{◌-◌, ◌^◌, ◌<◌, ◌∷◌, ℕ, List, [], Result, Ok, Err, refl, Error, Input, HasOne, Remaining, Set, ListsItems, SetListing, HasSets, ListsLine, ListsSection, ListsSet}
 use Rattle.dwarf_read_core.specs.Headers.{AddressHeaderAt}
-use Rattle.dwarf_read_core.specs.Items.{AreItems, none, more, first_error}
+use Rattle.dwarf_read_core.specs.Items.{AreItems, no_items, value_first, only_error}
 use Rattle.dwarf_read_core.specs.Sets.{HasSet}
 use Rattle.dwarf_read_core.proofs.sets.Entries.{size-positive}
 use Rattle.dwarf_listing_core.proofs.OneText.{one_after, one_joined}
@@ -11,9 +11,9 @@ one_of_items : {S A : Type 0} (Lists : A → Result (List ℕ) Error → Type 0)
     {Is : S → Result A Error → Type 0} {following : A → S → S} {old : S} {items : List (Result A Error)}
     → ((old : S) (x : A) → Is old (Ok x) → HasOne (Lists x)) → AreItems rest Is following old items
     → HasOne (ListsItems Lists items)
-one_of_items Lists law (none empty) = (Ok [], refl, λ other h. h)
-one_of_items Lists law (first_error {e = e} some h) = (Err e, refl, λ other h. h)
-one_of_items Lists law (more {old = old} {x = x} some first others) =
+one_of_items Lists law (no_items empty) = (Ok [], refl, λ other h. h)
+one_of_items Lists law (only_error {e = e} some h) = (Err e, refl, λ other h. h)
+one_of_items Lists law (value_first {now = old} {x = x} some first others) =
     one_after (law old x first) (λ own lists. one_joined own (one_of_items Lists law others))
 
 -- lines have exactly one text or error
@@ -24,18 +24,18 @@ one_of_lines line_of (Ok n ∷ items) =
     one_after (Ok (line_of n), refl, λ other same. same) (λ own lists. one_joined own (one_of_lines line_of items))
 
 -- a section has exactly one text or error if it has exactly one list of sets, and each set one list of entries
-pub one_section : {H : Type 0} (listing : SetListing H) (headers : Headers)
-    → ((old : Headers) (s : Set H) → HasSet listing.header (2 ^ 64 - 1) old s
+pub one_section : {H : Type 0} (listing : SetListing H) (sets : Remaining)
+    → ((old : Remaining) (s : Set H) → HasSet listing.header (2 ^ 64 - 1) old s
     → HasOne (listing.represents (listing.entries s)))
-    → HasOne (HasSets listing headers) → HasOne (ListsSection listing headers)
-one_section {H} listing headers entries sets =
-    one_after sets (λ items are. one_of_items (ListsSet listing) one_set are)
+    → HasOne (HasSets listing sets) → HasOne (ListsSection listing sets)
+one_section {H} listing sets entries lists =
+    one_after lists (λ items are. one_of_items (ListsSet listing) one_set are)
   where
-    one_set : (old : Headers) (s : Set H) → HasSet listing.header (2 ^ 64 - 1) old s → HasOne (ListsSet listing s)
+    one_set : (old : Remaining) (s : Set H) → HasSet listing.header (2 ^ 64 - 1) old s → HasOne (ListsSet listing s)
     one_set old s has =
         one_joined (Ok (listing.header_line s)) (one_after (entries old s has)
         (λ items are. one_of_lines listing.entry_line items))
 
 -- the address size of a set of addresses is above 0
-pub address_size : {greatest : ℕ} (old : Headers) (s : Set ℕ) → HasSet AddressHeaderAt greatest old s → 0 < s.header
+pub address_size : {greatest : ℕ} (old : Remaining) (s : Set ℕ) → HasSet AddressHeaderAt greatest old s → 0 < s.header
 address_size old s has = size-positive s.header has.said.sized

@@ -26,7 +26,7 @@ abbrev pub ListsItemsOf : {I A : Type 0} → (I → List (Result A Error) → Ty
 ListsItemsOf {A = A} Represents Lists source listed =
     (items : List (Result A Error)) × Represents source items × ListsItems Lists items listed
 
--- the texts of what an iterator yields, or the first error
+-- the texts of what an iterator yields, or the first error; no public clause about a result cites this
 pub data ListsRun {I X : Type 0} (gives : I → Option (Result X Error) → I → Type 0)
     (Lists : X → Result (List ℕ) Error → Type 0) : I → Result (List ℕ) Error → Type 0 where
   nothing : (now next : I) → gives now None next → ListsRun gives Lists now (Ok [])

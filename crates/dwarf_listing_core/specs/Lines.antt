@@ -3,9 +3,9 @@ use Rattle.std.specs.Prelude.{ℕ, ◌/◌, ◌%◌, false, List, [], ◌∷◌,
 use Rattle.std.specs.Fmt.{digit_glyph}
 use Rattle.std.specs.List.{join_with_byte}
 use Rattle.dwarf_read_core.specs.declared.Error.{Error}
-use Rattle.dwarf_read_core.specs.Input.{Input}
+use Rattle.dwarf_read_core.specs.Input.{Input, section_of}
 use Rattle.dwarf_read_core.specs.Strings.{StringAt}
-use Rattle.dwarf_listing_core.specs.Listing.{ListsBy, section_of}
+use Rattle.dwarf_listing_core.specs.Listing.{ListsBy}
 
 -- bytes and a line end
 abbrev pub line : List ℕ → List ℕ
@@ -25,4 +25,4 @@ string_line string = line string.bytes
 
 -- the line of the string at an offset of a section, or the section's error
 abbrev pub ListsString : List ℕ → ℕ → Result (List ℕ) Error → Type 0
-ListsString section offset answer = ListsBy string_line (StringAt (section_of section) offset) answer
+ListsString section offset answer = ListsBy string_line (StringAt (section_of section false) offset) answer

@@ -1,4 +1,4 @@
--- What a writer holds that has a buffer before an output.
+-- What a writer holds that has a buffer before an output. No public clause about a result cites this file.
 use Rattle.std.specs.Prelude.{ℕ, List, [], ◌∷◌, Option}
 use Rattle.std.specs.Io.KnownBytes.{append_known, prepend_known}
 use Rattle.dwarf_listing_core.specs.declared.output.Buffered.{Buffered}

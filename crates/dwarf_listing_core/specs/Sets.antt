@@ -7,7 +7,7 @@ use Rattle.dwarf_read_core.specs.Entries.{Entries, RepresentsAddresses, Represen
 use Rattle.dwarf_read_core.specs.ErrorText.{hexadecimal}
 use Rattle.dwarf_read_core.specs.Format.{word_size}
 use Rattle.dwarf_read_core.specs.Headers.{AddressHeaderAt, Header, StringOffsetsHeaderAt}
-use Rattle.dwarf_read_core.specs.Sets.{Headers, Set, RepresentsSets, addresses_of, string_offsets_of}
+use Rattle.dwarf_read_core.specs.Sets.{Remaining, Set, RepresentsSets, addresses_of, string_offsets_of}
 use Rattle.dwarf_listing_core.specs.Items.{Joins, ListsItemsOf}
 use Rattle.dwarf_listing_core.specs.Lines.{line}
 
@@ -76,18 +76,18 @@ ListsSet listing s listed =
     (ListsItemsOf listing.represents (ListsLine listing.entry_line) (listing.entries s)) listed
 
 -- the sets of a whole section: the first one is at its start
-abbrev pub sets_section : RunTimeEndian → List ℕ → Headers
+abbrev pub sets_section : RunTimeEndian → List ℕ → Remaining
 sets_section endian section =
     record { offset = 0; rest = record { bytes = section; position = 0; is_big = is_big_at_run_time endian } }
 
 -- the items of the sets that remain, whose offsets have 64 bits
-abbrev pub HasSets : {H : Type 0} → SetListing H → Headers → List (Result (Set H) Error) → Type 0
-HasSets listing headers items = RepresentsSets listing.header (2 ^ 64 - 1) headers items
+abbrev pub HasSets : {H : Type 0} → SetListing H → Remaining → List (Result (Set H) Error) → Type 0
+HasSets listing sets items = RepresentsSets listing.header (2 ^ 64 - 1) sets items
 
 -- the lines of all sets of a section, or its first error: that of a header, or that of a set's entries before the next
 -- header
-abbrev pub ListsSection : {H : Type 0} → SetListing H → Headers → Result (List ℕ) Error → Type 0
-ListsSection listing headers listed = ListsItemsOf (HasSets listing) (ListsSet listing) headers listed
+abbrev pub ListsSection : {H : Type 0} → SetListing H → Remaining → Result (List ℕ) Error → Type 0
+ListsSection listing sets listed = ListsItemsOf (HasSets listing) (ListsSet listing) sets listed
 
 -- the lines of a section of addresses in a byte order
 abbrev pub ListsAddresses : RunTimeEndian → List ℕ → Result (List ℕ) Error → Type 0

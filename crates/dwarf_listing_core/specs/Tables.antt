@@ -1,5 +1,5 @@
 -- The lines of abbreviation tables.
-use Rattle.std.specs.Prelude.{ℕ, Bool, List, [], ◌++◌, ℤ, Option, Some, None, Result, codes, decimal, if◌then◌else◌}
+use Rattle.std.specs.Prelude.{ℕ, Bool, false, List, [], ◌++◌, ℤ, Option, Some, None, Result, codes, decimal, if◌then◌else◌}
 use Rattle.std.specs.FinMap.{values}
 use Rattle.std.specs.Fmt.{signed_decimal}
 use Rattle.std.specs.List.{flat_map}
@@ -10,7 +10,8 @@ use Rattle.dwarf_read_core.specs.DwForm.{form_text}
 use Rattle.dwarf_read_core.specs.DwTag.{tag_text}
 use Rattle.dwarf_read_core.specs.Grammar.{Declaration, Specification, Table}
 use Rattle.dwarf_listing_core.specs.Lines.{line}
-use Rattle.dwarf_listing_core.specs.Listing.{ListsBy, section_of}
+use Rattle.dwarf_read_core.specs.Input.{section_of}
+use Rattle.dwarf_listing_core.specs.Listing.{ListsBy}
 
 -- a space and the implicit value, or nothing
 abbrev pub value_text : Option ℤ → List ℕ
@@ -37,8 +38,8 @@ table_text t = flat_map declaration_lines (values t.by_code)
 
 -- the lines of the table at an offset of a section, or the section's error
 abbrev pub ListsTable : List ℕ → ℕ → Result (List ℕ) Error → Type 0
-ListsTable section offset answer = ListsBy table_text (Answer (section_of section) offset) answer
+ListsTable section offset answer = ListsBy table_text (Answer (section_of section false) offset) answer
 
 -- the lines of the table at an offset that a code of value 0 has to close, or the section's error
 abbrev pub ListsStrictTable : List ℕ → ℕ → Result (List ℕ) Error → Type 0
-ListsStrictTable section offset answer = ListsBy table_text (StrictAnswer (section_of section) offset) answer
+ListsStrictTable section offset answer = ListsBy table_text (StrictAnswer (section_of section false) offset) answer

@@ -5,7 +5,7 @@ ghost use Rattle.std.specs.Fmt.{digit_glyph};
 ghost use Rattle.std.specs.Iterator.{IsFinite};
 ghost use Rattle.dwarf_read_core.specs.ErrorText.{hexadecimal};
 ghost use Rattle.dwarf_read_core.specs.Lookups.{UnlessOutOfMemory};
-ghost use Rattle.dwarf_read_core.specs.Sets.{Headers};
+ghost use Rattle.dwarf_read_core.specs.Sets.{Remaining};
 ghost use Rattle.dwarf_listing_core.specs.Items.{Joins, ListsRun};
 ghost use Rattle.dwarf_listing_core.specs.Sets.{ListsAddresses, ListsSection, ListsStringOffsets, address_header_line, address_line, address_listing, offset_header_line, offset_line, offset_listing};
 
@@ -33,7 +33,7 @@ pub fn addresses(mem: Global, section: &[u8], endian: RunTimeEndian) -> Result<V
 
 // Returns the lines of the sets of addresses that a reader has.
 fn addresses_from<R: Reader<Offset = usize>>(mem: Global, section: R) -> Result<Vec<u8>, Error>
-    ensures { let sets : Headers = record { offset = 0; rest = R.view section } in
+    ensures { let sets : Remaining = record { offset = 0; rest = R.view section } in
         UnlessOutOfMemory (ListsSection address_listing sets) vec_items result }
 {
     text_of(mem, DebugAddr::from(section).headers()?)
@@ -53,7 +53,7 @@ pub fn string_offsets(mem: Global, section: &[u8], endian: RunTimeEndian) -> Res
 
 // Returns the lines of the sets of string offsets that a reader has.
 fn string_offsets_from<R: Reader<Offset = usize>>(mem: Global, section: R) -> Result<Vec<u8>, Error>
-    ensures { let sets : Headers = record { offset = 0; rest = R.view section } in
+    ensures { let sets : Remaining = record { offset = 0; rest = R.view section } in
         UnlessOutOfMemory (ListsSection (offset_listing (2 ^ 64 - 1)) sets) vec_items result }
 {
     text_of(mem, DebugStrOffsets::from(section).headers()?)

@@ -10,7 +10,7 @@ pub use Rattle.dwarf_read_core.specs.Grammar.{Declaration, ByCode}
 pub use Rattle.dwarf_read_core.specs.Input.{Input, after}
 pub use Rattle.dwarf_read_core.specs.Leb128.{Kind, ReadsNoNumber}
 pub use Rattle.dwarf_read_core.specs.Headers.{AddressHeaderAt, StringOffsetsHeaderAt}
-pub use Rattle.dwarf_read_core.specs.Sets.{Headers, Set, RepresentsSets, addresses_of, string_offsets_of}
+pub use Rattle.dwarf_read_core.specs.Sets.{Remaining, Set, RepresentsSets, addresses_of, string_offsets_of}
 pub use Rattle.dwarf_read_core.proofs.Headers.{address_header, string_offsets_header}
 pub use Rattle.dwarf_read_core.specs.Strings.{HoldsString, StringAt}
 pub use Rattle.dwarf_read_core.specs.declared.Error.{Error}

@@ -6,7 +6,7 @@ use Rattle.dwarf_read_core.specs.InitialLength.{HasNoLength}
 use Rattle.dwarf_read_core.specs.Sets.{set_cut, set_headless, set_unmeasured}
 use Rattle.dwarf_read_core.specs.Strings.{string_past_end, string_unended}
 use Rattle.dwarf_read_core.specs.Words.{Slot, HasNoPlace, no_base, no_distance, no_place, WordAt, word_unplaced, word_cut, word_too_great, AddressAt, address_unplaced, address_unsized, address_cut}
-use Rattle.dwarf_read_c.proofs.Common.{◌≡◌, ◌≢◌, ℕ, List, Err, arith, Error, eof, Input, Kind, StringAt, error_number, IsKnown, HasNoNumber, HasNoSetAt, outside, faulty}
+use Rattle.dwarf_read_c.proofs.Common.{◌≢◌, ℕ, List, Err, arith, Error, eof, Input, Kind, StringAt, error_number, IsKnown, HasNoNumber, HasNoSetAt, outside, faulty}
 
 -- the error of bytes that begin with no number has a number of its own
 pub known_number : {k : Kind} {bytes : List ℕ} {e : Error} → HasNoNumber k bytes e → IsKnown e

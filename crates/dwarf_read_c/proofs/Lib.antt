@@ -1,4 +1,5 @@
 pub mod Common
+pub mod AttributeIndexes
 pub mod NumberLemmas
 pub mod StringLemmas
 pub mod TableLemmas

@@ -8,7 +8,7 @@ use Rattle.dwarf_read_core.specs.Sets.{HasSet}
 use Rattle.dwarf_read_core.proofs.sets.Entries.{numbers_counted}
 use Rattle.dwarf_read_core.proofs.sets.ItemLists.{first-is, no_first-is}
 use Rattle.dwarf_read_c.specs.declared.sets.DwarfSet.{DwarfSet}
-use Rattle.dwarf_read_c.proofs.Common.{◌≡◌, ◌≢◌, ◌∙◌, Bool, true, ℕ, ◌+◌, ◌-◌, ◌/◌, ◌<◌, ◌≤◌, ◌^◌, List, [], ◌∷◌, length, drop, Ok, Err, refl, sym, ap, subst, arith, ◌⊎◌, inl, inr, length-drop, common_steps, Error, IsTooShort, CloneRanOutOfMemory, Input, after, Headers, Set, RepresentsSets, take, sets_from, HasNoSetAt, TellsSet, set_from, outside, faulty}
+use Rattle.dwarf_read_c.proofs.Common.{◌≡◌, ◌≢◌, ◌∙◌, Bool, true, ℕ, ◌+◌, ◌-◌, ◌/◌, ◌<◌, ◌≤◌, ◌^◌, List, [], ◌∷◌, length, drop, Ok, Err, refl, sym, ap, subst, arith, ◌⊎◌, inl, inr, length-drop, common_steps, Error, IsTooShort, CloneRanOutOfMemory, Input, after, Remaining, Set, RepresentsSets, take, sets_from, HasNoSetAt, TellsSet, set_from, outside, faulty}
 use Rattle.dwarf_read_c.specs.Sets.{shown}
 
 -- what is known of a set that was found at an offset
@@ -20,7 +20,7 @@ pub record FoundSet {H : Type 0} (header : Header H) (section : Input) (offset :
   pub rest : length s.entries.bytes ≡ s.unit_length - 4
 
 -- the sets of the bytes from an offset on, as the code sees them
-abbrev pub sets_after : ℕ → Input → Headers
+abbrev pub sets_after : ℕ → Input → Remaining
 sets_after offset section = record { offset = 0; rest = after offset section }
 
 -- no set is at an offset past the end, and the error is that of missing bytes
@@ -33,20 +33,20 @@ some_left : (bytes : List ℕ) (offset : ℕ) → drop offset bytes ≢ [] → o
 some_left bytes offset some = grind (arith, common_steps)
 
 -- an offset from which on there is no item is the length of the section
-pub set_after_the_last : {H : Type 0} (header : Header H) (section : Input) {offset : ℕ} {old : Headers}
+pub set_after_the_last : {H : Type 0} (header : Header H) (section : Input) {offset : ℕ} {old : Remaining}
     → offset ≤ length section.bytes → old ≡ sets_after offset section
     → RepresentsSets header (2 ^ 64 - 1) old [] → offset ≡ length section.bytes
 set_after_the_last header section {offset} {old} within start ended =
-    let empty = no_first-is (subst (λ (h : Headers). RepresentsSets header (2 ^ 64 - 1) h []) start ended) in
+    let empty = no_first-is (subst (λ (h : Remaining). RepresentsSets header (2 ^ 64 - 1) h []) start ended) in
     omega (arith, within, length-drop offset section.bytes, ap length empty)
 
 -- if the first item from an offset on is a set, the section has this set there
-pub set_found : {H : Type 0} {header : Header H} {section : Input} {offset : ℕ} {old new : Headers} {s : Set H}
+pub set_found : {H : Type 0} {header : Header H} {section : Input} {offset : ℕ} {old new : Remaining} {s : Set H}
     → IsHeader 4 header → section.position ≡ 0 → old ≡ sets_after offset section
     → ComesFirst (RepresentsSets header (2 ^ 64 - 1)) old (Ok s) new → FoundSet header section offset s
 set_found {H} {header} {section} {offset} {old} {new} {s} is_header starts start given =
     let rest = after offset section in
-    let there = subst (λ (h : Headers). RepresentsSets header (2 ^ 64 - 1) h (Ok s ∷ given.0.0)) start
+    let there = subst (λ (h : Remaining). RepresentsSets header (2 ^ 64 - 1) h (Ok s ∷ given.0.0)) start
     (given.1 given.0.0 given.0.1) in
     let begins = first-is there in
     let found : HasSet header (2 ^ 64 - 1) (sets_after offset section) s = begins.1 in
@@ -67,13 +67,13 @@ set_found {H} {header} {section} {offset} {old} {new} {s} is_header starts start
     }
 
 -- if the first item from an offset on is an error, the section has no set there, with this error
-pub set_absent : {H P : Type 0} {header : Header H} {section : Input} {offset : ℕ} {old new : Headers} {e : Error}
+pub set_absent : {H P : Type 0} {header : Header H} {section : Input} {offset : ℕ} {old new : Remaining} {e : Error}
     {is_free : Bool}
     → is_free ≡ true → old ≡ sets_after offset section
     → ComesFirst (RepresentsSets header (2 ^ 64 - 1)) old (Err e) new ⊎ (CloneRanOutOfMemory is_free e × P)
     → HasNoSetAt header section offset e
 set_absent {header = header} {section} {offset} {old} {new} {e} free start (inl given) =
-    let there = subst (λ (h : Headers). RepresentsSets header (2 ^ 64 - 1) h (Err e ∷ given.0.0)) start
+    let there = subst (λ (h : Remaining). RepresentsSets header (2 ^ 64 - 1) h (Err e ∷ given.0.0)) start
     (given.1 given.0.0 given.0.1) in
     let begins = first-is there in
     faulty e (some_left section.bytes offset begins.0) begins.1

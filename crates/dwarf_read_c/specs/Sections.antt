@@ -1,10 +1,7 @@
 -- The bytes of a section, as C gives them.
-use Rattle.std.specs.Prelude.{ℕ, ◌+◌, Bool, List, take, drop, if◌then◌else◌}
+use Rattle.std.specs.Prelude.{ℕ, ◌+◌, Bool, take, drop, if◌then◌else◌}
 use Rattle.dwarf_read_core.specs.Input.{Input}
-
--- the bytes of a section, the first of which has position 0
-abbrev pub section_of : List ℕ → Bool → Input
-section_of bytes is_big = record { bytes = bytes; position = 0; is_big = is_big }
+pub use Rattle.dwarf_read_core.specs.Input.{section_of}
 
 -- a part of a section: the given number of bytes from an offset on
 abbrev pub part_of : Input → ℕ → ℕ → Input

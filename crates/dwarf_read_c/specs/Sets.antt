@@ -7,11 +7,11 @@ use Rattle.dwarf_read_core.specs.Faults.{end_fault}
 use Rattle.dwarf_read_core.specs.Format.{initial_length_size, word_size}
 use Rattle.dwarf_read_core.specs.Headers.{Header}
 use Rattle.dwarf_read_core.specs.Input.{Input, after}
-use Rattle.dwarf_read_core.specs.Sets.{HasNoSet, HasSet, Headers, Set, set_size}
+use Rattle.dwarf_read_core.specs.Sets.{HasNoSet, HasSet, Remaining, Set, set_size}
 use Rattle.dwarf_read_c.specs.declared.sets.DwarfSet.{DwarfSet}
 
 -- the sets of a section from an offset on
-abbrev pub sets_from : ℕ → Input → Headers
+abbrev pub sets_from : ℕ → Input → Remaining
 sets_from offset section = record { offset = offset; rest = after offset section }
 
 -- no set is at the offset: it is past the end, or the bytes from there on don't begin with a set

@@ -1,16 +1,18 @@
 //! Laws of the definitions that the contracts cite: each function has one as its contract, and does
 //! nothing.
 
-ghost use Rattle.std.specs.Prelude.{◌≡◌, ℕ, true, false, Ok};
+ghost use Rattle.std.specs.Prelude.{◌≡◌, ℕ, true, false, Some, Ok, map, take, drop, slice_get};
+ghost use Rattle.std.specs.FinMap.{values};
 ghost use Rattle.dwarf_read_core.specs.Answer.{Answer};
 ghost use Rattle.dwarf_read_core.specs.Format.{word_size};
-ghost use Rattle.dwarf_read_core.specs.Grammar.{Table};
+ghost use Rattle.dwarf_read_core.specs.Grammar.{Declaration, Table};
 ghost use Rattle.dwarf_read_core.specs.Input.{Input};
 ghost use Rattle.dwarf_read_core.specs.Once.{HasOne};
 ghost use Rattle.dwarf_read_core.specs.declared.Format.TheVariants.{Dwarf32, Dwarf64};
 ghost use Rattle.dwarf_fault.specs.Fault.{Means};
 ghost use Rattle.dwarf_read_c.specs.Sections.{offset_size};
-ghost use Rattle.dwarf_read_c.specs.Tables.{Measures};
+ghost use Rattle.dwarf_read_c.specs.Tables.{Measures, abbreviation_of, abbreviations_of, attribute_of, attributes_of};
+ghost use Rattle.dwarf_read_c.specs.declared.tables.DwarfAbbreviation.{DwarfAbbreviation};
 
 use dwarf_fault::{DwarfFault, error_of};
 use dwarf_read_core::laws::exactly_one_end;
@@ -22,6 +24,18 @@ pub fn exactly_one_measure()
 {
     exactly_one_end();
 }
+
+/// Each abbreviation is the declaration with its index. Its attributes are those of the table from
+/// `first_attribute` on.
+#[tactic(auto, using(crate::proofs::AttributeIndexes::attributes_at))]
+pub fn attributes_are_at_their_indexes()
+    ensures { (t : Table) (i : ℕ) (a : DwarfAbbreviation)
+        → slice_get (abbreviations_of t) i ≡ Some a
+        → (d : Declaration) × (slice_get (values t.by_code) i ≡ Some d)
+        × (a ≡ abbreviation_of a.first_attribute d)
+        × (take a.attribute_count (drop a.first_attribute (attributes_of t))
+        ≡ map attribute_of d.attributes) }
+{}
 
 /// A number and a value mean exactly one error, or none.
 pub fn exactly_one_error(fault: &DwarfFault)

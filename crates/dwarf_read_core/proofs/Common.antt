@@ -67,6 +67,6 @@ unfoldable pub use Rattle.dwarf_read_core.specs.Reading.{attributes_in, declared
 unfoldable pub use Rattle.dwarf_read_core.specs.Reading.{specification_at, value_at, number_at, attributes_at}
 unfoldable pub use Rattle.dwarf_read_core.specs.Reading.{children_at, encoding_at, table_at}
 pub use Rattle.dwarf_read_core.specs.Sections.{debug_abbrev_reader}
-pub use Rattle.dwarf_read_core.specs.Sets.{Headers, Set, RepresentsSets, followed_headers}
+pub use Rattle.dwarf_read_core.specs.Sets.{Remaining, Set, RepresentsSets, followed_remaining}
 pub use Rattle.dwarf_read_core.proofs.ResultLemmas.{HasOutcome, returned, failed, outcome-bind, outcome-map}
 pub use Rattle.dwarf_read_core.proofs.ResultLemmas.{gives_err, Err-no_Ok, outcome-cond, outcome-ok}

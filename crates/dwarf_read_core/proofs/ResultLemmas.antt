@@ -1,5 +1,5 @@
 -- What follows from the result of steps that may fail.
-use Rattle.std.proofs.Common.{arith, Bool, true, false, cond, refl, ◌≡◌, ◌≢◌, Result, Ok, Err, IsErrAnd}
+use Rattle.std.proofs.Common.{inl, sym, subst, arith, Bool, true, false, cond, refl, ◌≡◌, ◌≢◌, Result, Ok, Err, IsErrAnd}
 use Rattle.dwarf_base_core.specs.declared.error.Error.TheVariants.{OutOfMemory}
 use Rattle.dwarf_base_core.specs.declared.error.Error.{Error}
 use Rattle.dwarf_read_core.specs.Lookups.{UnlessCloneRanOut}
@@ -44,6 +44,7 @@ pub gives_err : {X Y : Type 0} (view : X → Y) {read : Result Y Error} {e : Err
 gives_err view result h step = grind arith
 
 -- an error that `?` propagates is the result of the lookup
-pub result-propagated : {X A : Type 0} (Is : Result A Error → Type 0) (view : X → A) (clone_is_free : Bool) {e : Error}
-    (r : Result X Error) → IsErrAnd r (λ x. x ≡ e) → Is (Err e) → UnlessCloneRanOut Is view clone_is_free r
-result-propagated Is view clone_is_free r h is = grind arith
+pub result-propagated : {X A : Type 0} {Is : Result A Error → Type 0} {view : X → A} {clone_is_free : Bool}
+    (e : Error) {r : Result X Error} → IsErrAnd r (λ x. x ≡ e) → Is (Err e) → UnlessCloneRanOut Is view clone_is_free r
+result-propagated e {r = Ok x} h is = absurd h
+result-propagated {Is = Is} e {r = Err d} h is = record { ok = tt; err = inl (subst (λ x. Is (Err x)) (sym h) is) }

@@ -9,9 +9,13 @@ pub mod CodesOnce
 pub mod TablesAreRead
 pub mod ExactlyOneAnswer
 pub mod AppendedBytes
+pub mod ByteOrders
+pub mod EndFaults
+pub mod AnswersChange
 pub mod StrictAnswers
 pub mod TableEnds
 pub mod TableBounds
+pub mod TableFronts
 pub mod VectorAndMap
 pub mod OthersByCode
 pub mod EqualDeclarations

@@ -1,5 +1,5 @@
 -- What a cache of abbreviation tables keeps.
-use Rattle.std.specs.Prelude.{◌≡◌, ◌≢◌, ◌==◌, ℕ, ◌<◌, ◌≤◌, Bool, List, map, count_by, Option, Some, None, MatchOption, IfSome, Result, Ok, Err, MatchResult, ⊤, ◌⊎◌}
+use Rattle.std.specs.Prelude.{◌≡◌, ◌≢◌, ◌==◌, ℕ, ◌<◌, ◌≤◌, List, map, count_by, Option, Some, None, MatchOption, IfSome, Result, Ok, Err, MatchResult, ⊤, ◌⊎◌}
 use Rattle.std.specs.FinMap as finite
 use Rattle.std.specs.Iterator.{YieldsThen}
 use Rattle.std.specs.Ordering.{nat_cmp}
@@ -44,10 +44,9 @@ KeepsAnswers least section offsets kept =
     (key : ℕ) → MatchOption (kept key) (occurrences key offsets < least)
     (λ answer. (least ≤ occurrences key offsets) × Answer section key answer)
 
--- each result that the cache keeps is that of the section's bytes and position, in either byte order
+-- each result that the cache keeps is the section's
 abbrev pub IsFaithful : Cache → Input → Type 0
-IsFaithful cache section =
-    (is_big : Bool) (key : ℕ) → IfSome (finite.get cache key) (Answer (record section { is_big = is_big }) key)
+IsFaithful cache section = (key : ℕ) → IfSome (finite.get cache key) (Answer section key)
 
 -- what comes after the items: nothing, or an error that isn't `OutOfMemory`
 abbrev pub EndsItems : {T : Type 0} → Option (Result T Error) → Type 0

@@ -1,4 +1,5 @@
--- Codes that tell declarations and tables apart in proofs. `Model` requires them, and Rattle finds none by itself.
+-- Codes that tell declarations and tables apart in proofs. No public clause about a result cites this file.
+-- `Model` requires such codes, and Rattle finds none by itself.
 use Rattle.std.specs.Prelude.{◌≡◌, ℕ, ℤ, Bool, true, false, List, Option, refl}
 use Rattle.std.specs.Coded.{Coded, code_by, coded×, coded_ℕ, coded_ℤ, coded_bool, coded_list, coded_option}
 use Rattle.std.specs.FinMap.{code as map_code}

@@ -1,5 +1,5 @@
--- Functions that read tables from the front of bytes. Each returns what it read and the bytes after it, or the first
--- error.
+-- Functions that read tables from the front of bytes. No public clause about a result cites this file.
+-- Each function returns what it read and the bytes after it, or the first error.
 use Rattle.std.specs.Prelude.{◌≡◌, ℕ, zero, suc, ◌+◌, Bool, true, false, ℤ, List, [], ◌∷◌, length, Option, Some, None, Result, Ok, Err, nat_lt, ◌==◌, if◌then◌else◌}
 use Rattle.std.specs.FinMap.{contains_key, insert}
 use Rattle.dwarf_base_core.specs.declared.error.Error.{Error}

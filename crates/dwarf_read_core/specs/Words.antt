@@ -20,19 +20,19 @@ abbrev pub distance : Slot → ℕ
 distance s = s.index * s.width
 
 -- the offset of the slot's first byte
-abbrev pub place : Slot → ℕ
-place s = s.base + distance s
+abbrev pub slot_offset : Slot → ℕ
+slot_offset s = s.base + distance s
 
 -- the slot begins in the section or at its end, and its distance from the base is an offset
 pub record IsPlaced (greatest : ℕ) (section : Input) (s : Slot) : Type 0 where
   pub based : s.base ≤ length section.bytes
   pub counted : distance s ≤ greatest
-  pub within : place s ≤ length section.bytes
+  pub within : slot_offset s ≤ length section.bytes
 
 -- the whole slot is in the section, and its bytes encode the number x
 pub record Holds (section : Input) (s : Slot) (x : ℕ) : Type 0 where
-  pub within : place s + s.width ≤ length section.bytes
-  pub encoded : x ≡ number_of section.is_big (take s.width (drop (place s) section.bytes))
+  pub within : slot_offset s + s.width ≤ length section.bytes
+  pub encoded : x ≡ number_of section.is_big (take s.width (drop (slot_offset s) section.bytes))
 
 -- a section has the word x at a slot: the slot has a place, and holds x, which is an offset
 pub record HasWord (greatest : ℕ) (section : Input) (s : Slot) (x : ℕ) : Type 0 where
@@ -52,14 +52,14 @@ pub data HasNoPlace (greatest : ℕ) (section : Input) (s : Slot) : Error → Ty
   no_base : length section.bytes < s.base → HasNoPlace greatest section s (end_fault section)
   no_distance : s.base ≤ length section.bytes → greatest < distance s
       → HasNoPlace greatest section s UnsupportedOffset
-  no_place : s.base ≤ length section.bytes → distance s ≤ greatest → length section.bytes < place s
+  no_place : s.base ≤ length section.bytes → distance s ≤ greatest → length section.bytes < slot_offset s
       → HasNoPlace greatest section s (end_fault (after s.base section))
 
 -- a section has no word at a slot: it has no place for it, too few bytes there, or a number too great for an offset
 pub data HasNoWord (greatest : ℕ) (section : Input) (s : Slot) : Error → Type 0 where
   word_unplaced : {e : Error} → HasNoPlace greatest section s e → HasNoWord greatest section s e
-  word_cut : IsPlaced greatest section s → length section.bytes < place s + s.width
-      → HasNoWord greatest section s (end_fault (after (place s) section))
+  word_cut : IsPlaced greatest section s → length section.bytes < slot_offset s + s.width
+      → HasNoWord greatest section s (end_fault (after (slot_offset s) section))
   word_too_great : (x : ℕ) → IsPlaced greatest section s → Holds section s x → greatest < x
       → HasNoWord greatest section s UnsupportedOffset
 
@@ -69,8 +69,8 @@ pub data HasNoAddress (greatest : ℕ) (section : Input) (s : Slot) : Error → 
   address_unsized : IsPlaced greatest section s → is_number_size s.width ≡ false
       → HasNoAddress greatest section s (UnsupportedAddressSize s.width)
   address_cut : IsPlaced greatest section s → is_number_size s.width ≡ true
-      → length section.bytes < place s + s.width
-      → HasNoAddress greatest section s (end_fault (after (place s) section))
+      → length section.bytes < slot_offset s + s.width
+      → HasNoAddress greatest section s (end_fault (after (slot_offset s) section))
 
 -- the result for a string offset at a slot: the word, or the error that there is none
 abbrev pub WordAt : ℕ → Input → Slot → Result ℕ Error → Type 0

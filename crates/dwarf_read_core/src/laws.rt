@@ -1,34 +1,40 @@
 //! Laws over the definitions: each function has one as its contract, and does nothing.
 
-ghost use Rattle.std.specs.Prelude.{◌≡◌, ◌≢◌, ◌↔◌, ◌+◌, ◌-◌, ◌*◌, ◌/◌, Bool, IsTrue, IsSome, Option, Some, None, ℕ, ◌<◌, ◌≤◌, List, [], ◌∷◌, length, slice_get, slice_index, count_by, All, IfErr, IfSome, Ok, Err, Result, is_ok};
+ghost use Rattle.std.specs.Prelude.{◌≡◌, ◌≢◌, ◌↔◌, ◌+◌, ◌-◌, ◌*◌, ◌/◌, Bool, true, false, IsTrue, IsSome, Option, Some, None, ℕ, ◌<◌, ◌≤◌, List, [], ◌∷◌, ◌++◌, codes, map, length, slice_get, slice_index, count_by, All, IfErr, IfSome, Ok, Err, Result, is_ok};
 ghost use Rattle.std.specs.FinMap as finite;
+ghost use Rattle.std.specs.Iterator.{YieldsFirst};
 ghost use Rattle.std.specs.List.{sum_by};
 ghost use Rattle.dwarf_base_core.specs.declared.error.Error.{Error};
-ghost use Rattle.dwarf_reader_core.specs.Input.{Input, after};
+ghost use Rattle.dwarf_code_core.specs.DwChildren.{children_names};
+ghost use Rattle.dwarf_const_core.specs.DwForm.{form_names};
+ghost use Rattle.dwarf_const_core.specs.Names.{name_of};
+ghost use Rattle.dwarf_reader_core.specs.Input.{Input, after, end_of};
 ghost use Rattle.dwarf_base_core.specs.Format.{initial_length_size};
 ghost use Rattle.dwarf_base_core.specs.Number.{number_of};
+ghost use Rattle.dwarf_reader_core.specs.Faults.{IsCutIn, eof, is_number_size};
 ghost use Rattle.dwarf_reader_core.specs.Once.{HasOne};
-ghost use Rattle.dwarf_reader_core.specs.Appended.{followed_by, IsNotEof};
-ghost use Rattle.dwarf_read_core.specs.Answer.{Answer, IsFinal, IsStrictlyFinal, IsTableError, StrictAnswer, TableEndsAt};
-ghost use Rattle.dwarf_read_core.specs.Cache.{EndsItems, KeepsAnswers, least_count};
+ghost use Rattle.dwarf_reader_core.specs.Appended.{followed_by, IsNotEof, IsShortestFront};
+ghost use Rattle.dwarf_read_core.specs.Answer.{Answer, IsFinal, IsStrictlyFinal, IsTableError, StrictAnswer, TableEndsAt, unterminated};
+ghost use Rattle.dwarf_read_core.specs.Cache.{KeepsAnswers, NamesOffsets, least_count};
+ghost use Rattle.dwarf_read_core.specs.declared.read.abbrev.cache.AbbreviationsCacheStrategy.{AbbreviationsCacheStrategy};
 ghost use Rattle.dwarf_read_core.specs.declared.read.abbrev.cache.AbbreviationsCacheStrategy.TheVariants.{Duplicates, All as AllOffsets};
 ghost use Rattle.dwarf_read_core.specs.Equality.{HasValueByForm, same_declaration};
-ghost use Rattle.dwarf_read_core.specs.Grammar.{Declaration, Table};
+ghost use Rattle.dwarf_read_core.specs.Grammar.{Declaration, Table, children_byte, implicit_const};
 ghost use Rattle.dwarf_read_core.specs.Entries.{AreNumbers, Entries, EntryAt, RepresentsAddresses, RepresentsStringOffsets};
 ghost use Rattle.dwarf_reader_core.specs.Headers.{IsHeader};
 ghost use Rattle.dwarf_read_core.specs.Items.{least_taken};
 ghost use Rattle.dwarf_read_core.specs.Ranges.{RangeAt};
-ghost use Rattle.dwarf_read_core.specs.Sets.{Headers, Set, RepresentsSets, followed_headers};
+ghost use Rattle.dwarf_read_core.specs.Sets.{Remaining, Set, RepresentsSets, followed_remaining};
 ghost use Rattle.dwarf_read_core.specs.Strings.{StringAt};
-ghost use Rattle.dwarf_read_core.specs.Words.{AddressAt, Slot, WordAt, place};
+ghost use Rattle.dwarf_read_core.specs.Words.{AddressAt, Slot, WordAt, distance, slot_offset};
 
 use crate::read::HeaderFields;
 pub use dwarf_base_core::laws::{names_of_sections, numbers_of_bytes};
 pub use dwarf_code_core::laws::{names_are_distinct, negate_ra_state_is_window_save};
 pub use dwarf_const_core::laws::names_are_distinct as names_of_two_bytes_are_distinct;
 pub use dwarf_reader_core::laws::{
-    exactly_one_initial_length, exactly_one_outcome, exactly_one_shortest,
-    no_encoding_begins_another, one_string, written_is_read,
+    bad_bytes_stay_bad, exactly_one_initial_length, exactly_one_outcome, exactly_one_shortest,
+    missing_bytes_of_headers, no_encoding_begins_another, one_string, written_is_read,
 };
 
 /// Every section has exactly one result at every offset: a table, or the first error.
@@ -45,27 +51,40 @@ pub fn errors_of_tables()
         → IsTableError e }
 {}
 
-/// Every section has exactly one strict result at every offset. Appended bytes don't change it,
-/// unless it depends on where the section ends.
-#[tactic(auto, using(crate::proofs::tables::StrictAnswers::strict_answer_exactly_one, crate::proofs::tables::StrictAnswers::strict_answer_more))]
+/// Every section has exactly one strict result at every offset. Some appended bytes change it exactly
+/// if it depends on where the section ends.
 pub fn exactly_one_strict_answer()
     ensures one { (section : Input) (offset : ℕ) → HasOne (StrictAnswer section offset) }
     ensures stable { (section : Input) (more : List ℕ) (offset : ℕ) (answer : Result Table Error)
         → StrictAnswer section offset answer → IsStrictlyFinal answer
         → StrictAnswer (followed_by section more) offset answer }
+    ensures changed { (section : Input) (offset : ℕ) (answer : Result Table Error)
+        → StrictAnswer section offset answer → (IsStrictlyFinal answer → ⊥)
+        → (more : List ℕ) × (StrictAnswer (followed_by section more) offset answer → ⊥) }
 {}
 
-/// Appended bytes don't change a result that doesn't depend on where the section ends.
-#[tactic(auto, using(crate::proofs::tables::AppendedBytes::answer_more))]
+/// Some appended bytes change a result exactly if it depends on where the section ends.
 pub fn appended_bytes_change_nothing()
-    ensures { (section : Input) (more : List ℕ) (offset : ℕ) (answer : Result Table Error)
+    ensures stable { (section : Input) (more : List ℕ) (offset : ℕ) (answer : Result Table Error)
         → Answer section offset answer → IsFinal answer
         → Answer (followed_by section more) offset answer }
+    ensures changed { (section : Input) (offset : ℕ) (answer : Result Table Error)
+        → Answer section offset answer → (IsFinal answer → ⊥)
+        → (more : List ℕ) × (Answer (followed_by section more) offset answer → ⊥) }
+{}
+
+/// Tables have no byte order: a section has the same result in either one.
+#[tactic(auto, using(crate::proofs::tables::ByteOrders::answer_in_either_order))]
+pub fn tables_have_no_byte_order()
+    ensures { (section : Input) (is_big : Bool) (offset : ℕ) (answer : Result Table Error)
+        → Answer section offset answer
+        → Answer (record section { is_big = is_big }) offset answer }
 {}
 
 /// A table at an offset ends at exactly one offset. Appended bytes don't change where a table ends
 /// that a code of value 0 closes. A table that begins before the section's end takes at least one
-/// byte, so a walk from table to table ends.
+/// byte, so a walk from table to table ends. The end of a table is that of the shortest front of the
+/// section with the same table.
 #[tactic(auto, using(crate::proofs::tables::TableEnds::ends))]
 pub fn exactly_one_end()
     ensures one { (section : Input) (offset : ℕ) (t : Table) → Answer section offset (Ok t)
@@ -75,6 +94,9 @@ pub fn exactly_one_end()
         → TableEndsAt (followed_by section more) offset t end }
     ensures after { (section : Input) (offset end : ℕ) (t : Table) → offset < length section.bytes
         → TableEndsAt section offset t end → offset < end }
+    ensures front { (section : Input) (offset end : ℕ) (t : Table) → Answer section offset (Ok t)
+        → TableEndsAt section offset t end
+        ↔ IsShortestFront (λ front. Answer front offset (Ok t)) section end }
 {}
 
 /// A strategy, a section and offsets determine what a cache keeps: at each offset its one result,
@@ -87,21 +109,47 @@ pub fn exactly_one_cache()
         → KeepsAnswers least section offsets others → (key : ℕ) → others key ≡ kept key }
 {}
 
-/// Of offsets that occur, `All` keeps each, and `Duplicates` those that occur twice. Neither keeps
-/// one that doesn't occur. Offsets don't end with an `OutOfMemory`.
+/// `All` keeps each offset that occurs, and `Duplicates` each that occurs at least twice. Neither keeps
+/// any other.
 #[tactic(auto, using(crate::proofs::cache::CountingOffsets::strategies))]
 pub fn strategies_count_offsets()
-    ensures all { (section : Input) (key : ℕ) (kept : ℕ → Option (Result Table Error))
-        → KeepsAnswers (least_count AllOffsets) section (key ∷ []) kept → IsSome (kept key) }
-    ensures all_none { (section : Input) (key : ℕ) (kept : ℕ → Option (Result Table Error))
-        → KeepsAnswers (least_count AllOffsets) section [] kept → kept key ≡ None }
-    ensures duplicates { (section : Input) (key : ℕ) (kept : ℕ → Option (Result Table Error))
-        → KeepsAnswers (least_count Duplicates) section (key ∷ key ∷ []) kept
+    ensures all { (section : Input) (before after : List ℕ) (key : ℕ)
+        (kept : ℕ → Option (Result Table Error))
+        → KeepsAnswers (least_count AllOffsets) section (before ++ key ∷ after) kept
         → IsSome (kept key) }
-    ensures duplicates_none { (section : Input) (key : ℕ) (kept : ℕ → Option (Result Table Error))
-        → KeepsAnswers (least_count Duplicates) section (key ∷ []) kept → kept key ≡ None }
-    ensures ends { (last : Option (Result ℕ Error)) → EndsItems last
-        → last ≢ Some (Err Error.OutOfMemory) }
+    ensures duplicates { (section : Input) (before between after : List ℕ) (key : ℕ)
+        (kept : ℕ → Option (Result Table Error)) → KeepsAnswers (least_count Duplicates) section
+        (before ++ key ∷ between ++ key ∷ after) kept → IsSome (kept key) }
+    ensures duplicates_none { (section : Input) (before after : List ℕ) (key : ℕ)
+        (kept : ℕ → Option (Result Table Error)) → All (λ offset. offset ≢ key) before
+        → All (λ offset. offset ≢ key) after
+        → KeepsAnswers (least_count Duplicates) section (before ++ key ∷ after) kept
+        → kept key ≡ None }
+    ensures never { (strategy : AbbreviationsCacheStrategy) (section : Input) (offsets : List ℕ)
+        (key : ℕ) (kept : ℕ → Option (Result Table Error)) → All (λ offset. offset ≢ key) offsets
+        → KeepsAnswers (least_count strategy) section offsets kept → kept key ≡ None }
+{}
+
+/// An iterator names exactly its offsets if it yields no error, and exactly those before its first
+/// error if that isn't `OutOfMemory`. Otherwise it names none.
+pub fn offsets_are_named_to_their_end()
+    ensures named { (numbers offsets : List ℕ)
+        → NamesOffsets (YieldsFirst (λ rest. rest)) (λ n. n) (map (λ n. Ok n) numbers) offsets
+        ↔ (offsets ≡ numbers) }
+    ensures until { (numbers offsets : List ℕ) (e : Error) (rest : List (Result ℕ Error))
+        → NamesOffsets (YieldsFirst (λ rest. rest)) (λ n. n)
+        (map (λ n. Ok n) numbers ++ Err e ∷ rest) offsets
+        ↔ ((e ≢ Error.OutOfMemory) × (offsets ≡ numbers)) }
+{}
+
+/// The numbers in the grammar are those of the constants that have these names.
+pub fn grammar_has_names()
+    ensures without_children { name_of children_names (children_byte false)
+        ≡ Some (codes "DW_CHILDREN_no") }
+    ensures with_children { name_of children_names (children_byte true)
+        ≡ Some (codes "DW_CHILDREN_yes") }
+    ensures with_value { name_of form_names implicit_const
+        ≡ Some (codes "DW_FORM_implicit_const") }
 {}
 
 /// Two abbreviations are equal exactly if they are the same declaration.
@@ -145,49 +193,90 @@ pub fn lookups_are_parts()
         × (slice_index section.bytes (offset + length string.bytes) ≡ 0) }
     ensures word { (greatest : ℕ) (section : Input) (s : Slot) (x : ℕ)
         → WordAt greatest section s (Ok x)
-        → (part : Input) × RangeAt section (place s) s.width (Ok part)
+        → (part : Input) × RangeAt section (slot_offset s) s.width (Ok part)
         × (x ≡ number_of part.is_big part.bytes) }
     ensures address { (greatest : ℕ) (section : Input) (s : Slot) (x : ℕ)
         → AddressAt greatest section s (Ok x)
-        → (part : Input) × RangeAt section (place s) s.width (Ok part)
+        → (part : Input) × RangeAt section (slot_offset s) s.width (Ok part)
         × (x ≡ number_of part.is_big part.bytes) }
 {}
 
-/// Appended bytes don't change the string at an offset.
-#[tactic(auto, using(crate::proofs::lookups::Strings::string_more))]
+/// Each `UnexpectedEof` is that of the first of consecutive fields that isn't there whole, at the
+/// position where this field begins. The error of a strict reading is at the section's end.
+pub fn missing_bytes_are_those_of_a_field()
+    ensures table { (section : Input) (offset position : ℕ)
+        → Answer section offset (Err (eof position))
+        → IsCutIn section (offset ∷ (length section.bytes - offset) ∷ 1 ∷ []) (eof position) }
+    ensures strict { (section : Input) (offset position : ℕ)
+        → StrictAnswer section offset (Err (unterminated position)) → position ≡ end_of section }
+    ensures string { (section : Input) (offset : ℕ) (e : Error) → StringAt section offset (Err e)
+        → IsCutIn section (offset ∷ (length section.bytes + 1) ∷ []) e }
+    ensures range { (section : Input) (offset size : ℕ) (e : Error)
+        → RangeAt section offset size (Err e) ↔ IsCutIn section (offset ∷ size ∷ []) e }
+    ensures word { (greatest : ℕ) (section : Input) (s : Slot) (position : ℕ)
+        → WordAt greatest section s (Err (eof position))
+        → IsCutIn section (s.base ∷ distance s ∷ s.width ∷ []) (eof position) }
+    ensures address { (greatest : ℕ) (section : Input) (s : Slot) (position : ℕ)
+        → AddressAt greatest section s (Err (eof position))
+        → IsCutIn section (s.base ∷ distance s ∷ s.width ∷ []) (eof position) }
+{}
+
+/// What can be judged without the bytes of a slot is judged first. So bytes are missing only if its
+/// distance is an offset, and if the width of an address is a size of addresses.
+pub fn slots_are_judged_before_their_bytes()
+    ensures word { (greatest : ℕ) (section : Input) (s : Slot) (position : ℕ)
+        → WordAt greatest section s (Err (eof position)) → s.base ≤ length section.bytes
+        → distance s ≤ greatest }
+    ensures address { (greatest : ℕ) (section : Input) (s : Slot) (position : ℕ)
+        → AddressAt greatest section s (Err (eof position)) → s.base ≤ length section.bytes
+        → distance s ≤ greatest }
+    ensures width { (greatest : ℕ) (section : Input) (s : Slot) (position : ℕ)
+        → AddressAt greatest section s (Err (eof position)) → slot_offset s ≤ length section.bytes
+        → is_number_size s.width ≡ true }
+{}
+
+/// Appended bytes don't change the string at an offset, and some change each error there.
 pub fn appended_bytes_change_no_string()
-    ensures { (section : Input) (offset : ℕ) (found : Input) (more : List ℕ)
+    ensures stable { (section : Input) (offset : ℕ) (found : Input) (more : List ℕ)
         → StringAt section offset (Ok found)
         → StringAt (followed_by section more) offset (Ok found) }
+    ensures changed { (section : Input) (offset : ℕ) (e : Error) → StringAt section offset (Err e)
+        → (more : List ℕ) × (StringAt (followed_by section more) offset (Err e) → ⊥) }
 {}
 
 /// Appended bytes change neither the string offset at a slot nor its error, unless that is an
-/// `UnexpectedEof`.
-#[tactic(auto, using(crate::proofs::lookups::Words::word_more))]
+/// `UnexpectedEof`. Some change each `UnexpectedEof`.
 pub fn appended_bytes_change_no_word()
-    ensures { (greatest : ℕ) (section : Input) (s : Slot) (answer : Result ℕ Error) (more : List ℕ)
+    ensures stable { (greatest : ℕ) (section : Input) (s : Slot) (answer : Result ℕ Error)
+        (more : List ℕ)
         → WordAt greatest section s answer → IfErr answer IsNotEof
         → WordAt greatest (followed_by section more) s answer }
+    ensures changed { (greatest : ℕ) (section : Input) (s : Slot) (answer : Result ℕ Error)
+        → WordAt greatest section s answer → (IfErr answer IsNotEof → ⊥)
+        → (more : List ℕ) × (WordAt greatest (followed_by section more) s answer → ⊥) }
 {}
 
 /// Appended bytes change neither the address at a slot nor its error, unless that is an
-/// `UnexpectedEof`.
-#[tactic(auto, using(crate::proofs::lookups::Words::address_more))]
+/// `UnexpectedEof`. Some change each `UnexpectedEof`.
 pub fn appended_bytes_change_no_address()
-    ensures { (greatest : ℕ) (section : Input) (s : Slot) (answer : Result ℕ Error) (more : List ℕ)
+    ensures stable { (greatest : ℕ) (section : Input) (s : Slot) (answer : Result ℕ Error)
+        (more : List ℕ)
         → AddressAt greatest section s answer → IfErr answer IsNotEof
         → AddressAt greatest (followed_by section more) s answer }
+    ensures changed { (greatest : ℕ) (section : Input) (s : Slot) (answer : Result ℕ Error)
+        → AddressAt greatest section s answer → (IfErr answer IsNotEof → ⊥)
+        → (more : List ℕ) × (AddressAt greatest (followed_by section more) s answer → ⊥) }
 {}
 
 /// The bytes that remain of a section have exactly one list of sets of each kind, and then at most
 /// one error. So the list ends: a set has at least four bytes and those of its header, and an error
 /// takes up at least one byte.
 pub fn exactly_one_list_of_sets<H: HeaderFields>()
-    ensures one { (greatest : ℕ) (headers : Headers)
-        → HasOne (RepresentsSets H.header greatest headers) }
-    ensures bound { (greatest : ℕ) (headers : Headers) (items : List (Result (Set H) Error))
-        → RepresentsSets H.header greatest headers items
-        → sum_by (least_taken (4 + H.BYTES)) items ≤ length headers.rest.bytes }
+    ensures one { (greatest : ℕ) (sets : Remaining)
+        → HasOne (RepresentsSets H.header greatest sets) }
+    ensures bound { (greatest : ℕ) (sets : Remaining) (items : List (Result (Set H) Error))
+        → RepresentsSets H.header greatest sets items
+        → sum_by (least_taken (4 + H.BYTES)) items ≤ length sets.rest.bytes }
 {}
 
 /// Bytes have exactly one header of each kind, or exactly one error in place of it, and a header has
@@ -199,11 +288,11 @@ pub fn exactly_one_header<H: HeaderFields>()
 /// Each set of a list is where its offset says: its entries are the part of the section after its
 /// initial length and its header, up to its end.
 pub fn sets_are_at_their_offsets<H: HeaderFields>()
-    ensures { (greatest : ℕ) (headers : Headers) (items : List (Result (Set H) Error)) (index : ℕ)
-        (s : Set H) → RepresentsSets H.header greatest headers items
+    ensures { (greatest : ℕ) (sets : Remaining) (items : List (Result (Set H) Error)) (index : ℕ)
+        (s : Set H) → RepresentsSets H.header greatest sets items
         → slice_get items index ≡ Some (Ok s)
-        → (place : ℕ) × (s.offset ≡ headers.offset + place) × RangeAt headers.rest
-        (place + initial_length_size s.format + H.BYTES) (s.unit_length - H.BYTES)
+        → (far : ℕ) × (s.offset ≡ sets.offset + far) × RangeAt sets.rest
+        (far + initial_length_size s.format + H.BYTES) (s.unit_length - H.BYTES)
         (Ok s.entries) }
 {}
 
@@ -241,12 +330,12 @@ pub fn exactly_one_list_of_string_offsets()
 /// The first set stays the first when bytes are appended. So does a first error, unless it is an
 /// `UnexpectedEof`.
 pub fn appended_bytes_change_no_set<H: HeaderFields>()
-    ensures set { (greatest : ℕ) (headers : Headers) (s : Set H)
+    ensures set { (greatest : ℕ) (sets : Remaining) (s : Set H)
         (items others : List (Result (Set H) Error)) (more : List ℕ)
-        → RepresentsSets H.header greatest headers (Ok s ∷ items)
-        → RepresentsSets H.header greatest (followed_headers more headers) others
+        → RepresentsSets H.header greatest sets (Ok s ∷ items)
+        → RepresentsSets H.header greatest (followed_remaining more sets) others
         → (rest : List (Result (Set H) Error)) × (others ≡ Ok s ∷ rest) }
-    ensures error { (greatest : ℕ) (headers : Headers) (e : Error) (more : List ℕ)
-        → RepresentsSets H.header greatest headers (Err e ∷ []) → IsNotEof e
-        → RepresentsSets H.header greatest (followed_headers more headers) (Err e ∷ []) }
+    ensures error { (greatest : ℕ) (sets : Remaining) (e : Error) (more : List ℕ)
+        → RepresentsSets H.header greatest sets (Err e ∷ []) → IsNotEof e
+        → RepresentsSets H.header greatest (followed_remaining more sets) (Err e ∷ []) }
 {}

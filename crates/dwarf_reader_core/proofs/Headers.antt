@@ -1,50 +1,18 @@
 -- Bytes have exactly one header of each kind, or exactly one error in place of it, and what a reader reads is it.
-use Rattle.dwarf_reader_core.proofs.Common.{common_steps, ◌≡◌, ◌≢◌, ◌∙◌, ℕ, ◌+◌, ◌≤◌, false, IsTrue, length, take, Result, Ok, Err, refl, sym, subst, arith, ◌⊎◌, inl, inr, cases_lt, cond, lt-ltb, Error, IsTooShort, end_fault, Input, after, Takes, TakesByte, TakesNumber}
-use Rattle.std.proofs.Common.{eq-eqb, eqb, le-ltb, ltb, ne_eqb, slice_index}
-use Rattle.std.proofs.lemmas.Bool.{cases_eq, cases_Bool}
+use Rattle.dwarf_reader_core.proofs.Common.{common_steps, ◌≡◌, ◌≢◌, ◌∙◌, ℕ, ◌+◌, ◌<◌, ◌≤◌, false, IsTrue, length, take, Result, Ok, Err, refl, sym, subst, arith, ◌⊎◌, inl, inr, HasOne, Error, IsTooShort, end_fault, Input, after, Takes, TakesByte, TakesNumber}
+use Rattle.std.proofs.Common.{slice_index}
 use Rattle.std.proofs.lemmas.List.{get_or-drop}
 use Rattle.dwarf_base_core.specs.Number.{number_of}
 use Rattle.dwarf_base_core.specs.declared.error.Error.TheVariants.{UnknownVersion, UnsupportedAddressSize, UnsupportedSegmentSize}
 use Rattle.dwarf_reader_core.specs.Faults.{IsUnsupportedAddressSize, is_number_size}
 use Rattle.dwarf_reader_core.specs.Headers.{IsHeader, HasVersion, HasNoVersion, version_cut, version_unknown, HasAddressHeader, HasNoAddressHeader, address_unversioned, address_size_cut, address_size_unknown, segment_size_cut, segment_size_unknown, AddressHeaderAt, HasStringOffsetsHeader, HasNoStringOffsetsHeader, offsets_unversioned, padding_cut, StringOffsetsHeaderAt}
 use Rattle.dwarf_reader_core.proofs.Consuming.{rest-length, takes-both}
+use Rattle.dwarf_reader_core.proofs.Numbers.{byte_front}
+use Rattle.dwarf_reader_core.proofs.Once.{one_by_equality, one_by_test, one_unless}
 
 -- the number of the first two bytes
 abbrev version_of : Input → ℕ
 version_of unit = number_of unit.is_big (take 2 unit.bytes)
-
--- bytes begin with version 5, or with exactly one error in place of it
-version-some : (unit : Input) → HasVersion unit ⊎ ((e : Error) × HasNoVersion unit e)
-version-some unit =
-    elim (cases_lt (length unit.bytes) 2) [
-      | inl short ↦ inr (end_fault unit, version_cut short)
-      | inr enough ↦
-          elim (cases_eq (version_of unit) 5) [
-            | inl known ↦ inl (record { enough = enough; version = known })
-            | inr other ↦ inr (UnknownVersion (version_of unit), version_unknown enough refl other)
-          ]
-    ]
-
--- ---- exactly one result
-
--- the result for the fields after version 5, or the error in place of the version
-abbrev versioned : {A : Type 0} → Input → Result A Error → Result A Error
-versioned unit next =
-    cond (ltb (length unit.bytes) 2) (Err (end_fault unit))
-    (cond (eqb (version_of unit) 5) next (Err (UnknownVersion (version_of unit))))
-
--- after version 5 the other fields have the result
-versioned-is : {A : Type 0} {unit : Input} {next : Result A Error} → HasVersion unit → versioned unit next ≡ next
-versioned-is {unit = unit} has =
-    rw (le-ltb (length unit.bytes) 2 has.enough, eq-eqb (version_of unit) 5 has.version) refl
-
--- without it the error is the result
-unversioned-is : {A : Type 0} {unit : Input} {e : Error} (next : Result A Error) → HasNoVersion unit e
-    → versioned unit next ≡ Err e
-unversioned-is {unit = unit} next (version_cut short) = rw (lt-ltb (length unit.bytes) 2 short) refl
-unversioned-is {unit = unit} next (version_unknown enough is other) =
-    rw (le-ltb (length unit.bytes) 2 enough, ne_eqb (version_of unit) 5 (λ same. other (is ∙ same)))
-    (λ i. Err (UnknownVersion (sym is i)))
 
 -- the third byte of a header of addresses is the address size
 abbrev size_of : Input → ℕ
@@ -54,122 +22,111 @@ size_of unit = slice_index unit.bytes 2
 abbrev segment_of : Input → ℕ
 segment_of unit = slice_index unit.bytes 3
 
--- the result for the segment size
-abbrev segment_at : Input → Result (ℕ × Input) Error
-segment_at unit =
-    cond (ltb (length unit.bytes) 4) (Err (end_fault (after 3 unit)))
-    (cond (eqb (segment_of unit) 0) (Ok (size_of unit, after 4 unit)) (Err (UnsupportedSegmentSize (segment_of unit))))
+-- ---- exactly one result
 
--- the result for a header of addresses after its version
-abbrev sizes_at : Input → Result (ℕ × Input) Error
-sizes_at unit =
-    cond (ltb (length unit.bytes) 3) (Err (end_fault (after 2 unit)))
-    (cond (is_number_size (size_of unit)) (segment_at unit) (Err (UnsupportedAddressSize (size_of unit))))
+-- bytes have exactly one result for a kind of header if they have exactly one after version 5, and else that of the
+-- version
+one_after_version : {A : Type 0} (Is : Result A Error → Type 0) (unit : Input)
+    → ((e : Error) → HasNoVersion unit e → Is (Err e)) → ((x : A) → Is (Ok x) → HasVersion unit)
+    → ((e : Error) → Is (Err e) → HasVersion unit ⊎ HasNoVersion unit e) → (HasVersion unit → HasOne Is) → HasOne Is
+one_after_version Is unit lacks ok err following =
+    one_unless (length unit.bytes) 2 (Err (end_fault unit)) (λ short. lacks _ (version_cut short))
+    (λ short other is. grind arith) (λ enough.
+    one_by_equality (version_of unit) 5 (λ known. following (record { enough = enough; version = known }))
+    (λ different. (
+      Err (UnknownVersion (version_of unit)),
+      lacks _ (version_unknown enough refl different),
+      λ other is. grind arith,
+    )))
 
--- a result for a header of a set of addresses is the one result
-address_header-is : (unit : Input) (r : Result (ℕ × Input) Error) → AddressHeaderAt unit r
-    → versioned unit (sizes_at unit) ≡ r
-address_header-is unit (Ok x) has =
-    let sized = subst (λ n. IsTrue (is_number_size n)) (sym has.address_size) has.sized in
-    let n = length unit.bytes in
-    versioned-is has.version ∙ rw (le-ltb n 3 (omega (arith, has.enough)), sized, le-ltb n 4 has.enough, has.flat)
-    (λ i. Ok (has.address_size i, sym has.left i))
-address_header-is unit (Err e) (address_unversioned lacks) = unversioned-is _ lacks
-address_header-is unit (Err e) (address_size_cut version short) =
-    versioned-is version ∙ rw (lt-ltb (length unit.bytes) 3 short) refl
-address_header-is unit (Err e) (address_size_unknown version enough is other) =
-    let unsized = subst (λ n. is_number_size n ≡ false) (sym is) other in
-    versioned-is version ∙ rw (le-ltb (length unit.bytes) 3 enough, unsized) (λ i. Err (UnsupportedAddressSize (is i)))
-address_header-is unit (Err e) (segment_size_cut version sized short) = versioned-is version ∙ rw (short, sized) refl
-address_header-is unit (Err e) (segment_size_unknown version sized enough is other) =
-    let n = length unit.bytes in
-    versioned-is version ∙ rw (
-      le-ltb n 3 (omega (arith, enough)),
-      sized,
-      le-ltb n 4 enough,
-      ne_eqb (segment_of unit) 0 (λ same. other (sym is ∙ same)),
-    ) (λ i. Err (UnsupportedSegmentSize (is i)))
+-- bytes with version 5 have no error in place of the version
+version_or_none : {unit : Input} {e : Error} → HasVersion unit → HasNoVersion unit e → ⊥
+version_or_none version none = grind arith
 
--- there is a result for a header of a set of addresses
-address_header-some : (unit : Input) → (r : Result (ℕ × Input) Error) × AddressHeaderAt unit r
-address_header-some unit =
-    let size = slice_index unit.bytes 2 in
-    let segment = slice_index unit.bytes 3 in
-    elim (version-some unit) [
-      | inr none ↦ (Err none.0, address_unversioned none.1)
-      | inl version ↦
-          elim (cases_lt (length unit.bytes) 3) [
-            | inl short ↦ (Err (end_fault (after 2 unit)), address_size_cut version short)
-            | inr three ↦
-                elim (cases_Bool (is_number_size size)) [
-                  | inr other ↦ (Err (UnsupportedAddressSize size), address_size_unknown version three refl other)
-                  | inl sized ↦
-                      elim (cases_lt (length unit.bytes) 4) [
-                        | inl short ↦ (
-                          Err (end_fault (after 3 unit)),
-                          segment_size_cut version sized (omega (arith, short, three)),
-                        )
-                        | inr four ↦
-                            elim (cases_eq segment 0) [
-                              | inl flat ↦ (
-                                Ok (size, after 4 unit),
-                                record {
-                                  enough = four;
-                                  version = version;
-                                  address_size = refl;
-                                  sized = sized;
-                                  flat = flat;
-                                  left = refl;
-                                },
-                              )
-                              | inr other ↦ (
-                                Err (UnsupportedSegmentSize segment),
-                                segment_size_unknown version sized four refl other,
-                              )
-                            ]
-                      ]
-                ]
-          ]
-    ]
+-- after version 5 and an address size only the segment size can be wrong: it is cut, or isn't 0
+sized_only : {unit : Input} → HasVersion unit → IsTrue (is_number_size (size_of unit)) → (e : Error)
+    → HasNoAddressHeader unit e → ((length unit.bytes < 4) × (e ≡ end_fault (after 3 unit)))
+    ⊎ ((4 ≤ length unit.bytes) × (segment_of unit ≢ 0) × (e ≡ UnsupportedSegmentSize (segment_of unit)))
+    ⊎ (length unit.bytes < 3)
+sized_only version sized e (address_unversioned none) = absurd (version_or_none version none)
+sized_only version sized e (address_size_cut known short) = inr (inr short)
+sized_only version sized e (address_size_unknown known enough is other) =
+    let unsized = subst (λ n. is_number_size n ≡ false) (sym is) other in absurd cc
+sized_only version sized e (segment_size_cut known size short) = inl (omega arith, refl)
+sized_only version sized e (segment_size_unknown known size enough is other) =
+    inr (inl (enough, (λ zero. other (sym is ∙ zero)), λ i. UnsupportedSegmentSize (sym is i)))
 
--- the result for a header of string offsets after its version
-abbrev padding_at : Input → Result (Unit {0} × Input) Error
-padding_at unit = cond (ltb (length unit.bytes) 4) (Err (end_fault (after 2 unit))) (Ok (tt, after 4 unit))
+-- after version 5 and a byte that is no address size, the error of that byte is the only result
+unsized_only : {unit : Input} → HasVersion unit → 3 ≤ length unit.bytes → is_number_size (size_of unit) ≡ false
+    → (r : Result (ℕ × Input) Error) → AddressHeaderAt unit r → r ≡ Err (UnsupportedAddressSize (size_of unit))
+unsized_only version three unsized (Ok x) has =
+    let sized = subst (λ n. IsTrue (is_number_size n)) (sym has.address_size) has.sized in absurd cc
+unsized_only version three unsized (Err e) (address_unversioned none) = absurd (version_or_none version none)
+unsized_only version three unsized (Err e) (address_size_cut known short) = absurd (omega (arith, short, three))
+unsized_only version three unsized (Err e) (address_size_unknown known enough is other) =
+    λ i. Err (UnsupportedAddressSize (sym is i))
+unsized_only version three unsized (Err e) (segment_size_cut known size short) = absurd cc
+unsized_only version three unsized (Err e) (segment_size_unknown known size enough is other) = absurd cc
 
--- a result for a header of a set of string offsets is the one result
-offsets_header-is : (unit : Input) (r : Result (Unit {0} × Input) Error) → StringOffsetsHeaderAt unit r
-    → versioned unit (padding_at unit) ≡ r
-offsets_header-is unit (Ok x) has =
-    versioned-is has.version ∙ rw (le-ltb (length unit.bytes) 4 has.enough) (λ i. Ok (tt, sym has.left i))
-offsets_header-is unit (Err e) (offsets_unversioned lacks) = unversioned-is _ lacks
-offsets_header-is unit (Err e) (padding_cut version short) =
-    versioned-is version ∙ rw (lt-ltb (length unit.bytes) 4 short) refl
+-- bytes have exactly one header of a set of addresses or error
+address_header-one : (unit : Input) → HasOne (AddressHeaderAt unit)
+address_header-one unit =
+    one_after_version (AddressHeaderAt unit) unit (λ e. address_unversioned) (λ x has. has.version)
+    (λ e is. grind arith) (λ version.
+    one_unless (length unit.bytes) 3 (Err (end_fault (after 2 unit))) (address_size_cut version)
+    (λ short other is. grind arith) (λ three.
+    one_by_test (is_number_size (size_of unit)) (λ sized.
+    one_unless (length unit.bytes) 4 (Err (end_fault (after 3 unit)))
+    (λ short. segment_size_cut version sized (omega (arith, short, three)))
+    (λ short other is. grind (arith, sized_only version sized)) (λ four.
+    one_by_equality (segment_of unit) 0
+    (λ flat. (
+      Ok (size_of unit, after 4 unit),
+      record {
+        enough = four;
+        version = version;
+        address_size = refl;
+        sized = sized;
+        flat = flat;
+        left = refl;
+      },
+      λ other is. grind (arith, sized_only version sized),
+    ))
+    (λ different. (
+      Err (UnsupportedSegmentSize (segment_of unit)),
+      segment_size_unknown version sized four refl different,
+      λ other is. grind (arith, sized_only version sized),
+    ))))
+    (λ unsized. (
+      Err (UnsupportedAddressSize (size_of unit)),
+      address_size_unknown version three refl unsized,
+      unsized_only version three unsized,
+    ))))
 
--- there is a result for a header of a set of string offsets
-offsets_header-some : (unit : Input) → (r : Result (Unit {0} × Input) Error) × StringOffsetsHeaderAt unit r
-offsets_header-some unit =
-    elim (version-some unit) [
-      | inr none ↦ (Err none.0, offsets_unversioned none.1)
-      | inl version ↦
-          elim (cases_lt (length unit.bytes) 4) [
-            | inl short ↦ (Err (end_fault (after 2 unit)), padding_cut version short)
-            | inr four ↦ (Ok (tt, after 4 unit), record { enough = four; version = version; left = refl })
-          ]
-    ]
+-- bytes have exactly one header of a set of string offsets or error
+offsets_header-one : (unit : Input) → HasOne (StringOffsetsHeaderAt unit)
+offsets_header-one unit =
+    one_after_version (StringOffsetsHeaderAt unit) unit (λ e. offsets_unversioned) (λ x has. has.version)
+    (λ e is. grind arith) (λ version.
+    one_unless (length unit.bytes) 4 (Err (end_fault (after 2 unit))) (padding_cut version)
+    (λ short other is. grind arith)
+    (λ four. (
+      Ok (tt, after 4 unit),
+      record { enough = four; version = version; left = refl },
+      λ other is. grind arith,
+    )))
 
--- bytes have exactly one header of a set of addresses or error, and such a header has four bytes
+-- a header of a set of addresses has four bytes
 pub address_header : IsHeader 4 AddressHeaderAt
 address_header = record {
-  one = λ unit. let some = address_header-some unit in
-      (some.0, some.1, λ other is. sym (address_header-is unit other is) ∙ address_header-is unit some.0 some.1);
+  one = address_header-one;
   sized = λ unit rest size has. record { enough = has.enough; left = has.left };
 }
 
--- so they have of a set of string offsets
+-- so has one of a set of string offsets
 pub string_offsets_header : IsHeader 4 StringOffsetsHeaderAt
 string_offsets_header = record {
-  one = λ unit. let some = offsets_header-some unit in
-      (some.0, some.1, λ other is. sym (offsets_header-is unit other is) ∙ offsets_header-is unit some.0 some.1);
+  one = offsets_header-one;
   sized = λ unit rest none has. record { enough = has.enough; left = has.left };
 }
 
@@ -183,7 +140,7 @@ record ByteAfter (n : ℕ) (unit : Input) (b : ℕ) (new : Input) : Type 0 where
 
 -- a byte that is read after n bytes is the next one
 byte_after : {n b : ℕ} {unit mid new : Input} → Takes n unit mid → TakesByte mid b new → ByteAfter n unit b new
-byte_after {n} {b} {unit} {mid} {new} takes byte = grind (arith, common_steps, get_or-drop)
+byte_after {n} {b} {unit} {mid} {new} takes byte = grind (arith, common_steps, get_or-drop, byte_front byte)
 
 -- if no byte is read after n bytes, the input has these alone
 no_byte_after : {n : ℕ} {unit mid new : Input} {e : Error} → Takes n unit mid → IsTooShort 1 mid e new

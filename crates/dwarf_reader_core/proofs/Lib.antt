@@ -3,6 +3,10 @@ pub mod Encodings
 pub mod Bits
 pub mod Reading
 pub mod Outcomes
+pub mod Malformed
+pub mod Fronts
+pub mod Positions
+pub mod MissingFields
 pub mod Numbers
 pub mod Shortest
 pub mod ShortestExists
@@ -10,6 +14,7 @@ pub mod SignedBits
 pub mod Writing
 pub mod Bytes
 pub mod Once
+pub mod Strings
 pub mod Results
 pub mod Consuming
 pub mod InitialLengths

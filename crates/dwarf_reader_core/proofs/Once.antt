@@ -1,68 +1,18 @@
--- Bytes have exactly one outcome as a string.
-use Rattle.dwarf_reader_core.proofs.Common.{◌≡◌, ◌≢◌, ℕ, zero, suc, ◌+◌, ◌<◌, take, refl, sym, ap, ◌∙◌, arith, ◌⊎◌, inl, inr, List, [], ◌∷◌, All, All-nil, All-cons, cases_lt, length-take, Error, Input, after, first, IsFirst, TakesString, HasNoByte, end_fault}
-use Rattle.std.proofs.Common.{get_or-take, slice_index}
-use Rattle.std.proofs.lemmas.List.Elements.{All-get_or}
+-- Exactly one value has a property, by cases.
+use Rattle.dwarf_reader_core.proofs.Common.{◌≡◌, ◌≢◌, ℕ, ◌<◌, ◌≤◌, Bool, true, false, refl, inl, inr, cases_lt, HasOne}
+use Rattle.std.proofs.lemmas.Bool.{cases_eq}
 
--- no byte before the first one with a value has that value
-not_below : {byte i j : ℕ} {bytes : List ℕ} → IsFirst byte bytes i → IsFirst byte bytes j → i < j → ⊥
-not_below {byte} {i} {j} {bytes} a b below =
-    let long = length-take j bytes in
-    let here : slice_index (take j bytes) i ≡ byte = get_or-take j bytes i 0 below ∙ a.here in
-    All-get_or (λ b. b ≢ byte) (take j bytes) i 0 (omega (arith, below, long, a.within)) b.before here
+-- exactly one value has a property if it is x where m < n, and elsewhere there is exactly one
+pub one_unless : {A : Type 0} {Is : A → Type 0} (m n : ℕ) (x : A) → (m < n → Is x)
+    → (m < n → (other : A) → Is other → other ≡ x) → (n ≤ m → HasOne Is) → HasOne Is
+one_unless m n x below only above = elim (cases_lt m n) [ inl h ↦ (x, below h, only h) | inr h ↦ above h ]
 
--- bytes have one first byte with a value
-same_index : {byte i j : ℕ} {bytes : List ℕ} → IsFirst byte bytes i → IsFirst byte bytes j → i ≡ j
-same_index {i = i} {j} a b =
-    elim (cases_lt i j) [
-      | inl below ↦ absurd (not_below a b below)
-      | inr above ↦
-          elim (cases_lt j i) [
-            | inl below ↦ absurd (not_below b a below)
-            | inr equal ↦ omega arith
-          ]
-    ]
+-- exactly one value has a property if there is exactly one at either outcome of a test
+pub one_by_test : {A : Type 0} {Is : A → Type 0} (t : Bool) → (t ≡ true → HasOne Is) → (t ≡ false → HasOne Is)
+    → HasOne Is
+one_by_test true holds fails = holds refl
+one_by_test false holds fails = fails refl
 
--- two strings that are consumed from the same bytes are equal, and the same bytes remain
-pub one_string : (old s t x y : Input) → TakesString old s x → TakesString old t y → (s ≡ t) × (x ≡ y)
-one_string old s t x y a b =
-    let same = same_index a.ends b.ends in (
-      a.content ∙ ap (λ n. first n old) same ∙ sym b.content,
-      a.left ∙ ap (λ n. after (n + 1) old) same ∙ sym b.left,
-    )
-
--- bytes that begin with a string have a zero byte
-pub string_not_none : (old s x : Input) (e : Error) → TakesString old s x → HasNoByte 0 old e → ⊥
-string_not_none old s x e a b = All-get_or (λ b. b ≢ 0) old.bytes a.len 0 a.ends.within b.none a.ends.here
-
--- bytes have no zero byte, or a first zero byte at some index
-zero_or_none : (bytes : List ℕ) → All (λ b. b ≢ 0) bytes ⊎ ((index : ℕ) × IsFirst 0 bytes index)
-zero_or_none [] = inl (All-nil (λ b. b ≢ 0))
-zero_or_none (zero ∷ bytes) = grind arith
-zero_or_none (suc b ∷ bytes) =
-    elim (zero_or_none bytes) [
-      | inl none ↦ inl (All-cons (λ b. b ≢ 0) (suc b) bytes (λ e. omega arith) none)
-      | inr found ↦
-          inr (
-            suc found.0,
-            record {
-              within = omega (arith, found.1.within);
-              here = found.1.here;
-              before = All-cons (λ b. b ≢ 0) (suc b) (take found.0 bytes) (λ e. omega arith) found.1.before;
-            },
-          )
-    ]
-
--- bytes begin with a string, or have no zero byte
-abbrev pub HasString : Input → Type 0
-HasString old = ((s : Input) × (x : Input) × TakesString old s x) ⊎ ((e : Error) × HasNoByte 0 old e)
-
--- every input begins with a string, or has no zero byte
-pub some_string : (old : Input) → HasString old
-some_string old =
-    elim (zero_or_none old.bytes) [
-      | inl none ↦ inr (end_fault old, record { none = none; fault = refl })
-      | inr found ↦
-          let taken : TakesString old (first found.0 old) (after (found.0 + 1) old) =
-          record { len = found.0; ends = found.1; content = refl; left = refl } in
-          inl (first found.0 old, after (found.0 + 1) old, taken)
-    ]
+-- exactly one value has a property if there is exactly one whether two numbers are equal or not
+pub one_by_equality : {A : Type 0} {Is : A → Type 0} (m n : ℕ) → (m ≡ n → HasOne Is) → (m ≢ n → HasOne Is) → HasOne Is
+one_by_equality m n same other = elim (cases_eq m n) [ inl h ↦ same h | inr h ↦ other h ]

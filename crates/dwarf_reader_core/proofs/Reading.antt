@@ -4,6 +4,7 @@ use Rattle.dwarf_base_core.specs.declared.error.Error.TheVariants.{BadUnsignedLe
 use Rattle.dwarf_reader_core.specs.Leb128.{unsigned64, unsigned16, signed64, IsEncoding, NoneIsLast, unsigned_value, signed_value, is_negative, Kind, Number, value as value_of, limit, is_in_range, overflow_error, HasNumber, IsTruncated, ReadsNumber, ReadsNoNumber, TakesNoEncoding, TakesEncoding}
 use Rattle.dwarf_reader_core.proofs.Encodings.{in_range_i64, IsEncoding-cons, NoneIsLast-push, IsEncoding-push, IsEncoding-last, unsigned_value-push, worth_below, past_none, is_negative-push}
 use Rattle.dwarf_reader_core.proofs.Bits.{pow_digits, or_digit, tenth_out}
+use Rattle.dwarf_reader_core.proofs.Numbers.{byte_front}
 
 -- consuming no bytes leaves the input as it is
 pub after-zero : (input : Input) → after 0 input ≡ input
@@ -66,7 +67,7 @@ cut_rejects kind b within ends =
 module _ {old mid new : Input} {k value byte : ℕ} (b : Begun old k mid value) (t : TakesByte mid byte new) where
   -- the next byte is consumed after the first k
   next : (k < length old.bytes) × (take (k + 1) old.bytes ≡ take k old.bytes ++ byte ∷ []) × (new ≡ after (k + 1) old)
-  next = grind (arith, common_steps, after-after)
+  next = grind (arith, common_steps, after-after, byte_front t)
 
   -- the value of k + 1 digits is that of k digits and the next one
   next_worth : unsigned_value (take (k + 1) old.bytes) ≡ value + byte % 128 * 2 ^ (7 * k)
@@ -184,7 +185,7 @@ pub encoding_found : {old mid new : Input} {byte : ℕ} (n : ℕ) → TakesByte 
     → NoneIsLast (take n mid.bytes) → get_or mid.bytes n 0 < 128 → Takes (n + 1) mid new → TakesEncoding old new
 encoding_found {old} {mid} {new} {byte} n t more none last next =
     let parts : take (n + 2) old.bytes ≡ byte ∷ (take n mid.bytes ++ get_or mid.bytes n 0 ∷ []) =
-    grind (arith, common_steps) in
+    grind (arith, common_steps, byte_front t) in
     let rest = IsEncoding-push (take n mid.bytes) (get_or mid.bytes n 0) none last in
     record {
       len = n + 2;

@@ -1,8 +1,8 @@
 -- The errors of a reading.
-use Rattle.std.specs.Prelude.{◌≡◌, ◌≢◌, ℕ, ◌<◌, length, Bool, false, All, ◌==◌, ◌||◌, IsTrue, ◌⊎◌}
+use Rattle.std.specs.Prelude.{◌≡◌, ◌≢◌, ℕ, ◌<◌, length, List, [], ◌∷◌, Bool, false, All, ◌==◌, ◌||◌, IsTrue, ◌⊎◌}
 use Rattle.dwarf_base_core.specs.declared.error.Error.{Error}
 use Rattle.dwarf_base_core.specs.declared.error.Error.TheVariants.{UnexpectedEof, UnsupportedOffset, UnsupportedAddressSize, UnsupportedOffsetSize, OutOfMemory}
-use Rattle.dwarf_reader_core.specs.Input.{Input, TakesByte, TakesNumber}
+use Rattle.dwarf_reader_core.specs.Input.{Input, Takes, TakesByte, TakesNumber}
 
 -- the error that bytes are missing at a position
 abbrev pub eof : ℕ → Error
@@ -17,6 +17,13 @@ pub record IsTooShort (n : ℕ) (old : Input) (e : Error) (new : Input) : Type 0
   pub short : length old.bytes < n
   pub fault : e ≡ end_fault old
   pub left : new ≡ old
+
+-- of consecutive fields of these sizes, the first that isn't there whole has this error: that of missing bytes, at the
+-- position where the field begins
+abbrev pub IsCutIn : Input → List ℕ → Error → Type 0
+IsCutIn input [] e = ⊥
+IsCutIn input (size ∷ sizes) e =
+    IsTooShort size input e input ⊎ ((rest : Input) × Takes size input rest × IsCutIn rest sizes e)
 
 -- none of the bytes that remain has this value: the error is that of missing bytes
 pub record HasNoByte (byte : ℕ) (input : Input) (e : Error) : Type 0 where

@@ -8,6 +8,10 @@ pub record Input : Type 0 where
   pub position : ℕ
   pub is_big : Bool
 
+-- a section of these bytes, in this byte order: its first byte has position 0
+abbrev pub section_of : List ℕ → Bool → Input
+section_of bytes is_big = record { bytes = bytes; position = 0; is_big = is_big }
+
 -- what holds of every reader: positions are below 2 ^ 64, lengths are offsets, and bytes are below 256
 pub record IsBounded (greatest : ℕ) (input : Input) : Type 0 where
   pub positions : input.position + length input.bytes < 2 ^ 64
@@ -31,23 +35,21 @@ pub record Takes (n : ℕ) (old new : Input) : Type 0 where
   pub enough : n ≤ length old.bytes
   pub left : new ≡ after n old
 
--- a byte is consumed
-pub record TakesByte (old : Input) (byte : ℕ) (new : Input) : Type 0 where
-  pub enough : 1 ≤ length old.bytes
-  pub front : byte ≡ slice_index old.bytes 0
-  pub left : new ≡ after 1 old
-
 -- the number that n bytes encode is consumed
 pub record TakesNumber (n : ℕ) (old : Input) (x : ℕ) (new : Input) : Type 0 where
   pub enough : n ≤ length old.bytes
   pub encoded : x ≡ number_of old.is_big (take n old.bytes)
   pub left : new ≡ after n old
 
--- the signed number that n bytes encode is consumed
+-- a byte is consumed
+abbrev pub TakesByte : Input → ℕ → Input → Type 0
+TakesByte old byte new = TakesNumber 1 old byte new
+
+-- n bytes are consumed whose number is this signed one
 pub record TakesSigned (n : ℕ) (old : Input) (x : ℤ) (new : Input) : Type 0 where
-  pub enough : n ≤ length old.bytes
-  pub encoded : x ≡ signed_number n (number_of old.is_big (take n old.bytes))
-  pub left : new ≡ after n old
+  pub number : ℕ
+  pub taken : TakesNumber n old number new
+  pub signed : x ≡ signed_number n number
 
 -- the index is that of the first byte with this value
 pub record IsFirst (byte : ℕ) (bytes : List ℕ) (index : ℕ) : Type 0 where

@@ -1,11 +1,12 @@
 //! Laws of the definitions that the contracts cite.
 
-ghost use Rattle.std.specs.Prelude.{◌≡◌, ◌<◌, ◌≤◌, ◌⊎◌, ◌++◌, ℕ, All, List, Ok, length, IsTrue};
+ghost use Rattle.std.specs.Prelude.{◌≡◌, ◌<◌, ◌≤◌, ◌⊎◌, ◌↔◌, ◌++◌, ℕ, All, List, [], ◌∷◌, Ok, Err, length, IsTrue};
 ghost use Rattle.dwarf_base_core.specs.declared.error.Error.{Error};
 ghost use Rattle.dwarf_reader_core.specs.Input.{Input, TakesString};
-ghost use Rattle.dwarf_reader_core.specs.Faults.{HasNoByte};
+ghost use Rattle.dwarf_reader_core.specs.Faults.{HasNoByte, IsCutIn, eof};
+ghost use Rattle.dwarf_reader_core.specs.Headers.{AddressHeaderAt, StringOffsetsHeaderAt};
 ghost use Rattle.dwarf_reader_core.specs.InitialLength.{LengthAt};
-ghost use Rattle.dwarf_reader_core.specs.Leb128.{unsigned64, unsigned16, signed64, HasNumber, HasOutcome, IsEncoding, Kind, Number, is_in_range, limit};
+ghost use Rattle.dwarf_reader_core.specs.Leb128.{unsigned64, unsigned16, signed64, HasNumber, HasOutcome, IsEncoding, IsMalformed, Kind, Number, is_in_range, limit};
 ghost use Rattle.dwarf_reader_core.specs.Once.{HasOne};
 ghost use Rattle.dwarf_reader_core.specs.Shortest.{Encodes, IsShortest};
 
@@ -17,6 +18,13 @@ pub fn exactly_one_outcome()
     ensures unsigned { (bytes : List ℕ) → HasOne (HasOutcome unsigned64 bytes) }
     ensures short { (bytes : List ℕ) → HasOne (HasOutcome unsigned16 bytes) }
     ensures signed { (bytes : List ℕ) → HasOne (HasOutcome signed64 bytes) }
+{}
+
+/// Bytes are bad exactly if no bytes after them make them begin with a number.
+#[tactic(auto, using(crate::proofs::Malformed::bad_bytes))]
+pub fn bad_bytes_stay_bad()
+    ensures { (k : Kind) (bytes : List ℕ) → IsMalformed k bytes
+        ↔ ((more : List ℕ) (number : Number k) (n : ℕ) → HasNumber k (bytes ++ more) number n → ⊥) }
 {}
 
 /// No encoding begins another.
@@ -51,7 +59,21 @@ pub fn one_string()
 {}
 
 /// Bytes have exactly one result for an initial length: they begin with one, or have one error.
-#[tactic(auto, using(crate::proofs::InitialLengths::exactly_one_length))]
+#[tactic(auto, using(crate::proofs::InitialLengths::lengths_exactly_one))]
 pub fn exactly_one_initial_length()
     ensures { (greatest : ℕ) (old : Input) → HasOne (LengthAt greatest old) }
+{}
+
+/// An `UnexpectedEof` in place of a header or an initial length is that of the first field that isn't
+/// there whole, at the position where the field begins.
+#[tactic(auto, using(crate::proofs::MissingFields::missing_fields))]
+pub fn missing_bytes_of_headers()
+    ensures address { (unit : Input) (position : ℕ) → AddressHeaderAt unit (Err (eof position))
+        → IsCutIn unit (2 ∷ 1 ∷ 1 ∷ []) (eof position) }
+    ensures string_offsets { (unit : Input) (position : ℕ)
+        → StringOffsetsHeaderAt unit (Err (eof position))
+        → IsCutIn unit (2 ∷ 2 ∷ []) (eof position) }
+    ensures initial_length { (greatest : ℕ) (old new : Input) (position : ℕ)
+        → LengthAt greatest old (Err (eof position), new)
+        → IsCutIn old (4 ∷ 8 ∷ []) (eof position) }
 {}

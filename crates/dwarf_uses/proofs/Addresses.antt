@@ -4,13 +4,13 @@ use Rattle.dwarf_read_core.specs.declared.Error.{Error}
 use Rattle.dwarf_read_core.specs.declared.Error.TheVariants.{OutOfMemory}
 use Rattle.dwarf_read_core.specs.Entries.{Entries, RepresentsAddresses}
 use Rattle.dwarf_read_core.specs.Input.{Input}
-use Rattle.dwarf_read_core.specs.Items.{AreItems, GivesFirst, first_error}
+use Rattle.dwarf_read_core.specs.Items.{AreItems, GivesFirst, only_error}
 
 -- no items follow an error
 error_is_last : {S A : Type 0} {rest : S → Input} {Is : S → Result A Error → Type 0} {following : A → S → S} {old : S}
     {e : Error} {others : List (Result A Error)} → AreItems rest Is following old (Err e ∷ others)
     → AreItems rest Is following old (Err e ∷ [])
-error_is_last (first_error some is) = first_error some is
+error_is_last (only_error some is) = only_error some is
 
 -- an error that `next` returned is the only item, unless memory ran out
 pub error_is_item : (old new : Entries) (e : Error) → e ≢ OutOfMemory

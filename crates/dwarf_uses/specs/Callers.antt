@@ -1,14 +1,10 @@
 -- What the small callers return.
-use Rattle.std.specs.Prelude.{◌≡◌, ◌<◌, ℕ, false, List, [], ◌∷◌, ◌++◌, length, Ok, Err, ⊤}
+use Rattle.std.specs.Prelude.{◌≡◌, ◌<◌, ℕ, List, [], ◌∷◌, ◌++◌, length, Ok, Err, ⊤}
 use Rattle.std.specs.FinMap.{len}
 use Rattle.dwarf_read_core.specs.declared.Error.{Error}
 use Rattle.dwarf_read_core.specs.Answer.{Answer, TableEndsAt}
 use Rattle.dwarf_read_core.specs.Grammar.{Table}
 use Rattle.dwarf_read_core.specs.Input.{Input}
-
--- a section with these bytes, whose first byte has position 0
-abbrev pub section_of : List ℕ → Input
-section_of bytes = record { bytes = bytes; position = 0; is_big = false }
 
 -- the tables of a section from its start up to an offset: each begins where the one before it ends, if that isn't the
 -- section's end

@@ -1,16 +1,17 @@
 //! Small callers of the library, to start from. `docs/USING.md` and doc comments quote them.
 
-ghost use Rattle.std.specs.Prelude.{◌≡◌, ◌≢◌, ◌⊎◌, ◌∷◌, ◌++◌, [], ℕ, List, length, Ok, Err, IfOk, IfErr, map, option_map};
+ghost use Rattle.std.specs.Prelude.{◌≡◌, ◌≢◌, ◌⊎◌, ◌∷◌, ◌++◌, [], ℕ, false, List, length, Ok, Err, IfOk, IfErr, map, option_map};
 ghost use Rattle.std.specs.FinMap as finite;
 ghost use Rattle.dwarf_read_core.specs.Entries.{RepresentsAddresses};
 ghost use Rattle.dwarf_read_core.specs.Format.{word_size};
 ghost use Rattle.dwarf_read_core.specs.Grammar.{Table};
 ghost use Rattle.dwarf_read_core.specs.Answer.{Answer};
+ghost use Rattle.dwarf_read_core.specs.Input.{section_of};
 ghost use Rattle.dwarf_read_core.specs.Sections.{debug_abbrev_reader, debug_str_offsets_reader, debug_str_reader};
 ghost use Rattle.dwarf_read_core.specs.Sets.{addresses_of, seen_by};
 ghost use Rattle.dwarf_read_core.specs.Strings.{StringAt};
 ghost use Rattle.dwarf_read_core.specs.Words.{WordAt, slot};
-ghost use Rattle.dwarf_uses.specs.Callers.{AreTablesUpTo, HaveLengths, IsFirstError, section_of};
+ghost use Rattle.dwarf_uses.specs.Callers.{AreTablesUpTo, HaveLengths, IsFirstError};
 
 use dwarf_read_core::{
     Abbreviations, AbbreviationsCache, AbbreviationsCacheStrategy, AddrHeader, DebugAbbrev,
@@ -33,9 +34,9 @@ pub fn tag_of(table: &Abbreviations, code: u64) -> Option<DwTag>
 ///
 /// The first error of a table, which is one of [`DebugAbbrev::abbreviations`].
 pub fn all_tables(mem: Global, bytes: &[u8]) -> Result<Vec<Abbreviations>>
-    ensures ok { let section = section_of bytes.now in
+    ensures ok { let section = section_of bytes.now false in
         IfOk result (λ tables. AreTablesUpTo section tables.items (length bytes.now)) }
-    ensures err { let section = section_of bytes.now in
+    ensures err { let section = section_of bytes.now false in
         IfErr result (λ e. e ≢ Error.OutOfMemory → (tables : List Table) × (offset : ℕ)
         × AreTablesUpTo section tables offset × Answer section offset (Err e)) }
 {

@@ -1,8 +1,10 @@
 -- What a cache keeps after one more offset.
-use Rattle.dwarf_read_core.proofs.Common.{common_steps, ◌≡◌, ◌≢◌, ℕ, ◌+◌, ◌<◌, ◌≤◌, cond, eqb, List, [], ◌∷◌, ◌++◌, length, take, get_or, map, Option, Some, None, Result, refl, arith, All, IsPermutation, take_more, map_push, nat_tests, All-head, All-tail, sum_by-IsPermutation, sum_by_push, Error, Input, Answer, KeepsAnswers, occurrences, Table, ap, Cache, get, insert, get-insert, nat_cmp_total, nat_cmp, empty, least_count}
+use Rattle.dwarf_read_core.proofs.Common.{common_steps, ◌≡◌, ◌≢◌, ℕ, ◌+◌, ◌<◌, ◌≤◌, cond, eqb, List, [], ◌∷◌, ◌++◌, length, take, get_or, map, Option, Some, None, Result, refl, arith, All, IsPermutation, take_more, map_push, nat_tests, All-head, All-tail, sum_by-IsPermutation, sum_by_push, Error, Input, Answer, KeepsAnswers, occurrences, Table, ap, Cache, get, insert, get-insert, nat_cmp_total, nat_cmp, empty, least_count, eq-eqb, sum_by-cons, ◌∙◌}
 use Rattle.std.specs.FinMap.{get-empty}
 use Rattle.std.specs.Prelude.{IsSome}
+use Rattle.std.proofs.lemmas.List.Sums.{sum_by-append}
 use Rattle.dwarf_read_core.specs.declared.read.abbrev.cache.AbbreviationsCacheStrategy.{AbbreviationsCacheStrategy}
+use Rattle.dwarf_read_core.specs.declared.read.abbrev.cache.AbbreviationsCacheStrategy.TheVariants.{Duplicates, All as AllOffsets}
 
 -- after one more offset, that offset occurs once more, and the others as often as before
 pub occurrences-push : (q key : ℕ) (seen : List ℕ)
@@ -57,7 +59,7 @@ pub get_inserted : (cache : Cache) (key : ℕ) (answer : Result Table Error) (q 
     → get (insert cache key answer) q ≡ cond (eqb q key) (Some answer) (get cache q)
 get_inserted cache key answer q = grind (arith, nat_tests, get-insert nat_cmp_total cache key answer q)
 
--- ---- what the strategies keep of few offsets
+-- ---- what the strategies keep
 
 -- an offset that occurs at least `least` times is kept
 pub enough_kept : (least : ℕ) (section : Input) (offsets : List ℕ) (key : ℕ) (kept : ℕ → Option (Result Table Error))
@@ -69,13 +71,62 @@ pub few_not_kept : (least : ℕ) (section : Input) (offsets : List ℕ) (key : �
     → KeepsAnswers least section offsets kept → occurrences key offsets < least → kept key ≡ None
 few_not_kept least section offsets key kept h few = grind (arith, h key)
 
--- an offset occurs once among one that is it
-pub one_occurs : (key : ℕ) → occurrences key (key ∷ []) ≡ 1
-one_occurs key = grind (arith, nat_tests)
+-- in two lists an offset occurs as often as in both
+occurrences-append : (key : ℕ) (offsets others : List ℕ)
+    → occurrences key (offsets ++ others) ≡ occurrences key offsets + occurrences key others
+occurrences-append key offsets others = sum_by-append (λ o. cond (eqb o key) 1 0) offsets others
 
--- and twice among two
-pub two_occur : (key : ℕ) → occurrences key (key ∷ key ∷ []) ≡ 2
-two_occur key = grind (arith, nat_tests)
+-- an offset occurs once more with itself before the others
+occurrences_here : (key : ℕ) (offsets : List ℕ) → occurrences key (key ∷ offsets) ≡ 1 + occurrences key offsets
+occurrences_here key offsets =
+    sum_by-cons (λ o. cond (eqb o key) 1 0) key offsets
+    ∙ ap (λ b. cond b 1 0 + occurrences key offsets) (eq-eqb key key refl)
 
--- what each strategy keeps of no, one and two offsets
-pub ruleset strategies = (enough_kept, few_not_kept, one_occurs, two_occur)
+-- it doesn't occur among other offsets
+occurrences_none : (key : ℕ) (offsets : List ℕ) → All (λ offset. offset ≢ key) offsets → occurrences key offsets ≡ 0
+occurrences_none key [] none = refl
+occurrences_none key (offset ∷ offsets) none =
+    let other : offset ≢ key = All-head (λ o. o ≢ key) offset offsets none in
+    let rest = occurrences_none key offsets (All-tail (λ o. o ≢ key) offset offsets none) in
+    grind (arith, nat_tests)
+
+-- an offset among others occurs at least once
+pub occurs_among : (key : ℕ) (before after : List ℕ) → 1 ≤ occurrences key (before ++ key ∷ after)
+occurs_among key before after =
+    omega (arith, occurrences-append key before (key ∷ after), occurrences_here key after)
+
+-- and two of them at least twice
+pub occur_twice : (key : ℕ) (before between after : List ℕ)
+    → 2 ≤ occurrences key (before ++ key ∷ between ++ key ∷ after)
+occur_twice key before between after =
+    omega (
+      arith,
+      occurrences-append key (before ++ key ∷ between) (key ∷ after),
+      occurs_among key before between,
+      occurrences_here key after,
+    )
+
+-- an offset that is among the others once occurs less than twice
+pub occurs_once : (key : ℕ) (before after : List ℕ) → All (λ offset. offset ≢ key) before
+    → All (λ offset. offset ≢ key) after → occurrences key (before ++ key ∷ after) < 2
+occurs_once key before after none nothing =
+    omega (
+      arith,
+      occurrences-append key before (key ∷ after),
+      occurrences_here key after,
+      occurrences_none key before none,
+      occurrences_none key after nothing,
+    )
+
+-- each strategy keeps only offsets that occur
+least-positive : (strategy : AbbreviationsCacheStrategy) → 0 < least_count strategy
+least-positive Duplicates = omega arith
+least-positive AllOffsets = omega arith
+
+-- an offset that doesn't occur occurs too seldom for each strategy
+pub occurs_never : (strategy : AbbreviationsCacheStrategy) (key : ℕ) (offsets : List ℕ)
+    → All (λ offset. offset ≢ key) offsets → occurrences key offsets < least_count strategy
+occurs_never strategy key offsets none = omega (arith, occurrences_none key offsets none, least-positive strategy)
+
+-- what each strategy keeps
+pub ruleset strategies = (enough_kept, few_not_kept, occurs_among, occur_twice, occurs_once)

@@ -1,12 +1,10 @@
 -- Strings and words are parts of their section, and so is each part of a part.
-use Rattle.dwarf_read_core.proofs.Common.{common_steps, ◌≡◌, ◌∙◌, ℕ, ◌+◌, ◌-◌, ◌∷◌, ◌++◌, length, take, drop, refl, sym, subst, ap, arith, slice_index, get_or, length-append, length-drop, length-take-le, take_all, Input, after, first}
-use Rattle.std.proofs.lemmas.List.{get_or-append-add, get_or-drop, drop-drop, drop-take, take-take}
-use Rattle.std.proofs.Math.Nat.{add-zero}
-use Rattle.std.proofs.Math.Seq.{take-append_seam}
+use Rattle.dwarf_read_core.proofs.Common.{common_steps, ◌≡◌, ◌∙◌, ℕ, ◌+◌, ◌-◌, length, take, drop, refl, sym, ap, arith, slice_index, length-drop, length-take-le, take_all, Input, after, first}
+use Rattle.std.proofs.lemmas.List.{get_or-drop, drop-drop, drop-take, take-take}
 use Rattle.dwarf_base_core.specs.Number.{number_of}
 use Rattle.dwarf_read_core.specs.Ranges.{HoldsRange}
 use Rattle.dwarf_read_core.specs.Strings.{HoldsString}
-use Rattle.dwarf_read_core.specs.Words.{Holds, Slot, place}
+use Rattle.dwarf_read_core.specs.Words.{Holds, Slot, slot_offset}
 
 -- the part from the start on that has the section's length is the section
 pub range_whole : (section : Input) → HoldsRange section 0 (length section.bytes) section
@@ -29,7 +27,7 @@ range_nested section part inner offset size at n outer nested =
       content = nested.content ∙ ap (take n) cut
           ∙ take-take n rest (drop at following) (omega (arith, nested.within, long))
           ∙ ap (take n) (drop-drop at offset section.bytes);
-      place = omega (arith, nested.place, outer.place);
+      start = omega (arith, nested.start, outer.start);
       order = nested.order ∙ outer.order;
     }
 
@@ -38,30 +36,13 @@ pub string_part : (section : Input) (offset : ℕ) (string : Input) → HoldsStr
     → HoldsRange section offset (length string.bytes) string
     × (slice_index section.bytes (offset + length string.bytes) ≡ 0)
 string_part section offset string has =
-    let long : length (drop offset section.bytes) ≡ length (string.bytes ++ 0 ∷ has.rest) = ap length has.parts in (
-      record {
-        within = omega (
-          arith,
-          long,
-          length-drop offset section.bytes,
-          length-append string.bytes (0 ∷ has.rest),
-          has.within,
-        );
-        content = sym (ap (take (length string.bytes)) has.parts ∙ take-append_seam string.bytes (0 ∷ has.rest));
-        place = has.place;
-        order = has.order;
-      },
-      sym (get_or-drop offset section.bytes (length string.bytes) 0)
-          ∙ ap (λ bytes. get_or bytes (length string.bytes) 0) has.parts
-          ∙ subst (λ n. get_or (string.bytes ++ 0 ∷ has.rest) n 0 ≡ 0) (add-zero (length string.bytes))
-          (get_or-append-add string.bytes (0 ∷ has.rest) 0 0),
-    )
+    (has.part, sym (get_or-drop offset section.bytes (length string.bytes) 0) ∙ has.ends.here)
 
 -- the number that a slot holds is that of the part at its place
 pub number_part : {section : Input} {s : Slot} {x : ℕ} → Holds section s x
-    → (part : Input) × HoldsRange section (place s) s.width part × (x ≡ number_of part.is_big part.bytes)
+    → (part : Input) × HoldsRange section (slot_offset s) s.width part × (x ≡ number_of part.is_big part.bytes)
 number_part {section} {s} held = (
-  first s.width (after (place s) section),
-  record { within = held.within; content = refl; place = refl; order = refl },
+  first s.width (after (slot_offset s) section),
+  record { within = held.within; content = refl; start = refl; order = refl },
   held.encoded,
 )

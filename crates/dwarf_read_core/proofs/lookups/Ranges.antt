@@ -1,6 +1,6 @@
 -- The part that a reader reads after an offset is the section's part there, and a section has one result there.
-use Rattle.dwarf_read_core.proofs.Common.{common_steps, ◌≡◌, arith, ℕ, ◌+◌, ◌<◌, ◌≤◌, length, Ok, refl, Error, end_fault, IsTooShort, Input, after, first, Takes, HasOne, rest-length}
-use Rattle.dwarf_read_core.proofs.lookups.Words.{one_unless}
+use Rattle.dwarf_read_core.proofs.Common.{common_steps, ◌≡◌, arith, ℕ, ◌+◌, ◌<◌, ◌≤◌, length, Ok, Err, refl, Error, end_fault, IsTooShort, Input, after, first, Takes, HasOne, rest-length}
+use Rattle.dwarf_reader_core.proofs.Once.{one_unless}
 use Rattle.dwarf_read_core.specs.Ranges.{HasNoRange, HoldsRange, RangeAt, range_cut, range_past_end}
 
 -- the first bytes after an offset are the range there, if the section has as many
@@ -26,11 +26,11 @@ range_outside section offset size e new short = rw short.fault (range_past_end s
 -- a section has exactly one part or error at an offset
 pub ranges_exactly_one : (section : Input) (offset size : ℕ) → HasOne (RangeAt section offset size)
 ranges_exactly_one section offset size =
-    one_unless (length section.bytes) offset (end_fault section) range_past_end (λ past other is. grind arith)
+    one_unless (length section.bytes) offset (Err (end_fault section)) range_past_end (λ past other is. grind arith)
     (λ within.
-    one_unless (length section.bytes) (offset + size) (end_fault (after offset section)) (range_cut within)
+    one_unless (length section.bytes) (offset + size) (Err (end_fault (after offset section))) (range_cut within)
     (λ cut other is. grind arith) (λ enough. (
       Ok (first size (after offset section)),
-      record { within = enough; content = refl; place = refl; order = refl },
+      record { within = enough; content = refl; start = refl; order = refl },
       λ other is. grind arith,
     )))

@@ -1,33 +1,26 @@
 -- The string that a reader reads after an offset is the section's string there, and a section has one result there.
-use Rattle.dwarf_read_core.proofs.Common.{common_steps, ◌≡◌, ◌≢◌, ℕ, suc, ◌+◌, ◌<◌, List, ◌∷◌, ◌++◌, length, take, drop, Result, Ok, Err, refl, sym, ap, subst, ◌∙◌, arith, ◌⊎◌, inl, inr, Bool, slice_index, IfOk, IfErr, All, cases_lt, append_assoc, length-append, drop-append-le, Error, end_fault, followed_by, IsTooShort, HasNoByte, CloneRanOutOfMemory, Input, after, Takes, TakesString, HasOne, UnlessCloneRanOut, Stays, set}
-use Rattle.std.proofs.Math.Seq.{take-append_seam, get_or-append_seam}
-use Rattle.std.proofs.lemmas.List.{set-get_or, set_split}
+use Rattle.dwarf_read_core.proofs.Common.{◌≡◌, ◌≢◌, ℕ, ◌+◌, ◌≤◌, List, length, drop, Result, Ok, Err, refl, sym, ap, subst, ◌∙◌, arith, ◌⊎◌, inl, inr, Bool, IfOk, IfErr, All, cases_lt, length-take-le, drop-append-le, Error, end_fault, followed_by, IsTooShort, HasNoByte, CloneRanOutOfMemory, Input, after, Takes, TakesString, HasOne, UnlessCloneRanOut, Stays, IsNotEof}
 use Rattle.dwarf_reader_core.specs.Input.{IsFirst}
-use Rattle.dwarf_reader_core.proofs.Once.{one_string, some_string, string_not_none}
+use Rattle.dwarf_read_core.proofs.lookups.Results.{first_more, lookup-stays, range_more}
+use Rattle.dwarf_read_core.proofs.lookups.Ranges.{range_taken}
+use Rattle.dwarf_reader_core.proofs.Strings.{string_not_none, string_taken_once, string_taken_or_none}
+use Rattle.dwarf_read_core.specs.Ranges.{HoldsRange}
 use Rattle.dwarf_read_core.specs.Strings.{HasNoString, HoldsString, StringAt, string_past_end, string_unended}
 
 -- ---- what a lookup returns
 
--- a list is the items before an index, the item there and the items after it
-cut_at : (bytes : List ℕ) (index item : ℕ) → index < length bytes → slice_index bytes index ≡ item
-    → bytes ≡ take index bytes ++ item ∷ drop (suc index) bytes
-cut_at bytes index item within is =
-    sym (ap (set bytes index) (sym is) ∙ set-get_or bytes index 0) ∙ set_split bytes index item within
-
--- a string that is consumed after an offset is there, with a zero byte after it
+-- a string that is consumed after an offset is the section's part there, up to the first zero byte
 string_held : {section mid found new : Input} {offset : ℕ} → Takes offset section mid → TakesString mid found new
     → HoldsString section offset found
 string_held {section} {mid} {found} {offset = offset} takes t =
-    let bytes : mid.bytes ≡ drop offset section.bytes = ap (λ (i : Input). i.bytes) takes.left in
-    let same : found.bytes ≡ take t.len mid.bytes = ap (λ (i : Input). i.bytes) t.content in
+    let within : t.len ≤ length mid.bytes = omega (arith, t.ends.within) in
+    let long : t.len ≡ length found.bytes =
+    sym (ap (λ (i : Input). length i.bytes) t.content ∙ length-take-le t.len mid.bytes within) in
+    let ends = subst (λ (i : Input). IsFirst 0 i.bytes t.len) takes.left t.ends in
     record {
-      rest = drop (suc t.len) mid.bytes;
-      within = takes.enough;
-      parts = sym bytes ∙ cut_at mid.bytes t.len 0 t.ends.within t.ends.here
-          ∙ ap (λ (l : List ℕ). l ++ 0 ∷ drop (suc t.len) mid.bytes) (sym same);
-      unbroken = subst (λ (l : List ℕ). All (λ b. b ≢ 0) l) (sym same) t.ends.before;
-      place = ap (λ (i : Input). i.position) t.content ∙ ap (λ (i : Input). i.position) takes.left;
-      order = ap (λ (i : Input). i.is_big) t.content ∙ ap (λ (i : Input). i.is_big) takes.left;
+      part = subst (λ n. HoldsRange section offset n found) long
+          (range_taken section offset t.len mid found takes within t.content);
+      ends = subst (IsFirst 0 (drop offset section.bytes)) long ends;
     }
 
 -- if no zero byte is after an offset, there is no string
@@ -43,9 +36,12 @@ pub string-read : {X : Type 0} (section : Input) (offset : ℕ) (rest new : Inpu
     → IfOk r (λ x. TakesString rest (view x) new)
     → IfErr r (λ e. HasNoByte 0 rest e ⊎ CloneRanOutOfMemory clone_is_free e)
     → UnlessCloneRanOut (StringAt section offset) view clone_is_free r
-string-read section offset rest new view clone_is_free (Ok x) takes given h = string_held takes given
-string-read section offset rest new view clone_is_free (Err e) takes given (inl lacks) = inl (string_lacked takes lacks)
-string-read section offset rest new view clone_is_free (Err e) takes given (inr want) = inr want
+string-read section offset rest new view clone_is_free (Ok x) takes given h =
+    record { ok = string_held takes given; err = tt }
+string-read section offset rest new view clone_is_free (Err e) takes given (inl lacks) =
+    record { ok = tt; err = inl (string_lacked takes lacks) }
+string-read section offset rest new view clone_is_free (Err e) takes given (inr want) =
+    record { ok = tt; err = inr want }
 
 -- if the section ends before an offset, that error is its result there
 pub string_outside : (section : Input) (offset : ℕ) (e : Error) (new : Input) → IsTooShort offset section e new
@@ -57,25 +53,28 @@ string_outside section offset e new short = rw short.fault (string_past_end shor
 -- a string that a section has at an offset is still there when more bytes follow
 pub string_more : (section : Input) (offset : ℕ) (found : Input) (more : List ℕ) → HoldsString section offset found
     → HoldsString (followed_by section more) offset found
-string_more section offset found more is = record {
-  rest = is.rest ++ more;
-  within = omega (arith, is.within, length-append section.bytes more);
-  parts = drop-append-le offset section.bytes more is.within ∙ ap (λ (l : List ℕ). l ++ more) is.parts
-      ∙ append_assoc found.bytes (0 ∷ is.rest) more;
-  unbroken = is.unbroken;
-  place = is.place;
-  order = is.order;
-}
+string_more section offset found more is =
+    let within : offset ≤ length section.bytes = omega (arith, is.part.within) in
+    let longer = drop-append-le offset section.bytes more within in
+    record {
+      part = range_more section offset (length found.bytes) found more is.part;
+      ends = subst (λ (l : List ℕ). IsFirst 0 l (length found.bytes)) (sym longer)
+          (first_more 0 (drop offset section.bytes) more (length found.bytes) is.ends);
+    }
+
+-- appended bytes change no result for a string, except `UnexpectedEof`
+string_result_more : (section : Input) (offset : ℕ) (more : List ℕ) (answer : Result Input Error)
+    → StringAt section offset answer → IfErr answer IsNotEof → StringAt (followed_by section more) offset answer
+string_result_more section offset more (Ok found) is settled = string_more section offset found more is
+string_result_more section offset more (Err e) (string_past_end past) settled = absurd (settled _ refl)
+string_result_more section offset more (Err e) (string_unended within none) settled = absurd (settled _ refl)
 
 -- what a lookup of a string returned, except `UnexpectedEof` and `OutOfMemory`, stays when bytes are appended
-pub string-stays : {X : Type 0} (section : Input) (offset : ℕ) (view : X → Input) (clone_is_free : Bool)
-    (r : Result X Error) → UnlessCloneRanOut (StringAt section offset) view clone_is_free r
+pub string-stays : {X : Type 0} {section : Input} {offset : ℕ} {view : X → Input} {clone_is_free : Bool}
+    {r : Result X Error} → UnlessCloneRanOut (StringAt section offset) view clone_is_free r
     → Stays (λ input. StringAt input offset) view clone_is_free section r
-string-stays section offset view clone_is_free (Ok x) is = λ more. string_more section offset (view x) more is
-string-stays section offset view clone_is_free (Err e) (inl (string_past_end past)) = λ settled. absurd (settled _ refl)
-string-stays section offset view clone_is_free (Err e) (inl (string_unended within none)) =
-    λ settled. absurd (settled _ refl)
-string-stays section offset view clone_is_free (Err e) (inr want) = λ settled more. inr want
+string-stays {section = section} {offset = offset} =
+    lookup-stays (λ input. StringAt input offset) (string_result_more section offset)
 
 -- ---- exactly one result
 
@@ -86,35 +85,26 @@ string_some section offset =
       | inl past ↦ (Err (end_fault section), string_past_end past)
       | inr within ↦
           let takes : Takes offset section (after offset section) = record { enough = within; left = refl } in
-          elim (some_string (after offset section)) [
+          elim (string_taken_or_none (after offset section)) [
             | inl found ↦ (Ok found.0, string_held takes found.2)
             | inr none ↦ (Err none.0, string_lacked takes none.1)
           ]
     ]
 
--- bytes without a zero byte end at the first zero byte
-first_zero : (front rest : List ℕ) → All (λ b. b ≢ 0) front → IsFirst 0 (front ++ 0 ∷ rest) (length front)
-first_zero front rest unbroken = grind (arith, common_steps, get_or-append_seam, take-append_seam)
-
 -- a string that a section has at an offset is consumed after it
 string_there : {section string : Input} {offset : ℕ} → HoldsString section offset string
     → TakesString (after offset section) string (after (length string.bytes + 1) (after offset section))
-string_there {section} {string} {offset} h =
-    let parts = sym h.parts in
-    let bytes : string.bytes ≡ take (length string.bytes) (drop offset section.bytes) =
-    sym (ap (take (length string.bytes)) h.parts ∙ take-append_seam string.bytes (0 ∷ h.rest)) in
-    record {
-      len = length string.bytes;
-      ends = subst (λ (l : List ℕ). IsFirst 0 l (length string.bytes)) parts
-          (first_zero string.bytes h.rest h.unbroken);
-      content = λ i. record { bytes = bytes i; position = h.place i; is_big = h.order i };
-      left = refl;
-    }
+string_there {section} {string} {offset} h = record {
+  len = length string.bytes;
+  ends = h.ends;
+  content = λ i. record { bytes = h.part.content i; position = h.part.start i; is_big = h.part.order i };
+  left = refl;
+}
 
 -- a section that has a string at an offset has no error there
 string_or_none : {section string : Input} {offset : ℕ} {e : Error} → HoldsString section offset string
     → HasNoString section offset e → ⊥
-string_or_none h (string_past_end past) = omega (arith, h.within)
+string_or_none h (string_past_end past) = omega (arith, h.part.within)
 string_or_none {section} {string} {offset} h (string_unended within none) =
     string_not_none (after offset section) string _ (end_fault (after offset section)) (string_there h)
     (record { none = none; fault = refl })
@@ -123,7 +113,7 @@ string_or_none {section} {string} {offset} h (string_unended within none) =
 string_same : (section : Input) (offset : ℕ) (r t : Result Input Error) → StringAt section offset r
     → StringAt section offset t → r ≡ t
 string_same section offset (Ok s) (Ok t) h k =
-    let same = (one_string (after offset section) s t _ _ (string_there h) (string_there k)).0 in λ i. Ok (same i)
+    let same = (string_taken_once (after offset section) s t _ _ (string_there h) (string_there k)).0 in λ i. Ok (same i)
 string_same section offset (Ok s) (Err e) h k = absurd (string_or_none h k)
 string_same section offset (Err e) (Ok t) h k = absurd (string_or_none k h)
 string_same section offset (Err e) (Err d) (string_past_end past) (string_past_end more) = refl

@@ -1,29 +1,19 @@
 -- What a reader reads at the place of a slot is the section's result there, and a section has one result there.
-use Rattle.dwarf_read_core.proofs.Common.{common_steps, ◌≡◌, ℕ, ◌+◌, ◌<◌, ◌≤◌, length, take, drop, List, Bool, true, false, Result, Ok, Err, refl, arith, inl, inr, ◌⊎◌, IsTrue, IfOk, IfErr, OnOk, cases_lt, length-append, Error, UnsupportedOffset, UnsupportedAddressSize, end_fault, IsTooShort, ReadsNoAddress, ReadsNoWord, is_number_size, Input, after, Takes, TakesNumber, followed_by, IsNotEof, HasOne, UnlessCloneRanOut, rest-length, Stays}
+use Rattle.dwarf_read_core.proofs.Common.{common_steps, ◌≡◌, ℕ, ◌+◌, ◌<◌, ◌≤◌, length, take, drop, List, Bool, true, false, Result, Ok, Err, refl, arith, inl, inr, ◌⊎◌, IsTrue, IfOk, IfErr, OnOk, length-append, Error, UnsupportedOffset, UnsupportedAddressSize, end_fault, IsTooShort, ReadsNoAddress, ReadsNoWord, is_number_size, Input, after, Takes, TakesNumber, followed_by, IsNotEof, HasOne, UnlessCloneRanOut, rest-length, Stays}
 use Rattle.dwarf_base_core.specs.Number.{number_of}
-use Rattle.dwarf_read_core.specs.Words.{Slot, distance, place, IsPlaced, Holds, HasWord, HasAddress, HasNoPlace, no_base, no_distance, no_place, HasNoWord, word_unplaced, word_cut, word_too_great, HasNoAddress, address_unplaced, address_unsized, address_cut, WordAt, AddressAt}
-
--- ---- exactly one result, by cases
-
--- exactly one result has a property if where m < n an error does, and elsewhere exactly one does
-pub one_unless : {A : Type 0} {Is : Result A Error → Type 0} (m n : ℕ) (e : Error) → (m < n → Is (Err e))
-    → (m < n → (other : Result A Error) → Is other → other ≡ Err e) → (n ≤ m → HasOne Is) → HasOne Is
-one_unless m n e below only above = elim (cases_lt m n) [ inl h ↦ (Err e, below h, only h) | inr h ↦ above h ]
-
--- exactly one value has a property if that is so at either outcome of a test
-one_by_test : {A : Type 0} {Is : A → Type 0} (t : Bool) → (t ≡ true → HasOne Is) → (t ≡ false → HasOne Is) → HasOne Is
-one_by_test true holds fails = holds refl
-one_by_test false holds fails = fails refl
+use Rattle.dwarf_reader_core.proofs.Once.{one_by_test, one_unless}
+use Rattle.dwarf_read_core.proofs.lookups.Results.{lookup-stays}
+use Rattle.dwarf_read_core.specs.Words.{Slot, distance, slot_offset, IsPlaced, Holds, HasWord, HasAddress, HasNoPlace, no_base, no_distance, no_place, HasNoWord, word_unplaced, word_cut, word_too_great, HasNoAddress, address_unplaced, address_unsized, address_cut, WordAt, AddressAt}
 
 -- ---- going to the place
 
 -- the bytes before the base and a distance that the code computed are the bytes before the slot's place
 pub skipped_found : {A : Type 0} (section : Input) (s : Slot) (rest new : Input) (far : ℕ) (r : Result A Error)
-    → Takes s.base section rest → far ≡ distance s → OnOk r (Takes far rest new) → OnOk r (Takes (place s) section new)
+    → Takes s.base section rest → far ≡ distance s → OnOk r (Takes far rest new) → OnOk r (Takes (slot_offset s) section new)
 skipped_found section s rest new far r takes is further = grind (arith, common_steps)
 
 -- a number that is consumed at the place of a slot is the one that the slot holds
-pub slot_holds : (section : Input) (s : Slot) (x : ℕ) (rest new : Input) → Takes (place s) section rest
+pub slot_holds : (section : Input) (s : Slot) (x : ℕ) (rest new : Input) → Takes (slot_offset s) section rest
     → TakesNumber s.width rest x new → Holds section s x
 slot_holds section s x rest new takes number = grind (arith, common_steps, rest-length)
 
@@ -52,10 +42,10 @@ module _ (greatest : ℕ) (section : Input) (s : Slot) where
   placed_found rest new far r takes is counted further = grind (arith, common_steps, rest-length)
 
   -- ---- the number at a place
-  module _ (rest : Input) (is_placed : IsPlaced greatest section s) (takes : Takes (place s) section rest) where
+  module _ (rest : Input) (is_placed : IsPlaced greatest section s) (takes : Takes (slot_offset s) section rest) where
     -- if too few bytes remain at the place, the slot isn't within the section
-    slot_ends : length rest.bytes < s.width → length section.bytes < place s + s.width
-    slot_ends short = omega (arith, rest-length (place s) section rest takes, takes.enough)
+    slot_ends : length rest.bytes < s.width → length section.bytes < slot_offset s + s.width
+    slot_ends short = omega (arith, rest-length (slot_offset s) section rest takes, takes.enough)
 
     -- an offset that is read there is the slot's word
     pub word_taken : {x : ℕ} {new : Input} → TakesNumber s.width rest x new → x ≤ greatest
@@ -76,12 +66,17 @@ module _ (greatest : ℕ) (section : Input) (s : Slot) where
         → IfOk r (λ x. TakesNumber s.width rest x new × IsTrue (is_number_size s.width))
         → IfErr r (λ e. ReadsNoAddress s.width rest e new)
         → UnlessCloneRanOut (AddressAt greatest section s) (λ x. x) clone_is_free r
-    address-read new clone_is_free (Ok x) (number, size) h =
-        record { placed = is_placed; sized = size; held = slot_holds section s x rest _ takes number }
+    address-read new clone_is_free (Ok x) (number, size) h = record {
+      ok = record { placed = is_placed; sized = size; held = slot_holds section s x rest _ takes number };
+      err = tt;
+    }
     address-read new clone_is_free (Err e) given (inl other) =
-        inl (rw other.fault (address_unsized is_placed other.none))
+        record { ok = tt; err = inl (rw other.fault (address_unsized is_placed other.none)) }
     address-read new clone_is_free (Err e) given (inr (size, short)) =
-        inl (rw (short.fault, takes.left) (address_cut is_placed size (slot_ends short.short)))
+        record {
+          ok = tt;
+          err = inl (rw (short.fault, takes.left) (address_cut is_placed size (slot_ends short.short)));
+        }
 
   -- ---- appended bytes keep the result
   module _ (more : List ℕ) where
@@ -131,20 +126,16 @@ module _ (greatest : ℕ) (section : Input) (s : Slot) where
   address_more (Err e) more (address_cut is_placed size cut) settled = absurd (settled _ refl)
 
   -- what a lookup of a word returned, except `UnexpectedEof` and `OutOfMemory`, stays when bytes are appended
-  pub word-stays : {X : Type 0} (view : X → ℕ) (clone_is_free : Bool) (r : Result X Error)
+  pub word-stays : {X : Type 0} {view : X → ℕ} {clone_is_free : Bool} {r : Result X Error}
       → UnlessCloneRanOut (WordAt greatest section s) view clone_is_free r
       → Stays (λ input. WordAt greatest input s) view clone_is_free section r
-  word-stays view clone_is_free (Ok x) is = λ more. word_more (Ok (view x)) more is tt
-  word-stays view clone_is_free (Err e) (inl is) = λ settled more. inl (word_more (Err e) more is settled)
-  word-stays view clone_is_free (Err e) (inr want) = λ settled more. inr want
+  word-stays = lookup-stays (λ input. WordAt greatest input s) (λ more answer. word_more answer more)
 
   -- what a lookup of an address returned, except `UnexpectedEof` and `OutOfMemory`, stays when bytes are appended
-  pub address-stays : (clone_is_free : Bool) (r : Result ℕ Error)
+  pub address-stays : {clone_is_free : Bool} {r : Result ℕ Error}
       → UnlessCloneRanOut (AddressAt greatest section s) (λ x. x) clone_is_free r
       → Stays (λ input. AddressAt greatest input s) (λ x. x) clone_is_free section r
-  address-stays clone_is_free (Ok x) is = λ more. address_more (Ok x) more is tt
-  address-stays clone_is_free (Err e) (inl is) = λ settled more. inl (address_more (Err e) more is settled)
-  address-stays clone_is_free (Err e) (inr want) = λ settled more. inr want
+  address-stays = lookup-stays (λ input. AddressAt greatest input s) (λ more answer. address_more answer more)
 
   -- ---- exactly one result
 
@@ -158,11 +149,11 @@ module _ (greatest : ℕ) (section : Input) (s : Slot) where
       → ((e : Error) → Is (Err e) → IsPlaced greatest section s ⊎ HasNoPlace greatest section s e)
       → (IsPlaced greatest section s → HasOne Is) → HasOne Is
   one_with_place Is unplaced ok err there =
-      one_unless (length section.bytes) s.base (end_fault section) (λ past. unplaced _ (no_base past))
+      one_unless (length section.bytes) s.base (Err (end_fault section)) (λ past. unplaced _ (no_base past))
       (λ past other is. grind arith) (λ based.
-      one_unless greatest (distance s) UnsupportedOffset (λ over. unplaced _ (no_distance based over))
+      one_unless greatest (distance s) (Err UnsupportedOffset) (λ over. unplaced _ (no_distance based over))
       (λ over other is. grind arith) (λ counted.
-      one_unless (length section.bytes) (place s) (end_fault (after s.base section))
+      one_unless (length section.bytes) (slot_offset s) (Err (end_fault (after s.base section)))
       (λ past. unplaced _ (no_place based counted past)) (λ past other is. grind arith)
       (λ within. there (record { based = based; counted = counted; within = within }))))
 
@@ -179,11 +170,12 @@ module _ (greatest : ℕ) (section : Input) (s : Slot) where
   words_exactly_one =
       one_with_place (WordAt greatest section s) (λ e. word_unplaced) (λ x has. has.placed) (λ e is. grind arith)
       (λ there.
-      one_unless (length section.bytes) (place s + s.width) (end_fault (after (place s) section)) (word_cut there)
+      one_unless (length section.bytes) (slot_offset s + s.width) (Err (end_fault (after (slot_offset s) section)))
+      (word_cut there)
       (λ cut other is. grind arith) (λ within.
-      let x = number_of section.is_big (take s.width (drop (place s) section.bytes)) in
+      let x = number_of section.is_big (take s.width (drop (slot_offset s) section.bytes)) in
       let held : Holds section s x = record { within = within; encoded = refl } in
-      one_unless greatest x UnsupportedOffset (word_too_great x there held) (too_great-is there held)
+      one_unless greatest x (Err UnsupportedOffset) (word_too_great x there held) (too_great-is there held)
       (λ fits. (Ok x, record { placed = there; held = held; fits = fits }, λ other is. grind arith))))
 
   -- a width that addresses don't have is the only result for an address
@@ -196,8 +188,8 @@ module _ (greatest : ℕ) (section : Input) (s : Slot) where
 
   -- missing bytes are the only result for an address
   address_cut-is : IsPlaced greatest section s → is_number_size s.width ≡ true
-      → length section.bytes < place s + s.width → (r : Result ℕ Error) → AddressAt greatest section s r
-      → r ≡ Err (end_fault (after (place s) section))
+      → length section.bytes < slot_offset s + s.width → (r : Result ℕ Error) → AddressAt greatest section s r
+      → r ≡ Err (end_fault (after (slot_offset s) section))
   address_cut-is there size cut (Ok x) is = grind arith
   address_cut-is there size cut (Err e) (address_unplaced none) = absurd (place_or_none there none)
   address_cut-is there size cut (Err e) (address_unsized here other) = absurd cc
@@ -217,9 +209,9 @@ module _ (greatest : ℕ) (section : Input) (s : Slot) where
       one_with_place (AddressAt greatest section s) (λ e. address_unplaced) (λ x has. has.placed) (λ e is. grind arith)
       (λ there.
       one_by_test (is_number_size s.width) (λ size.
-      one_unless (length section.bytes) (place s + s.width) (end_fault (after (place s) section))
+      one_unless (length section.bytes) (slot_offset s + s.width) (Err (end_fault (after (slot_offset s) section)))
       (address_cut there size) (address_cut-is there size) (λ within.
-      let x = number_of section.is_big (take s.width (drop (place s) section.bytes)) in
+      let x = number_of section.is_big (take s.width (drop (slot_offset s) section.bytes)) in
       let held : Holds section s x = record { within = within; encoded = refl } in
       let has : HasAddress greatest section s x = record { placed = there; sized = size; held = held } in
       (Ok x, has, address-is has)))

@@ -1,14 +1,14 @@
 -- Bytes have exactly one list of entries, and `next` returns the first.
-use Rattle.dwarf_read_core.proofs.Common.{common_steps, ◌≡◌, ◌≢◌, ◌∙◌, ℕ, zero, suc, ◌+◌, ◌-◌, ◌*◌, ◌/◌, ◌<◌, ◌≤◌, Bool, cond, ◌∷◌, sum_by-cons, true, List, [], length, take, Result, Ok, Err, refl, sym, ap, subst, arith, inl, inr, cases_lt, sum_by, IsTrue, lt-leb, leb, UnsupportedOffset, Error, end_fault, is_number_size, ReadsNoAddress, ReadsNoWord, Input, after, TakesNumber, HasOne, Entries, ComesFirst, least_taken, length-drop}
-use Rattle.std.specs.Prelude.{if◌then◌else◌, nat_lt, slice_get, count_by, is_ok, IfSome}
+use Rattle.dwarf_read_core.proofs.Common.{common_steps, ◌≡◌, ◌≢◌, ℕ, zero, suc, ◌+◌, ◌-◌, ◌*◌, ◌/◌, ◌<◌, ◌≤◌, Bool, cond, ◌∷◌, sum_by-cons, true, List, [], length, take, Result, Ok, Err, refl, sym, ap, subst, arith, inl, inr, sum_by, IsTrue, lt-leb, leb, UnsupportedOffset, Error, end_fault, is_number_size, ReadsNoAddress, ReadsNoWord, Input, after, TakesNumber, HasOne, Entries, ComesFirst, least_taken, length-drop}
+use Rattle.std.specs.Prelude.{slice_get, count_by, is_ok, IfSome}
 use Rattle.std.proofs.lemmas.Nat.{div-mul-add}
 use Rattle.std.proofs.Math.Nat.{suc-mul}
-use Rattle.std.proofs.lemmas.Bool.{cases_Bool}
 use Rattle.dwarf_base_core.specs.declared.common.Format.{Format}
 use Rattle.dwarf_base_core.specs.Format.{word_size}
 use Rattle.dwarf_base_core.specs.Number.{number_of}
 use Rattle.dwarf_read_core.specs.Entries.{AreNumbers, EntryAt, HasNoEntry, entry_cut, entry_too_great}
-use Rattle.dwarf_read_core.specs.Items.{AreItems, none, more, first_error}
+use Rattle.dwarf_read_core.specs.Items.{AreItems, no_items, value_first, only_error}
+use Rattle.dwarf_reader_core.proofs.Once.{one_by_test, one_unless}
 use Rattle.dwarf_read_core.proofs.sets.ItemLists.{TakesLeast, items-exactly_one, items-bounded, item-first, error-first}
 
 module _ (fits : ℕ → Bool) (width : ℕ) where
@@ -16,38 +16,17 @@ module _ (fits : ℕ → Bool) (width : ℕ) where
   abbrev entry_number : Input → ℕ
   entry_number old = number_of old.is_big (take width old.bytes)
 
-  -- the one result for an entry
-  entry_of : Input → Result ℕ Error
-  entry_of old =
-      if nat_lt (length old.bytes) width then Err (end_fault old) else if fits (entry_number old) then
-      Ok (entry_number old) else Err UnsupportedOffset
-
-  -- a result for an entry is the one result
-  entry-is : (old : Input) (r : Result ℕ Error) → EntryAt fits width old r → r ≡ entry_of old
-  unfolding entry_of
-  entry-is old (Ok x) has = grind arith
-  entry-is old (Err e) (entry_cut short) = grind arith
-  entry-is old (Err e) (entry_too_great taken over) = grind arith
-
-  -- there is a result for an entry
-  entry-some : (old : Input) → (r : Result ℕ Error) × EntryAt fits width old r
-  entry-some old =
-      elim (cases_lt (length old.bytes) width) [
-        | inl short ↦ (Err (end_fault old), entry_cut short)
-        | inr enough ↦
-            let taken : TakesNumber width old (entry_number old) (after width old) =
-            record { enough = enough; encoded = refl; left = refl } in
-            elim (cases_Bool (fits (entry_number old))) [
-              | inl fit ↦ (Ok (entry_number old), record { number = taken; fitting = fit })
-              | inr over ↦ (Err UnsupportedOffset, entry_too_great taken over)
-            ]
-      ]
-
   -- there is exactly one result for an entry
-  entry_exactly_one : (old : Input) → HasOne (EntryAt fits width old)
-  entry_exactly_one old =
-      let some = entry-some old in
-      (some.0, some.1, λ other is. entry-is old other is ∙ sym (entry-is old some.0 some.1))
+  entry_exactly_one : (input : Input) → HasOne (EntryAt fits width input)
+  entry_exactly_one input =
+      let number = entry_number input in
+      one_unless (length input.bytes) width (Err (end_fault input)) entry_cut (λ short other is. grind arith)
+      (λ enough.
+      let taken : TakesNumber width input number (after width input) =
+      record { enough = enough; encoded = refl; left = refl } in
+      one_by_test (fits number)
+      (λ fit. (Ok number, record { number = taken; fitting = fit }, λ other is. grind arith))
+      (λ over. (Err UnsupportedOffset, entry_too_great taken over, λ other is. grind arith)))
 
   -- an entry has as many bytes as its width
   entry_least : TakesLeast (λ (i : Input). i) (EntryAt fits width) (λ _ i. after width i) width
@@ -119,11 +98,11 @@ module _ {fits : ℕ → Bool} {width : ℕ} where
   item_at : {old : Input} {items : List (Result ℕ Error)}
       → AreItems (λ i. i) (EntryAt fits width) (λ _ i. after width i) old items
       → (index : ℕ) → IfSome (slice_get items index) (EntryAt fits width (after (index * width) old))
-  item_at (none empty) index = tt
-  item_at (more {old = old} some has others) zero = rw (← after_none width old) has
-  item_at (more {old = old} some has others) (suc index) = rw (← after_entry width index old) (item_at others index)
-  item_at (first_error {old = old} some has) zero = rw (← after_none width old) has
-  item_at (first_error some has) (suc index) = tt
+  item_at (no_items empty) index = tt
+  item_at (value_first {now = old} some has others) zero = rw (← after_none width old) has
+  item_at (value_first {now = old} some has others) (suc index) = rw (← after_entry width index old) (item_at others index)
+  item_at (only_error {now = old} some has) zero = rw (← after_none width old) has
+  item_at (only_error some has) (suc index) = tt
 
 -- the item with an index is the number of the bytes at its place
 pub number_at : (fits : ℕ → Bool) (entries : Entries) (items : List (Result ℕ Error)) (index : ℕ)
@@ -137,8 +116,8 @@ module _ (width : ℕ) (positive : 0 < width) where
       → AreItems (λ i. i) (EntryAt (λ x. true) width) (λ _ i. after width i) old items
       → (count_by is_ok items * width ≤ length old.bytes)
       × (length old.bytes < count_by is_ok items * width + width)
-  counted (none empty) = (omega arith, omega (arith, ap length empty, positive))
-  counted (more {old = old} {x = x} {items = items} some has others) =
+  counted (no_items empty) = (omega arith, omega (arith, ap length empty, positive))
+  counted (value_first {now = old} {x = x} {items = items} some has others) =
       let following = counted others in
       let all : count_by is_ok (Ok x ∷ items) * width ≡ count_by is_ok items * width + width =
       rw (sum_by-cons (λ (r : Result ℕ Error). cond (is_ok r) 1 0) (Ok x) items) (grind (arith, suc-mul)) in
@@ -146,8 +125,8 @@ module _ (width : ℕ) (positive : 0 < width) where
         omega (arith, following.0, long, all, has.number.enough),
         omega (arith, following.1, long, all, has.number.enough),
       )
-  counted (first_error some (entry_cut short)) = (omega arith, omega (arith, short))
-  counted (first_error some (entry_too_great taken over)) = absurd cc
+  counted (only_error some (entry_cut short)) = (omega arith, omega (arith, short))
+  counted (only_error some (entry_too_great taken over)) = absurd cc
 
 -- as many items are numbers as entries fit into the bytes
 pub numbers_counted : (entries : Entries) (items : List (Result ℕ Error)) → 0 < entries.width

@@ -1,6 +1,6 @@
 -- Bytes have exactly one list of items, and a call returns the first.
 use Rattle.dwarf_read_core.proofs.Common.{common_steps, ◌≡◌, ◌≢◌, ℕ, zero, suc, ◌+◌, ◌<◌, ◌≤◌, List, [], ◌∷◌, ◌++◌, length, Result, Ok, Err, refl, sym, ◌∙◌, arith, sum_by, sum_by-cons, Error, Input, HasOne, least_taken, ComesFirst}
-use Rattle.dwarf_read_core.specs.Items.{AreItems, none, more, first_error}
+use Rattle.dwarf_read_core.specs.Items.{AreItems, no_items, value_first, only_error}
 
 -- bytes that aren't empty are at least one
 pub bytes-some : (bytes : List ℕ) → bytes ≢ [] → 1 ≤ length bytes
@@ -24,29 +24,29 @@ module _ {S A : Type 0} {rest : S → Input} {Is : S → Result A Error → Type
   -- items consume no more bytes than there are
   pub items-bounded : {n : ℕ} → TakesLeast rest Is following n → {old : S} {items : List (Result A Error)}
       → AreItems rest Is following old items → sum_by (least_taken n) items ≤ length (rest old).bytes
-  items-bounded least (none e) = omega arith
-  items-bounded {n} least (more {old = old} {x = x} {items = items} some is others) =
+  items-bounded least (no_items e) = omega arith
+  items-bounded {n} least (value_first {now = old} {x = x} {items = items} some is others) =
       rw (sum_by-cons (least_taken n) (Ok x) items) (omega (arith, items-bounded least others, least.by old x is))
-  items-bounded {n} least (first_error {old = old} {e = e} some is) =
+  items-bounded {n} least (only_error {now = old} {e = e} some is) =
       rw (sum_by-cons (least_taken n) (Err e) []) (omega (arith, bytes-some (rest old).bytes some))
 
   module _ (one : (old : S) → HasOne (Is old)) where
     -- two lists of items of the same bytes are equal
     pub items-same : {old : S} {items others : List (Result A Error)} → AreItems rest Is following old items
         → AreItems rest Is following old others → items ≡ others
-    items-same (none e) (none f) = refl
-    items-same (none e) (more some is others) = absurd (some e)
-    items-same (none e) (first_error some is) = absurd (some e)
-    items-same (more some is others) (none e) = absurd (some e)
-    items-same (more {x = x} some is others) (more {x = y} full has after) =
+    items-same (no_items e) (no_items f) = refl
+    items-same (no_items e) (value_first some is others) = absurd (some e)
+    items-same (no_items e) (only_error some is) = absurd (some e)
+    items-same (value_first some is others) (no_items e) = absurd (some e)
+    items-same (value_first {x = x} some is others) (value_first {x = y} full has after) =
         let both = same_of_one (one _) is has in
         let same : x ≡ y = cc in
         let left = items-same others (rw (← same) at after) in
         λ i. Ok (same i) ∷ left i
-    items-same (more some is others) (first_error full has) = absurd (let both = same_of_one (one _) is has in cc)
-    items-same (first_error some is) (none e) = absurd (some e)
-    items-same (first_error some is) (more full has others) = absurd (let both = same_of_one (one _) is has in cc)
-    items-same (first_error {e = d} some is) (first_error {e = e} full has) =
+    items-same (value_first some is others) (only_error full has) = absurd (let both = same_of_one (one _) is has in cc)
+    items-same (only_error some is) (no_items e) = absurd (some e)
+    items-same (only_error some is) (value_first full has others) = absurd (let both = same_of_one (one _) is has in cc)
+    items-same (only_error {e = d} some is) (only_error {e = e} full has) =
         let both = same_of_one (one _) is has in
         let same : d ≡ e = cc in
         λ i. Err (same i) ∷ []
@@ -55,7 +55,7 @@ module _ {S A : Type 0} {rest : S → Input} {Is : S → Result A Error → Type
     pub error-first : (old left : S) {e : Error} → (rest old).bytes ≢ [] → Is old (Err e) → (rest left).bytes ≡ []
         → ComesFirst (AreItems rest Is following) old (Err e) left
     error-first old left some is empty =
-        (([], none empty), λ others has. rw (← items-same (none empty) has) (first_error some is))
+        (([], no_items empty), λ others has. rw (← items-same (no_items empty) has) (only_error some is))
 
     -- ---- if each value has at least one byte
     module _ {n : ℕ} (least : TakesLeast rest Is following n) (positive : 1 ≤ n) where
@@ -69,11 +69,11 @@ module _ {S A : Type 0} {rest : S → Input} {Is : S → Result A Error → Type
               → (items : List (Result A Error)) × AreItems rest Is following s items)
               → (bytes : List ℕ) → (rest old).bytes ≡ bytes → (r : Result A Error) → Is old r
               → (items : List (Result A Error)) × AreItems rest Is following old items
-          go again [] empty r is = ([], none empty)
-          go again (b ∷ bytes) full (Err e) is = (Err e ∷ [], first_error (λ empty. cc) is)
+          go again [] empty r is = ([], no_items empty)
+          go again (b ∷ bytes) full (Err e) is = (Err e ∷ [], only_error (λ empty. cc) is)
           go again (b ∷ bytes) full (Ok x) is =
               let others = again (following x old) (omega (arith, least.by old x is, positive, few)) in
-              (Ok x ∷ others.0, more (λ empty. cc) is others.1)
+              (Ok x ∷ others.0, value_first (λ empty. cc) is others.1)
 
       -- bytes have exactly one list of items
       pub items-exactly_one : (old : S) → HasOne (AreItems rest Is following old)
@@ -86,18 +86,18 @@ module _ {S A : Type 0} {rest : S → Input} {Is : S → Result A Error → Type
           → ComesFirst (AreItems rest Is following) old (Ok x) new
       item-first old new some is left =
           let found = items-exactly_one new in
-          ((found.0, found.1), λ others has. more some is (rw left at has))
+          ((found.0, found.1), λ others has. value_first some is (rw left at has))
 
   -- what is known of a first item: bytes remain, and it is the item there
   pub first-is : {old : S} {r : Result A Error} {items : List (Result A Error)}
       → AreItems rest Is following old (r ∷ items) → ((rest old).bytes ≢ []) × Is old r
-  first-is (more some is others) = (some, is)
-  first-is (first_error some is) = (some, is)
+  first-is (value_first some is others) = (some, is)
+  first-is (only_error some is) = (some, is)
 
   -- bytes that are empty have no items
   pub items-none : {old : S} → (rest old).bytes ≡ [] → AreItems rest Is following old []
-  items-none empty = none empty
+  items-none empty = no_items empty
 
   -- where there is no item, there are no bytes
   pub no_first-is : {old : S} → AreItems rest Is following old [] → (rest old).bytes ≡ []
-  no_first-is (none empty) = empty
+  no_first-is (no_items empty) = empty

@@ -1,13 +1,13 @@
 -- Bytes have exactly one list of sets, a set stays with more bytes appended, and what a reader reads of it is it.
-use Rattle.dwarf_read_core.proofs.Common.{◌≡◌, ◌≢◌, ◌∙◌, ℕ, ◌+◌, ◌-◌, ◌<◌, ◌≤◌, List, [], ◌∷◌, length, Result, Ok, Err, refl, sym, ap, subst, arith, Bool, ◌⊎◌, inl, inr, cases_lt, sum_by, length-append, length-drop, take-append-le, drop-append-le, Error, CloneRanOutOfMemory, end_fault, IsTooShort, Input, after, first, Takes, HasOne, IsNotEof, followed_by, ComesFirst, least_taken, Set, Headers, RepresentsSets, followed_headers, rest-length, takes-both}
+use Rattle.dwarf_read_core.proofs.Common.{◌≡◌, ◌≢◌, ◌∙◌, ℕ, ◌+◌, ◌-◌, ◌<◌, ◌≤◌, List, [], ◌∷◌, length, Result, Ok, Err, refl, sym, ap, subst, arith, Bool, ◌⊎◌, inl, inr, cases_lt, sum_by, length-append, length-drop, take-append-le, drop-append-le, Error, CloneRanOutOfMemory, end_fault, IsTooShort, Input, after, first, Takes, HasOne, IsNotEof, followed_by, ComesFirst, least_taken, Set, Remaining, RepresentsSets, followed_remaining, rest-length, takes-both}
 use Rattle.std.specs.Prelude.{if◌then◌else◌, nat_lt}
 use Rattle.std.proofs.lemmas.List.{length-take}
 use Rattle.dwarf_base_core.specs.declared.common.Format.{Format}
 use Rattle.dwarf_base_core.specs.Format.{initial_length_size}
 use Rattle.dwarf_reader_core.specs.InitialLength.{HasLength, LengthAt}
-use Rattle.dwarf_reader_core.proofs.InitialLengths.{exactly_one_length, length_taken, length_more, no_length-more}
+use Rattle.dwarf_reader_core.proofs.InitialLengths.{lengths_exactly_one, length_taken, length_more, no_length-more}
 use Rattle.dwarf_reader_core.specs.Headers.{Header, IsHeader}
-use Rattle.dwarf_read_core.specs.Items.{first_error}
+use Rattle.dwarf_read_core.specs.Items.{only_error}
 use Rattle.dwarf_read_core.specs.Sets.{HasSet, HasNoSet, set_unmeasured, set_cut, set_headless, SetAt, set_size, after_set}
 use Rattle.dwarf_read_core.proofs.sets.ItemLists.{bytes-still_some, items-same, TakesLeast, items-exactly_one, items-bounded, item-first, error-first, first-is, items-none}
 
@@ -16,7 +16,7 @@ initial_length_size-least : (format : Format) → 4 ≤ initial_length_size form
 initial_length_size-least format = grind arith
 
 -- the sets that remain, by the offset of the first and the bytes
-abbrev headers_at : ℕ → Input → Headers
+abbrev headers_at : ℕ → Input → Remaining
 headers_at offset rest = record { offset = offset; rest = rest }
 
 -- the result for a set at an offset, of a format and a length, by the result for its header
@@ -84,17 +84,17 @@ module _ {H : Type 0} {header : Header H} {size : ℕ} (is_header : IsHeader siz
         grind arith in
         ap (set_said offset format n) ((is_header.one (first n mid)).2 r has) ∙ whole
 
-  module _ (headers : Headers) where
+  module _ (sets : Remaining) where
     -- each result for the initial length gives the same result for the first set
-    set_of-one : (x : Length) → LengthAt greatest headers.rest x
-        → set_of headers.offset x ≡ set_of headers.offset (exactly_one_length greatest headers.rest).0
-    set_of-one x is = ap (set_of headers.offset) ((exactly_one_length greatest headers.rest).2 x is)
+    set_of-one : (x : Length) → LengthAt greatest sets.rest x
+        → set_of sets.offset x ≡ set_of sets.offset (lengths_exactly_one greatest sets.rest).0
+    set_of-one x is = ap (set_of sets.offset) ((lengths_exactly_one greatest sets.rest).2 x is)
 
     -- each result for the first set is that one
-    set-is : (r : Result (Set H) Error) → SetAt header greatest headers r
-        → r ≡ set_of headers.offset (exactly_one_length greatest headers.rest).0
+    set-is : (r : Result (Set H) Error) → SetAt header greatest sets r
+        → r ≡ set_of sets.offset (lengths_exactly_one greatest sets.rest).0
     set-is (Ok s) has =
-        let long = length-drop (initial_length_size s.format) headers.rest.bytes in
+        let long = length-drop (initial_length_size s.format) sets.rest.bytes in
         (λ i. Ok (record s { offset = has.here i }))
         ∙ set_said-is _ _ _ _ (omega (arith, long, has.within)) (Ok (s.header, s.entries)) has.said
         ∙ set_of-one (Ok (s.format, s.unit_length), _) has.measured
@@ -105,8 +105,8 @@ module _ {H : Type 0} {header : Header H} {size : ℕ} (is_header : IsHeader siz
         set_said-is _ _ _ _ enough (Err e) lacks ∙ set_of-one (Ok (f, n), mid) measured
 
     -- there is a result for the first set
-    set_some : (x : Length) → LengthAt greatest headers.rest x
-        → (r : Result (Set H) Error) × SetAt header greatest headers r
+    set_some : (x : Length) → LengthAt greatest sets.rest x
+        → (r : Result (Set H) Error) × SetAt header greatest sets r
     set_some (Err e, new) lacks = (Err e, set_unmeasured lacks)
     set_some (Ok (format, n), mid) measured =
         elim (cases_lt (length mid.bytes) n) [
@@ -114,52 +114,52 @@ module _ {H : Type 0} {header : Header H} {size : ℕ} (is_header : IsHeader siz
           | inr enough ↦
               let one = is_header.one (first n mid) in
               let taken : Takes n mid (after n mid) = record { enough = enough; left = refl } in
-              (set_said headers.offset format n one.0, said_read header measured headers.offset refl taken one.0 one.1)
+              (set_said sets.offset format n one.0, said_read header measured sets.offset refl taken one.0 one.1)
         ]
 
     -- there is exactly one result for the first set
-    set_exactly_one : HasOne (SetAt header greatest headers)
+    set_exactly_one : HasOne (SetAt header greatest sets)
     set_exactly_one =
-        let measured = exactly_one_length greatest headers.rest in
+        let measured = lengths_exactly_one greatest sets.rest in
         let some = set_some measured.0 measured.1 in
         (some.0, some.1, λ other is. set-is other is ∙ sym (set-is some.0 some.1))
 
   -- a set has at least the four bytes of its length, and those of its header
-  set_least : TakesLeast (λ (h : Headers). h.rest) (SetAt header greatest) after_set (4 + size)
+  set_least : TakesLeast (λ (h : Remaining). h.rest) (SetAt header greatest) after_set (4 + size)
   set_least = record {
-    by = λ headers s has. let unit = is_header.sized _ _ _ has.said in
+    by = λ sets s has. let unit = is_header.sized _ _ _ has.said in
         omega (arith, has.within, unit.enough, length-drop {A = ℕ}, length-take {A = ℕ}, initial_length_size-least);
   }
 
   -- the bytes that remain have exactly one list of sets
-  pub sets_exactly_one : (headers : Headers) → HasOne (RepresentsSets header greatest headers)
-  sets_exactly_one headers = items-exactly_one set_exactly_one set_least (omega arith) headers
+  pub sets_exactly_one : (sets : Remaining) → HasOne (RepresentsSets header greatest sets)
+  sets_exactly_one sets = items-exactly_one set_exactly_one set_least (omega arith) sets
 
   -- sets consume no more bytes than there are
-  pub sets_bounded : (headers : Headers) (items : List (Result (Set H) Error))
-      → RepresentsSets header greatest headers items → sum_by (least_taken (4 + size)) items ≤ length headers.rest.bytes
-  sets_bounded headers items are = items-bounded set_least are
+  pub sets_bounded : (sets : Remaining) (items : List (Result (Set H) Error))
+      → RepresentsSets header greatest sets items → sum_by (least_taken (4 + size)) items ≤ length sets.rest.bytes
+  sets_bounded sets items are = items-bounded set_least are
 
   -- ---- appended bytes
 
   -- what is said in a part of the bytes stays the result for the set when others are appended
-  said_kept : (more : List ℕ) (headers : Headers) {format : Format} {n : ℕ} {mid : Input}
-      → HasLength greatest headers.rest format n mid → n ≤ length mid.bytes → (r : Result (H × Input) Error)
+  said_kept : (more : List ℕ) (sets : Remaining) {format : Format} {n : ℕ} {mid : Input}
+      → HasLength greatest sets.rest format n mid → n ≤ length mid.bytes → (r : Result (H × Input) Error)
       → header (first n mid) r
-      → SetAt header greatest (followed_headers more headers) (set_said headers.offset format n r)
-  said_kept more headers {n = n} {mid = mid} measured enough r has =
+      → SetAt header greatest (followed_remaining more sets) (set_said sets.offset format n r)
+  said_kept more sets {n = n} {mid = mid} measured enough r has =
       let unit : first n mid ≡ first n (followed_by mid more) = grind (arith, take-append-le) in
       let taken : Takes n (followed_by mid more) (after n (followed_by mid more)) =
       record { enough = omega (arith, enough, length-append mid.bytes more); left = refl } in
-      said_read header (length_more more measured) headers.offset unit taken r has
+      said_read header (length_more more measured) sets.offset unit taken r has
 
   -- bytes still begin with a set when others are appended
-  set_kept : (more : List ℕ) {headers : Headers} {s : Set H} → HasSet header greatest headers s
-      → HasSet header greatest (followed_headers more headers) s
-  set_kept more {headers} {s} has =
-      let long = length-drop (initial_length_size s.format) headers.rest.bytes in
+  set_kept : (more : List ℕ) {sets : Remaining} {s : Set H} → HasSet header greatest sets s
+      → HasSet header greatest (followed_remaining more sets) s
+  set_kept more {sets} {s} has =
+      let long = length-drop (initial_length_size s.format) sets.rest.bytes in
       let kept =
-      said_kept more headers has.measured (omega (arith, long, has.within)) (Ok (s.header, s.entries)) has.said in
+      said_kept more sets has.measured (omega (arith, long, has.within)) (Ok (s.header, s.entries)) has.said in
       record { here = has.here; measured = kept.measured; within = kept.within; said = kept.said }
 
   -- they still don't, with the same error, unless bytes are missing
@@ -171,22 +171,22 @@ module _ {H : Type 0} {header : Header H} {size : ℕ} (is_header : IsHeader siz
       said_kept more (headers_at 0 old) measured enough (Err e) lacks
 
   -- the first set stays the first when bytes are appended
-  pub set_more : (headers : Headers) (s : Set H) (items others : List (Result (Set H) Error)) (more : List ℕ)
-      → RepresentsSets header greatest headers (Ok s ∷ items)
-      → RepresentsSets header greatest (followed_headers more headers) others
+  pub set_more : (sets : Remaining) (s : Set H) (items others : List (Result (Set H) Error)) (more : List ℕ)
+      → RepresentsSets header greatest sets (Ok s ∷ items)
+      → RepresentsSets header greatest (followed_remaining more sets) others
       → (rest : List (Result (Set H) Error)) × (others ≡ Ok s ∷ rest)
-  set_more headers s items others more are has =
+  set_more sets s items others more are has =
       let there = first-is are in
       let first = item-first set_exactly_one set_least (omega arith) _ _
       (bytes-still_some _ more there.0) (set_kept more there.1) refl in
       (first.0.0, items-same set_exactly_one has (first.1 first.0.0 first.0.1))
 
   -- an error, unless it is an `UnexpectedEof`, stays the only item of the sets when bytes are appended
-  pub set_error_more : (headers : Headers) (e : Error) (more : List ℕ)
-      → RepresentsSets header greatest headers (Err e ∷ []) → IsNotEof e
-      → RepresentsSets header greatest (followed_headers more headers) (Err e ∷ [])
-  set_error_more headers e more are settled =
-      first_error (bytes-still_some _ more (first-is are).0) (no_set_kept more (first-is are).1 settled)
+  pub set_error_more : (sets : Remaining) (e : Error) (more : List ℕ)
+      → RepresentsSets header greatest sets (Err e ∷ []) → IsNotEof e
+      → RepresentsSets header greatest (followed_remaining more sets) (Err e ∷ [])
+  set_error_more sets e more are settled =
+      only_error (bytes-still_some _ more (first-is are).0) (no_set_kept more (first-is are).1 settled)
 
   -- ---- what `next` returns
 
@@ -202,10 +202,10 @@ module _ {H : Type 0} {header : Header H} {size : ℕ} (is_header : IsHeader siz
   -- an error in place of a set, unless it is an `UnexpectedEof`, stays the only item when bytes are appended
   pub set_error_stays : (offset : ℕ) (rest : Input) {e : Error} (is_free : Bool) → rest.bytes ≢ []
       → HasNoSet header greatest rest e ⊎ CloneRanOutOfMemory is_free e → IsNotEof e → (more : List ℕ)
-      → RepresentsSets header greatest (followed_headers more (headers_at offset rest)) (Err e ∷ [])
+      → RepresentsSets header greatest (followed_remaining more (headers_at offset rest)) (Err e ∷ [])
       ⊎ CloneRanOutOfMemory is_free e
   set_error_stays offset rest is_free some (inl lacks) settled more =
-      inl (first_error (bytes-still_some rest.bytes more some) (no_set_kept more lacks settled))
+      inl (only_error (bytes-still_some rest.bytes more some) (no_set_kept more lacks settled))
   set_error_stays offset rest is_free some (inr want) settled more = inr want
 
   module _ (offset place : ℕ) (rest left : Input) {at : ℕ} {s : Set H} (some : rest.bytes ≢ [])
@@ -228,15 +228,15 @@ module _ {H : Type 0} {header : Header H} {size : ℕ} (is_header : IsHeader siz
 
     -- a set that is read stays the first item when bytes are appended
     pub set_stays : (more : List ℕ) → ComesFirst (RepresentsSets header greatest)
-        (followed_headers more (headers_at offset rest)) (Ok s) (followed_headers more (headers_at place left))
+        (followed_remaining more (headers_at offset rest)) (Ok s) (followed_remaining more (headers_at place left))
     set_stays more =
         let cut : followed_by (after (set_size s) rest) more ≡ after (set_size s) (followed_by rest more) =
         grind (arith, drop-append-le, taken.enough) in
         item-first set_exactly_one set_least (omega arith) _ _ (bytes-still_some rest.bytes more some)
-        (set_kept more is_there) (ap (followed_headers more) remains ∙ λ i. headers_at (offset + set_size s) (cut i))
+        (set_kept more is_there) (ap (followed_remaining more) remains ∙ λ i. headers_at (offset + set_size s) (cut i))
 
   -- a set that a reader read has at least four bytes and those of its header
-  pub set_bound : {headers : Headers} {s : Set H} {new : Input} → HasSet header greatest headers s
-      → Takes (set_size s) headers.rest new → length new.bytes + (4 + size) ≤ length headers.rest.bytes
-  set_bound {headers} {s} {new} has taken =
-      omega (arith, set_least.by headers s has, ap (λ (i : Input). length i.bytes) taken.left)
+  pub set_bound : {sets : Remaining} {s : Set H} {new : Input} → HasSet header greatest sets s
+      → Takes (set_size s) sets.rest new → length new.bytes + (4 + size) ≤ length sets.rest.bytes
+  set_bound {sets} {s} {new} has taken =
+      omega (arith, set_least.by sets s has, ap (λ (i : Input). length i.bytes) taken.left)

@@ -1,29 +1,7 @@
 -- Appended bytes change no result that is final.
-use Rattle.dwarf_read_core.proofs.Common.{zero, suc, ◌<◌, ◌≤◌, ◌≡◌, ℕ, List, [], ◌∷◌, ◌++◌, length, take, Result, append_assoc, arith, cases_lt, length-append, drop-append-le, length-take-le, Input, Error, Kind, IsEncoding, NoneIsLast, IsMalformed, Table, by_null, IsTableBefore, closed_by_null, closed_by_end, followed_by, IsNotEof, HasError, number_bad, tag_zero, children_bad, name_zero, form_zero, IsFirstError, in_declaration, repeated, Answer, outside, table, first_error, end_of, IsFinal, Answers}
+use Rattle.dwarf_read_core.proofs.Common.{◌≡◌, ℕ, List, ◌∷◌, ◌++◌, Result, append_assoc, arith, length-append, drop-append-le, Input, Error, Table, by_null, IsTableBefore, closed_by_null, closed_by_end, followed_by, IsNotEof, HasError, number_bad, tag_zero, children_bad, name_zero, form_zero, IsFirstError, in_declaration, repeated, Answer, outside, table, first_error, end_of, IsFinal, Answers}
+use Rattle.dwarf_reader_core.proofs.Malformed.{bad_more}
 use Rattle.dwarf_read_core.proofs.sets.ItemLists.{bytes-still_some}
-use Rattle.dwarf_read_core.proofs.Common.{common_steps}
-
--- ---- bad numbers
-
--- if the encoding at the front is longer than the first bytes, none of these is its last
-unended : (n : ℕ) (bytes more : List ℕ) → length bytes < n → n ≤ length (bytes ++ more)
-    → IsEncoding (take n (bytes ++ more)) → NoneIsLast bytes
-unended n [] more long fits h = tt
-unended zero (x ∷ bytes) more long fits h = absurd (omega arith)
-unended (suc zero) (x ∷ bytes) more long fits h = absurd (omega arith)
-unended (suc (suc n)) (x ∷ []) more long fits h = grind arith
-unended (suc (suc n)) (x ∷ y ∷ bytes) more long fits h = grind (arith, (unended (suc n) (y ∷ bytes) more))
-
--- if none of the bytes is the last of an encoding, neither is one of their front
-all_front : (bytes more : List ℕ) → NoneIsLast (bytes ++ more) → NoneIsLast bytes
-all_front [] more h = tt
-all_front (x ∷ bytes) more h = (h.0, all_front bytes more h.1)
-
--- bytes that begin with a bad number still do with more bytes after them
-bad_more : (k : Kind) (bytes more : List ℕ) → IsMalformed k bytes → IsMalformed k (bytes ++ more)
-bad_more k bytes more bad = grind (arith, common_steps, cases_lt, length-take-le, unended, all_front)
-
--- ---- tables and errors
 
 -- bytes that begin with a table that a code of value 0 closes still do with more bytes after them
 pub table_more : {bytes rest : List ℕ} {t : Table} (more : List ℕ) → IsTableBefore bytes t rest → t.close ≡ by_null

@@ -52,7 +52,7 @@ total_put k d [] none = sum_by-cons (λ (x : Declaration). length x.attributes) 
 total_put k d (e ∷ es) none = grind (arith, common_steps, attributes, sum_by-cons, (total_put k d es))
 
 -- the map of declarations with distinct codes has as many entries as there are declarations
-len_is : (ds : List Declaration) → AreDistinct ds → len (by_code_of ds) ≡ length ds
+pub len_is : (ds : List Declaration) → AreDistinct ds → len (by_code_of ds) ≡ length ds
 len_is [] h = len-empty nat_cmp Declaration
 len_is (d ∷ ds) h = grind (arith, (len-insert {X = Declaration} nat_cmp_total), fresh_code, (len_is ds h.1))
 

@@ -4,7 +4,7 @@ ghost use Rattle.std.specs.Prelude.{◌+◌, ◌*◌, OnOk, IfErr};
 ghost use Rattle.dwarf_base_core.specs.Checked.{OkBelow};
 ghost use Rattle.dwarf_base_core.specs.Format.{word_size};
 ghost use Rattle.dwarf_reader_core.specs.Input.{Takes};
-ghost use Rattle.dwarf_read_core.specs.Words.{slot, place, HasNoPlace, IsPlaced};
+ghost use Rattle.dwarf_read_core.specs.Words.{slot, slot_offset, HasNoPlace, IsPlaced};
 
 use dwarf_base_core::{Error, Format, ReaderOffset, Result};
 use dwarf_reader_core::Reader;
@@ -41,7 +41,8 @@ pub(crate) fn skip_to_index<R: Reader>(
         (IsPlaced R.Offset.GREATEST (R.view input.old)
         (slot (R.Offset.value base) (R.Offset.value index) width)) }
     ensures ok { OnOk result
-        (Takes (place (slot (R.Offset.value base) (R.Offset.value index) width)) (R.view input.old)
+        (Takes (slot_offset (slot (R.Offset.value base) (R.Offset.value index) width))
+        (R.view input.old)
         (R.view input.new)) }
     ensures err { IfErr result
         (HasNoPlace R.Offset.GREATEST (R.view input.old)
@@ -70,7 +71,7 @@ pub(crate) fn skip_to_word<R: Reader>(
         (IsPlaced R.Offset.GREATEST (R.view input.old)
         (slot (R.Offset.value base) (R.Offset.value index) (word_size format))) }
     ensures ok { OnOk result
-        (Takes (place (slot (R.Offset.value base) (R.Offset.value index) (word_size format)))
+        (Takes (slot_offset (slot (R.Offset.value base) (R.Offset.value index) (word_size format)))
         (R.view input.old) (R.view input.new)) }
     ensures err { IfErr result
         (HasNoPlace R.Offset.GREATEST (R.view input.old)

@@ -8,7 +8,7 @@ ghost use Rattle.dwarf_reader_core.specs.Input.{Input, Takes};
 ghost use Rattle.dwarf_read_core.specs.Equality.{same_set, same_set_per, same_set_equiv};
 ghost use Rattle.dwarf_reader_core.specs.Headers.{IsHeader};
 ghost use Rattle.dwarf_read_core.specs.Items.{GivesFirst, StaysFirst};
-ghost use Rattle.dwarf_read_core.specs.Sets.{HasNoSet, HasSet, RepresentsSets, RepresentsSetsOf, followed_headers, remaining_of, seen_by, set_size};
+ghost use Rattle.dwarf_read_core.specs.Sets.{HasNoSet, HasSet, RepresentsSets, RepresentsSetsOf, followed_remaining, remaining_of, seen_by, set_size};
 
 use dwarf_base_core::{Format, Result};
 use dwarf_reader_core::Reader;
@@ -65,9 +65,9 @@ pub struct SetHeaderIter<R: Reader, H: HeaderFields> {
 
 impl<R: Reader, H: HeaderFields> Model for SetHeaderIter<R, H> {
     ghost use Rattle.std.specs.Prelude.{◌-◌, ◌≤◌, length};
-    ghost use Rattle.dwarf_read_core.specs.Sets.{HeadersOf};
+    ghost use Rattle.dwarf_read_core.specs.Sets.{RemainingOf};
 
-    ghost Value = { HeadersOf R };
+    ghost Value = { RemainingOf R };
 
     ghost view = { λ headers. record {
       offset = R.Offset.value headers.end - length (R.view headers.input).bytes;
@@ -132,7 +132,7 @@ impl<R: Reader, H: HeaderFields> SetHeaderIter<R, H> {
         // memory ran out.
         ensures stable { let old = remaining_of R.view self.old in
             StaysFirst (RepresentsSets H.header R.Offset.GREATEST)
-            (seen_by R.view) R.clone_is_free followed_headers old
+            (seen_by R.view) R.clone_is_free followed_remaining old
             (result_transpose result) (remaining_of R.view self.new) }
     {
         if self.input.is_empty() {

@@ -1,5 +1,5 @@
-use Rattle.std.proofs.Common.{drop, take, take-append-drop}
-use Rattle.dwarf_compare.specs.Sections.{section_of}
+use Rattle.std.proofs.Common.{false, drop, take, take-append-drop}
+use Rattle.dwarf_read_core.specs.Input.{section_of}
 use Rattle.dwarf_compare.proofs.single.grown_at.Goals as goal
 
 pub returns : goal.returns
@@ -7,4 +7,4 @@ returns c =
     let bytes = c.args.section.now in
     let n = c.min-before.result in
     c.cached_at.ensures (rw take-append-drop at
-    (c.section_grew.ensures.faithful (section_of (take n bytes)) (drop n bytes) c.in_ok-cache.ensures.ok))
+    (c.section_grew.ensures.faithful (section_of (take n bytes) false) (drop n bytes) c.in_ok-cache.ensures.ok))

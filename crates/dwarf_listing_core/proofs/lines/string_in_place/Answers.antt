@@ -4,6 +4,6 @@ use Rattle.dwarf_listing_core.proofs.lines.string_in_place.Goals as goal
 
 pub returns-clause-answer : goal.returns-clause-answer
 returns-clause-answer c =
-    let line = string-becomes_line _ _ _ c.in_ok-get_str.ensures.answer in
+    let line = string-becomes_line _ _ _ c.in_ok-get_str.ensures.answer.ok in
     let moved = c.drop.ensures.items ∙ c.drain.ensures.kept in
     search (rules, line, moved)

@@ -1,8 +1,8 @@
-use Rattle.std.proofs.Common.{Ok, arith, rules, subst}
+use Rattle.std.proofs.Common.{false, Ok, arith, rules, subst}
 use Rattle.dwarf_read_core.specs.Answer.{Answer, TableEndsAt}
-use Rattle.dwarf_read_core.specs.Input.{Input}
+use Rattle.dwarf_read_core.specs.Input.{Input, section_of}
 use Rattle.dwarf_read_core.proofs.tables.TableEnds.{end_after}
-use Rattle.dwarf_uses.specs.Callers.{none, one_more, section_of}
+use Rattle.dwarf_uses.specs.Callers.{none, one_more}
 use Rattle.dwarf_uses.proofs.callers.all_tables.Goals as goal
 
 pub loop-offset-init : goal.loop-offset-init
@@ -14,7 +14,7 @@ loop-offset-smaller c =
     let end = c.in_ok-table.end.0 in
     let ends = subst (λ (s : Input). TableEndsAt s offset c.in_ok-table.table end) c.new-section.ensures.view
     c.in_ok-table.ensures.end in
-    omega (arith, ends.2, end_after (section_of c.args.bytes.now) offset end _ (search rules) ends)
+    omega (arith, ends.2, end_after (section_of c.args.bytes.now false) offset end _ (search rules) ends)
 
 pub loop-offset-preserved : goal.loop-offset-preserved
 loop-offset-preserved c =

@@ -1,11 +1,12 @@
-use Rattle.std.proofs.Common.{◌-◌, ◌≤◌, length}
-use Rattle.dwarf_uses.specs.Callers.{AreTablesUpTo, section_of}
+use Rattle.std.proofs.Common.{◌-◌, ◌≤◌, false, length}
+use Rattle.dwarf_read_core.specs.Input.{section_of}
+use Rattle.dwarf_uses.specs.Callers.{AreTablesUpTo}
 use Rattle.dwarf_uses.proofs.callers.all_tables.Given as goal
 
 -- the tables so far are those up to the offset, which isn't after the section's end
 abbrev pub invariant-loop-offset : goal.invariant-loop-offset
 invariant-loop-offset l = record {
-  tables : AreTablesUpTo (section_of l.bytes) l.tables.items l.offset;
+  tables : AreTablesUpTo (section_of l.bytes false) l.tables.items l.offset;
   within : l.offset ≤ length l.bytes;
 }
 

@@ -1,4 +1,3 @@
-use Rattle.dwarf_read_core.specs.Strings.{StringAt}
 use Rattle.dwarf_read_core.proofs.ResultLemmas.{result-propagated}
 use Rattle.dwarf_read_core.proofs.lookups.Strings.{string-read, string_outside}
 use Rattle.dwarf_read_core.proofs.read.str.string_at.Goals as goal
@@ -10,5 +9,5 @@ returns-clause-answer g c =
 
 pub returns-in_err-skip-clause-answer : goal.returns-in_err-skip-clause-answer
 returns-in_err-skip-clause-answer g c =
-    result-propagated (StringAt _ _) _ _ _ c.from_residual-in_err-skip.ensures.1
+    result-propagated _ c.from_residual-in_err-skip.ensures.1
     (string_outside _ _ _ _ (rw c.in_ok-input.ensures.ok at c.in_err-skip.ensures.err))

@@ -1,5 +1,5 @@
 use Rattle.dwarf_reader_core.proofs.Common.{◌∙◌, rules, signed64, true, false, arith, refl}
-use Rattle.dwarf_reader_core.proofs.Reading.{begun_below, cut_rejects, begun_below_nine, next_below, next_continues, reads_signed, reads_tenth_signed, rejects_tenth_signed}
+use Rattle.dwarf_reader_core.proofs.Reading.{begun_below, begun_none, cut_rejects, begun_below_nine, next_below, next_continues, reads_signed, reads_tenth_signed, rejects_tenth_signed}
 use Rattle.dwarf_reader_core.proofs.endian_slice.EndianSliceReader.read_sleb128.Goals as goal
 
 pub with_digit-result-requires-in-loop-index-clause-below : goal.with_digit-result-requires-in-loop-index-clause-below
@@ -44,7 +44,9 @@ pub with_sign-requires-in-127-clause-below : goal.with_sign-requires-in-127-clau
 with_sign-requires-in-127-clause-below g c = begun_below_nine c.loop-index.invariant.begun (omega arith)
 
 pub returns-then-not-has_continuation_bit-clause-ok : goal.returns-then-not-has_continuation_bit-clause-ok
-returns-then-not-has_continuation_bit-clause-ok g c = grind arith
+returns-then-not-has_continuation_bit-clause-ok g c =
+    reads_signed (begun_none _) c.in_ok-first.ensures.ok _ _ _ _ (grind arith) (omega arith)
+    c.with_digit-result.ensures refl c.has_sign_bit.ensures c.with_sign.ensures (search rules)
 
 pub returns-in_err-byte-clause-err : goal.returns-in_err-byte-clause-err
 returns-in_err-byte-clause-err g c =

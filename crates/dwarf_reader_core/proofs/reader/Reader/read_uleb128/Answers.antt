@@ -1,5 +1,5 @@
 use Rattle.dwarf_reader_core.proofs.Common.{◌∙◌, rules, arith, refl, unsigned64}
-use Rattle.dwarf_reader_core.proofs.Reading.{begun_below, cut_rejects, next_continues, reads_unsigned, reads_tenth_unsigned, rejects_tenth_unsigned}
+use Rattle.dwarf_reader_core.proofs.Reading.{begun_below, begun_none, cut_rejects, next_continues, reads_unsigned, reads_tenth_unsigned, rejects_tenth_unsigned}
 use Rattle.dwarf_reader_core.proofs.reader.Reader.read_uleb128.Goals as goal
 
 pub with_digit-result-requires-in-loop-index-clause-below : goal.with_digit-result-requires-in-loop-index-clause-below
@@ -27,7 +27,8 @@ returns-clause-ok g c =
     (search rules)
 
 pub returns-then-not-has_continuation_bit-clause-ok : goal.returns-then-not-has_continuation_bit-clause-ok
-returns-then-not-has_continuation_bit-clause-ok g c = grind arith
+returns-then-not-has_continuation_bit-clause-ok g c =
+    reads_unsigned (begun_none _) c.in_ok-first.ensures.ok _ (grind arith) (omega arith) (grind arith) (grind arith)
 
 pub returns-in_err-byte-clause-err : goal.returns-in_err-byte-clause-err
 returns-in_err-byte-clause-err g c =

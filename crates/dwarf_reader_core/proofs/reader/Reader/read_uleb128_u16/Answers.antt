@@ -3,7 +3,8 @@ use Rattle.dwarf_reader_core.proofs.Reading.{begun_none, next_below, next_contin
 use Rattle.dwarf_reader_core.proofs.reader.Reader.read_uleb128_u16.Goals as goal
 
 pub returns-then-not-has_continuation_bit-clause-ok : goal.returns-then-not-has_continuation_bit-clause-ok
-returns-then-not-has_continuation_bit-clause-ok g c = grind arith
+returns-then-not-has_continuation_bit-clause-ok g c =
+    reads_short (begun_none _) c.in_ok-first.ensures.ok _ (grind arith) (omega arith) (grind arith) (grind arith)
 
 pub returns-then-not-has_continuation_bit-2-clause-ok : goal.returns-then-not-has_continuation_bit-2-clause-ok
 returns-then-not-has_continuation_bit-2-clause-ok g c =

@@ -1,5 +1,5 @@
 use Rattle.dwarf_read_core.proofs.Common.{refl, ap, inl, rules, true, Input}
-use Rattle.dwarf_read_core.specs.Items.{none}
+use Rattle.dwarf_read_core.specs.Items.{no_items}
 use Rattle.dwarf_read_core.proofs.sets.ItemLists.{bytes-some}
 use Rattle.dwarf_read_core.proofs.sets.Entries.{address_not_read, number_error_first, number_first, size-positive}
 use Rattle.dwarf_read_core.proofs.read.addr.AddrEntryIter.next.Goals as goal
@@ -16,7 +16,7 @@ returns-in-Err-clause-first g c =
 
 pub returns-then-is_empty-clause-first : goal.returns-then-is_empty-clause-first
 returns-then-is_empty-clause-first g c =
-    rw (← c.self.view_is) (none (c.if-is_empty.ensures.0 refl), none (c.if-is_empty.ensures.0 refl))
+    rw (← c.self.view_is) (no_items (c.if-is_empty.ensures.0 refl), no_items (c.if-is_empty.ensures.0 refl))
 
 pub returns-in-Err-clause-some : goal.returns-in-Err-clause-some
 returns-in-Err-clause-some g c = rw (← c.self.view_is) (bytes-some _ (search rules))

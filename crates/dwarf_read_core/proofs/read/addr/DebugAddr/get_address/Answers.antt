@@ -1,16 +1,16 @@
-use Rattle.dwarf_read_core.specs.Words.{AddressAt, address_unplaced}
+use Rattle.dwarf_read_core.specs.Words.{address_unplaced}
 use Rattle.dwarf_read_core.proofs.ResultLemmas.{result-propagated}
 use Rattle.dwarf_read_core.proofs.lookups.Words.{address-read, address-stays}
 use Rattle.dwarf_read_core.proofs.read.addr.DebugAddr.get_address.Goals as goal
 
 pub returns-in_err-skip_to_index-clause-answer : goal.returns-in_err-skip_to_index-clause-answer
 returns-in_err-skip_to_index-clause-answer g c =
-    result-propagated (AddressAt _ _ _) _ _ _ c.from_residual-in_err-skip_to_index.ensures.1
+    result-propagated _ c.from_residual-in_err-skip_to_index.ensures.1
     (address_unplaced (rw c.in_ok-input.ensures.ok at c.in_err-skip_to_index.ensures.err))
 
 pub returns-in_err-skip_to_index-clause-stable : goal.returns-in_err-skip_to_index-clause-stable
 returns-in_err-skip_to_index-clause-stable g c =
-    address-stays _ _ _ _ _ (returns-in_err-skip_to_index-clause-answer g c)
+    address-stays _ _ _ (returns-in_err-skip_to_index-clause-answer g c)
 
 pub returns-clause-answer : goal.returns-clause-answer
 returns-clause-answer g c =
@@ -19,4 +19,4 @@ returns-clause-answer g c =
     c.read_address.ensures.err
 
 pub returns-clause-stable : goal.returns-clause-stable
-returns-clause-stable g c = address-stays _ _ _ _ _ (returns-clause-answer g c)
+returns-clause-stable g c = address-stays _ _ _ (returns-clause-answer g c)

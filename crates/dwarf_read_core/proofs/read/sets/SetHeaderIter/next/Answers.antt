@@ -1,5 +1,5 @@
 use Rattle.dwarf_read_core.proofs.Common.{refl, rules, ap, arith, Input}
-use Rattle.dwarf_read_core.specs.Items.{none}
+use Rattle.dwarf_read_core.specs.Items.{no_items}
 use Rattle.dwarf_read_core.proofs.sets.ItemLists.{bytes-some}
 use Rattle.dwarf_read_core.proofs.sets.Sets.{set_first, set_error_first, set_error_stays, set_stays}
 use Rattle.dwarf_read_core.proofs.read.sets.SetHeaderIter.next.Goals as goal
@@ -28,7 +28,7 @@ returns-in-Err-clause-stable g c =
 
 pub returns-then-is_empty-clause-first : goal.returns-then-is_empty-clause-first
 returns-then-is_empty-clause-first g c =
-    rw (← c.self.view_is) (none (c.if-is_empty.ensures.0 refl), none (c.if-is_empty.ensures.0 refl))
+    rw (← c.self.view_is) (no_items (c.if-is_empty.ensures.0 refl), no_items (c.if-is_empty.ensures.0 refl))
 
 pub returns-in-Err-clause-some : goal.returns-in-Err-clause-some
 returns-in-Err-clause-some g c = rw (← c.self.view_is) (bytes-some _ (search rules))

@@ -1,28 +1,31 @@
-use Rattle.dwarf_read_core.specs.Words.{WordAt, word_unplaced}
+use Rattle.dwarf_read_core.specs.Words.{word_unplaced}
 use Rattle.std.proofs.Common.{arith}
 use Rattle.dwarf_read_core.proofs.ResultLemmas.{result-propagated}
-use Rattle.dwarf_read_core.proofs.lookups.Words.{word-stays, word_kept, word_fails, word_taken}
+use Rattle.dwarf_read_core.proofs.lookups.Words.{word-stays, word_fails, word_taken}
 use Rattle.dwarf_read_core.proofs.read.str.DebugStrOffsets.get_str_offset.Goals as goal
 
 pub returns-in_err-skip_to_word-clause-answer : goal.returns-in_err-skip_to_word-clause-answer
 returns-in_err-skip_to_word-clause-answer g c =
-    result-propagated (WordAt _ _ _) _ _ _ c.from_residual-in_err-skip_to_word.ensures.1
+    result-propagated _ c.from_residual-in_err-skip_to_word.ensures.1
     (word_unplaced (rw c.in_ok-input.ensures.ok at c.in_err-skip_to_word.ensures.err))
 
 pub returns-in_err-skip_to_word-clause-stable : goal.returns-in_err-skip_to_word-clause-stable
-returns-in_err-skip_to_word-clause-stable g c = word-stays _ _ _ _ _ _ (returns-in_err-skip_to_word-clause-answer g c)
+returns-in_err-skip_to_word-clause-stable g c = word-stays _ _ _ (returns-in_err-skip_to_word-clause-answer g c)
 
 pub returns-in_err-read_offset-clause-answer : goal.returns-in_err-read_offset-clause-answer
 returns-in_err-read_offset-clause-answer g c = grind (arith, result-propagated, word_fails)
 
 pub returns-in_err-read_offset-clause-stable : goal.returns-in_err-read_offset-clause-stable
-returns-in_err-read_offset-clause-stable g c = word-stays _ _ _ _ _ _ (returns-in_err-read_offset-clause-answer g c)
+returns-in_err-read_offset-clause-stable g c = word-stays _ _ _ (returns-in_err-read_offset-clause-answer g c)
 
 pub returns-clause-answer : goal.returns-clause-answer
 returns-clause-answer g c =
-    word_taken _ _ _ _ (rw c.in_ok-input.ensures.ok at c.in_ok-skip_to_word.ensures.placed)
-    (rw c.in_ok-input.ensures.ok at c.in_ok-skip_to_word.ensures.ok) c.in_ok-read_offset.ensures.ok
-    c.in_ok-read_offset.ensures.in_range
+    record {
+      ok = word_taken _ _ _ _ (rw c.in_ok-input.ensures.ok at c.in_ok-skip_to_word.ensures.placed)
+          (rw c.in_ok-input.ensures.ok at c.in_ok-skip_to_word.ensures.ok) c.in_ok-read_offset.ensures.ok
+          c.in_ok-read_offset.ensures.in_range;
+      err = tt;
+    }
 
 pub returns-clause-stable : goal.returns-clause-stable
-returns-clause-stable g c = word_kept _ _ _ (returns-clause-answer g c)
+returns-clause-stable g c = word-stays _ _ _ (returns-clause-answer g c)

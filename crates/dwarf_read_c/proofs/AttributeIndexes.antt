@@ -1,0 +1,48 @@
+-- The attributes of an abbreviation are those of the table from its index on.
+use Rattle.dwarf_read_core.proofs.Common.{◌≡◌, ◌∙◌, ℕ, zero, suc, ◌+◌, List, [], ◌∷◌, ◌++◌, length, take, drop, map, Some, refl, sym, ap, subst, arith, append_assoc, length-append, length-drop, drop-append-le, take-append-le, take_all, nil_from_length, values, Declaration, Table}
+use Rattle.std.specs.Prelude.{slice_get}
+use Rattle.std.proofs.lemmas.List.{length-map}
+use Rattle.dwarf_read_c.specs.Tables.{abbreviation_of, abbreviations_of, attribute_of, attributes_in, attributes_of, laid_from}
+use Rattle.dwarf_read_c.specs.declared.tables.DwarfAbbreviation.{DwarfAbbreviation}
+use Rattle.dwarf_read_c.specs.declared.tables.DwarfAttributeSpec.{DwarfAttributeSpec}
+
+-- the attributes of a declaration, as C sees them
+abbrev own : Declaration → List DwarfAttributeSpec
+own d = map attribute_of d.attributes
+
+-- what an abbreviation with an index says: the declaration with that index, and its attributes among all
+abbrev IsLaid : List DwarfAttributeSpec → List Declaration → ℕ → DwarfAbbreviation → Type 0
+IsLaid all ds i a =
+    (d : Declaration) × (slice_get ds i ≡ Some d) × (a ≡ abbreviation_of a.first_attribute d)
+    × (take a.attribute_count (drop a.first_attribute all) ≡ own d)
+
+-- the part of a list after others
+part_after : {X : Type 0} (before part after : List X) (n : ℕ) → n ≡ length part
+    → take n (drop (length before) (before ++ (part ++ after))) ≡ part
+part_after before part after n counted =
+    let none : drop (length before) before ≡ [] =
+    nil_from_length _ (omega (arith, length-drop (length before) before)) in
+    let rest : drop (length before) (before ++ (part ++ after)) ≡ part ++ after =
+    drop-append-le (length before) before (part ++ after) (omega arith) ∙ ap (λ front. front ++ (part ++ after)) none in
+    ap (take n) rest ∙ ap (λ k. take k (part ++ after)) counted ∙ take-append-le (length part) part after (omega arith)
+    ∙ take_all (length part) part (omega arith)
+
+-- each abbreviation after some attributes is laid out
+laid : (before : List DwarfAttributeSpec) (ds : List Declaration) (i : ℕ) (a : DwarfAbbreviation)
+    → slice_get (laid_from (length before) ds) i ≡ Some a → IsLaid (before ++ attributes_in ds) ds i a
+laid before [] i a found = absurd cc
+laid before (d ∷ ds) zero a found =
+    let is : abbreviation_of (length before) d ≡ a = grind arith in
+    subst (λ (a : DwarfAbbreviation). IsLaid (before ++ attributes_in (d ∷ ds)) (d ∷ ds) 0 a) is
+    (d, refl, refl, part_after before (own d) (attributes_in ds) (length d.attributes) (sym (length-map d.attributes attribute_of)))
+laid before (d ∷ ds) (suc i) a found =
+    let longer : length before + length d.attributes ≡ length (before ++ own d) =
+    omega (arith, length-append before (own d), length-map d.attributes attribute_of) in
+    let rest : IsLaid ((before ++ own d) ++ attributes_in ds) ds i a =
+    laid (before ++ own d) ds i a (subst (λ n. slice_get (laid_from n ds) i ≡ Some a) longer found) in
+    subst (λ (all : List DwarfAttributeSpec). IsLaid all ds i a) (append_assoc before (own d) (attributes_in ds)) rest
+
+-- the attributes of an abbreviation are those of the table from its index on
+pub attributes_at : (t : Table) (i : ℕ) (a : DwarfAbbreviation) → slice_get (abbreviations_of t) i ≡ Some a
+    → IsLaid (attributes_of t) (values t.by_code) i a
+attributes_at t i a found = laid [] (values t.by_code) i a found

@@ -1,0 +1,120 @@
+-- Some appended bytes change each result that depends on where the section ends.
+use Rattle.dwarf_read_core.proofs.Common.{◌≡◌, ◌≢◌, ◌⊎◌, inl, inr, ◌∙◌, ℕ, ◌-◌, ◌<◌, ◌≤◌, List, [], ◌∷◌, ◌++◌, length, Result, Ok, Err, refl, sym, subst, arith, append-nil, length-append, drop-append-le, eof, end_of, Input, Error, Table, closed, by_code_of, by_null, by_end, IsNumber, unsigned64, IsTableBefore, closed_by_null, closed_by_end, Answer, outside, table, first_error, StrictAnswer, IsStrictlyFinal, IsFinal, followed_by}
+use Rattle.std.proofs.Common.{replicate}
+use Rattle.std.proofs.lemmas.List.{length-replicate}
+use Rattle.dwarf_read_core.specs.Answer.{unterminated}
+use Rattle.dwarf_read_core.specs.Grammar.{Close}
+use Rattle.dwarf_read_core.proofs.tables.ExactlyOneAnswer.{answer_exactly_one}
+use Rattle.dwarf_read_core.proofs.tables.TableErrors.{table_error}
+use Rattle.dwarf_read_core.proofs.tables.EndFaults.{at_start, at_end, first_at_end, eof_ends, closed_or_other, unterminated_at_end}
+
+-- two results of a section at an offset are equal
+same_answer : (section : Input) (offset : ℕ) (a b : Result Table Error) → Answer section offset a
+    → Answer section offset b → a ≡ b
+same_answer section offset a b is has =
+    let one = answer_exactly_one section offset in one.2 a is ∙ sym (one.2 b has)
+
+-- ---- tables that the end closes
+
+-- a zero byte is the code 0
+zero_is_code : IsNumber unsigned64 (0 ∷ []) 0
+zero_is_code = grind arith
+
+-- bytes of a table that no code of value 0 closes are one that such a code closes when a zero byte follows
+null_after : {bytes rest : List ℕ} {t : Table} → IsTableBefore bytes t rest → (t.close ≡ by_null → ⊥)
+    → IsTableBefore (bytes ++ 0 ∷ []) (closed t.by_code by_null) []
+null_after (closed_by_null bytes zero rest ds are is) unsettled = absurd (unsettled refl)
+null_after (closed_by_end bytes ds are) unsettled =
+    subst (λ (whole : List ℕ). IsTableBefore whole (closed (by_code_of ds) by_null) []) (append-nil (bytes ++ 0 ∷ []))
+    (closed_by_null bytes (0 ∷ []) [] ds are zero_is_code)
+
+-- a zero byte changes a table that no code of value 0 closes
+null_changes : (section : Input) (offset : ℕ) (t : Table) → Answer section offset (Ok t) → (t.close ≡ by_null → ⊥)
+    → Answer (followed_by section (0 ∷ [])) offset (Ok t) → ⊥
+null_changes section offset _ (table t le is) unsettled stays =
+    let longer = length-append section.bytes (0 ∷ []) in
+    let null = null_after is.1 unsettled in
+    let other : Answer (followed_by section (0 ∷ [])) offset (Ok (closed t.by_code by_null)) =
+    table (closed t.by_code by_null) (omega (arith, le, longer))
+    ([], rw (drop-append-le offset section.bytes (0 ∷ []) le) null) in
+    let same = same_answer (followed_by section (0 ∷ [])) offset _ _ stays other in
+    unsettled (grind arith)
+
+-- ---- errors
+
+-- an `UnexpectedEof` at an offset within the section moves with each byte that is appended
+end_moves : (section : Input) (offset : ℕ) → offset ≤ length section.bytes
+    → Answer (followed_by section (0 ∷ [])) offset (Err (eof (end_of section))) → ⊥
+end_moves section offset le stays =
+    let longer = length-append section.bytes (0 ∷ []) in
+    elim (eof_ends (followed_by section (0 ∷ [])) offset (end_of section) stays) [
+      | at_start past there ↦ omega (arith, le, past, longer)
+      | at_end within there ↦ omega (arith, there, longer)
+    ]
+
+-- an offset past the end comes inside
+offset_comes_inside : (section : Input) (offset : ℕ) → length section.bytes < offset
+    → Answer (followed_by section (replicate (offset - length section.bytes) 0)) offset (Err (eof section.position)) → ⊥
+offset_comes_inside section offset past stays =
+    let more : List ℕ = replicate (offset - length section.bytes) 0 in
+    let longer = length-append section.bytes more in
+    let long : length more ≡ offset - length section.bytes = length-replicate (offset - length section.bytes) 0 in
+    elim (eof_ends (followed_by section more) offset section.position stays) [
+      | at_start late there ↦ omega (arith, late, past, longer, long)
+      | at_end within there ↦ omega (arith, there, past, longer, long)
+    ]
+
+-- some appended bytes change a result that isn't final
+pub answer_changes : (section : Input) (offset : ℕ) (answer : Result Table Error) → Answer section offset answer
+    → (IsFinal answer → ⊥) → (more : List ℕ) × (Answer (followed_by section more) offset answer → ⊥)
+answer_changes section offset _ (outside past) unsettled =
+    (replicate (offset - length section.bytes) 0, offset_comes_inside section offset past)
+answer_changes section offset _ (table t le is) unsettled = (0 ∷ [], null_changes section offset t (table t le is) unsettled)
+answer_changes section offset _ (first_error e le is) unsettled =
+    elim (first_at_end is) [
+      | inl end ↦ (0 ∷ [], λ stays. end_moves section offset le (rw end at stays))
+      | inr other ↦ absurd (unsettled other)
+    ]
+
+-- ---- strict results
+
+-- what closes a table
+null_or_end : (close : Close) → (close ≡ by_null) ⊎ (close ≡ by_end)
+null_or_end by_null = inl refl
+null_or_end by_end = inr refl
+
+-- the error for an unclosed table moves with each byte that is appended
+unclosed_moves : (section : Input) (offset : ℕ)
+    → StrictAnswer (followed_by section (0 ∷ [])) offset (Err (unterminated (end_of section))) → ⊥
+unclosed_moves section offset stays =
+    let there = unterminated_at_end (followed_by section (0 ∷ [])) offset (end_of section) stays in
+    omega (arith, there, length-append section.bytes (0 ∷ []))
+
+-- a strict error that isn't of an unclosed table is the error of the section
+strict_error : (section : Input) (offset : ℕ) (e : Error) → ((position : ℕ) → e ≢ unterminated position)
+    → StrictAnswer section offset (Err e) → Answer section offset (Err e)
+strict_error section offset e other (Ok t, is, same) =
+    elim (null_or_end t.close) [
+      | inl null ↦ absurd (grind arith)
+      | inr end ↦ absurd (other (end_of section) (grind arith))
+    ]
+strict_error section offset e other (Err f, is, same) = let equal : f ≡ e = grind arith in rw (← equal) is
+
+-- some appended bytes change a strict result that isn't final
+pub strict_answer_changes : (section : Input) (offset : ℕ) (strict : Result Table Error)
+    → StrictAnswer section offset strict → (IsStrictlyFinal strict → ⊥)
+    → (more : List ℕ) × (StrictAnswer (followed_by section more) offset strict → ⊥)
+strict_answer_changes section offset (Ok t) is unsettled = absurd (unsettled tt)
+strict_answer_changes section offset (Err e) (Ok t, is, same) unsettled =
+    elim (null_or_end t.close) [
+      | inl null ↦ absurd (grind arith)
+      | inr end ↦
+          let unclosed : e ≡ unterminated (end_of section) = grind arith in
+          (0 ∷ [], λ stays. unclosed_moves section offset (rw unclosed at stays))
+    ]
+strict_answer_changes section offset (Err e) (Err f, is, same) unsettled =
+    let equal : f ≡ e = grind arith in
+    let here : Answer section offset (Err e) = rw (← equal) is in
+    let other = closed_or_other (table_error section offset e here) in
+    let (more, changes) = answer_changes section offset (Err e) here (λ final. unsettled (final, other)) in
+    (more, λ stays. changes (strict_error (followed_by section more) offset e other stays))
