@@ -5,6 +5,7 @@ pub mod Hexadecimal
 pub mod ItemLines
 pub mod Numbers
 pub mod OffsetLemmas
+pub mod OneOutcome
 pub mod OneText
 pub mod QuoteLemmas
 pub mod SetTexts

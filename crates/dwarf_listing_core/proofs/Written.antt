@@ -27,7 +27,7 @@ first_offsets {failed = failed} offsets i within listed = record {
   before = take i offsets;
   offset = get_or offsets i 0;
   after = drop (suc i) offsets;
-  place = grind (arith, take-append-drop, drop-cons);
+  parts = grind (arith, take-append-drop, drop-cons);
   failed = failed;
   listed = listed;
 }

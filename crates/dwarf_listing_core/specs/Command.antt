@@ -1,6 +1,6 @@
 -- The commands, and the arguments that name them.
 use Rattle.std.specs.Prelude.{◌≡◌, ℕ, Bool, true, false, IsTrue, List, [], ◌∷◌, Option, Some, None, IsSomeAnd, codes, if◌then◌else◌}
-use Rattle.std.specs.Option.{option_map}
+use Rattle.std.specs.Option.{option_map, option_map_or}
 use Rattle.std.specs.Str.{bytes_eq}
 use Rattle.dwarf_read_core.specs.declared.RunTimeEndian.{RunTimeEndian}
 use Rattle.dwarf_read_core.specs.declared.RunTimeEndian.TheVariants.{Little, Big}
@@ -37,6 +37,14 @@ reads_input _ = true
 -- the arguments name no command
 abbrev pub IsUsage : List (List ℕ) → Type 0
 IsUsage words = command_of words ≡ None
+
+-- whether the arguments name a command that reads the input
+abbrev pub reads : List (List ℕ) → Bool
+reads words = option_map_or reads_input (command_of words) false
+
+-- the bytes that a command is given: those of the input, or none if it reads no input
+abbrev pub given : List (List ℕ) → Option (List ℕ) → Option (List ℕ)
+given words remaining = if reads words then remaining else Some []
 
 -- the arguments name a command that reads the input
 abbrev pub ReadsInput : List (List ℕ) → Type 0

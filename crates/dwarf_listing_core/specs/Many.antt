@@ -4,7 +4,6 @@ use Rattle.dwarf_read_core.specs.declared.Error.{Error}
 use Rattle.dwarf_read_core.specs.ErrorText.{error_text, hexadecimal}
 use Rattle.dwarf_listing_core.specs.Fault.{IsMemoryFault}
 use Rattle.dwarf_listing_core.specs.Lines.{ListsString, line}
-use Rattle.dwarf_listing_core.specs.Offsets.{AreOffsets}
 use Rattle.dwarf_listing_core.specs.Tables.{ListsTable}
 use Rattle.dwarf_listing_core.specs.declared.arguments.Kind.{Kind}
 use Rattle.dwarf_listing_core.specs.declared.arguments.Kind.TheVariants.{Tables, Strings}
@@ -48,16 +47,23 @@ pub data ListsAll (on_error : OnError) (kind : Kind) (section : List ℕ) : List
 pub record EndsAt (kind : Kind) (section offsets : List ℕ) (offset : ℕ) (error : Error) (text : List ℕ) : Type 0 where
   pub before : List ℕ
   pub after : List ℕ
-  pub place : offsets ≡ before ++ offset ∷ after
+  pub parts : offsets ≡ before ++ offset ∷ after
   pub listed : ListsAll Stop kind section before text false
   pub fails : ListsOne kind section offset (Err error)
+
+-- the outcome of a run over these offsets, if memory suffices and the output doesn't fail: whether one of them has an
+-- error, or the first error, which ends a run that stops; and the text
+abbrev pub IsRun : OnError → Kind → List ℕ → List ℕ → Result Bool (ℕ × Error) × List ℕ → Type 0
+IsRun on_error kind section offsets (Ok failed, text) = ListsAll on_error kind section offsets text failed
+IsRun on_error kind section offsets (Err at, text) =
+    (on_error ≡ Stop) × EndsAt kind section offsets at.0 at.1 text
 
 -- the text is that of the offsets before one of them, whichever that is
 pub record ListsFirst (on_error : OnError) (kind : Kind) (section offsets text : List ℕ) : Type 0 where
   pub before : List ℕ
   pub offset : ℕ
   pub after : List ℕ
-  pub place : offsets ≡ before ++ offset ∷ after
+  pub parts : offsets ≡ before ++ offset ∷ after
   pub failed : Bool
   pub listed : ListsAll on_error kind section before text failed
 
@@ -72,21 +78,6 @@ WritesEach on_error kind section offsets Wrote (Err (At offset error)) =
 WritesEach on_error kind section offsets Wrote (Err (Other fault)) =
     (fault ≡ Write) ⊎ (IsMemoryFault fault × (text : List ℕ) × ListsFirst on_error kind section offsets text × Wrote text)
 WritesEach _ _ _ _ _ (Err _) = ⊥
-
--- the text that a section has for the offsets on these lines, and whether one of them has an error
-abbrev pub IsManyText : OnError → Kind → List ℕ → List (List ℕ) → List ℕ → Bool → Type 0
-IsManyText on_error kind section lines text failed =
-    (offsets : List ℕ) × AreOffsets lines offsets × ListsAll on_error kind section offsets text failed
-
--- the first offset on these lines that has an error, and the text of the offsets before it
-abbrev pub EndsManyAt : Kind → List ℕ → List (List ℕ) → ℕ → Error → List ℕ → Type 0
-EndsManyAt kind section lines offset error text =
-    (offsets : List ℕ) × AreOffsets lines offsets × EndsAt kind section offsets offset error text
-
--- the text that a section has for the offsets before one of those on these lines
-abbrev pub ListsManyFirst : OnError → Kind → List ℕ → List (List ℕ) → List ℕ → Type 0
-ListsManyFirst on_error kind section lines text =
-    (offsets : List ℕ) × AreOffsets lines offsets × ListsFirst on_error kind section offsets text
 
 -- the bytes of a section and of its offsets have this property, if both are known
 abbrev pub IfKnown : Option (List ℕ) → Option (List ℕ) → (List ℕ → List ℕ → Type 0) → Type 0

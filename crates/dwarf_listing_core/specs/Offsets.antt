@@ -25,7 +25,7 @@ pub record IsBadLine (lines : List (List ℕ)) (number : ℕ) (quote : Quote) : 
   pub line : List ℕ
   pub after : List (List ℕ)
   pub offsets : List ℕ
-  pub place : lines ≡ before ++ line ∷ after
+  pub parts : lines ≡ before ++ line ∷ after
   pub are_offsets : AreOffsets before offsets
   pub is_none : offset_of line ≡ None
   pub count : number ≡ length before + 1

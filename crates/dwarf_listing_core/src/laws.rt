@@ -4,6 +4,7 @@ ghost use Rattle.std.specs.Prelude.{◌≡◌, ℕ, List, Result};
 ghost use Rattle.dwarf_read_core.specs.Once.{HasOne};
 ghost use Rattle.dwarf_read_core.specs.declared.Error.{Error};
 ghost use Rattle.dwarf_listing_core.specs.Lines.{ListsString};
+ghost use Rattle.dwarf_listing_core.specs.Many.{IsRun};
 ghost use Rattle.dwarf_listing_core.specs.Sets.{ListsAddresses, ListsStringOffsets};
 ghost use Rattle.dwarf_listing_core.specs.Tables.{ListsStrictTable, ListsTable};
 ghost use Rattle.dwarf_listing_core.specs.Text.{IsText, Lists};
@@ -38,4 +39,13 @@ pub fn exactly_one_text()
 {
     exactly_one_listing();
     laws::exactly_one_shortest();
+}
+
+/// Offsets have exactly one outcome: the text of all, and whether one of them has an error; or, for a
+/// run that stops at an error, the first error and the text of the offsets before it.
+pub fn exactly_one_run()
+    ensures { (on_error : _) (kind : _) (section offsets : List ℕ)
+        → HasOne (IsRun on_error kind section offsets) }
+{
+    exactly_one_listing();
 }

@@ -5,9 +5,9 @@ ghost use Rattle.std.specs.Io.KnownBytes.{Appends, IsAtEnd};
 ghost use Rattle.dwarf_listing_core.specs.Fault.{IsMemoryFault, WasRead};
 ghost use Rattle.dwarf_read_core.specs.declared.Error.TheVariants.{OutOfMemory};
 ghost use Rattle.dwarf_read_core.specs.Lookups.{UnlessOutOfMemory};
-ghost use Rattle.dwarf_listing_core.specs.Many.{EndsManyAt, IfKnown, IsManyText, ListsAt, ListsManyFirst, ListsOne, WritesEach, error_line, title};
+ghost use Rattle.dwarf_listing_core.specs.Many.{IfKnown, ListsAt, ListsOne, WritesEach, error_line, title};
 ghost use Rattle.dwarf_listing_core.specs.ManyFault.{IsListingFault};
-ghost use Rattle.dwarf_listing_core.specs.Offsets.{IsBadLine, lines_of};
+ghost use Rattle.dwarf_listing_core.specs.Offsets.{AreOffsets, IsBadLine, lines_of};
 ghost use Rattle.dwarf_listing_core.specs.Text.{text_bytes};
 
 use crate::arguments::{Kind, OnError};
@@ -52,20 +52,21 @@ pub fn run_many<S: Read, I: Read, O: Write>(
     offsets: &mut I,
     output: &mut O,
 ) -> Result<bool, ManyFault>
-    // What was written, and nothing else.
-    ensures written { IfOk result (λ failed.
-        IfKnown (S.remaining section.old) (I.remaining offsets.old) (λ bytes input.
-        (text : List ℕ) × IsManyText on_error kind bytes (lines_of input) text failed
-        × Appends (O.contents output.old) (O.contents output.new) text)) }
+    // What was written, and nothing else, once the offsets are known.
+    ensures listed { IfErr result IsListingFault
+        → IfKnown (S.remaining section.old) (I.remaining offsets.old) (λ bytes input.
+        (numbers : List ℕ) × AreOffsets (lines_of input) numbers
+        × WritesEach on_error kind bytes numbers
+        (Appends (O.contents output.old) (O.contents output.new)) result)
+        ⊎ ((result ≡ Err (ManyFault.Other (Fault.Section OutOfMemory)))
+        × (output.new ≡ output.old)) }
     ensures stops { on_error ≡ OnError.Stop → result ≢ Ok true }
     ensures end { OnOk result
         (IsAtEnd (S.remaining section.new) × IsAtEnd (I.remaining offsets.new)) }
 
     // When each error is returned.
     ensures first { (offset : ℕ) (error : _) → result ≡ Err (ManyFault.At offset error)
-        → (on_error ≡ OnError.Stop) × IfKnown (S.remaining section.old) (I.remaining offsets.old)
-        (λ bytes input. (text : List ℕ) × EndsManyAt kind bytes (lines_of input) offset error text
-        × Appends (O.contents output.old) (O.contents output.new) text) }
+        → on_error ≡ OnError.Stop }
     ensures line { (number : ℕ) (quote : _) → result ≡ Err (ManyFault.Line number quote)
         → IfSome (I.remaining offsets.old) (λ input. IsBadLine (lines_of input) number quote)
         × (output.new ≡ output.old) }
@@ -84,10 +85,6 @@ pub fn run_many<S: Read, I: Read, O: Write>(
         × WasRead (I.remaining offsets.old) (I.remaining offsets.new)) }
     ensures other { (fault : _) → result ≡ Err (ManyFault.Other fault)
         → (fault ≡ Fault.Write) ⊎ IsMemoryFault fault }
-    ensures stopped { (fault : _) → result ≡ Err (ManyFault.Other fault) → fault ≢ Fault.Write
-        → (output.new ≡ output.old) ⊎ IfKnown (S.remaining section.old) (I.remaining offsets.old)
-        (λ bytes input. (text : List ℕ) × ListsManyFirst on_error kind bytes (lines_of input) text
-        × Appends (O.contents output.old) (O.contents output.new) text) }
 {
     let section = match read_input(mem, section) {
         Ok(section) => section,

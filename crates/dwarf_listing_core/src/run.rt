@@ -1,9 +1,9 @@
 //! A whole run: arguments, input, result, output.
 
-ghost use Rattle.std.specs.Prelude.{◌≡◌, ◌≢◌, ◌⊎◌, List, [], ℕ, ◌↔◌, Ok, Err, IfErr, OnOk, IfSome, map, string_bytes};
+ghost use Rattle.std.specs.Prelude.{◌≡◌, ◌≢◌, ◌⊎◌, List, ℕ, ◌↔◌, Ok, Err, IfErr, OnOk, IfSome, map, string_bytes};
 ghost use Rattle.std.specs.Io.KnownBytes.{Appends, IsAtEnd};
 ghost use Rattle.dwarf_read_core.specs.declared.Error.TheVariants.{OutOfMemory};
-ghost use Rattle.dwarf_listing_core.specs.Command.{IsUsage, ReadsInput};
+ghost use Rattle.dwarf_listing_core.specs.Command.{IsUsage, ReadsInput, given};
 ghost use Rattle.dwarf_listing_core.specs.Fault.{IsMemoryFault, WasRead};
 ghost use Rattle.dwarf_listing_core.specs.Text.{IsText, text_bytes};
 
@@ -36,13 +36,10 @@ pub fn run<I: Read, O: Write>(
     output: &mut O,
 ) -> Result<(), Fault>
     // What was written, and nothing else.
-    ensures written { OnOk result (IfSome (I.remaining input.old) (λ bytes. (text : List ℕ)
-        × IsText (map string_bytes words.now) bytes (Ok text)
+    ensures written { OnOk result
+        (IfSome (given (map string_bytes words.now) (I.remaining input.old))
+        (λ bytes. (text : List ℕ) × IsText (map string_bytes words.now) bytes (Ok text)
         × Appends (O.contents output.old) (O.contents output.new) text)) }
-    // A command that reads no input writes its text, whatever is known of the input.
-    ensures written_alone { OnOk result (¬ ReadsInput (map string_bytes words.now) → (text : List ℕ)
-        × IsText (map string_bytes words.now) [] (Ok text)
-        × Appends (O.contents output.old) (O.contents output.new) text) }
     ensures unwritten { IfErr result (λ fault. fault ≢ Fault.Write → output.new ≡ output.old) }
     ensures unread { ¬ ReadsInput (map string_bytes words.now) → input.new ≡ input.old }
     ensures end { OnOk result
@@ -51,14 +48,15 @@ pub fn run<I: Read, O: Write>(
     // When each error is returned.
     ensures usage { (result ≡ Err Fault.Usage) ↔ IsUsage (map string_bytes words.now) }
     ensures section { (error : _) → result ≡ Err (Fault.Section error) → error ≢ OutOfMemory
-        → IfSome (I.remaining input.old) (λ bytes.
+        → IfSome (given (map string_bytes words.now) (I.remaining input.old)) (λ bytes.
         IsText (map string_bytes words.now) bytes (Err (Fault.Section error))) }
     ensures read { result ≡ Err Fault.Read → ReadsInput (map string_bytes words.now) }
     // An input of which nothing can be read isn't `OutOfMemory`.
     ensures memory { result ≡ Err (Fault.Section OutOfMemory)
         → ReadsInput (map string_bytes words.now)
         → WasRead (I.remaining input.old) (I.remaining input.new) }
-    ensures write { result ≡ Err Fault.Write → IfSome (I.remaining input.old) (λ bytes.
+    ensures write { result ≡ Err Fault.Write
+        → IfSome (given (map string_bytes words.now) (I.remaining input.old)) (λ bytes.
         (text : List ℕ) × IsText (map string_bytes words.now) bytes (Ok text)) }
 {
     let command = parse_command(words).ok_or(Fault::Usage)?;

@@ -22,9 +22,6 @@ returns-in-Err-clause-line g c = grind arith
 pub returns-in-Err-clause-lines_last : goal.returns-in-Err-clause-lines_last
 returns-in-Err-clause-lines_last g c = grind arith
 
-pub returns-in-Err-clause-stopped : goal.returns-in-Err-clause-stopped
-returns-in-Err-clause-stopped g c = grind arith
-
 pub returns-in-Err-clause-offsets_second : goal.returns-in-Err-clause-offsets_second
 returns-in-Err-clause-offsets_second g c = grind arith
 
@@ -39,9 +36,6 @@ returns-in-Err-read_input-clause-section_first g c = grind arith
 
 pub returns-in-Err-read_input-clause-lines_last : goal.returns-in-Err-read_input-clause-lines_last
 returns-in-Err-read_input-clause-lines_last g c = grind arith
-
-pub returns-in-Err-read_input-clause-stopped : goal.returns-in-Err-read_input-clause-stopped
-returns-in-Err-read_input-clause-stopped g c = grind arith
 
 pub returns-in-Err-clause-other : goal.returns-in-Err-clause-other
 returns-in-Err-clause-other g c fault =

@@ -1,4 +1,4 @@
-use Rattle.dwarf_listing_core.proofs.Common.{refl, arith, common_steps, ◌≡◌, ◌≢◌, ℕ, List, true, Err, Error, ListsOne, OutOfMemory}
+use Rattle.dwarf_listing_core.proofs.Common.{refl, arith, common_steps, ◌≢◌, ℕ, List, true, Err, Error, ListsOne, OutOfMemory}
 use Rattle.std.proofs.KnownBytes.{Appends-trans}
 use Rattle.dwarf_listing_core.specs.Many.{ListsAt, error_line}
 use Rattle.dwarf_listing_core.specs.Text.{text_bytes}

@@ -26,7 +26,7 @@ module _ {on_error : OnError} {kind : Kind} {section text : List ℕ} {failed : 
       record {
         before = take i offsets;
         after = drop (suc i) offsets;
-        place = grind (arith, take-append-drop, drop-cons);
+        parts = grind (arith, take-append-drop, drop-cons);
         listed = rw (ListsAll-stop before) at before;
         fails = fails;
       }
