@@ -1,21 +1,3 @@
 mod Common
-pub mod Encodings
-pub mod Bits
-pub mod Reading
-pub mod Outcomes
-pub mod Malformed
-pub mod Fronts
-pub mod Positions
-pub mod MissingFields
-pub mod Numbers
-pub mod Shortest
-pub mod ShortestExists
-pub mod SignedBits
-pub mod Writing
-pub mod Bytes
-pub mod Once
-pub mod Strings
-pub mod Results
-pub mod Consuming
-pub mod InitialLengths
-pub mod Headers
+pub mod public
+pub mod leb

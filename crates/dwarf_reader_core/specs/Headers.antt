@@ -1,5 +1,6 @@
 -- What the headers of sets say, after the length of the set (DWARF 5, 7.26 and 7.27).
 use Rattle.std.specs.Prelude.{◌≡◌, ◌≢◌, ℕ, ◌<◌, ◌≤◌, false, IsTrue, length, take, slice_index, Result, Ok, Err}
+use Rattle.dwarf_base_core.specs.declared.common.Format.{Format}
 use Rattle.dwarf_base_core.specs.declared.error.Error.{Error}
 use Rattle.dwarf_base_core.specs.declared.error.Error.TheVariants.{UnknownVersion, UnsupportedAddressSize, UnsupportedSegmentSize}
 use Rattle.dwarf_base_core.specs.Number.{number_of}
@@ -7,14 +8,19 @@ use Rattle.dwarf_reader_core.specs.Faults.{end_fault, is_number_size}
 use Rattle.dwarf_reader_core.specs.Input.{Input, Takes, after}
 use Rattle.dwarf_reader_core.specs.Once.{HasOne}
 
--- what a kind of header is: which bytes begin with one, what it says, and which remain; or which error they have
+-- what a kind of header is, where offsets have a greatest number and the part has a format: which bytes begin with
+-- one, what it says, and which remain; or which error they have
 abbrev pub Header : Type 0 → Type 1
-Header H = Input → Result (H × Input) Error → Type 0
+Header H = ℕ → Format → Input → Result (H × Input) Error → Type 0
 
--- bytes have exactly one result for a header of this kind, and each such header has `size` bytes
-pub record IsHeader {H : Type 0} (size : ℕ) (header : Header H) : Type 0 where
-  pub one : (unit : Input) → HasOne (header unit)
-  pub sized : (unit rest : Input) (said : H) → header unit (Ok (said, rest)) → Takes size unit rest
+-- bytes have exactly one result for a header of this kind; what such a header says determines how many bytes it has;
+-- and these are at least so many
+pub record IsHeader {H : Type 0} (least : ℕ) (size : Format → H → ℕ) (header : Header H) : Type 0 where
+  pub one : (greatest : ℕ) (format : Format) (unit : Input) → HasOne (header greatest format unit)
+  pub sized : {greatest : ℕ} {format : Format} (unit rest : Input) (said : H)
+      → header greatest format unit (Ok (said, rest)) → Takes (size format said) unit rest
+  pub at_least : {greatest : ℕ} {format : Format} (unit rest : Input) (said : H)
+      → header greatest format unit (Ok (said, rest)) → least ≤ size format said
 
 -- the part that an initial length measures begins with version 5
 pub record HasVersion (unit : Input) : Type 0 where
@@ -59,12 +65,24 @@ pub data HasNoStringOffsetsHeader (unit : Input) : Error → Type 0 where
   offsets_unversioned : {e : Error} → HasNoVersion unit e → HasNoStringOffsetsHeader unit e
   padding_cut : HasVersion unit → length unit.bytes < 4 → HasNoStringOffsetsHeader unit (end_fault (after 2 unit))
 
--- the result for the header of a set of addresses: its address size and the bytes after it, or the error
-abbrev pub AddressHeaderAt : Input → Result (ℕ × Input) Error → Type 0
-AddressHeaderAt unit (Ok x) = HasAddressHeader unit x.0 x.1
-AddressHeaderAt unit (Err e) = HasNoAddressHeader unit e
+-- the result for the fields of the header of a set of addresses: its address size and the bytes after it, or the error
+abbrev pub AddressFieldsAt : Input → Result (ℕ × Input) Error → Type 0
+AddressFieldsAt unit (Ok x) = HasAddressHeader unit x.0 x.1
+AddressFieldsAt unit (Err e) = HasNoAddressHeader unit e
 
--- the result for the header of a set of string offsets, which says nothing more
-abbrev pub StringOffsetsHeaderAt : Input → Result (Unit {0} × Input) Error → Type 0
-StringOffsetsHeaderAt unit (Ok x) = HasStringOffsetsHeader unit x.1
-StringOffsetsHeaderAt unit (Err e) = HasNoStringOffsetsHeader unit e
+-- the header of a set of addresses, in any format
+abbrev pub AddressHeaderAt : Header ℕ
+AddressHeaderAt greatest format = AddressFieldsAt
+
+-- the result for the fields of the header of a set of string offsets, which says nothing more
+abbrev pub StringOffsetsFieldsAt : Input → Result (Unit {0} × Input) Error → Type 0
+StringOffsetsFieldsAt unit (Ok x) = HasStringOffsetsHeader unit x.1
+StringOffsetsFieldsAt unit (Err e) = HasNoStringOffsetsHeader unit e
+
+-- the header of a set of string offsets, in any format
+abbrev pub StringOffsetsHeaderAt : Header (Unit {0})
+StringOffsetsHeaderAt greatest format = StringOffsetsFieldsAt
+
+-- both headers have as many bytes, whatever they say
+abbrev pub four_bytes : {H : Type 0} → Format → H → ℕ
+four_bytes format said = 4

@@ -4,7 +4,7 @@ ghost use Rattle.std.specs.Prelude.{◌≡◌, ◌<◌, ◌≤◌, ◌⊎◌, �
 ghost use Rattle.dwarf_base_core.specs.declared.error.Error.{Error};
 ghost use Rattle.dwarf_reader_core.specs.Input.{Input, TakesString};
 ghost use Rattle.dwarf_reader_core.specs.Faults.{HasNoByte, IsCutIn, eof};
-ghost use Rattle.dwarf_reader_core.specs.Headers.{AddressHeaderAt, StringOffsetsHeaderAt};
+ghost use Rattle.dwarf_reader_core.specs.Headers.{AddressFieldsAt, StringOffsetsFieldsAt};
 ghost use Rattle.dwarf_reader_core.specs.InitialLength.{LengthAt};
 ghost use Rattle.dwarf_reader_core.specs.Leb128.{unsigned64, unsigned16, signed64, HasNumber, HasOutcome, IsEncoding, IsMalformed, Kind, Number, is_in_range, limit};
 ghost use Rattle.dwarf_reader_core.specs.Once.{HasOne};
@@ -21,28 +21,28 @@ pub fn exactly_one_outcome()
 {}
 
 /// Bytes are bad exactly if no bytes after them make them begin with a number.
-#[tactic(auto, using(crate::proofs::Malformed::bad_bytes))]
+#[tactic(auto, using(crate::proofs::leb::Malformed::bad_bytes))]
 pub fn bad_bytes_stay_bad()
     ensures { (k : Kind) (bytes : List ℕ) → IsMalformed k bytes
         ↔ ((more : List ℕ) (number : Number k) (n : ℕ) → HasNumber k (bytes ++ more) number n → ⊥) }
 {}
 
 /// No encoding begins another.
-#[tactic(auto, using(crate::proofs::Encodings::same_encoding))]
+#[tactic(auto, using(crate::proofs::leb::Encodings::encodings_same))]
 pub fn no_encoding_begins_another()
     ensures { (a b x y : List ℕ) → IsEncoding a → IsEncoding b → a ++ x ≡ b ++ y
         → (a ≡ b) × (x ≡ y) }
 {}
 
 /// Every number has exactly one shortest encoding.
-#[tactic(auto, using(crate::proofs::ShortestExists::exactly_one_shortest))]
+#[tactic(auto, using(crate::proofs::leb::ShortestExists::shortest_exactly_one))]
 pub fn exactly_one_shortest()
     ensures { (k : Kind) (number : Number k) → HasOne (IsShortest k number) }
 {}
 
 /// Bytes that encode a number are read as that number, whatever follows, if they are within the
 /// limit of its kind, and the number is in its range.
-#[tactic(auto, using(crate::proofs::Shortest::HasNumber_append))]
+#[tactic(auto, using(crate::proofs::leb::Shortest::HasNumber_append))]
 pub fn written_is_read()
     ensures { (k : Kind) (number : Number k) (bytes rest : List ℕ) → Encodes k bytes number
         → length bytes ≤ limit k → IsTrue (is_in_range k number)
@@ -59,19 +59,19 @@ pub fn one_string()
 {}
 
 /// Bytes have exactly one result for an initial length: they begin with one, or have one error.
-#[tactic(auto, using(crate::proofs::InitialLengths::lengths_exactly_one))]
+#[tactic(auto, using(crate::proofs::public::InitialLengths::lengths_exactly_one))]
 pub fn exactly_one_initial_length()
     ensures { (greatest : ℕ) (old : Input) → HasOne (LengthAt greatest old) }
 {}
 
 /// An `UnexpectedEof` in place of a header or an initial length is that of the first field that isn't
 /// there whole, at the position where the field begins.
-#[tactic(auto, using(crate::proofs::MissingFields::missing_fields))]
+#[tactic(auto, using(crate::proofs::public::MissingFields::missing_fields))]
 pub fn missing_bytes_of_headers()
-    ensures address { (unit : Input) (position : ℕ) → AddressHeaderAt unit (Err (eof position))
+    ensures address { (unit : Input) (position : ℕ) → AddressFieldsAt unit (Err (eof position))
         → IsCutIn unit (2 ∷ 1 ∷ 1 ∷ []) (eof position) }
     ensures string_offsets { (unit : Input) (position : ℕ)
-        → StringOffsetsHeaderAt unit (Err (eof position))
+        → StringOffsetsFieldsAt unit (Err (eof position))
         → IsCutIn unit (2 ∷ 2 ∷ []) (eof position) }
     ensures initial_length { (greatest : ℕ) (old new : Input) (position : ℕ)
         → LengthAt greatest old (Err (eof position), new)

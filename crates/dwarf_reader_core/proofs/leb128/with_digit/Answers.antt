@@ -1,5 +1,5 @@
 use Rattle.dwarf_reader_core.proofs.Common.{◌≡◌, ◌<◌, ◌%◌, ◌^◌, ap, ◌∙◌, arith, ◌*◌, ◌+◌}
-use Rattle.dwarf_reader_core.proofs.Bits.{or_digit}
+use Rattle.dwarf_reader_core.proofs.leb.Bits.{or_digit}
 use Rattle.dwarf_reader_core.proofs.leb128.with_digit.Goals as goal
 
 pub returns : goal.returns

@@ -1,7 +1,7 @@
 use Rattle.dwarf_reader_core.proofs.Common.{◌≡◌, ◌≤◌, ◌<◌, ◌^◌, arith, rules, ap, ◌∙◌, to_z, w64, FitsSigned, pos, ◌-ℤ◌, ints, to_z-of_z, to_z_pos}
 use Rattle.std.proofs.Math.Pow.{pow_mono}
 use lib.Bits.{or_zero_r}
-use Rattle.dwarf_reader_core.proofs.Bits.{or_ones, to_z_low}
+use Rattle.dwarf_reader_core.proofs.leb.Bits.{or_ones, to_z_low}
 use Rattle.dwarf_reader_core.proofs.leb128.with_sign.Goals as goal
 use Rattle.dwarf_reader_core.proofs.leb128.with_sign.Goals.{then-is_negative, else-is_negative}
 

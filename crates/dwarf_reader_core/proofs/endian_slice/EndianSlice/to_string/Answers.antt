@@ -1,6 +1,6 @@
 use Rattle.dwarf_reader_core.proofs.Common.{arith, refl}
 use Rattle.dwarf_base_core.specs.declared.error.Error.TheVariants.{BadUtf8}
-use Rattle.dwarf_reader_core.proofs.Results.{replaced-err}
+use Rattle.dwarf_reader_core.proofs.public.Results.{replaced-err}
 use Rattle.dwarf_reader_core.proofs.endian_slice.EndianSlice.to_string.Goals as goal
 
 pub returns-clause-err : goal.returns-clause-err

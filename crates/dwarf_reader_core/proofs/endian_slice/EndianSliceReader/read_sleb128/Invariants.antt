@@ -1,5 +1,5 @@
 use Rattle.dwarf_reader_core.proofs.Common.{◌≡◌}
-use Rattle.dwarf_reader_core.proofs.Reading.{Begun, slice_input}
+use Rattle.dwarf_reader_core.proofs.leb.Reading.{Begun, slice_input}
 use Rattle.dwarf_reader_core.proofs.endian_slice.EndianSliceReader.read_sleb128.Given as goal
 
 -- the loop has consumed as many bytes as the index, all continued, and the byte order is unchanged

@@ -1,5 +1,5 @@
 use Rattle.dwarf_reader_core.proofs.Common.{◌∙◌, unsigned64, rules, arith, refl}
-use Rattle.dwarf_reader_core.proofs.Reading.{begun_below, cut_rejects, next_continues, reads_unsigned, reads_tenth_unsigned, rejects_tenth_unsigned}
+use Rattle.dwarf_reader_core.proofs.leb.Reading.{begun_below, cut_rejects, next_continues, reads_unsigned, reads_tenth_unsigned, rejects_tenth_unsigned}
 use Rattle.dwarf_reader_core.proofs.endian_slice.EndianSliceReader.read_uleb128.Goals as goal
 
 pub with_digit-result-requires-in-loop-index-clause-below : goal.with_digit-result-requires-in-loop-index-clause-below
@@ -26,6 +26,7 @@ returns-clause-ok g c =
     reads_tenth_unsigned c.loop-index.invariant.begun c.in_ok-byte-2.ensures.ok _ (omega arith) (omega arith)
     (search rules)
 
+-- named for speed: the prover finds it by itself, too, but searches longer
 pub returns-then-not-has_continuation_bit-clause-ok : goal.returns-then-not-has_continuation_bit-clause-ok
 returns-then-not-has_continuation_bit-clause-ok g c = grind arith
 

@@ -1,6 +1,6 @@
 use Rattle.dwarf_reader_core.proofs.Common.{rules, arith, common_steps, ◌≤◌, ◌≡◌, ◌<◌, get_or, Input}
-use Rattle.dwarf_reader_core.proofs.Reading.{begun_cut, begun_none, encoding_found}
-use Rattle.dwarf_reader_core.proofs.Encodings.{NoneIsLast-push}
+use Rattle.dwarf_reader_core.proofs.leb.Reading.{begun_cut, begun_none, encoding_found}
+use Rattle.dwarf_reader_core.proofs.leb.Encodings.{NoneIsLast-push}
 use Rattle.dwarf_reader_core.proofs.endian_slice.EndianSliceReader.skip_leb128.Goals as goal
 
 pub returns-then-not-has_continuation_bit-2-clause-ok : goal.returns-then-not-has_continuation_bit-2-clause-ok

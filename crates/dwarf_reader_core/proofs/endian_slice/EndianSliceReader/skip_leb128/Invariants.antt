@@ -1,5 +1,5 @@
 use Rattle.dwarf_reader_core.proofs.Common.{◌≡◌, ◌≤◌, take, TakesByte, NoneIsLast}
-use Rattle.dwarf_reader_core.proofs.Reading.{slice_input}
+use Rattle.dwarf_reader_core.proofs.leb.Reading.{slice_input}
 use Rattle.dwarf_reader_core.proofs.endian_slice.EndianSliceReader.skip_leb128.Given as goal
 
 -- none of the bytes after the first and before the index is the last of the encoding

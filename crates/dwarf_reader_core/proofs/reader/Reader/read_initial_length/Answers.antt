@@ -1,6 +1,6 @@
 use Rattle.dwarf_reader_core.proofs.Common.{arith}
 use Rattle.dwarf_reader_core.specs.InitialLength.{in_four_bytes, in_eight_bytes, four_cut, reserved, eight_cut, too_great}
-use Rattle.dwarf_reader_core.proofs.Results.{propagated-err}
+use Rattle.dwarf_reader_core.proofs.public.Results.{propagated-err}
 use Rattle.dwarf_reader_core.proofs.reader.Reader.read_initial_length.Goals as goal
 
 pub returns-in_err-len-clause-err : goal.returns-in_err-len-clause-err

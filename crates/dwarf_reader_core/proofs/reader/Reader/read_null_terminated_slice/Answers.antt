@@ -1,15 +1,16 @@
 use Rattle.dwarf_reader_core.proofs.Common.{ap, ◌∙◌, after}
-use Rattle.dwarf_reader_core.proofs.Reading.{after-after, found_left}
+use Rattle.dwarf_reader_core.proofs.public.Consuming.{after-after}
+use Rattle.dwarf_reader_core.proofs.public.Strings.{found_byte-left}
 use Rattle.dwarf_reader_core.proofs.reader.Reader.read_null_terminated_slice.Goals as goal
 
 pub returns-in_err-skip-clause-err : goal.returns-in_err-skip-clause-err
 returns-in_err-skip-clause-err g c =
-    absurd (found_left c.in_ok-len.ensures.ok c.in_ok-string.ensures.ok
+    absurd (found_byte-left c.in_ok-len.ensures.ok c.in_ok-string.ensures.ok
     (rw c.from_u8.ensures at c.in_err-skip.ensures.err.short))
 
 pub returns-in_err-skip-clause-unchanged : goal.returns-in_err-skip-clause-unchanged
 returns-in_err-skip-clause-unchanged g c =
-    absurd (found_left c.in_ok-len.ensures.ok c.in_ok-string.ensures.ok
+    absurd (found_byte-left c.in_ok-len.ensures.ok c.in_ok-string.ensures.ok
     (rw c.from_u8.ensures at c.in_err-skip.ensures.err.short))
 
 pub returns-clause-ok : goal.returns-clause-ok

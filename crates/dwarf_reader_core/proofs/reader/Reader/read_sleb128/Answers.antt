@@ -1,5 +1,5 @@
 use Rattle.dwarf_reader_core.proofs.Common.{◌∙◌, rules, signed64, true, false, arith, refl}
-use Rattle.dwarf_reader_core.proofs.Reading.{begun_none, cut_rejects, begun_below, begun_below_nine, next_below, next_continues, reads_signed, reads_tenth_signed, rejects_tenth_signed}
+use Rattle.dwarf_reader_core.proofs.leb.Reading.{begun_none, cut_rejects, begun_below, begun_below_nine, next_below, next_continues, reads_signed, reads_tenth_signed, rejects_tenth_signed}
 use Rattle.dwarf_reader_core.proofs.reader.Reader.read_sleb128.Goals as goal
 
 pub with_digit-result-requires-in-loop-index-clause-below : goal.with_digit-result-requires-in-loop-index-clause-below

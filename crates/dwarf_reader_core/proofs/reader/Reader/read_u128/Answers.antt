@@ -1,4 +1,4 @@
-use Rattle.dwarf_reader_core.proofs.Numbers.{number_taken}
+use Rattle.dwarf_reader_core.proofs.public.Consuming.{number_taken}
 use Rattle.dwarf_reader_core.proofs.reader.Reader.read_u128.Goals as goal
 
 pub returns-clause-ok : goal.returns-clause-ok

@@ -1,5 +1,5 @@
 use Rattle.dwarf_reader_core.proofs.Common.{◌∙◌, rules, arith, refl, unsigned64}
-use Rattle.dwarf_reader_core.proofs.Reading.{begun_below, begun_none, cut_rejects, next_continues, reads_unsigned, reads_tenth_unsigned, rejects_tenth_unsigned}
+use Rattle.dwarf_reader_core.proofs.leb.Reading.{begun_below, begun_none, cut_rejects, next_continues, reads_unsigned, reads_tenth_unsigned, rejects_tenth_unsigned}
 use Rattle.dwarf_reader_core.proofs.reader.Reader.read_uleb128.Goals as goal
 
 pub with_digit-result-requires-in-loop-index-clause-below : goal.with_digit-result-requires-in-loop-index-clause-below

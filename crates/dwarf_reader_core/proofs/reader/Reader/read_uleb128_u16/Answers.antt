@@ -1,5 +1,5 @@
 use Rattle.dwarf_reader_core.proofs.Common.{◌≤◌, arith, refl}
-use Rattle.dwarf_reader_core.proofs.Reading.{begun_none, next_below, next_continues, reads_short, rejects_third_short}
+use Rattle.dwarf_reader_core.proofs.leb.Reading.{begun_none, next_below, next_continues, reads_short, rejects_third_short}
 use Rattle.dwarf_reader_core.proofs.reader.Reader.read_uleb128_u16.Goals as goal
 
 pub returns-then-not-has_continuation_bit-clause-ok : goal.returns-then-not-has_continuation_bit-clause-ok

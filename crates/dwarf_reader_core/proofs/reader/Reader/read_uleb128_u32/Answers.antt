@@ -1,7 +1,7 @@
 use Rattle.dwarf_reader_core.proofs.Common.{arith, inr, refl, ◌<◌, ◌≤◌, ℕ, Result, Ok, Err}
 use Rattle.std.specs.Result.{OkIff, IsErr}
 use Rattle.dwarf_base_core.specs.declared.error.Error.TheVariants.{BadUnsignedLeb128}
-use Rattle.dwarf_reader_core.proofs.Results.{replaced-err}
+use Rattle.dwarf_reader_core.proofs.public.Results.{replaced-err}
 use Rattle.dwarf_reader_core.proofs.reader.Reader.read_uleb128_u32.Goals as goal
 
 -- a number that no u32 is made of is too large for one

@@ -1,5 +1,5 @@
 use Rattle.dwarf_reader_core.proofs.Common.{rules, refl}
-use Rattle.dwarf_reader_core.proofs.Reading.{begun_cut, next_continues, next_encoding}
+use Rattle.dwarf_reader_core.proofs.leb.Reading.{begun_cut, next_continues, next_encoding}
 use Rattle.dwarf_reader_core.proofs.reader.Reader.skip_leb128.Goals as goal
 
 pub returns-then-not-has_continuation_bit-clause-ok : goal.returns-then-not-has_continuation_bit-clause-ok

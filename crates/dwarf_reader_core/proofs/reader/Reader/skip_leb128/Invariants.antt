@@ -1,5 +1,5 @@
 use Rattle.dwarf_reader_core.proofs.Common.{◌≡◌, ℕ, length}
-use Rattle.dwarf_reader_core.proofs.Reading.{Begun}
+use Rattle.dwarf_reader_core.proofs.leb.Reading.{Begun}
 use Rattle.dwarf_reader_core.proofs.reader.Reader.skip_leb128.Given as goal
 
 -- the loop has consumed some bytes, all continued, and the byte order is unchanged

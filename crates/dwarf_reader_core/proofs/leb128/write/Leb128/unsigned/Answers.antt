@@ -1,6 +1,6 @@
 use Rattle.dwarf_reader_core.proofs.Common.{common_steps, ◌-◌, ◌/◌, ◌+◌, pos, arith, lt-ltb, length-take, ints}
-use Rattle.dwarf_reader_core.proofs.Bytes.{continued}
-use Rattle.dwarf_reader_core.proofs.Writing.{FitsByte, begun-ends, begun-more, begun-padded, room_left}
+use Rattle.dwarf_reader_core.proofs.leb.Bits.{digit-continued}
+use Rattle.dwarf_reader_core.proofs.leb.Writing.{FitsByte, begun-ends, begun-more, begun-padded, room_left}
 use Rattle.dwarf_reader_core.proofs.leb128.write.Leb128.unsigned.Goals as goal
 
 pub invariant_of-result : goal.invariant_of-result
@@ -20,7 +20,7 @@ digits-preserved c =
     let wide : FitsByte (pos rest) → ⊥ = λ fits. omega (arith, ints, fits.1) in
     let room = room_left (9 - c.digits.len) (9 - (c.digits.len + 1)) (pos rest) (pos (rest / 128)) digit (omega arith)
     (omega arith) wide (omega (arith, ints)) c.digits.invariant.fits in
-    rw (continued digit (omega arith)) (record {
+    rw (digit-continued digit (omega arith)) (record {
       begun = begun-more c.digits.invariant.begun digit (omega arith) (rest / 128)
           (λ b small same. omega arith) (omega arith) (omega (arith, room.0));
       fits = room.1;

@@ -1,5 +1,5 @@
 use Rattle.dwarf_reader_core.proofs.Common.{◌-◌, pos, unsigned64}
-use Rattle.dwarf_reader_core.proofs.Writing.{FitsBytes, IsBegun}
+use Rattle.dwarf_reader_core.proofs.leb.Writing.{FitsBytes, IsBegun}
 use Rattle.dwarf_reader_core.proofs.leb128.write.Leb128.unsigned.Given as goal
 
 -- the bytes so far, with the shortest encoding of the rest after them, are the shortest of the number

@@ -3,7 +3,7 @@ use Rattle.dwarf_reader_core.proofs.Common.{◌≡◌, ℕ, zero, suc, ◌+◌, 
 use mathlib.Core.List.{List-discrete}
 use mathlib.Core.Logic.{by_cases}
 use native.Mathlib.Decide.{ℕ_discrete}
-use Rattle.dwarf_reader_core.proofs.Shortest.{join, IsLong, IsShortest-one, IsShortest-more}
+use Rattle.dwarf_reader_core.proofs.leb.Shortest.{join, IsLong, IsShortest-one, IsShortest-more}
 
 -- how far a number is from 0
 abbrev size : (k : Kind) → Number k → ℕ
@@ -30,28 +30,28 @@ parts signed64 (pos n) = grind (arith, ints)
 parts signed64 (negsuc n) = grind (arith, ints)
 
 -- each number has a shortest encoding, which is made from its lowest digit on
-some_shortest : (k : Kind) (room : ℕ) (number : Number k) → size k number < room
+shortest-some : (k : Kind) (room : ℕ) (number : Number k) → size k number < room
     → (bytes : List ℕ) × IsShortest k number bytes
-some_shortest k zero number within = absurd (omega arith)
-some_shortest k (suc room) number within =
+shortest-some k zero number within = absurd (omega arith)
+shortest-some k (suc room) number within =
     let digit = (split k number).0 in
     let above = (split k number).1 in
     let is = parts k number in
     elim is.1 [
       | inl one ↦ (digit ∷ [], IsShortest-one k number digit is.0 one)
       | inr more ↦
-          let rest = some_shortest k room above (omega (arith, more.2)) in
+          let rest = shortest-some k room above (omega (arith, more.2)) in
           ((digit + 128) ∷ rest.0, IsShortest-more k number above digit rest.0 is.0 more.1 more.0 rest.1)
     ]
 
 -- two shortest encodings of a number are equal
-only_shortest : (k : Kind) (number : Number k) (a b : List ℕ) → IsShortest k number a → IsShortest k number b → a ≡ b
-only_shortest k number a b is_a is_b =
+shortest-same : (k : Kind) (number : Number k) (a b : List ℕ) → IsShortest k number a → IsShortest k number b → a ≡ b
+shortest-same k number a b is_a is_b =
     by_cases (List-discrete ℕ_discrete a b) (λ same. same) (λ apart.
     absurd (omega (arith, is_a.shorter b is_b.encodes (λ e. apart (sym e)), is_b.shorter a is_a.encodes apart)))
 
 -- each number has exactly one shortest encoding
-pub exactly_one_shortest : (k : Kind) (number : Number k) → HasOne (IsShortest k number)
-exactly_one_shortest k number =
-    let some = some_shortest k (suc (size k number)) number (omega arith) in
-    (some.0, some.1, λ other is. only_shortest k number other some.0 is some.1)
+pub shortest_exactly_one : (k : Kind) (number : Number k) → HasOne (IsShortest k number)
+shortest_exactly_one k number =
+    let some = shortest-some k (suc (size k number)) number (omega arith) in
+    (some.0, some.1, λ other is. shortest-same k number other some.0 is some.1)

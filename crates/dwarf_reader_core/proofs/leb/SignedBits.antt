@@ -2,7 +2,7 @@
 use Rattle.dwarf_reader_core.proofs.Common.{◌≡◌, ℕ, ◌%◌, ◌^◌, ◌<◌, ◌≤◌, ⊎_elim, bit_and, arith, to_z, of_z, w64, ℤ, pos, ◌+ℤ◌, ◌*ℤ◌, cases_lt}
 use Rattle.std.proofs.Math.IntN.{nat_abs}
 use Rattle.std.specs.Int.{int_shr}
-use Rattle.dwarf_reader_core.proofs.Bytes.{low_digit}
+use Rattle.dwarf_reader_core.proofs.leb.Bits.{low_digit}
 
 -- `rest & 0x7f`, as a byte, is the remainder of the bits by 128
 pub low_digit_signed : (n : ℕ) → nat_abs (to_z w64 (bit_and n 127)) ≡ n % 128

@@ -7,8 +7,8 @@ use Rattle.dwarf_base_core.specs.Format.{initial_length_size}
 use Rattle.dwarf_base_core.specs.Number.{number_of}
 use Rattle.dwarf_reader_core.specs.Appended.{followed_by, IsNotEof}
 use Rattle.dwarf_reader_core.specs.InitialLength.{HasLength, in_four_bytes, in_eight_bytes, HasNoLength, four_cut, reserved, eight_cut, too_great, LengthAt}
-use Rattle.dwarf_reader_core.proofs.Consuming.{number_more, takes-both}
-use Rattle.dwarf_reader_core.proofs.Once.{one_by_equality, one_unless}
+use Rattle.dwarf_reader_core.proofs.public.Consuming.{number_more, takes-both}
+use Rattle.dwarf_reader_core.proofs.public.Once.{one_by_equality, one_unless}
 
 -- the number of the first n bytes
 abbrev front_number : ℕ → Input → ℕ

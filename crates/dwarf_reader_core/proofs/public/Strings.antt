@@ -1,23 +1,28 @@
 -- Bytes either begin with exactly one string, or have no zero byte.
-use Rattle.dwarf_reader_core.proofs.Common.{◌≡◌, ◌≢◌, ℕ, zero, suc, ◌+◌, ◌<◌, take, refl, sym, ap, ◌∙◌, arith, ◌⊎◌, inl, inr, List, [], ◌∷◌, All, All-nil, All-cons, cases_lt, length-take, Error, Input, after, first, IsFirst, TakesString, HasNoByte, end_fault}
+use Rattle.dwarf_reader_core.proofs.Common.{◌≡◌, ◌≢◌, ℕ, zero, suc, ◌+◌, ◌<◌, take, refl, sym, ap, ◌∙◌, arith, ◌⊎◌, inl, inr, List, [], ◌∷◌, All, All-nil, All-cons, cases_lt, length, length-drop, length-take, Error, Input, after, first, IsFirst, Takes, TakesString, HasNoByte, end_fault}
 use Rattle.std.proofs.Common.{get_or-take, slice_index}
 use Rattle.std.proofs.lemmas.List.Elements.{All-get_or}
 
+-- a byte that is found remains after those before it
+pub found_byte-left : {byte n : ℕ} {old mid : Input} → IsFirst byte old.bytes n → Takes n old mid → length mid.bytes < 1 → ⊥
+found_byte-left {n = n} {old = old} found takes none =
+    omega (arith, found.within, length-drop n old.bytes, ap (λ (i : Input). length i.bytes) takes.left, none)
+
 -- no byte before the first one with a value has that value
-not_below : {byte i j : ℕ} {bytes : List ℕ} → IsFirst byte bytes i → IsFirst byte bytes j → i < j → ⊥
-not_below {byte} {i} {j} {bytes} a b below =
+first-not_below : {byte i j : ℕ} {bytes : List ℕ} → IsFirst byte bytes i → IsFirst byte bytes j → i < j → ⊥
+first-not_below {byte} {i} {j} {bytes} a b below =
     let long = length-take j bytes in
     let here : slice_index (take j bytes) i ≡ byte = get_or-take j bytes i 0 below ∙ a.here in
     All-get_or (λ b. b ≢ byte) (take j bytes) i 0 (omega (arith, below, long, a.within)) b.before here
 
 -- bytes have one first byte with a value
-same_index : {byte i j : ℕ} {bytes : List ℕ} → IsFirst byte bytes i → IsFirst byte bytes j → i ≡ j
-same_index {i = i} {j} a b =
+first-same : {byte i j : ℕ} {bytes : List ℕ} → IsFirst byte bytes i → IsFirst byte bytes j → i ≡ j
+first-same {i = i} {j} a b =
     elim (cases_lt i j) [
-      | inl below ↦ absurd (not_below a b below)
+      | inl below ↦ absurd (first-not_below a b below)
       | inr above ↦
           elim (cases_lt j i) [
-            | inl below ↦ absurd (not_below b a below)
+            | inl below ↦ absurd (first-not_below b a below)
             | inr equal ↦ omega arith
           ]
     ]
@@ -25,7 +30,7 @@ same_index {i = i} {j} a b =
 -- two strings that are consumed from the same bytes are equal, and the same bytes remain
 pub string_taken_once : (old s t x y : Input) → TakesString old s x → TakesString old t y → (s ≡ t) × (x ≡ y)
 string_taken_once old s t x y a b =
-    let same = same_index a.ends b.ends in (
+    let same = first-same a.ends b.ends in (
       a.content ∙ ap (λ n. first n old) same ∙ sym b.content,
       a.left ∙ ap (λ n. after (n + 1) old) same ∙ sym b.left,
     )

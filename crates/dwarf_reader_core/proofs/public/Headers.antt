@@ -5,10 +5,10 @@ use Rattle.std.proofs.lemmas.List.{get_or-drop}
 use Rattle.dwarf_base_core.specs.Number.{number_of}
 use Rattle.dwarf_base_core.specs.declared.error.Error.TheVariants.{UnknownVersion, UnsupportedAddressSize, UnsupportedSegmentSize}
 use Rattle.dwarf_reader_core.specs.Faults.{IsUnsupportedAddressSize, is_number_size}
-use Rattle.dwarf_reader_core.specs.Headers.{IsHeader, HasVersion, HasNoVersion, version_cut, version_unknown, HasAddressHeader, HasNoAddressHeader, address_unversioned, address_size_cut, address_size_unknown, segment_size_cut, segment_size_unknown, AddressHeaderAt, HasStringOffsetsHeader, HasNoStringOffsetsHeader, offsets_unversioned, padding_cut, StringOffsetsHeaderAt}
-use Rattle.dwarf_reader_core.proofs.Consuming.{rest-length, takes-both}
-use Rattle.dwarf_reader_core.proofs.Numbers.{byte_front}
-use Rattle.dwarf_reader_core.proofs.Once.{one_by_equality, one_by_test, one_unless}
+use Rattle.dwarf_reader_core.specs.Headers.{IsHeader, HasVersion, HasNoVersion, version_cut, version_unknown, HasAddressHeader, HasNoAddressHeader, address_unversioned, address_size_cut, address_size_unknown, segment_size_cut, segment_size_unknown, AddressFieldsAt, AddressHeaderAt, HasStringOffsetsHeader, HasNoStringOffsetsHeader, offsets_unversioned, padding_cut, StringOffsetsFieldsAt, StringOffsetsHeaderAt, four_bytes}
+use Rattle.dwarf_reader_core.proofs.public.Consuming.{rest-length, takes-both}
+use Rattle.dwarf_reader_core.proofs.public.Consuming.{byte_front}
+use Rattle.dwarf_reader_core.proofs.public.Once.{one_by_equality, one_by_test, one_unless}
 
 -- the number of the first two bytes
 abbrev version_of : Input → ℕ
@@ -58,7 +58,7 @@ sized_only version sized e (segment_size_unknown known size enough is other) =
 
 -- after version 5 and a byte that is no address size, the error of that byte is the only result
 unsized_only : {unit : Input} → HasVersion unit → 3 ≤ length unit.bytes → is_number_size (size_of unit) ≡ false
-    → (r : Result (ℕ × Input) Error) → AddressHeaderAt unit r → r ≡ Err (UnsupportedAddressSize (size_of unit))
+    → (r : Result (ℕ × Input) Error) → AddressFieldsAt unit r → r ≡ Err (UnsupportedAddressSize (size_of unit))
 unsized_only version three unsized (Ok x) has =
     let sized = subst (λ n. IsTrue (is_number_size n)) (sym has.address_size) has.sized in absurd cc
 unsized_only version three unsized (Err e) (address_unversioned none) = absurd (version_or_none version none)
@@ -69,9 +69,9 @@ unsized_only version three unsized (Err e) (segment_size_cut known size short) =
 unsized_only version three unsized (Err e) (segment_size_unknown known size enough is other) = absurd cc
 
 -- bytes have exactly one header of a set of addresses or error
-address_header-one : (unit : Input) → HasOne (AddressHeaderAt unit)
+address_header-one : (unit : Input) → HasOne (AddressFieldsAt unit)
 address_header-one unit =
-    one_after_version (AddressHeaderAt unit) unit (λ e. address_unversioned) (λ x has. has.version)
+    one_after_version (AddressFieldsAt unit) unit (λ e. address_unversioned) (λ x has. has.version)
     (λ e is. grind arith) (λ version.
     one_unless (length unit.bytes) 3 (Err (end_fault (after 2 unit))) (address_size_cut version)
     (λ short other is. grind arith) (λ three.
@@ -104,9 +104,9 @@ address_header-one unit =
     ))))
 
 -- bytes have exactly one header of a set of string offsets or error
-offsets_header-one : (unit : Input) → HasOne (StringOffsetsHeaderAt unit)
+offsets_header-one : (unit : Input) → HasOne (StringOffsetsFieldsAt unit)
 offsets_header-one unit =
-    one_after_version (StringOffsetsHeaderAt unit) unit (λ e. offsets_unversioned) (λ x has. has.version)
+    one_after_version (StringOffsetsFieldsAt unit) unit (λ e. offsets_unversioned) (λ x has. has.version)
     (λ e is. grind arith) (λ version.
     one_unless (length unit.bytes) 4 (Err (end_fault (after 2 unit))) (padding_cut version)
     (λ short other is. grind arith)
@@ -117,17 +117,19 @@ offsets_header-one unit =
     )))
 
 -- a header of a set of addresses has four bytes
-pub address_header : IsHeader 4 AddressHeaderAt
+pub address_header : IsHeader 4 four_bytes AddressHeaderAt
 address_header = record {
-  one = address_header-one;
+  one = λ greatest format. address_header-one;
   sized = λ unit rest size has. record { enough = has.enough; left = has.left };
+  at_least = λ unit rest size has. omega arith;
 }
 
 -- so has one of a set of string offsets
-pub string_offsets_header : IsHeader 4 StringOffsetsHeaderAt
+pub string_offsets_header : IsHeader 4 four_bytes StringOffsetsHeaderAt
 string_offsets_header = record {
-  one = offsets_header-one;
+  one = λ greatest format. offsets_header-one;
   sized = λ unit rest none has. record { enough = has.enough; left = has.left };
+  at_least = λ unit rest none has. omega arith;
 }
 
 -- ---- what a reader reads

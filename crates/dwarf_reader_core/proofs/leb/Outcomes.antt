@@ -1,6 +1,6 @@
 -- Every list of bytes has exactly one outcome.
 use Rattle.dwarf_reader_core.proofs.Common.{◌≡◌, ℕ, zero, suc, ◌<◌, ◌≤◌, List, [], ◌∷◌, length, take, drop, refl, sym, ap, ◌∙◌, arith, inl, inr, ◌⊎◌, Bool, true, false, take_all, length-take-le, take-append-drop, cases_lt, IsEncoding, NoneIsLast, Kind, Number, value, limit, is_in_range, Outcome, Value, End, Bad, HasNumber, IsTruncated, HasOutcome, HasOne}
-use Rattle.dwarf_reader_core.proofs.Encodings.{IsEncoding-cons, past_none, same_encoding}
+use Rattle.dwarf_reader_core.proofs.leb.Encodings.{IsEncoding-cons, past_none, encodings_same}
 
 -- an encoding at the front ends within the bound
 record Ends (bound : ℕ) (bytes : List ℕ) : Type 0 where
@@ -39,30 +39,30 @@ three_ways (suc bound) (b ∷ bs) =
     ]
 
 -- two encodings at the front of the same bytes have the same length
-same_length : (bytes : List ℕ) (m n : ℕ) → m ≤ length bytes → n ≤ length bytes → IsEncoding (take m bytes)
+length-same : (bytes : List ℕ) (m n : ℕ) → m ≤ length bytes → n ≤ length bytes → IsEncoding (take m bytes)
     → IsEncoding (take n bytes) → m ≡ n
-same_length bytes m n p q s t =
-    let same = same_encoding (take m bytes) (take n bytes) (drop m bytes) (drop n bytes) s t
+length-same bytes m n p q s t =
+    let same = encodings_same (take m bytes) (take n bytes) (drop m bytes) (drop n bytes) s t
     (take-append-drop m bytes ∙ sym (take-append-drop n bytes)) in
     omega (arith, length-take-le m bytes p, length-take-le n bytes q, ap length same.0)
 
 module _ (k : Kind) (bytes : List ℕ) where
   -- bytes that begin with an encoding aren't cut
-  cut_apart : (n : ℕ) → n ≤ length bytes → IsEncoding (take n bytes) → IsTruncated k bytes → ⊥
-  cut_apart n enough encoding cut =
+  encoding-not_cut : (n : ℕ) → n ≤ length bytes → IsEncoding (take n bytes) → IsTruncated k bytes → ⊥
+  encoding-not_cut n enough encoding cut =
       let none : NoneIsLast (take (length bytes) bytes) =
       rw (take_all (length bytes) bytes (omega arith)) cut.unended in
       omega (arith, past_none bytes (length bytes) n (omega arith) none encoding)
 
   -- two numbers at the front of the same bytes have the same value and the same length
-  same_number : (v w : Number k) (m n : ℕ) → HasNumber k bytes v m → HasNumber k bytes w n → (v ≡ w) × (m ≡ n)
-  same_number v w m n f g =
-      let e = same_length bytes m n f.enough g.enough f.is_number.encoding g.is_number.encoding in
+  number-same : (v w : Number k) (m n : ℕ) → HasNumber k bytes v m → HasNumber k bytes w n → (v ≡ w) × (m ≡ n)
+  number-same v w m n f g =
+      let e = length-same bytes m n f.enough g.enough f.is_number.encoding g.is_number.encoding in
       (sym f.is_number.means ∙ ap (λ i. value k (take i bytes)) e ∙ g.is_number.means, e)
 
   -- bytes have at most one outcome
-  unique : (o p : Outcome k) → HasOutcome k bytes o → HasOutcome k bytes p → o ≡ p
-  unique o p f g = grind (arith, cut_apart, same_number)
+  outcome-same : (o p : Outcome k) → HasOutcome k bytes o → HasOutcome k bytes p → o ≡ p
+  outcome-same o p f g = grind (arith, encoding-not_cut, number-same)
 
   -- bytes with an encoding at the front have an outcome, whether its value is in the range of the kind or not
   judged : (e : Ends (limit k) bytes) (b : Bool) → is_in_range k (value k (take e.len bytes)) ≡ b
@@ -70,12 +70,12 @@ module _ (k : Kind) (bytes : List ℕ) where
   judged e true h = (Value (value k (take e.len bytes)) e.len, grind (arith, length-take-le))
   judged e false h =
       let none : (v : Number k) (n : ℕ) → HasNumber k bytes v n → ⊥ = λ v n found.
-      let same = same_length bytes e.len n e.enough found.enough e.encoding found.is_number.encoding in cc in
-      (Bad, record { no_number = none; not_cut = cut_apart e.len e.enough e.encoding })
+      let same = length-same bytes e.len n e.enough found.enough e.encoding found.is_number.encoding in cc in
+      (Bad, record { no_number = none; not_cut = encoding-not_cut e.len e.enough e.encoding })
 
   -- bytes have an outcome
-  some : (o : Outcome k) × HasOutcome k bytes o
-  some =
+  outcome-some : (o : Outcome k) × HasOutcome k bytes o
+  outcome-some =
       elim (three_ways (limit k) bytes) [
         | inl e ↦ judged e _ refl
         | inr (inl cut) ↦ (End, record { short = cut.0; unended = cut.1 })
@@ -83,5 +83,5 @@ module _ (k : Kind) (bytes : List ℕ) where
       ]
 
   -- bytes have exactly one outcome
-  pub exactly_one_outcome_of : HasOne (HasOutcome k bytes)
-  exactly_one_outcome_of = (some.0, some.1, λ p h. unique p some.0 h some.1)
+  pub outcome-exactly_one : HasOne (HasOutcome k bytes)
+  outcome-exactly_one = (outcome-some.0, outcome-some.1, λ p h. outcome-same p outcome-some.0 h outcome-some.1)

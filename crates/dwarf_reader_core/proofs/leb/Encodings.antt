@@ -1,6 +1,6 @@
 -- Lemmas on encodings of LEB128 numbers.
 use Rattle.dwarf_reader_core.proofs.Common.{◌≡◌, ℕ, zero, suc, ◌+◌, ◌*◌, ◌%◌, ◌^◌, ◌<◌, ◌≤◌, List, [], ◌∷◌, ◌++◌, length, take, refl, arith, ℤ, IsTrue, nat_le, FitsSigned, w64, length-take-le, pow-suc, pow-le-pow_right, IsEncoding, NoneIsLast, unsigned_value, is_negative, is_in_range, signed64}
-use Rattle.dwarf_reader_core.proofs.Bits.{pow_digits}
+use Rattle.dwarf_reader_core.proofs.leb.Bits.{pow_digits}
 
 -- bytes of which none is the last of an encoding, and one more with a continuation bit, have no last one either
 pub NoneIsLast-push : (xs : List ℕ) (b : ℕ) → NoneIsLast xs → 128 ≤ b → NoneIsLast (xs ++ b ∷ [])
@@ -57,17 +57,17 @@ is_negative-push (x ∷ []) b = refl
 is_negative-push (x ∷ y ∷ xs) b = is_negative-push (y ∷ xs) b
 
 -- each i64 is in the range of signed numbers of 64 bits
-pub in_range_i64 : (v : ℤ) → FitsSigned w64 v → IsTrue (is_in_range signed64 v)
-in_range_i64 v fits = grind arith
+pub i64-in_range : (v : ℤ) → FitsSigned w64 v → IsTrue (is_in_range signed64 v)
+i64-in_range v fits = grind arith
 
 -- no encoding is the beginning of another
-pub same_encoding : (a b x y : List ℕ) → IsEncoding a → IsEncoding b → a ++ x ≡ b ++ y → (a ≡ b) × (x ≡ y)
-same_encoding [] b x y is_a is_b same = absurd is_a
-same_encoding (p ∷ ps) [] x y is_a is_b same = absurd is_b
-same_encoding (p ∷ []) (q ∷ []) x y is_a is_b same = (cc, cc)
-same_encoding (p ∷ []) (q ∷ d ∷ ds) x y is_a is_b same = let equal : p ≡ q = cc in absurd (omega arith)
-same_encoding (p ∷ c ∷ cs) (q ∷ []) x y is_a is_b same = let equal : p ≡ q = cc in absurd (omega arith)
-same_encoding (p ∷ c ∷ cs) (q ∷ d ∷ ds) x y is_a is_b same =
+pub encodings_same : (a b x y : List ℕ) → IsEncoding a → IsEncoding b → a ++ x ≡ b ++ y → (a ≡ b) × (x ≡ y)
+encodings_same [] b x y is_a is_b same = absurd is_a
+encodings_same (p ∷ ps) [] x y is_a is_b same = absurd is_b
+encodings_same (p ∷ []) (q ∷ []) x y is_a is_b same = (cc, cc)
+encodings_same (p ∷ []) (q ∷ d ∷ ds) x y is_a is_b same = let equal : p ≡ q = cc in absurd (omega arith)
+encodings_same (p ∷ c ∷ cs) (q ∷ []) x y is_a is_b same = let equal : p ≡ q = cc in absurd (omega arith)
+encodings_same (p ∷ c ∷ cs) (q ∷ d ∷ ds) x y is_a is_b same =
     let tails : (c ∷ cs) ++ x ≡ (d ∷ ds) ++ y = cc in
-    let rest = same_encoding (c ∷ cs) (d ∷ ds) x y is_a.1 is_b.1 tails in
+    let rest = encodings_same (c ∷ cs) (d ∷ ds) x y is_a.1 is_b.1 tails in
     (cc, rest.1)

@@ -1,6 +1,6 @@
 -- Writing the shortest encoding of a number, one byte after the other, into ten places.
 use Rattle.dwarf_reader_core.proofs.Common.{◌≡◌, ℕ, zero, suc, ◌+◌, ◌-◌, ◌*◌, ◌^◌, ◌<◌, List, [], ◌∷◌, ◌++◌, length, take, drop, set, replicate, sym, ap, ◌∙◌, arith, ℤ, pos, negsuc, ◌+ℤ◌, ◌*ℤ◌, ◌≤ℤ◌, ◌<ℤ◌, take_more_set, drop-set-lt, drop-drop, drop-replicate, append_assoc, length-set, Kind, Number, value, signed_value, IsPadded, IsShortest}
-use Rattle.dwarf_reader_core.proofs.Shortest.{join, IsLong, IsShortest-one, IsShortest-more}
+use Rattle.dwarf_reader_core.proofs.leb.Shortest.{join, IsLong, IsShortest-one, IsShortest-more}
 
 -- the bytes so far, with the shortest encoding of the rest after them, are the shortest of the number, and zeros are
 -- in the places after them

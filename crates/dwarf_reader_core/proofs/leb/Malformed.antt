@@ -1,30 +1,9 @@
--- Bytes that begin with a bad number still do with more bytes after them, and no others do.
-use Rattle.dwarf_reader_core.proofs.Common.{common_steps, ◌≡◌, ℕ, zero, suc, ◌*◌, ◌^◌, ◌<◌, ◌≤◌, ◌↔◌, List, [], ◌∷◌, ◌++◌, length, take, refl, arith, IsTrue, take_all, length-take-le, length-append, cases_lt, Kind, unsigned64, unsigned16, signed64, Number, value, limit, is_in_range, unsigned_value, IsEncoding, NoneIsLast, HasNumber, IsTruncated}
+-- Bytes are bad exactly if no bytes after them make them begin with a number.
+use Rattle.dwarf_reader_core.proofs.Common.{◌≡◌, ℕ, ◌*◌, ◌^◌, ◌<◌, ◌≤◌, ◌↔◌, List, [], ◌∷◌, ◌++◌, length, take, refl, arith, IsTrue, take_all, length-append, Kind, unsigned64, unsigned16, signed64, Number, value, limit, is_in_range, unsigned_value, HasNumber, IsTruncated}
 use Rattle.std.proofs.Common.{append-nil}
 use Rattle.dwarf_reader_core.specs.Leb128.{IsMalformed, IsNumber}
-use Rattle.dwarf_reader_core.proofs.Encodings.{IsEncoding-push, unsigned_value-push, is_negative-push, worth_below}
-
--- ---- appended bytes mend no bad number
-
--- if the encoding at the front is longer than the first bytes, none of these is its last
-unended : (n : ℕ) (bytes more : List ℕ) → length bytes < n → n ≤ length (bytes ++ more)
-    → IsEncoding (take n (bytes ++ more)) → NoneIsLast bytes
-unended n [] more long fits h = tt
-unended zero (x ∷ bytes) more long fits h = absurd (omega arith)
-unended (suc zero) (x ∷ bytes) more long fits h = absurd (omega arith)
-unended (suc (suc n)) (x ∷ []) more long fits h = grind arith
-unended (suc (suc n)) (x ∷ y ∷ bytes) more long fits h = grind (arith, (unended (suc n) (y ∷ bytes) more))
-
--- if none of the bytes is the last of an encoding, neither is one of their front
-all_front : (bytes more : List ℕ) → NoneIsLast (bytes ++ more) → NoneIsLast bytes
-all_front [] more h = tt
-all_front (x ∷ bytes) more h = (h.0, all_front bytes more h.1)
-
--- bytes that begin with a bad number still do with more bytes after them
-pub bad_more : (k : Kind) (bytes more : List ℕ) → IsMalformed k bytes → IsMalformed k (bytes ++ more)
-bad_more k bytes more bad = grind (arith, common_steps, cases_lt, length-take-le, unended, all_front)
-
--- ---- a zero byte mends bytes that end too early
+use Rattle.dwarf_reader_core.proofs.public.BadNumbers.{bad_more}
+use Rattle.dwarf_reader_core.proofs.leb.Encodings.{IsEncoding-push, unsigned_value-push, is_negative-push, worth_below}
 
 -- the value of at most m bytes and a zero byte is below the place of byte m
 zero_adds_nothing : (bytes : List ℕ) (m : ℕ) → length bytes ≤ m → unsigned_value (bytes ++ 0 ∷ []) < 2 ^ (7 * m)

@@ -1,6 +1,6 @@
 -- The shortest encodings of numbers, from the last byte on.
 use Rattle.dwarf_reader_core.proofs.Common.{◌≡◌, ◌≢◌, ℕ, ◌+◌, ◌*◌, ◌%◌, ◌<◌, ◌≤◌, Bool, cond, List, [], ◌∷◌, ◌++◌, length, IsTrue, arith, refl, sym, ◌∙◌, pos, ◌+ℤ◌, ◌-ℤ◌, ◌*ℤ◌, pow-suc, ints, length-append, take-append-le, take_all, All-head, All-tail, All-nil, All-cons, IsEncoding, Kind, unsigned64, unsigned16, signed64, Number, value, limit, is_in_range, HasNumber, Encodes, IsShortest}
-use Rattle.dwarf_reader_core.proofs.Encodings.{IsEncoding-cons}
+use Rattle.dwarf_reader_core.proofs.leb.Encodings.{IsEncoding-cons}
 
 -- the number that has this lowest digit and this number above it
 abbrev pub join : (k : Kind) → ℕ → Number k → Number k

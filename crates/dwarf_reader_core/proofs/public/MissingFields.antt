@@ -1,9 +1,20 @@
 -- Each `UnexpectedEof` is that of the first of consecutive fields that isn't there whole.
 use Rattle.dwarf_reader_core.proofs.Common.{◌≡◌, ◌∙◌, ℕ, ◌+◌, ◌<◌, ◌≤◌, List, [], ◌∷◌, length, Err, refl, sym, ap, arith, inl, inr, length-drop, eof, Error, Input, after}
+use Rattle.dwarf_base_core.specs.declared.error.Error.TheVariants.{UnexpectedEof}
 use Rattle.dwarf_reader_core.specs.Faults.{IsCutIn}
-use Rattle.dwarf_reader_core.specs.Headers.{AddressHeaderAt, HasNoAddressHeader, HasNoStringOffsetsHeader, HasNoVersion, StringOffsetsHeaderAt, address_size_cut, address_size_unknown, address_unversioned, offsets_unversioned, padding_cut, segment_size_cut, segment_size_unknown, version_cut, version_unknown}
+use Rattle.dwarf_reader_core.specs.Headers.{AddressFieldsAt, HasNoAddressHeader, HasNoStringOffsetsHeader, HasNoVersion, StringOffsetsFieldsAt, address_size_cut, address_size_unknown, address_unversioned, offsets_unversioned, padding_cut, segment_size_cut, segment_size_unknown, version_cut, version_unknown}
 use Rattle.dwarf_reader_core.specs.InitialLength.{HasNoLength, LengthAt, eight_cut, four_cut, reserved, too_great}
-use Rattle.dwarf_reader_core.proofs.Positions.{same_position}
+
+-- ---- positions
+
+-- the position in an `UnexpectedEof`
+abbrev position_in : Error → ℕ
+position_in (UnexpectedEof id) = id.0
+position_in _ = 0
+
+-- two equal errors have equal positions
+pub eof-same : {p q : ℕ} → eof p ≡ eof q → p ≡ q
+eof-same same = ap position_in same
 
 -- ---- fields
 
@@ -42,7 +53,7 @@ cut_third input one two three sizes position enough short there =
 version_is_cut : (unit : Input) (sizes : List ℕ) {e : Error} → HasNoVersion unit e → (position : ℕ) → e ≡ eof position
     → IsCutIn unit (2 ∷ sizes) (eof position)
 version_is_cut unit sizes (version_cut short) position same =
-    cut_here unit 2 sizes position short (sym (same_position same))
+    cut_here unit 2 sizes position short (sym (eof-same same))
 version_is_cut unit sizes (version_unknown enough is other) position same = absurd (grind arith)
 
 -- a header of addresses, or in one of its sizes
@@ -50,10 +61,10 @@ addresses_cut : (unit : Input) {e : Error} → HasNoAddressHeader unit e → (po
     → IsCutIn unit (2 ∷ 1 ∷ 1 ∷ []) (eof position)
 addresses_cut unit (address_unversioned none) position same = version_is_cut unit (1 ∷ 1 ∷ []) none position same
 addresses_cut unit (address_size_cut has short) position same =
-    cut_second unit 2 1 (1 ∷ []) position has.enough short (sym (same_position same))
+    cut_second unit 2 1 (1 ∷ []) position has.enough short (sym (eof-same same))
 addresses_cut unit (address_size_unknown has enough is other) position same = absurd (grind arith)
 addresses_cut unit (segment_size_cut has sized short) position same =
-    cut_third unit 2 1 1 [] position (omega (arith, short)) (omega (arith, short)) (sym (same_position same))
+    cut_third unit 2 1 1 [] position (omega (arith, short)) (omega (arith, short)) (sym (eof-same same))
 addresses_cut unit (segment_size_unknown has sized enough is other) position same = absurd (grind arith)
 
 -- a header of string offsets, or in its padding
@@ -61,7 +72,7 @@ offsets_cut : (unit : Input) {e : Error} → HasNoStringOffsetsHeader unit e →
     → IsCutIn unit (2 ∷ 2 ∷ []) (eof position)
 offsets_cut unit (offsets_unversioned none) position same = version_is_cut unit (2 ∷ []) none position same
 offsets_cut unit (padding_cut has short) position same =
-    cut_second unit 2 2 [] position has.enough short (sym (same_position same))
+    cut_second unit 2 2 [] position has.enough short (sym (eof-same same))
 
 -- an initial length, in its first four bytes or in the next eight
 length_cut : (greatest : ℕ) (old new : Input) {e : Error} → HasNoLength greatest old e new → (position : ℕ)
@@ -78,12 +89,12 @@ length_cut greatest old new (eight_cut {mid = mid} four short) position same =
 length_cut greatest old new (too_great four eight over) position same = absurd (grind arith)
 
 -- the bytes of a header of addresses are cut in one of its fields
-pub address_header_cut : (unit : Input) (position : ℕ) → AddressHeaderAt unit (Err (eof position))
+pub address_header_cut : (unit : Input) (position : ℕ) → AddressFieldsAt unit (Err (eof position))
     → IsCutIn unit (2 ∷ 1 ∷ 1 ∷ []) (eof position)
 address_header_cut unit position is = addresses_cut unit is position refl
 
 -- those of a header of string offsets, too
-pub offsets_header_cut : (unit : Input) (position : ℕ) → StringOffsetsHeaderAt unit (Err (eof position))
+pub offsets_header_cut : (unit : Input) (position : ℕ) → StringOffsetsFieldsAt unit (Err (eof position))
     → IsCutIn unit (2 ∷ 2 ∷ []) (eof position)
 offsets_header_cut unit position is = offsets_cut unit is position refl
 

@@ -1,23 +1,10 @@
 -- Reading a LEB128 number, one byte after the other.
-use Rattle.dwarf_reader_core.proofs.Common.{common_steps, List, ◌-◌, ◌≡◌, ℕ, ◌+◌, ◌*◌, ◌%◌, ◌^◌, ◌<◌, ◌≤◌, [], ◌∷◌, ◌++◌, length, get_or, take, refl, sym, ap, ◌∙◌, arith, inl, inr, IsTrue, ◌↔◌, ◌≢◌, Bool, ℤ, pos, ◌-ℤ◌, nat_le, if◌then◌else◌, lt-ltb, ltb-true, bit_or, to_z, of_z, w64, FitsSigned, add_assoc, add-zero, length-take-le, drop-drop, take_all, Error, IsTooShort, IsFirst, length-drop, Input, after, Takes, TakesByte, ints, to_z-of_z}
+use Rattle.dwarf_reader_core.proofs.Common.{common_steps, List, ◌-◌, ◌≡◌, ℕ, ◌+◌, ◌*◌, ◌%◌, ◌^◌, ◌<◌, ◌≤◌, [], ◌∷◌, ◌++◌, length, get_or, take, refl, sym, ap, ◌∙◌, arith, inl, inr, IsTrue, ◌↔◌, ◌≢◌, Bool, ℤ, pos, ◌-ℤ◌, nat_le, if◌then◌else◌, lt-ltb, ltb-true, bit_or, to_z, of_z, w64, FitsSigned, length-take-le, take_all, Error, IsTooShort, Input, after, Takes, TakesByte, ints, to_z-of_z}
 use Rattle.dwarf_base_core.specs.declared.error.Error.TheVariants.{BadUnsignedLeb128, BadSignedLeb128}
 use Rattle.dwarf_reader_core.specs.Leb128.{unsigned64, unsigned16, signed64, IsEncoding, NoneIsLast, unsigned_value, signed_value, is_negative, Kind, Number, value as value_of, limit, is_in_range, overflow_error, HasNumber, IsTruncated, ReadsNumber, ReadsNoNumber, TakesNoEncoding, TakesEncoding}
-use Rattle.dwarf_reader_core.proofs.Encodings.{in_range_i64, IsEncoding-cons, NoneIsLast-push, IsEncoding-push, IsEncoding-last, unsigned_value-push, worth_below, past_none, is_negative-push}
-use Rattle.dwarf_reader_core.proofs.Bits.{pow_digits, or_digit, tenth_out}
-use Rattle.dwarf_reader_core.proofs.Numbers.{byte_front}
-
--- consuming no bytes leaves the input as it is
-pub after-zero : (input : Input) → after 0 input ≡ input
-after-zero input = ap (λ (p : ℕ). let i : Input = record input { position = p } in i) (add-zero input.position)
-
--- consuming n bytes and then m is consuming n + m bytes
-pub after-after : (m n : ℕ) (input : Input) → after m (after n input) ≡ after (n + m) input
-after-after m n input = rw (drop-drop, add_assoc) refl
-
--- a byte that is found remains after those before it
-pub found_left : {byte n : ℕ} {old mid : Input} → IsFirst byte old.bytes n → Takes n old mid → length mid.bytes < 1 → ⊥
-found_left {n = n} {old = old} found takes none =
-    omega (arith, found.within, length-drop n old.bytes, ap (λ (i : Input). length i.bytes) takes.left, none)
+use Rattle.dwarf_reader_core.proofs.leb.Encodings.{i64-in_range, IsEncoding-cons, NoneIsLast-push, IsEncoding-push, IsEncoding-last, unsigned_value-push, worth_below, past_none, is_negative-push}
+use Rattle.dwarf_reader_core.proofs.leb.Bits.{pow_digits, or_digit, tenth_out}
+use Rattle.dwarf_reader_core.proofs.public.Consuming.{after-after, after-zero, byte_front}
 
 -- the first k bytes are consumed, none of them is the last of an encoding, and the value is that of their digits
 pub record Begun (old : Input) (k : ℕ) (mid : Input) (value : ℕ) : Type 0 where
@@ -163,7 +150,7 @@ module _ {old mid new : Input} {k value byte : ℕ} (b : Begun old k mid value) 
       → ReadsNumber signed64 old (to_z w64 (of_z w64 v)) new
   reads_signed v worth bits sign last short is bits_is sign_is v_is fits =
       let value_is = next_signed worth bits sign is bits_is sign_is ∙ sym v_is in
-      rw to_z-of_z (next_reads signed64 v last short value_is (in_range_i64 v fits))
+      rw to_z-of_z (next_reads signed64 v last short value_is (i64-in_range v fits))
 
   -- a tenth byte of 0 or 127 ends a signed number
   pub reads_tenth_signed : (v : ℤ) (sign : Bool) → k ≡ 9 → byte ≡ (if sign then 127 else 0)
@@ -172,7 +159,7 @@ module _ {old mid new : Input} {k value byte : ℕ} (b : Begun old k mid value) 
   reads_tenth_signed v sign nine byte_is v_is fits =
       let is = next_signed (value + byte % 128 * 2 ^ 63) 70 sign (rw nine refl) (omega arith) (grind arith) in
       let value_is : signed_value (take (k + 1) old.bytes) ≡ v = grind (arith, ints) in
-      rw to_z-of_z (next_reads signed64 v (grind arith) (omega arith) value_is (in_range_i64 v fits))
+      rw to_z-of_z (next_reads signed64 v (grind arith) (omega arith) value_is (i64-in_range v fits))
 
   -- ten bytes are no signed number if the tenth is neither 0 nor 127
   pub rejects_tenth_signed : k ≡ 9 → byte ≢ 0 → byte ≢ 127 → ReadsNoNumber signed64 old BadSignedLeb128 new
