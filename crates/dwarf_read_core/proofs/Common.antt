@@ -44,7 +44,7 @@ pub use Rattle.dwarf_reader_core.specs.Leb128.{Kind, Number, IsEncoding, NoneIsL
 pub use Rattle.dwarf_reader_core.specs.Leb128.{unsigned16, signed64, overflow_error, limit, value, is_in_range, HasNumber}
 pub use Rattle.dwarf_reader_core.specs.Leb128.{IsTruncated, ReadsNumber, ReadsNoNumber}
 pub use Rattle.dwarf_reader_core.specs.Once.{HasOne}
-pub use Rattle.dwarf_reader_core.proofs.Consuming.{rest-length, takes-both}
+pub use Rattle.dwarf_reader_core.proofs.public.Consuming.{rest-length, takes-both}
 pub use Rattle.dwarf_read_core.specs.Answer.{Answer, IsFinal, IsFirstError, HasError, number_cut, number_bad, children_cut}
 pub use Rattle.dwarf_read_core.specs.Answer.{tag_zero, children_bad, name_zero, form_zero, in_declaration, repeated}
 pub use Rattle.dwarf_read_core.specs.Answer.{outside, table, first_error, Answers, TakesNoMemory, IsBeginning, before_code}
@@ -67,6 +67,6 @@ unfoldable pub use Rattle.dwarf_read_core.specs.Reading.{attributes_in, declared
 unfoldable pub use Rattle.dwarf_read_core.specs.Reading.{specification_at, value_at, number_at, attributes_at}
 unfoldable pub use Rattle.dwarf_read_core.specs.Reading.{children_at, encoding_at, table_at}
 pub use Rattle.dwarf_read_core.specs.Sections.{debug_abbrev_reader}
-pub use Rattle.dwarf_read_core.specs.Sets.{Remaining, Set, RepresentsSets, followed_remaining}
-pub use Rattle.dwarf_read_core.proofs.ResultLemmas.{HasOutcome, returned, failed, outcome-bind, outcome-map}
-pub use Rattle.dwarf_read_core.proofs.ResultLemmas.{gives_err, Err-no_Ok, outcome-cond, outcome-ok}
+pub use Rattle.dwarf_read_core.specs.Contributions.{Remaining, Contribution, RepresentsContributions, followed_remaining}
+pub use Rattle.dwarf_read_core.proofs.Outcomes.{HasOutcome, returned, failed, outcome-bind, outcome-map}
+pub use Rattle.dwarf_read_core.proofs.Outcomes.{gives_err, Err-no_Ok, outcome-cond, outcome-ok}

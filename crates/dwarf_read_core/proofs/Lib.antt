@@ -1,8 +1,7 @@
 pub mod Common
-pub mod ResultLemmas
+pub mod Outcomes
+pub mod public
 pub mod tables
 pub mod cache
-pub mod sets
+pub mod contributions
 pub mod lookups
-pub use Rattle.dwarf_reader_core.proofs.Headers
-pub use Rattle.dwarf_reader_core.proofs.Results

@@ -6,7 +6,7 @@ use Rattle.std.specs.Cmp.Lexicographic.{pointwise, lists_equiv}
 use Rattle.std.specs.Ordering.{int_eq, eq_of_both, on}
 use Rattle.dwarf_base_core.specs.Format.{word_size}
 use Rattle.dwarf_read_core.specs.Grammar.{Specification, Declaration, implicit_const}
-use Rattle.dwarf_read_core.specs.Sets.{SetOf}
+use Rattle.dwarf_read_core.specs.Contributions.{ContributionOf}
 
 -- equal names, forms and values, where a missing value counts as 0
 abbrev pub same_specification : Specification → Specification → Bool
@@ -39,26 +39,29 @@ same_declaration_equiv =
     (on_equiv (λ (d : Declaration). d.attributes) (lists_equiv same_specification_equiv))))
 
 -- equal offsets, lengths, formats, headers and entries
-abbrev pub same_set : {H E : Type 0} → (H → H → Bool) → (E → E → Bool) → SetOf H E → SetOf H E → Bool
-same_set same_header same_entries =
+abbrev pub same_contribution : {H E : Type 0} → (H → H → Bool) → (E → E → Bool) → ContributionOf H E
+    → ContributionOf H E → Bool
+same_contribution same_header same_entries =
     eq_of_both (on (λ s. s.offset) ◌==◌)
     (eq_of_both (on (λ s. s.unit_length) ◌==◌) (eq_of_both (on (λ s. word_size s.format) ◌==◌)
     (eq_of_both (on (λ s. s.header) same_header) (on (λ s. s.entries) same_entries))))
 
-pub same_set_per : {H E : Type 0} {same_header : H → H → Bool} {same_entries : E → E → Bool}
+pub same_contribution_per : {H E : Type 0} {same_header : H → H → Bool} {same_entries : E → E → Bool}
     → IsEquivalence same_header → IsPartialEquivalence same_entries
-    → IsPartialEquivalence (same_set same_header same_entries)
-same_set_per {H} {E} header entries =
-    and_per (on_per (λ (s : SetOf H E). s.offset) (partial_equiv_from_equiv nat_eq_equiv))
-    (and_per (on_per (λ (s : SetOf H E). s.unit_length) (partial_equiv_from_equiv nat_eq_equiv))
-    (and_per (on_per (λ (s : SetOf H E). word_size s.format) (partial_equiv_from_equiv nat_eq_equiv))
-    (and_per (on_per (λ (s : SetOf H E). s.header) (partial_equiv_from_equiv header))
-    (on_per (λ (s : SetOf H E). s.entries) entries))))
+    → IsPartialEquivalence (same_contribution same_header same_entries)
+same_contribution_per {H} {E} header entries =
+    and_per (on_per (λ (s : ContributionOf H E). s.offset) (partial_equiv_from_equiv nat_eq_equiv))
+    (and_per (on_per (λ (s : ContributionOf H E). s.unit_length) (partial_equiv_from_equiv nat_eq_equiv))
+    (and_per (on_per (λ (s : ContributionOf H E). word_size s.format) (partial_equiv_from_equiv nat_eq_equiv))
+    (and_per (on_per (λ (s : ContributionOf H E). s.header) (partial_equiv_from_equiv header))
+    (on_per (λ (s : ContributionOf H E). s.entries) entries))))
 
-pub same_set_equiv : {H E : Type 0} {same_header : H → H → Bool} {same_entries : E → E → Bool}
-    → IsEquivalence same_header → IsEquivalence same_entries → IsEquivalence (same_set same_header same_entries)
-same_set_equiv {H} {E} header entries =
-    and_equiv (on_equiv (λ (s : SetOf H E). s.offset) nat_eq_equiv)
-    (and_equiv (on_equiv (λ (s : SetOf H E). s.unit_length) nat_eq_equiv)
-    (and_equiv (on_equiv (λ (s : SetOf H E). word_size s.format) nat_eq_equiv)
-    (and_equiv (on_equiv (λ (s : SetOf H E). s.header) header) (on_equiv (λ (s : SetOf H E). s.entries) entries))))
+pub same_contribution_equiv : {H E : Type 0} {same_header : H → H → Bool} {same_entries : E → E → Bool}
+    → IsEquivalence same_header → IsEquivalence same_entries
+    → IsEquivalence (same_contribution same_header same_entries)
+same_contribution_equiv {H} {E} header entries =
+    and_equiv (on_equiv (λ (s : ContributionOf H E). s.offset) nat_eq_equiv)
+    (and_equiv (on_equiv (λ (s : ContributionOf H E). s.unit_length) nat_eq_equiv)
+    (and_equiv (on_equiv (λ (s : ContributionOf H E). word_size s.format) nat_eq_equiv)
+    (and_equiv (on_equiv (λ (s : ContributionOf H E). s.header) header)
+    (on_equiv (λ (s : ContributionOf H E). s.entries) entries))))

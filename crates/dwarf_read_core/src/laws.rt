@@ -24,11 +24,11 @@ ghost use Rattle.dwarf_read_core.specs.Entries.{AreNumbers, Entries, EntryAt, Re
 ghost use Rattle.dwarf_reader_core.specs.Headers.{IsHeader};
 ghost use Rattle.dwarf_read_core.specs.Items.{least_taken};
 ghost use Rattle.dwarf_read_core.specs.Ranges.{RangeAt};
-ghost use Rattle.dwarf_read_core.specs.Sets.{Remaining, Set, RepresentsSets, followed_remaining};
+ghost use Rattle.dwarf_read_core.specs.Contributions.{Remaining, Contribution, ContributionAtOffset, RepresentsContributions, followed_remaining};
 ghost use Rattle.dwarf_read_core.specs.Strings.{StringAt};
 ghost use Rattle.dwarf_read_core.specs.Words.{AddressAt, Slot, WordAt, distance, slot_offset};
 
-use crate::read::HeaderFields;
+use crate::read::{HeaderFields, Reader};
 pub use dwarf_base_core::laws::{names_of_sections, numbers_of_bytes};
 pub use dwarf_code_core::laws::{names_are_distinct, negate_ra_state_is_window_save};
 pub use dwarf_const_core::laws::names_are_distinct as names_of_two_bytes_are_distinct;
@@ -201,8 +201,9 @@ pub fn lookups_are_parts()
         × (x ≡ number_of part.is_big part.bytes) }
 {}
 
-/// Each `UnexpectedEof` is that of the first of consecutive fields that isn't there whole, at the
-/// position where this field begins. The error of a strict reading is at the section's end.
+/// An `UnexpectedEof` in place of a table, a word or an address, and each error in place of a string or
+/// a range, is that of the first of these consecutive fields that isn't there whole, at the position
+/// where it begins. An `UnterminatedAbbreviations` is at the section's end.
 pub fn missing_bytes_are_those_of_a_field()
     ensures table { (section : Input) (offset position : ℕ)
         → Answer section offset (Err (eof position))
@@ -268,33 +269,50 @@ pub fn appended_bytes_change_no_address()
         → (more : List ℕ) × (AddressAt greatest (followed_by section more) s answer → ⊥) }
 {}
 
-/// The bytes that remain of a section have exactly one list of sets of each kind, and then at most
-/// one error. So the list ends: a set has at least four bytes and those of its header, and an error
-/// takes up at least one byte.
-pub fn exactly_one_list_of_sets<H: HeaderFields>()
-    ensures one { (greatest : ℕ) (sets : Remaining)
-        → HasOne (RepresentsSets H.header greatest sets) }
-    ensures bound { (greatest : ℕ) (sets : Remaining) (items : List (Result (Set H) Error))
-        → RepresentsSets H.header greatest sets items
-        → sum_by (least_taken (4 + H.BYTES)) items ≤ length sets.rest.bytes }
-{}
+/// The bytes that remain of a section have exactly one list of contributions of each kind, and then
+/// at most one error. So the list ends: a contribution has at least four bytes and those of its
+/// header, and an error takes up at least one byte.
+pub fn exactly_one_list_of_contributions<R: Reader, H: HeaderFields<R>>()
+    ensures one { (greatest : ℕ) (remaining : Remaining)
+        → HasOne (RepresentsContributions H.header greatest remaining) }
+    ensures bound { (greatest : ℕ) (remaining : Remaining)
+        (items : List (Result (Contribution H.Said) Error))
+        → RepresentsContributions H.header greatest remaining items
+        → sum_by (least_taken (4 + H.LEAST_BYTES)) items ≤ length remaining.rest.bytes }
+{
+    H::law();
+}
 
-/// Bytes have exactly one header of each kind, or exactly one error in place of it, and a header has
-/// as many bytes as its kind says.
-pub fn exactly_one_header<H: HeaderFields>()
-    ensures { IsHeader H.BYTES H.header }
-{}
+/// A section has exactly one result for a contribution of each kind at every offset: the
+/// contribution, or an error.
+pub fn exactly_one_contribution_at_an_offset<R: Reader, H: HeaderFields<R>>()
+    ensures { (greatest : ℕ) (section : Input) (offset : ℕ)
+        → HasOne (ContributionAtOffset H.header greatest section offset) }
+{
+    H::law();
+}
 
-/// Each set of a list is where its offset says: its entries are the part of the section after its
-/// initial length and its header, up to its end.
-pub fn sets_are_at_their_offsets<H: HeaderFields>()
-    ensures { (greatest : ℕ) (sets : Remaining) (items : List (Result (Set H) Error)) (index : ℕ)
-        (s : Set H) → RepresentsSets H.header greatest sets items
+/// Bytes have exactly one header of each kind, or exactly one error in place of it. What a header
+/// says determines how many bytes it has, and these are at least as many as its kind says.
+pub fn exactly_one_header<R: Reader, H: HeaderFields<R>>()
+    ensures { IsHeader H.LEAST_BYTES H.size H.header }
+{
+    H::law();
+}
+
+/// Each contribution of a list is where its offset says: its entries are the part of the section
+/// after its initial length and its header, up to its end.
+pub fn contributions_are_at_their_offsets<R: Reader, H: HeaderFields<R>>()
+    ensures { (greatest : ℕ) (remaining : Remaining)
+        (items : List (Result (Contribution H.Said) Error)) (index : ℕ) (s : Contribution H.Said)
+        → RepresentsContributions H.header greatest remaining items
         → slice_get items index ≡ Some (Ok s)
-        → (far : ℕ) × (s.offset ≡ sets.offset + far) × RangeAt sets.rest
-        (far + initial_length_size s.format + H.BYTES) (s.unit_length - H.BYTES)
-        (Ok s.entries) }
-{}
+        → (far : ℕ) × (s.offset ≡ remaining.offset + far) × RangeAt remaining.rest
+        (far + initial_length_size s.format + H.size s.format s.header)
+        (s.unit_length - H.size s.format s.header) (Ok s.entries) }
+{
+    H::law();
+}
 
 /// The entry of a set with an index is the number of the bytes at its place, or the error there. As
 /// many entries are numbers as fit into the bytes, unless one is too great for an offset.
@@ -327,15 +345,22 @@ pub fn exactly_one_list_of_string_offsets()
         → sum_by (least_taken entries.width) items ≤ length entries.rest.bytes }
 {}
 
-/// The first set stays the first when bytes are appended. So does a first error, unless it is an
-/// `UnexpectedEof`.
-pub fn appended_bytes_change_no_set<H: HeaderFields>()
-    ensures set { (greatest : ℕ) (sets : Remaining) (s : Set H)
-        (items others : List (Result (Set H) Error)) (more : List ℕ)
-        → RepresentsSets H.header greatest sets (Ok s ∷ items)
-        → RepresentsSets H.header greatest (followed_remaining more sets) others
-        → (rest : List (Result (Set H) Error)) × (others ≡ Ok s ∷ rest) }
-    ensures error { (greatest : ℕ) (sets : Remaining) (e : Error) (more : List ℕ)
-        → RepresentsSets H.header greatest sets (Err e ∷ []) → IsNotEof e
-        → RepresentsSets H.header greatest (followed_remaining more sets) (Err e ∷ []) }
-{}
+/// The first contribution stays the first when bytes are appended. So does a first error, unless it
+/// is an `UnexpectedEof`. The result for a contribution at an offset stays in the same way.
+pub fn appended_bytes_change_no_contribution<R: Reader, H: HeaderFields<R>>()
+    ensures contribution { (greatest : ℕ) (remaining : Remaining) (s : Contribution H.Said)
+        (items others : List (Result (Contribution H.Said) Error)) (more : List ℕ)
+        → RepresentsContributions H.header greatest remaining (Ok s ∷ items)
+        → RepresentsContributions H.header greatest (followed_remaining more remaining) others
+        → (rest : List (Result (Contribution H.Said) Error)) × (others ≡ Ok s ∷ rest) }
+    ensures error { (greatest : ℕ) (remaining : Remaining) (e : Error) (more : List ℕ)
+        → RepresentsContributions H.header greatest remaining (Err e ∷ []) → IsNotEof e
+        → RepresentsContributions H.header greatest (followed_remaining more remaining)
+        (Err e ∷ []) }
+    ensures at { (greatest : ℕ) (section : Input) (offset : ℕ)
+        (answer : Result (Contribution H.Said) Error) (more : List ℕ)
+        → ContributionAtOffset H.header greatest section offset answer → IfErr answer IsNotEof
+        → ContributionAtOffset H.header greatest (followed_by section more) offset answer }
+{
+    H::law();
+}

@@ -3,10 +3,10 @@
 
 mod abbrev;
 mod addr;
+mod contributions;
 mod indexed;
 mod key;
 mod section;
-mod sets;
 mod str;
 
 pub use abbrev::{
@@ -14,12 +14,12 @@ pub use abbrev::{
     AttributeSpecification, DebugAbbrev,
 };
 pub use addr::{AddrEntryIter, AddrHeader, AddrHeaderIter, AddressSize, DebugAddr};
+pub use contributions::{ContributionHeader, ContributionHeaderIter, HeaderFields};
 pub use dwarf_base_core::{
     Error, ReaderAddress, ReaderOffset, ReaderOffsetId, Result, StoreOnHeap, UnitOffset,
 };
 pub use dwarf_reader_core::{EndianSlice, Reader, read_u8_array};
 pub use section::Section;
-pub use sets::{HeaderFields, SetHeader, SetHeaderIter};
 pub use str::{
     DebugLineStr, DebugStr, DebugStrOffsets, StrOffsetsEntryIter, StrOffsetsHeader,
     StrOffsetsHeaderIter,

@@ -13,23 +13,23 @@ IsKept least section offsets key kept =
     (λ answer. (least ≤ occurrences key offsets) × Answer section key answer)
 
 -- at each offset there is a result to be kept, or none
-one_result : (least : ℕ) (section : Input) (offsets : List ℕ) (key : ℕ)
+result-some : (least : ℕ) (section : Input) (offsets : List ℕ) (key : ℕ)
     → (kept : Kept) × IsKept least section offsets key kept
-one_result least section offsets key =
+result-some least section offsets key =
     elim (cases_lt (occurrences key offsets) least) [
       | inl few ↦ (None, few)
       | inr enough ↦ let one = answer_exactly_one section key in (Some one.0, (enough, one.1))
     ]
 
 -- some map keeps exactly the offsets that occur often enough, each with the section's result
-pub some_cache : (least : ℕ) (section : Input) (offsets : List ℕ)
+pub cache-some : (least : ℕ) (section : Input) (offsets : List ℕ)
     → (kept : ℕ → Kept) × KeepsAnswers least section offsets kept
-some_cache least section offsets =
-    ((λ key. (one_result least section offsets key).0), λ key. (one_result least section offsets key).1)
+cache-some least section offsets =
+    ((λ key. (result-some least section offsets key).0), λ key. (result-some least section offsets key).1)
 
 -- two maps that keep the results of the same section and offsets agree at each key
-pub same_cache : (least : ℕ) (section : Input) (offsets : List ℕ) (kept others : ℕ → Kept)
+pub cache-same : (least : ℕ) (section : Input) (offsets : List ℕ) (kept others : ℕ → Kept)
     → KeepsAnswers least section offsets kept → KeepsAnswers least section offsets others → (key : ℕ)
     → others key ≡ kept key
-same_cache least section offsets kept others of_kept of_others key =
+cache-same least section offsets kept others of_kept of_others key =
     grind (arith, of_kept key, of_others key, (answer_exactly_one section key).2)

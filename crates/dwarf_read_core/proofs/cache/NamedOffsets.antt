@@ -23,44 +23,44 @@ given_first start (n ∷ items) left (rest, first, others) =
     first ∙ ap (λ tail. Ok n ∷ tail) (given_first rest items left others)
 
 -- lists of items without an error are equal only if their numbers are
-same_numbers : (numbers items : List ℕ) → items_of numbers ≡ items_of items ++ [] → items ≡ numbers
-same_numbers [] [] same = refl
-same_numbers [] (m ∷ items) same = absurd cc
-same_numbers (n ∷ numbers) [] same = absurd cc
-same_numbers (n ∷ numbers) (m ∷ items) same =
+numbers-same : (numbers items : List ℕ) → items_of numbers ≡ items_of items ++ [] → items ≡ numbers
+numbers-same [] [] same = refl
+numbers-same [] (m ∷ items) same = absurd cc
+numbers-same (n ∷ numbers) [] same = absurd cc
+numbers-same (n ∷ numbers) (m ∷ items) same =
     let first : m ≡ n = grind arith in
     let tails : items_of numbers ≡ items_of items ++ [] = cc in
-    let rest = same_numbers numbers items tails in cc
+    let rest = numbers-same numbers items tails in cc
 
 -- a list of numbers has no error
-no_error : (numbers items : List ℕ) (e : Error) (left : List Item) → items_of numbers ≡ items_of items ++ Err e ∷ left
+error-absent : (numbers items : List ℕ) (e : Error) (left : List Item) → items_of numbers ≡ items_of items ++ Err e ∷ left
     → ⊥
-no_error [] [] e left same = absurd cc
-no_error [] (m ∷ items) e left same = absurd cc
-no_error (n ∷ numbers) [] e left same = grind arith
-no_error (n ∷ numbers) (m ∷ items) e left same =
-    let tails : items_of numbers ≡ items_of items ++ Err e ∷ left = cc in no_error numbers items e left tails
+error-absent [] [] e left same = absurd cc
+error-absent [] (m ∷ items) e left same = absurd cc
+error-absent (n ∷ numbers) [] e left same = grind arith
+error-absent (n ∷ numbers) (m ∷ items) e left same =
+    let tails : items_of numbers ≡ items_of items ++ Err e ∷ left = cc in error-absent numbers items e left tails
 
 -- with the first error the numbers before it are equal
-same_until : (numbers items : List ℕ) (e f : Error) (rest left : List Item)
+until-same : (numbers items : List ℕ) (e f : Error) (rest left : List Item)
     → items_of numbers ++ Err e ∷ rest ≡ items_of items ++ Err f ∷ left → (items ≡ numbers) × (e ≡ f)
-same_until [] [] e f rest left same = (refl, grind arith)
-same_until [] (m ∷ items) e f rest left same = absurd (grind arith)
-same_until (n ∷ numbers) [] e f rest left same = absurd (grind arith)
-same_until (n ∷ numbers) (m ∷ items) e f rest left same =
+until-same [] [] e f rest left same = (refl, grind arith)
+until-same [] (m ∷ items) e f rest left same = absurd (grind arith)
+until-same (n ∷ numbers) [] e f rest left same = absurd (grind arith)
+until-same (n ∷ numbers) (m ∷ items) e f rest left same =
     let first : m ≡ n = grind arith in
     let tails : items_of numbers ++ Err e ∷ rest ≡ items_of items ++ Err f ∷ left = cc in
-    let others = same_until numbers items e f rest left tails in
+    let others = until-same numbers items e f rest left tails in
     let numbers_are = others.0 in (cc, others.1)
 
 -- what a call leaves of numbers that it doesn't go past
 ended : (numbers items : List ℕ) (last : Option Item) (left rest : List Item)
     → items_of numbers ≡ items_of items ++ rest → Steps rest last left → EndsItems last → items ≡ numbers
 ended numbers items None left rest same ends is =
-    same_numbers numbers items (same ∙ ap (λ others. items_of items ++ others) ends.0)
+    numbers-same numbers items (same ∙ ap (λ others. items_of items ++ others) ends.0)
 ended numbers items (Some (Ok n)) left rest same ends is = absurd is
 ended numbers items (Some (Err e)) left rest same ends is =
-    absurd (no_error numbers items e left (same ∙ ap (λ others. items_of items ++ others) ends))
+    absurd (error-absent numbers items e left (same ∙ ap (λ others. items_of items ++ others) ends))
 
 -- a list of numbers and an error ends with an error
 not_ended : (numbers items : List ℕ) (e : Error) (others : List Item)
@@ -80,7 +80,7 @@ ended_until numbers items e others None left rest same ends is =
     absurd (not_ended numbers items e others (same ∙ ap (λ more. items_of items ++ more) ends.0))
 ended_until numbers items e others (Some (Ok n)) left rest same ends is = absurd is
 ended_until numbers items e others (Some (Err f)) left rest same ends is =
-    let both = same_until numbers items e f others left (same ∙ ap (λ more. items_of items ++ more) ends) in
+    let both = until-same numbers items e f others left (same ∙ ap (λ more. items_of items ++ more) ends) in
     (λ memory. is (sym both.1 ∙ memory), both.0)
 
 -- a map that changes nothing

@@ -6,15 +6,15 @@ use Rattle.std.proofs.lemmas.List.{length-replicate}
 use Rattle.std.proofs.lemmas.List.Elements.{All-get_or}
 use Rattle.dwarf_read_core.specs.Strings.{HasNoString, string_past_end, string_unended}
 use Rattle.dwarf_read_core.specs.Words.{AddressAt, HasNoAddress, HasNoPlace, HasNoWord, Slot, WordAt, address_cut, address_unplaced, address_unsized, no_base, no_distance, no_place, slot_offset, word_cut, word_too_great, word_unplaced}
-use Rattle.dwarf_reader_core.proofs.Positions.{same_position}
+use Rattle.dwarf_reader_core.proofs.public.MissingFields.{eof-same}
 
 -- ---- strings
 
 -- an offset within the section has no error of an offset past its end
-not_outside : (section : Input) (offset : ℕ) {e : Error} → HasNoString section offset e → 0 < offset
+string-not_outside : (section : Input) (offset : ℕ) {e : Error} → HasNoString section offset e → 0 < offset
     → offset ≤ length section.bytes → e ≡ end_fault section → ⊥
-not_outside section offset (string_past_end past) some within same = omega (arith, past, within)
-not_outside section offset (string_unended le none) some within same = omega (arith, some, same_position same)
+string-not_outside section offset (string_past_end past) some within same = omega (arith, past, within)
+string-not_outside section offset (string_unended le none) some within same = omega (arith, some, eof-same same)
 
 -- a zero byte ends the bytes that no zero byte ends
 zero_ends : (section : Input) (offset : ℕ) {e : Error} → HasNoString (followed_by section (0 ∷ [])) offset e
@@ -35,7 +35,7 @@ string_error_changes section offset (string_past_end past) =
     let longer = length-append section.bytes more in
     let long : length more ≡ offset - length section.bytes = length-replicate (offset - length section.bytes) 0 in (
       more,
-      λ stays. not_outside (followed_by section more) offset stays (omega (arith, past))
+      λ stays. string-not_outside (followed_by section more) offset stays (omega (arith, past))
           (omega (arith, longer, long, past)) refl,
     )
 string_error_changes section offset (string_unended within none) =

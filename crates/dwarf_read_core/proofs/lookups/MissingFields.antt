@@ -1,8 +1,8 @@
 -- Each `UnexpectedEof` is that of the first of consecutive fields that isn't there whole.
 use Rattle.dwarf_read_core.proofs.Common.{◌≡◌, ℕ, ◌+◌, ◌-◌, ◌<◌, ◌≤◌, true, [], ◌∷◌, length, Err, refl, sym, arith, inl, inr, eof, is_number_size, Error, Input, Answer}
 use Rattle.dwarf_reader_core.specs.Faults.{IsCutIn}
-use Rattle.dwarf_reader_core.proofs.MissingFields.{cut_here, cut_second, cut_third}
-use Rattle.dwarf_reader_core.proofs.Positions.{same_position}
+use Rattle.dwarf_reader_core.proofs.public.MissingFields.{cut_here, cut_second, cut_third}
+use Rattle.dwarf_reader_core.proofs.public.MissingFields.{eof-same}
 use Rattle.dwarf_read_core.specs.Ranges.{RangeAt, range_cut, range_past_end}
 use Rattle.dwarf_read_core.specs.Strings.{StringAt, string_past_end, string_unended}
 use Rattle.dwarf_read_core.specs.Words.{AddressAt, HasNoAddress, HasNoPlace, HasNoWord, IsPlaced, Slot, WordAt, address_cut, address_unplaced, address_unsized, distance, no_base, no_distance, no_place, slot_offset, word_cut, word_too_great, word_unplaced}
@@ -55,17 +55,17 @@ module _ (greatest : ℕ) (section : Input) (s : Slot) where
   place_cut : {e : Error} → HasNoPlace greatest section s e → (position : ℕ) → e ≡ eof position
       → IsCutIn section (s.base ∷ distance s ∷ s.width ∷ []) (eof position)
   place_cut (no_base past) position same =
-      cut_here section s.base (distance s ∷ s.width ∷ []) position past (sym (same_position same))
+      cut_here section s.base (distance s ∷ s.width ∷ []) position past (sym (eof-same same))
   place_cut (no_distance based over) position same = absurd (grind arith)
   place_cut (no_place based counted past) position same =
-      cut_second section s.base (distance s) (s.width ∷ []) position based past (sym (same_position same))
+      cut_second section s.base (distance s) (s.width ∷ []) position based past (sym (eof-same same))
 
   -- or in its width, if it has a place
   width_cut : (position : ℕ) → IsPlaced greatest section s → length section.bytes < slot_offset s + s.width
       → eof (section.position + slot_offset s) ≡ eof position
       → IsCutIn section (s.base ∷ distance s ∷ s.width ∷ []) (eof position)
   width_cut position placed cut same =
-      cut_third section s.base (distance s) s.width [] position placed.within cut (sym (same_position same))
+      cut_third section s.base (distance s) s.width [] position placed.within cut (sym (eof-same same))
 
   word_cut_in : {e : Error} → HasNoWord greatest section s e → (position : ℕ) → e ≡ eof position
       → IsCutIn section (s.base ∷ distance s ∷ s.width ∷ []) (eof position)

@@ -1,6 +1,6 @@
 -- The part that a reader reads after an offset is the section's part there, and a section has one result there.
 use Rattle.dwarf_read_core.proofs.Common.{common_steps, ◌≡◌, arith, ℕ, ◌+◌, ◌<◌, ◌≤◌, length, Ok, Err, refl, Error, end_fault, IsTooShort, Input, after, first, Takes, HasOne, rest-length}
-use Rattle.dwarf_reader_core.proofs.Once.{one_unless}
+use Rattle.dwarf_reader_core.proofs.public.Once.{one_unless}
 use Rattle.dwarf_read_core.specs.Ranges.{HasNoRange, HoldsRange, RangeAt, range_cut, range_past_end}
 
 -- the first bytes after an offset are the range there, if the section has as many

@@ -1,8 +1,15 @@
--- What a lookup returned stays when bytes are appended, if the section's result does.
-use Rattle.dwarf_read_core.proofs.Common.{common_steps, ◌++◌, ℕ, List, Result, Ok, Err, Bool, IfErr, arith, inl, inr, drop-append-le, take-append-le, followed_by, Error, IsNotEof, Input, ◌⊎◌, UnlessCloneRanOut, Stays}
+-- What a lookup returned: the error that `?` propagates, and what stays when bytes are appended.
+use Rattle.dwarf_read_core.proofs.Common.{common_steps, ◌++◌, ℕ, List, Result, Ok, Err, Bool, IfErr, arith, sym, subst, ◌≡◌, inl, inr, drop-append-le, take-append-le, followed_by, Error, IsNotEof, Input, ◌⊎◌, UnlessCloneRanOut, Stays}
+use Rattle.std.proofs.Common.{IsErrAnd}
 use Rattle.std.proofs.lemmas.List.{get_or_append_left}
 use Rattle.dwarf_reader_core.specs.Input.{IsFirst}
 use Rattle.dwarf_read_core.specs.Ranges.{HoldsRange}
+
+-- an error that `?` propagates is the result of the lookup
+pub result-propagated : {X A : Type 0} {Is : Result A Error → Type 0} {view : X → A} {clone_is_free : Bool}
+    (e : Error) {r : Result X Error} → IsErrAnd r (λ x. x ≡ e) → Is (Err e) → UnlessCloneRanOut Is view clone_is_free r
+result-propagated e {r = Ok x} h is = absurd h
+result-propagated {Is = Is} e {r = Err d} h is = record { ok = tt; err = inl (subst (λ x. Is (Err x)) (sym h) is) }
 
 -- of two facts the first is replaced by one that follows from it
 first_replaced : {P Q R : Type 0} → (P → Q) → P ⊎ R → Q ⊎ R

@@ -3,7 +3,7 @@ use Rattle.dwarf_read_core.proofs.Common.{◌≡◌, ◌≢◌, ℕ, ◌+◌, �
 use Rattle.dwarf_reader_core.specs.Input.{IsFirst}
 use Rattle.dwarf_read_core.proofs.lookups.Results.{first_more, lookup-stays, range_more}
 use Rattle.dwarf_read_core.proofs.lookups.Ranges.{range_taken}
-use Rattle.dwarf_reader_core.proofs.Strings.{string_not_none, string_taken_once, string_taken_or_none}
+use Rattle.dwarf_reader_core.proofs.public.Strings.{string_not_none, string_taken_once, string_taken_or_none}
 use Rattle.dwarf_read_core.specs.Ranges.{HoldsRange}
 use Rattle.dwarf_read_core.specs.Strings.{HasNoString, HoldsString, StringAt, string_past_end, string_unended}
 

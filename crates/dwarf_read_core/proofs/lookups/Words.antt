@@ -1,7 +1,7 @@
 -- What a reader reads at the place of a slot is the section's result there, and a section has one result there.
 use Rattle.dwarf_read_core.proofs.Common.{common_steps, ◌≡◌, ℕ, ◌+◌, ◌<◌, ◌≤◌, length, take, drop, List, Bool, true, false, Result, Ok, Err, refl, arith, inl, inr, ◌⊎◌, IsTrue, IfOk, IfErr, OnOk, length-append, Error, UnsupportedOffset, UnsupportedAddressSize, end_fault, IsTooShort, ReadsNoAddress, ReadsNoWord, is_number_size, Input, after, Takes, TakesNumber, followed_by, IsNotEof, HasOne, UnlessCloneRanOut, rest-length, Stays}
 use Rattle.dwarf_base_core.specs.Number.{number_of}
-use Rattle.dwarf_reader_core.proofs.Once.{one_by_test, one_unless}
+use Rattle.dwarf_reader_core.proofs.public.Once.{one_by_test, one_unless}
 use Rattle.dwarf_read_core.proofs.lookups.Results.{lookup-stays}
 use Rattle.dwarf_read_core.specs.Words.{Slot, distance, slot_offset, IsPlaced, Holds, HasWord, HasAddress, HasNoPlace, no_base, no_distance, no_place, HasNoWord, word_unplaced, word_cut, word_too_great, HasNoAddress, address_unplaced, address_unsized, address_cut, WordAt, AddressAt}
 

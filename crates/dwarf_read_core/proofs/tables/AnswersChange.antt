@@ -9,9 +9,9 @@ use Rattle.dwarf_read_core.proofs.tables.TableErrors.{table_error}
 use Rattle.dwarf_read_core.proofs.tables.EndFaults.{at_start, at_end, first_at_end, eof_ends, closed_or_other, unterminated_at_end}
 
 -- two results of a section at an offset are equal
-same_answer : (section : Input) (offset : ℕ) (a b : Result Table Error) → Answer section offset a
+answer-same : (section : Input) (offset : ℕ) (a b : Result Table Error) → Answer section offset a
     → Answer section offset b → a ≡ b
-same_answer section offset a b is has =
+answer-same section offset a b is has =
     let one = answer_exactly_one section offset in one.2 a is ∙ sym (one.2 b has)
 
 -- ---- tables that the end closes
@@ -37,7 +37,7 @@ null_changes section offset _ (table t le is) unsettled stays =
     let other : Answer (followed_by section (0 ∷ [])) offset (Ok (closed t.by_code by_null)) =
     table (closed t.by_code by_null) (omega (arith, le, longer))
     ([], rw (drop-append-le offset section.bytes (0 ∷ []) le) null) in
-    let same = same_answer (followed_by section (0 ∷ [])) offset _ _ stays other in
+    let same = answer-same (followed_by section (0 ∷ [])) offset _ _ stays other in
     unsettled (grind arith)
 
 -- ---- errors

@@ -1,7 +1,7 @@
 -- Appended bytes change no result that is final.
 use Rattle.dwarf_read_core.proofs.Common.{◌≡◌, ℕ, List, ◌∷◌, ◌++◌, Result, append_assoc, arith, length-append, drop-append-le, Input, Error, Table, by_null, IsTableBefore, closed_by_null, closed_by_end, followed_by, IsNotEof, HasError, number_bad, tag_zero, children_bad, name_zero, form_zero, IsFirstError, in_declaration, repeated, Answer, outside, table, first_error, end_of, IsFinal, Answers}
-use Rattle.dwarf_reader_core.proofs.Malformed.{bad_more}
-use Rattle.dwarf_read_core.proofs.sets.ItemLists.{bytes-still_some}
+use Rattle.dwarf_reader_core.proofs.public.BadNumbers.{bad_more}
+use Rattle.dwarf_read_core.proofs.contributions.ItemLists.{bytes-still_some}
 
 -- bytes that begin with a table that a code of value 0 closes still do with more bytes after them
 pub table_more : {bytes rest : List ℕ} {t : Table} (more : List ℕ) → IsTableBefore bytes t rest → t.close ≡ by_null

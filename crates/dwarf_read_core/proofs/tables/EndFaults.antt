@@ -1,6 +1,6 @@
 -- Where the errors of tables are.
 use Rattle.dwarf_read_core.proofs.Common.{◌≡◌, ◌≢◌, ◌⊎◌, inl, inr, ◌∙◌, ℕ, ◌<◌, ◌≤◌, List, length, Result, Ok, Err, refl, sym, arith, eof, end_of, Input, Error, Kind, unsigned64, unsigned16, signed64, overflow_error, Table, HasError, number_cut, number_bad, children_cut, tag_zero, children_bad, name_zero, form_zero, IsFirstError, in_declaration, repeated, Answer, outside, table, first_error, StrictAnswer, IsNotEof, strictly}
-use Rattle.dwarf_reader_core.proofs.Positions.{same_position}
+use Rattle.dwarf_reader_core.proofs.public.MissingFields.{eof-same}
 use Rattle.dwarf_read_core.specs.Answer.{IsTableError, missing_bytes, bad_number, zero_tag, bad_children, zero_name, zero_form, same_code, unterminated}
 use Rattle.dwarf_read_core.proofs.tables.TableErrors.{table_error}
 
@@ -35,12 +35,12 @@ pub data EndsAt (section : Input) (offset position : ℕ) : Type 0 where
 -- the result is an `UnexpectedEof` at one of the two places, or no `UnexpectedEof`
 pub answer_ends : {section : Input} {offset : ℕ} {r : Result Table Error} → Answer section offset r → (position : ℕ)
     → r ≡ Err (eof position) → EndsAt section offset position
-answer_ends (outside lt) position same = at_start lt (same_position (grind arith))
+answer_ends (outside lt) position same = at_start lt (eof-same (grind arith))
 answer_ends (table t le is) position same = absurd (grind arith)
 answer_ends {section} {offset} (first_error e le is) position same =
     let here : e ≡ eof position = grind arith in
     elim (first_at_end is) [
-      | inl end ↦ at_end le (same_position (sym here ∙ end))
+      | inl end ↦ at_end le (eof-same (sym here ∙ end))
       | inr other ↦ absurd (other position here)
     ]
 

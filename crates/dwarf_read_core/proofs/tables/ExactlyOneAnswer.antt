@@ -1,7 +1,7 @@
 -- A section has exactly one result at each offset, and the parser returns it.
 use Rattle.dwarf_read_core.proofs.Common.{common_steps, ◌≡◌, ◌≢◌, ℕ, ◌+◌, ◌≤◌, cond, ltb, List, length, drop, None, Result, Ok, Err, IfErr, refl, sym, arith, inl, inr, lt-ltb, le-ltb, empty, length-drop, nil_from_length, Error, OutOfMemory, Input, end_of, Takes, end_fault, IsTooShort, HasOutcome, returned, failed, IsTable, HasOne, Answer, Answers, IsFirstError, TakesNoMemory, outside, table, first_error, declaration_at, table_in, cases_lt}
 use Rattle.std.specs.Result.{IsErrAnd}
-use Rattle.dwarf_read_core.proofs.tables.ReadingNumbers.{end_after}
+use Rattle.dwarf_reader_core.proofs.public.Consuming.{end_of-after}
 use Rattle.dwarf_read_core.proofs.tables.ReadingIsComplete.{zero_again, end_again}
 use Rattle.dwarf_read_core.proofs.tables.ReadingTables.{TableRead}
 use Rattle.dwarf_read_core.proofs.tables.TablesAreRead.{begins_with_none, table_after, table_read_again, first_error_again}
@@ -30,13 +30,13 @@ is_answer section offset = elim (cases_lt (length section.bytes) offset) [
     read le (failed e is) = first_error e le is
 
 -- every result that a section has at an offset is what the functions read there
-pub only_answer : {section : Input} {offset : ℕ} {r : TableRead} → Answer section offset r
+pub answer-same : {section : Input} {offset : ℕ} {r : TableRead} → Answer section offset r
     → answer_at section offset ≡ r
 unfolding answer_at
-only_answer {section} {offset} (outside lt) = rw (lt-ltb (length section.bytes) offset lt) refl
-only_answer {section} {offset} (table t le is) =
+answer-same {section} {offset} (outside lt) = rw (lt-ltb (length section.bytes) offset lt) refl
+answer-same {section} {offset} (table t le is) =
     rw (le-ltb (length section.bytes) offset le, table_read_again (end_of section) is) refl
-only_answer {section} {offset} (first_error e le is) =
+answer-same {section} {offset} (first_error e le is) =
     rw (le-ltb (length section.bytes) offset le, first_error_again is) refl
 
 -- what is read after the offset is the section's result there
@@ -44,7 +44,7 @@ pub answer_read : (r : TableRead) (section : Input) (offset : ℕ) (rest : Input
     → table_in (end_of rest) empty rest.bytes ≡ r → Answer section offset r
 unfolding answer_at
 answer_read r section offset rest takes read =
-    grind (arith, is_answer section offset, end_after offset section takes.enough)
+    grind (arith, is_answer section offset, end_of-after offset section takes.enough)
 
 -- an error that `?` propagates is the section's result at the offset, if it is read there, unless memory ran out
 pub error_read : {X : Type 0} (r : Result X Error) (e : Error) (section : Input) (offset : ℕ) (rest : Input)
@@ -56,7 +56,7 @@ error_read r e section offset rest is takes read =
 
 -- a section has exactly one result at each offset
 pub answer_exactly_one : (section : Input) (offset : ℕ) → HasOne (Answer section offset)
-answer_exactly_one section offset = (answer_at section offset, is_answer section offset, λ s a. sym (only_answer a))
+answer_exactly_one section offset = (answer_at section offset, is_answer section offset, λ s a. sym (answer-same a))
 
 -- the error of skipping to an offset past the section's end is the section's result there
 pub outside_of : (section : Input) (offset : ℕ) (e : Error) (new : Input) → IsTooShort offset section e new

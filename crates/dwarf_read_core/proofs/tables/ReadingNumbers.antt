@@ -1,6 +1,7 @@
 -- The function that reads a LEB128 number returns what the definition says, and nothing else.
-use Rattle.dwarf_read_core.proofs.Common.{common_steps, ◌≡◌, ℕ, zero, suc, ◌<◌, ◌≤◌, false, eqb, ltb, List, [], ◌∷◌, ◌++◌, length, drop, Option, Some, None, Result, Ok, Err, refl, sym, ap, ◌∙◌, arith, ◌⊎◌, inl, inr, length-append, length-drop, take-append-drop, take, ne_eqb, ltb-true, lt-ltb, le-ltb, Error, Kind, Number, limit, value, is_in_range, overflow_error, IsEncoding, NoneIsLast, IsNumber, HasNumber, IsTruncated, IsMalformed, ReadsNumber, ReadsNoNumber, Input, end_of, after, eof, encoding_at, number_from, number_at, HasOutcome, returned, failed, outcome-cond, IfOk, MatchOption, nat_tests}
+use Rattle.dwarf_read_core.proofs.Common.{common_steps, ◌≡◌, ℕ, zero, suc, ◌<◌, ◌≤◌, false, eqb, ltb, List, [], ◌∷◌, ◌++◌, length, drop, Option, Some, None, Result, Ok, Err, refl, sym, ap, ◌∙◌, arith, ◌⊎◌, inl, inr, length-append, take-append-drop, take, ne_eqb, ltb-true, lt-ltb, le-ltb, Error, Kind, Number, limit, value, is_in_range, overflow_error, IsEncoding, NoneIsLast, IsNumber, HasNumber, IsTruncated, IsMalformed, ReadsNumber, ReadsNoNumber, Input, end_of, after, eof, encoding_at, number_from, number_at, HasOutcome, returned, failed, outcome-cond, IfOk, MatchOption, nat_tests}
 use Rattle.std.proofs.Math.Seq.{take-append_seam}
+use Rattle.dwarf_reader_core.proofs.public.Consuming.{end_of-after}
 
 -- an encoding of a number has at least one byte
 pub encoding-nonempty : (bytes : List ℕ) → IsEncoding bytes → 0 < length bytes
@@ -146,14 +147,10 @@ pub number_read : {k : Kind} {old : Input} {number : Number k} {new : Input} (en
     → ReadsNumber k old number new → number_at k end old.bytes ≡ Ok (number, new.bytes)
 number_read {k = k} {old = old} {number = number} end r = grind (arith, number_at-has)
 
--- consuming bytes doesn't change the position of the end
-pub end_after : (n : ℕ) (old : Input) → n ≤ length old.bytes → end_of (after n old) ≡ end_of old
-end_after n old le = omega (arith, length-drop n old.bytes)
-
 -- reading a number doesn't change the position of the end
 pub end_stays : {k : Kind} {old : Input} {number : Number k} {new : Input} → ReadsNumber k old number new
     → end_of new ≡ end_of old
-end_stays {old = old} r = ap end_of r.left ∙ end_after r.len old r.has.enough
+end_stays {old = old} r = ap end_of r.left ∙ end_of-after r.len old r.has.enough
 
 -- the function reads what a reader reads
 pub ruleset number_steps = (number_read, number_not_read, end_stays)

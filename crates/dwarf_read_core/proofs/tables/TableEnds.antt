@@ -28,31 +28,31 @@ first_read {rest = rest} {d} h =
     )
 
 -- after declarations and a code of value 0 one rest remains
-same_rest : (bytes : List ℕ) {rest following : List ℕ} (ds es : List Declaration) → IsClosed bytes rest ds
+closed-rest_same : (bytes : List ℕ) {rest following : List ℕ} (ds es : List Declaration) → IsClosed bytes rest ds
     → IsClosed bytes following es → rest ≡ following
-same_rest bytes [] [] a b = grind (arith, zero_read a, zero_read b)
-same_rest bytes [] (e ∷ es) a b = grind (arith, zero_read a, (first_read b).1)
-same_rest bytes (d ∷ ds) [] a b = grind (arith, (first_read a).1, zero_read b)
-same_rest bytes {following = following} (d ∷ ds) (e ∷ es) a b =
+closed-rest_same bytes [] [] a b = grind (arith, zero_read a, zero_read b)
+closed-rest_same bytes [] (e ∷ es) a b = grind (arith, zero_read a, (first_read b).1)
+closed-rest_same bytes (d ∷ ds) [] a b = grind (arith, (first_read a).1, zero_read b)
+closed-rest_same bytes {following = following} (d ∷ ds) (e ∷ es) a b =
     let x = first_read a in
     let y = first_read b in
     let same : y.0 ≡ x.0 = grind (arith, x.1, y.1) in
-    same_rest x.0 ds es x.2 (rw same at y.2)
+    closed-rest_same x.0 ds es x.2 (rw same at y.2)
 
 -- after two tables of the same bytes that close alike, one rest remains
 rest_same : {bytes others rest following : List ℕ} {t u : Table} → bytes ≡ others → t.close ≡ u.close
     → IsTableBefore bytes t rest → IsTableBefore others u following → rest ≡ following
 rest_same same close (closed_by_null bytes zero rest ds are is) (closed_by_null others code following es each ends) =
-    same_rest _ ds es (record { front = bytes; zero_code = zero; parts = refl; are = are.each; encodes = is })
+    closed-rest_same _ ds es (record { front = bytes; zero_code = zero; parts = refl; are = are.each; encodes = is })
     (record { front = others; zero_code = code; parts = same; are = each.each; encodes = ends })
 rest_same same close (closed_by_null _ _ _ _ _ _) (closed_by_end _ _ _) = absurd cc
 rest_same same close (closed_by_end _ _ _) (closed_by_null _ _ _ _ _ _) = absurd cc
 rest_same same close (closed_by_end _ _ _) (closed_by_end _ _ _) = refl
 
 -- a table at an offset ends at exactly one offset
-pub one_end : (section : Input) (offset : ℕ) (t : Table) → Answer section offset (Ok t)
+pub end_exactly_one : (section : Input) (offset : ℕ) (t : Table) → Answer section offset (Ok t)
     → HasOne (TableEndsAt section offset t)
-one_end section offset _ (table t le is) =
+end_exactly_one section offset _ (table t le is) =
     let fits = table_before_fits is.1 in
     let long = length-drop offset section.bytes in (
       length section.bytes - length is.0,
@@ -77,4 +77,4 @@ end_after section offset end t before (rest, is, sum) =
     omega (arith, table_before_takes is (omega (arith, before, long)), sum, long)
 
 -- where a table ends
-pub ruleset ends = (one_end, end_more)
+pub ruleset ends = (end_exactly_one, end_more)

@@ -3,12 +3,12 @@ use Rattle.dwarf_read_core.proofs.Common.{◌≡◌, ◌⊎◌, ◌↔◌, inl, 
 use Rattle.dwarf_read_core.specs.Answer.{TableEndsAt}
 use Rattle.dwarf_read_core.specs.Grammar.{Close}
 use Rattle.dwarf_read_core.proofs.tables.ReadingIsComplete.{declaration_again}
-use Rattle.dwarf_read_core.proofs.tables.TableEnds.{one_end, end_more}
+use Rattle.dwarf_read_core.proofs.tables.TableEnds.{end_exactly_one, end_more}
 use Rattle.dwarf_read_core.proofs.tables.TableBounds.{len_is}
 use Rattle.dwarf_read_core.proofs.tables.TablesAreRead.{table_before_fits}
 use Rattle.std.proofs.lemmas.List.{drop-take}
 use Rattle.dwarf_reader_core.specs.Appended.{IsShortestFront}
-use Rattle.dwarf_reader_core.proofs.Fronts.{first_long}
+use Rattle.dwarf_reader_core.proofs.public.Fronts.{first_long}
 
 -- declarations and more bytes are more declarations
 more_declared : (bytes more : List ℕ) (ds es : List Declaration) → Sequence IsDeclaration bytes ds
@@ -50,9 +50,9 @@ front_before n (closed_by_end bytes ds are) sum =
     ([], rw (take_all n bytes (omega (arith, sum))) (closed_by_end bytes ds are))
 
 -- bytes and a front of them aren't the same table if the end closes both
-same_closed : {bytes others rest following : List ℕ} {t : Table} (more : List ℕ) → IsTableBefore bytes t rest
+closed-same : {bytes others rest following : List ℕ} {t : Table} (more : List ℕ) → IsTableBefore bytes t rest
     → IsTableBefore others t following → t.close ≡ by_end → others ≡ bytes ++ more → 0 < length more → ⊥
-same_closed {t = t} more a b unsettled longer some =
+closed-same {t = t} more a b unsettled longer some =
     go a refl b refl unsettled longer
   where
     go : {bytes others rest following : List ℕ} {u v : Table} → IsTableBefore bytes u rest → u ≡ t
@@ -84,12 +84,12 @@ null_front : (section : Input) (offset end : ℕ) (t : Table) → Answer section
     → TableEndsAt section offset t end → t.close ≡ by_null → (m : ℕ) → m < end
     → Answer (first m section) offset (Ok t) → ⊥
 null_front section offset end t is ends final m below early =
-    let there = (one_end (first m section) offset t early).0 in
-    let has = (one_end (first m section) offset t early).1 in
+    let there = (end_exactly_one (first m section) offset t early).0 in
+    let has = (end_exactly_one (first m section) offset t early).1 in
     let more = end_more (first m section) (drop m section.bytes) offset there t early final has in
     let same : TableEndsAt section offset t there =
     subst (λ (whole : Input). TableEndsAt whole offset t there) (front_and_rest section m) more in
-    let one = (one_end section offset t is).2 in
+    let one = (end_exactly_one section offset t is).2 in
     let sum = ends.2 in
     omega (arith, one there same, one end ends, has.2, first_long m section (omega (arith, below, sum)), below)
 
@@ -104,7 +104,7 @@ end_front section offset t is unsettled m below early =
     let parts : drop offset section.bytes ≡ drop offset (take m section.bytes) ++ drop m section.bytes =
     ap (drop offset) (sym (take-append-drop m section.bytes))
     ∙ drop-append-le offset (take m section.bytes) (drop m section.bytes) within in
-    same_closed (drop m section.bytes) front.1 whole.1 unsettled parts (omega (arith, length-drop m section.bytes, below))
+    closed-same (drop m section.bytes) front.1 whole.1 unsettled parts (omega (arith, length-drop m section.bytes, below))
 
 -- a table ends where the shortest front ends that has it
 pub front_of_end : (section : Input) (offset end : ℕ) (t : Table) → Answer section offset (Ok t)
@@ -132,7 +132,7 @@ front_of_end section offset end t is (rest, before, sum) =
 pub end_of_front : (section : Input) (offset end : ℕ) (t : Table) → Answer section offset (Ok t)
     → IsShortestFront (λ front. Answer front offset (Ok t)) section end → TableEndsAt section offset t end
 end_of_front section offset end t is (enough, has, none) =
-    let (there, ends, one) = one_end section offset t is in
+    let (there, ends, one) = end_exactly_one section offset t is in
     let (fits, early, nothing) = front_of_end section offset there t is ends in
     let same : end ≡ there = elim (cases_lt end there) [
       | inl before ↦ absurd (nothing end before has)

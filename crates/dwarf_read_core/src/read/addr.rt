@@ -1,6 +1,6 @@
 //! Addresses: the section `.debug_addr` (DWARF 5, 7.27).
 
-ghost use Rattle.std.specs.Prelude.{◌≡◌, ◌+◌, ◌<◌, ◌≤◌, [], true, length, IsTrue, IfOk, IfErr, IfSome, OnErr};
+ghost use Rattle.std.specs.Prelude.{◌≡◌, ◌+◌, ◌<◌, ◌≤◌, ℕ, [], true, length, IsTrue, IfOk, IfErr, IfSome, OnErr};
 ghost use Rattle.std.specs.Fn.{CalledAt, TakesAt};
 ghost use Rattle.dwarf_base_core.specs.declared.common.SectionId.TheVariants.{DebugAddr as debug_addr};
 ghost use Rattle.std.specs.Result.{result_transpose};
@@ -8,16 +8,15 @@ ghost use Rattle.dwarf_reader_core.specs.Faults.{CloneRanOutOfMemory, is_number_
 ghost use Rattle.dwarf_read_core.specs.Entries.{RepresentsAddresses};
 ghost use Rattle.dwarf_read_core.specs.Items.{GivesFirst};
 ghost use Rattle.dwarf_read_core.specs.Lookups.{UnlessCloneRanOut, Stays};
-ghost use Rattle.dwarf_reader_core.specs.Headers.{AddressHeaderAt};
-ghost use Rattle.dwarf_reader_core.proofs.Headers.{address_header};
-ghost use Rattle.dwarf_read_core.specs.Sets.{addresses_of, remaining_of, seen_by};
+ghost use Rattle.dwarf_reader_core.specs.Headers.{AddressHeaderAt, four_bytes};
+ghost use Rattle.dwarf_read_core.specs.Contributions.{addresses_of, remaining_of, seen_by};
 ghost use Rattle.dwarf_read_core.specs.Words.{AddressAt, slot};
 
+use super::contributions::{ContributionHeader, ContributionHeaderIter, HeaderFields, VERSION};
 use super::indexed::skip_to_index;
 use super::section::Section;
-use super::sets::{HeaderFields, SetHeader, SetHeaderIter, VERSION};
 use dwarf_base_core::{
-    DebugAddrBase, DebugAddrIndex, DebugAddrOffset, Encoding, Error, Result, SectionId,
+    DebugAddrBase, DebugAddrIndex, DebugAddrOffset, Encoding, Error, Format, Result, SectionId,
 };
 use dwarf_reader_core::Reader;
 use std::alloc::AllocError;
@@ -149,10 +148,10 @@ impl<R> From<R> for DebugAddr<R> {
 ///     }
 /// }
 /// ```
-pub type AddrHeaderIter<R> = SetHeaderIter<R, AddressSize>;
+pub type AddrHeaderIter<R> = ContributionHeaderIter<R, AddressSize>;
 
 /// The header of a set of addresses, and the addresses that follow it.
-pub type AddrHeader<R> = SetHeader<R, AddressSize>;
+pub type AddrHeader<R> = ContributionHeader<R, AddressSize>;
 
 /// The size of the addresses of a set: 1, 2, 4 or 8 bytes. The header also has a segment size,
 /// which has to be 0 and isn't kept.
@@ -184,16 +183,22 @@ impl AddressSize {
     }
 }
 
-impl HeaderFields for AddressSize {
+impl<R: Reader> HeaderFields<R> for AddressSize {
+    ghost Said = { ℕ };
+
+    ghost said = { λ size. size };
+
     ghost header = { AddressHeaderAt };
 
-    ghost BYTES = { 4 };
+    ghost size = { four_bytes };
 
-    const BYTES: u64 = 4;
+    ghost LEAST_BYTES = { 4 };
+
+    const LEAST_BYTES: u64 = 4;
 
     const NAME: &'static str = "AddrHeader";
 
-    fn parse<R: Reader>(unit: &mut R) -> Result<Self> {
+    fn parse(unit: &mut R, _format: Format) -> Result<Self> {
         let version = unit.read_u16()?;
         if version != VERSION {
             return Err(Error::UnknownVersion(u64::from(version)));
@@ -205,7 +210,7 @@ impl HeaderFields for AddressSize {
         }
     }
 
-    ghost is_header = { address_header };
+    fn law() {}
 }
 
 impl<R: Reader> AddrHeader<R> {
@@ -228,7 +233,7 @@ impl<R: Reader> AddrHeader<R> {
         Encoding {
             address_size: self.fields.bytes(),
             format: self.format,
-            version: self.version,
+            version: VERSION,
         }
     }
 
@@ -313,7 +318,7 @@ impl<R: Reader> Iterator for AddrEntryIter<R> {
 
     ghost remaining = { λ entries. at_most (length entries.rest.bytes) };
 
-    #[tactic(auto, using(crate::proofs::sets::IteratorsEnd::entries_progress))]
+    #[tactic(auto, using(crate::proofs::contributions::IteratorsEnd::entries_progress))]
     fn next(&mut self) -> Option<Result<u64>> {
         self.next().transpose()
     }

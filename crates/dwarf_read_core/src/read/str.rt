@@ -8,7 +8,7 @@ ghost use Rattle.dwarf_base_core.specs.Format.{word_size};
 ghost use Rattle.dwarf_reader_core.specs.Faults.{CloneRanOutOfMemory};
 ghost use Rattle.dwarf_reader_core.specs.Slice.{input_of};
 ghost use Rattle.dwarf_read_core.specs.Lookups.{UnlessCloneRanOut, Stays};
-ghost use Rattle.dwarf_read_core.specs.Sets.{remaining_of};
+ghost use Rattle.dwarf_read_core.specs.Contributions.{remaining_of};
 ghost use Rattle.dwarf_read_core.specs.Strings.{StringAt};
 ghost use Rattle.dwarf_read_core.specs.Words.{WordAt, slot};
 

@@ -1,5 +1,5 @@
 use Rattle.dwarf_read_core.proofs.Common.{leb}
-use Rattle.dwarf_read_core.proofs.sets.Entries.{numbers_bounded, numbers_exactly_one}
+use Rattle.dwarf_read_core.proofs.contributions.Entries.{numbers_bounded, numbers_exactly_one}
 use Rattle.dwarf_read_core.proofs.laws.exactly_one_list_of_string_offsets.Goals as goal
 
 pub returns : goal.returns

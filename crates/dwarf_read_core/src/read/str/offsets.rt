@@ -5,11 +5,12 @@ ghost use Rattle.std.specs.Result.{result_transpose};
 ghost use Rattle.dwarf_reader_core.specs.Faults.{CloneRanOutOfMemory};
 ghost use Rattle.dwarf_read_core.specs.Entries.{RepresentsStringOffsets};
 ghost use Rattle.dwarf_read_core.specs.Items.{GivesFirst};
-ghost use Rattle.dwarf_reader_core.specs.Headers.{StringOffsetsHeaderAt};
-ghost use Rattle.dwarf_reader_core.proofs.Headers.{string_offsets_header};
-ghost use Rattle.dwarf_read_core.specs.Sets.{seen_by, string_offsets_of};
+ghost use Rattle.dwarf_reader_core.specs.Headers.{StringOffsetsHeaderAt, four_bytes};
+ghost use Rattle.dwarf_read_core.specs.Contributions.{seen_by, string_offsets_of};
 
-use crate::read::sets::{HeaderFields, SetHeader, SetHeaderIter, VERSION};
+use crate::read::contributions::{
+    ContributionHeader, ContributionHeaderIter, HeaderFields, VERSION,
+};
 use dwarf_base_core::{DebugStrOffset, Error, Format, Result};
 use dwarf_reader_core::Reader;
 use std::alloc::AllocError;
@@ -24,22 +25,28 @@ use std::marker::Model;
 ///     }
 /// }
 /// ```
-pub type StrOffsetsHeaderIter<R> = SetHeaderIter<R, ()>;
+pub type StrOffsetsHeaderIter<R> = ContributionHeaderIter<R, ()>;
 
 /// The header of a set of string offsets, and the offsets that follow it. The header says nothing
 /// after its version.
-pub type StrOffsetsHeader<R> = SetHeader<R, ()>;
+pub type StrOffsetsHeader<R> = ContributionHeader<R, ()>;
 
-impl HeaderFields for () {
+impl<R: Reader> HeaderFields<R> for () {
+    ghost Said = { Unit {0} };
+
+    ghost said = { λ none. none };
+
     ghost header = { StringOffsetsHeaderAt };
 
-    ghost BYTES = { 4 };
+    ghost size = { four_bytes };
 
-    const BYTES: u64 = 4;
+    ghost LEAST_BYTES = { 4 };
+
+    const LEAST_BYTES: u64 = 4;
 
     const NAME: &'static str = "StrOffsetsHeader";
 
-    fn parse<R: Reader>(unit: &mut R) -> Result<()> {
+    fn parse(unit: &mut R, _format: Format) -> Result<()> {
         let version = unit.read_u16()?;
         if version != VERSION {
             return Err(Error::UnknownVersion(u64::from(version)));
@@ -48,7 +55,7 @@ impl HeaderFields for () {
         Ok(())
     }
 
-    ghost is_header = { string_offsets_header };
+    fn law() {}
 }
 
 impl<R: Reader> StrOffsetsHeader<R> {
@@ -57,13 +64,6 @@ impl<R: Reader> StrOffsetsHeader<R> {
         ensures { R.Offset.value result ≡ self.now.offset }
     {
         self.offset
-    }
-
-    /// Returns the set's format. The offsets are words of it.
-    pub fn format(&self) -> Format
-        ensures { result ≡ self.now.format }
-    {
-        self.format
     }
 
     /// Returns the offsets of the set.
@@ -144,7 +144,7 @@ impl<R: Reader> Iterator for StrOffsetsEntryIter<R> {
 
     ghost remaining = { λ entries. at_most (length entries.rest.bytes) };
 
-    #[tactic(auto, using(crate::proofs::sets::IteratorsEnd::entries_progress))]
+    #[tactic(auto, using(crate::proofs::contributions::IteratorsEnd::entries_progress))]
     fn next(&mut self) -> Option<Result<DebugStrOffset<R::Offset>>> {
         self.next().transpose()
     }

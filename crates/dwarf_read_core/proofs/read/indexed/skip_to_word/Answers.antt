@@ -1,5 +1,5 @@
 use Rattle.std.proofs.Common.{◌*◌, ◌<◌, arith}
-use Rattle.dwarf_read_core.proofs.Results.{propagated-err}
+use Rattle.dwarf_reader_core.proofs.public.Results.{propagated-err}
 use Rattle.dwarf_read_core.proofs.lookups.Words.{base_outside, past_end_found, placed_found, skipped_found, too_far_off}
 use Rattle.dwarf_read_core.proofs.read.indexed.skip_to_word.Goals as goal
 

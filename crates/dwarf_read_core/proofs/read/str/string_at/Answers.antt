@@ -1,4 +1,4 @@
-use Rattle.dwarf_read_core.proofs.ResultLemmas.{result-propagated}
+use Rattle.dwarf_read_core.proofs.lookups.Results.{result-propagated}
 use Rattle.dwarf_read_core.proofs.lookups.Strings.{string-read, string_outside}
 use Rattle.dwarf_read_core.proofs.read.str.string_at.Goals as goal
 

@@ -1,7 +1,7 @@
 use Rattle.dwarf_read_core.proofs.Common.{refl, ap, inl, rules, true, Input}
 use Rattle.dwarf_read_core.specs.Items.{no_items}
-use Rattle.dwarf_read_core.proofs.sets.ItemLists.{bytes-some}
-use Rattle.dwarf_read_core.proofs.sets.Entries.{address_not_read, number_error_first, number_first, size-positive}
+use Rattle.dwarf_read_core.proofs.contributions.ItemLists.{bytes-some}
+use Rattle.dwarf_read_core.proofs.contributions.Entries.{address_not_read, number_error_first, number_first, size-positive}
 use Rattle.dwarf_read_core.proofs.read.addr.AddrEntryIter.next.Goals as goal
 
 pub returns-in-Ok-clause-first : goal.returns-in-Ok-clause-first

@@ -1,7 +1,7 @@
 use Rattle.dwarf_read_core.proofs.Common.{arith}
 use Rattle.dwarf_reader_core.specs.Headers.{HasNoAddressHeader, address_unversioned}
-use Rattle.dwarf_read_core.proofs.Headers.{address_header_read, no_segment_read, no_size_read, other_segment_read, other_version_read, version_cut_read}
-use Rattle.dwarf_read_core.proofs.Results.{propagated-err}
+use Rattle.dwarf_reader_core.proofs.public.Headers.{address_header_read, no_segment_read, no_size_read, other_segment_read, other_version_read, version_cut_read}
+use Rattle.dwarf_reader_core.proofs.public.Results.{propagated-err}
 use Rattle.dwarf_read_core.proofs.read.addr.AddressSizeHeaderFields.parse.Goals as goal
 
 pub returns-in_err-version-clause-err : goal.returns-in_err-version-clause-err

@@ -1,5 +1,5 @@
 use Rattle.dwarf_read_core.specs.Words.{address_unplaced}
-use Rattle.dwarf_read_core.proofs.ResultLemmas.{result-propagated}
+use Rattle.dwarf_read_core.proofs.lookups.Results.{result-propagated}
 use Rattle.dwarf_read_core.proofs.lookups.Words.{address-read, address-stays}
 use Rattle.dwarf_read_core.proofs.read.addr.DebugAddr.get_address.Goals as goal
 

@@ -1,5 +1,5 @@
 use Rattle.dwarf_read_core.proofs.Common.{rules}
-use Rattle.dwarf_read_core.proofs.ResultLemmas.{result-propagated}
+use Rattle.dwarf_read_core.proofs.lookups.Results.{result-propagated}
 use Rattle.dwarf_read_core.proofs.lookups.Ranges.{range_ends_early, range_outside, range_taken}
 use Rattle.dwarf_read_core.proofs.read.section.Section.dwp_range.Goals as goal
 

@@ -1,6 +1,6 @@
 use Rattle.dwarf_read_core.specs.Words.{word_unplaced}
 use Rattle.std.proofs.Common.{arith}
-use Rattle.dwarf_read_core.proofs.ResultLemmas.{result-propagated}
+use Rattle.dwarf_read_core.proofs.lookups.Results.{result-propagated}
 use Rattle.dwarf_read_core.proofs.lookups.Words.{word-stays, word_fails, word_taken}
 use Rattle.dwarf_read_core.proofs.read.str.DebugStrOffsets.get_str_offset.Goals as goal
 

@@ -1,7 +1,7 @@
 use Rattle.dwarf_read_core.proofs.Common.{refl, ap, inl, le-leb, rules, Input}
 use Rattle.dwarf_read_core.specs.Items.{no_items}
-use Rattle.dwarf_read_core.proofs.sets.ItemLists.{bytes-some}
-use Rattle.dwarf_read_core.proofs.sets.Entries.{number_error_first, number_first, string_offset_not_read, word_size-positive}
+use Rattle.dwarf_read_core.proofs.contributions.ItemLists.{bytes-some}
+use Rattle.dwarf_read_core.proofs.contributions.Entries.{number_error_first, number_first, string_offset_not_read, word_size-positive}
 use Rattle.dwarf_read_core.proofs.read.str.offsets.StrOffsetsEntryIter.next.Goals as goal
 
 pub returns-in-Ok-clause-first : goal.returns-in-Ok-clause-first

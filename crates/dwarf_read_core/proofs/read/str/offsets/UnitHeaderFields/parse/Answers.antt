@@ -1,6 +1,6 @@
 use Rattle.dwarf_reader_core.specs.Headers.{HasNoStringOffsetsHeader, offsets_unversioned}
-use Rattle.dwarf_read_core.proofs.Headers.{other_version_read, padding_cut_read, padding_read, version_cut_read}
-use Rattle.dwarf_read_core.proofs.Results.{propagated-err}
+use Rattle.dwarf_reader_core.proofs.public.Headers.{other_version_read, padding_cut_read, padding_read, version_cut_read}
+use Rattle.dwarf_reader_core.proofs.public.Results.{propagated-err}
 use Rattle.dwarf_read_core.proofs.read.str.offsets.UnitHeaderFields.parse.Goals as goal
 
 pub returns-in_err-version-clause-err : goal.returns-in_err-version-clause-err

@@ -1,8 +1,7 @@
 -- What follows from the result of steps that may fail.
-use Rattle.std.proofs.Common.{inl, sym, subst, arith, Bool, true, false, cond, refl, ◌≡◌, ◌≢◌, Result, Ok, Err, IsErrAnd}
+use Rattle.std.proofs.Common.{arith, Bool, true, false, cond, refl, ◌≡◌, ◌≢◌, Result, Ok, Err, IsErrAnd}
 use Rattle.dwarf_base_core.specs.declared.error.Error.TheVariants.{OutOfMemory}
 use Rattle.dwarf_base_core.specs.declared.error.Error.{Error}
-use Rattle.dwarf_read_core.specs.Lookups.{UnlessCloneRanOut}
 use Rattle.dwarf_read_core.specs.Reading.{◌>>=◌, ReturnsUnlessOutOfMemory}
 
 -- a result is a value with one property, or an error with another
@@ -42,9 +41,3 @@ Err-no_Ok same = cc
 pub gives_err : {X Y : Type 0} (view : X → Y) {read : Result Y Error} {e : Error} (result : Result X Error)
     → IsErrAnd result (λ x. x ≡ e) → (e ≢ OutOfMemory → read ≡ Err e) → ReturnsUnlessOutOfMemory view result read
 gives_err view result h step = grind arith
-
--- an error that `?` propagates is the result of the lookup
-pub result-propagated : {X A : Type 0} {Is : Result A Error → Type 0} {view : X → A} {clone_is_free : Bool}
-    (e : Error) {r : Result X Error} → IsErrAnd r (λ x. x ≡ e) → Is (Err e) → UnlessCloneRanOut Is view clone_is_free r
-result-propagated e {r = Ok x} h is = absurd h
-result-propagated {Is = Is} e {r = Err d} h is = record { ok = tt; err = inl (subst (λ x. Is (Err x)) (sym h) is) }

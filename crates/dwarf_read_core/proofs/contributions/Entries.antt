@@ -8,8 +8,8 @@ use Rattle.dwarf_base_core.specs.Format.{word_size}
 use Rattle.dwarf_base_core.specs.Number.{number_of}
 use Rattle.dwarf_read_core.specs.Entries.{AreNumbers, EntryAt, HasNoEntry, entry_cut, entry_too_great}
 use Rattle.dwarf_read_core.specs.Items.{AreItems, no_items, value_first, only_error}
-use Rattle.dwarf_reader_core.proofs.Once.{one_by_test, one_unless}
-use Rattle.dwarf_read_core.proofs.sets.ItemLists.{TakesLeast, items-exactly_one, items-bounded, item-first, error-first}
+use Rattle.dwarf_reader_core.proofs.public.Once.{one_by_test, one_unless}
+use Rattle.dwarf_read_core.proofs.contributions.ItemLists.{TakesLeast, items-exactly_one, items-bounded, item-first, error-first}
 
 module _ (fits : ℕ → Bool) (width : ℕ) where
   -- the number of the first bytes
@@ -100,7 +100,8 @@ module _ {fits : ℕ → Bool} {width : ℕ} where
       → (index : ℕ) → IfSome (slice_get items index) (EntryAt fits width (after (index * width) old))
   item_at (no_items empty) index = tt
   item_at (value_first {now = old} some has others) zero = rw (← after_none width old) has
-  item_at (value_first {now = old} some has others) (suc index) = rw (← after_entry width index old) (item_at others index)
+  item_at (value_first {now = old} some has others) (suc index) =
+      rw (← after_entry width index old) (item_at others index)
   item_at (only_error {now = old} some has) zero = rw (← after_none width old) has
   item_at (only_error some has) (suc index) = tt
 

@@ -1,12 +1,12 @@
 use Rattle.dwarf_read_core.proofs.Common.{Ok, Err, inl}
-use Rattle.dwarf_read_core.specs.Sets.{set_unmeasured}
-use Rattle.dwarf_read_core.proofs.Results.{propagated-err}
-use Rattle.dwarf_read_core.proofs.sets.Sets.{said_read, set_bound, set_taken, unit_cut_read}
-use Rattle.dwarf_read_core.proofs.read.sets.SetHeader.parse.Goals as goal
+use Rattle.dwarf_read_core.specs.Contributions.{contribution_unmeasured}
+use Rattle.dwarf_reader_core.proofs.public.Results.{propagated-err}
+use Rattle.dwarf_read_core.proofs.contributions.Contributions.{said_read, contribution_bound, contribution_taken, unit_cut_read}
+use Rattle.dwarf_read_core.proofs.read.contributions.ContributionHeader.parse.Goals as goal
 
 pub returns-in_err-length-clause-err : goal.returns-in_err-length-clause-err
 returns-in_err-length-clause-err g c =
-    propagated-err _ _ c.from_residual.ensures.1 (inl (set_unmeasured c.in_err-length.ensures.err))
+    propagated-err _ _ c.from_residual.ensures.1 (inl (contribution_unmeasured c.in_err-length.ensures.err))
 
 pub returns-in_err-unit-clause-err : goal.returns-in_err-unit-clause-err
 returns-in_err-unit-clause-err g c =
@@ -25,8 +25,8 @@ returns-clause-ok g c =
     c.in_ok-fields.ensures.ok
 
 pub returns-clause-taken : goal.returns-clause-taken
-returns-clause-taken g c = set_taken c.in_ok-length.ensures.ok c.in_ok-unit.ensures.ok
+returns-clause-taken g c = contribution_taken c.in_ok-length.ensures.ok c.in_ok-unit.ensures.ok
 
 pub returns-clause-bound : goal.returns-clause-bound
 returns-clause-bound g c =
-    set_bound g.met.H.HeaderFields.is_header _ (returns-clause-ok g c) (returns-clause-taken g c)
+    contribution_bound c.law.ensures _ (returns-clause-ok g c) (returns-clause-taken g c)

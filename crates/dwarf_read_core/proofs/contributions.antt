@@ -1,0 +1,7 @@
+-- Proofs about contributions, their headers and entries, and the iterators over them.
+pub mod ItemLists
+pub mod IteratorsEnd
+pub mod Contributions
+pub mod Places
+pub mod Offsets
+pub mod Entries
