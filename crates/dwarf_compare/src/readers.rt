@@ -55,7 +55,7 @@ pub extern "C" fn compare_readers(
 }
 
 // Writes as many bytes as there is room for, and returns how many there are.
-fn put(bytes: &[u8], to: &mut [u8]) -> usize {
+pub(crate) fn put(bytes: &[u8], to: &mut [u8]) -> usize {
     let count = bytes.len().min(to.len());
     to[..count].copy_from_slice(&bytes[..count]);
     bytes.len()

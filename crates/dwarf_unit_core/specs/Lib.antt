@@ -1,0 +1,4 @@
+pub mod Layout
+pub mod Fields
+pub mod Seen
+pub mod Sections
