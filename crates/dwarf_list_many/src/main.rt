@@ -1,10 +1,14 @@
-//! `dwarf_list_many` lists many parts of one section from one process: `abbrev SECTION [OFFSETS]`
-//! for abbreviation tables, `str SECTION [OFFSETS]` for strings.
+//! `dwarf_list_many` lists many parts of one section, or all of it, from one process:
+//! `KIND SECTION [OFFSETS]`, where the kind is `abbrev` for abbreviation tables, `str` for strings,
+//! `addr le|be` for sets of addresses, or `str-offsets le|be` for sets of string offsets.
 //!
 //! `SECTION` and `OFFSETS` name files, or standard input by `-`, and without `OFFSETS` these come
-//! from standard input. The offsets are decimal, or hexadecimal after `0x`, one a line. For each
-//! offset in turn the program writes a title, `table 0xOFFSET:` on a line of its own or `0xOFFSET: `
-//! before a string, and then the lines that `dwarf_list` writes of that offset.
+//! from standard input. The offsets are decimal, or hexadecimal after `0x`, one a line. With
+//! `--all` there are none, and the section is listed from its start to its end. For each offset in
+//! turn the program writes a title, `table 0xOFFSET:` on a line of its own, `0xOFFSET: ` before a
+//! string, or `set 0xOFFSET: ` before the header of a set, and then the lines that `dwarf_list`
+//! writes of it, except that string offsets are hexadecimal, and that each byte of a string that
+//! isn't printable is an escape, unless `--raw` is given.
 //!
 //! The first error ends the run. The lines before an error at an offset are written, and the error
 //! is printed to standard error with its offset. If a line isn't an offset, nothing is written, and
@@ -12,16 +16,15 @@
 //! can't be read begins with its name. If the reader of the output closes it, the program says
 //! nothing and ends with status 141, as `cat` does in a shell.
 //!
-//! With `--keep-going` before the arguments an error at an offset is a line of the output,
-//! `error at 0xOFFSET, status 1: TEXT`, where the lines of that offset would be, and the run goes
-//! on. The exit status is 1 if there is such a line.
+//! With `--keep-going` before the arguments each error at an offset is a line of standard error,
+//! `error at 0xOFFSET: TEXT`, and the run goes on. The exit status is 1 if there is such a line.
 
 #![tactic(auto)]
 
 use dwarf_listing_core::arguments::{Arguments, STANDARD_INPUT, parse_arguments};
 use dwarf_listing_core::fault::Fault;
 use dwarf_listing_core::many::fault::{ManyFault, many_exit_code};
-use dwarf_listing_core::many::run_many;
+use dwarf_listing_core::many::{run_many, run_whole};
 use dwarf_listing_core::piped::{CLOSED_STATUS, Piped};
 use dwarf_listing_core::words::command_line;
 use std::fs::File;
@@ -60,15 +63,21 @@ fn list_named(
     named: &Arguments<'_>,
     output: &mut Piped<Stdout>,
 ) -> Result<bool, ManyFault> {
+    let (mem, on_error, kind) = (rt.alloc(), named.on_error, named.kind);
+    let mut errors = rt.stderr();
     let mut section = open(rt, named.section, ManyFault::ReadSection)?;
-    let mut offsets = open(rt, named.offsets, ManyFault::ReadOffsets)?;
+    let Some(offsets) = named.offsets else {
+        return run_whole(mem, on_error, kind, &mut section, output, &mut errors);
+    };
+    let mut offsets = open(rt, offsets, ManyFault::ReadOffsets)?;
     run_many(
-        rt.alloc(),
-        named.on_error,
-        named.kind,
+        mem,
+        on_error,
+        kind,
         &mut section,
         &mut offsets,
         output,
+        &mut errors,
     )
 }
 
@@ -78,7 +87,7 @@ fn list(rt: &HostRuntime, output: &mut Piped<Stdout>) -> Result<bool, ManyFault>
     let outcome = list_named(rt, &named, output);
     let unread = match outcome {
         Err(ManyFault::ReadSection) => named.section,
-        Err(ManyFault::ReadOffsets) => named.offsets,
+        Err(ManyFault::ReadOffsets) => named.offsets.unwrap_or(STANDARD_INPUT),
         _ => return outcome,
     };
     // The line begins with the name of the input, and `main` prints the rest of it.

@@ -12,7 +12,7 @@ pub use Rattle.std.proofs.lemmas.List.{take_all, take_rest}
 pub use Rattle.std.proofs.lemmas.List.{drop-take, drop-append-le, length-append, take_more_set, take-append-drop}
 pub use Rattle.dwarf_listing_core.specs.Items.{Joins, in_front, ListsItemsOf, ListsRun, nothing}
 pub use Rattle.dwarf_listing_core.specs.Items.{bad_item, bad_text, item, ListsItems}
-pub use Rattle.dwarf_read_core.specs.Sets.{Set, Remaining, addresses_of, string_offsets_of, seen_by}
+pub use Rattle.dwarf_read_core.specs.Contributions.{Contribution as Set, Remaining, addresses_of, string_offsets_of, seen_by}
 pub use Rattle.dwarf_listing_core.specs.Lines.{hex_byte, hex_text, line, string_line}
 pub use Rattle.std.proofs.lemmas.Result.{err_from_is_err_and}
 pub use Rattle.dwarf_read_core.specs.Once.{HasOne}
@@ -31,4 +31,5 @@ pub use Rattle.dwarf_read_core.specs.Leb128.{Kind, Number, unsigned64, signed64}
 pub use Rattle.dwarf_listing_core.specs.Text.{IsTextOf, Lists, ListsNumber}
 pub use Rattle.dwarf_listing_core.specs.declared.command.Command.{Command}
 pub use Rattle.std.specs.Io.KnownBytes.{Consumes, Appends}
-pub use Rattle.dwarf_listing_core.specs.Many.{ListsAll, EndsAt, ListsOne, one_more}
+pub use Rattle.dwarf_listing_core.specs.Many.{ListsAll, EndsAt, one_more}
+pub use Rattle.dwarf_listing_core.specs.Walk.{ListsOne}

@@ -6,7 +6,7 @@ use Rattle.std.specs.declared.alloc.Global.{Global}
 use Rattle.dwarf_read_core.specs.Lookups.{UnlessOutOfMemory}
 use Rattle.dwarf_read_core.specs.Input.{Input}
 use Rattle.dwarf_read_core.specs.Items.{GivesFirst}
-use Rattle.dwarf_read_core.specs.Sets.{Remaining, RemainingOf, remaining_of, seen_by}
+use Rattle.dwarf_read_core.specs.Contributions.{Remaining, RemainingOf, remaining_of, seen_by}
 
 -- ---- the loop over an iterator
 
@@ -48,7 +48,7 @@ module _ {I X : Type 0} (gives : I → Option (Result X Error) → I → Type 0)
 -- ---- other listings of the same
 
 -- a result that is listed in one way is also listed in another, if each listing is, unless memory ran out
-listed_otherwise : {X : Type 0} {One Other : Result (List ℕ) Error → Type 0} (view : X → List ℕ)
+pub listed_otherwise : {X : Type 0} {One Other : Result (List ℕ) Error → Type 0} (view : X → List ℕ)
     → ((listed : Result (List ℕ) Error) → listed ≢ Err OutOfMemory → One listed → Other listed)
     → (r : Result X Error) → UnlessOutOfMemory One view r → UnlessOutOfMemory Other view r
 listed_otherwise view to (Ok x) is_one = to (Ok (view x)) (λ same. absurd cc) is_one

@@ -1,9 +1,15 @@
 -- Sets have exactly one text or error.
-use Rattle.dwarf_listing_core.proofs.Common.{◌-◌, ◌^◌, ◌<◌, ◌∷◌, ℕ, List, [], Result, Ok, Err, refl, Error, Input, HasOne, Remaining, Set, ListsItems, SetListing, HasSets, ListsLine, ListsSection, ListsSet}
+use Rattle.dwarf_listing_core.proofs.Common.{arith, ◌≡◌, ◌-◌, ◌^◌, ◌<◌, ◌≤◌, ◌∷◌, ℕ, List, [], length, Result, Ok, Err, inl, inr, refl, Error, Input, HasOne, Remaining, Set, ListsItems, SetListing, HasSets, ListsLine, ListsSection, ListsSet, section_of}
+use Rattle.std.proofs.lemmas.Bool.{cases_lt}
+use Rattle.dwarf_read_core.specs.declared.RunTimeEndian.{RunTimeEndian}
+use Rattle.dwarf_read_core.specs.Endian.{is_big_at_run_time}
+use Rattle.dwarf_read_core.specs.Faults.{end_fault}
 use Rattle.dwarf_read_core.specs.Headers.{AddressHeaderAt}
+use Rattle.dwarf_read_core.specs.Input.{after}
 use Rattle.dwarf_read_core.specs.Items.{AreItems, no_items, value_first, only_error}
-use Rattle.dwarf_read_core.specs.Sets.{HasSet}
-use Rattle.dwarf_read_core.proofs.sets.Entries.{size-positive}
+use Rattle.dwarf_read_core.specs.Contributions.{HasContribution}
+use Rattle.dwarf_read_core.proofs.public.Entries.{size-positive}
+use Rattle.dwarf_listing_core.specs.Sets.{ListsFirst, ListsFirstOf, ListsSetAt, past_end, set_there}
 use Rattle.dwarf_listing_core.proofs.OneText.{one_after, one_joined}
 
 -- items have exactly one text or error if each value has
@@ -23,19 +29,73 @@ one_of_lines line_of (Err e ∷ items) = (Err e, refl, λ other h. h)
 one_of_lines line_of (Ok n ∷ items) =
     one_after (Ok (line_of n), refl, λ other same. same) (λ own lists. one_joined own (one_of_lines line_of items))
 
+-- a set has exactly one text or error if it has exactly one list of entries
+one_set : {H : Type 0} (listing : SetListing H) (s : Set H) → HasOne (listing.represents (listing.entries s))
+    → HasOne (ListsSet listing s)
+one_set listing s entries =
+    one_joined (Ok (listing.header_line s))
+    (one_after entries (λ items are. one_of_lines listing.entry_line items))
+
 -- a section has exactly one text or error if it has exactly one list of sets, and each set one list of entries
 pub one_section : {H : Type 0} (listing : SetListing H) (sets : Remaining)
-    → ((old : Remaining) (s : Set H) → HasSet listing.header (2 ^ 64 - 1) old s
+    → ((old : Remaining) (s : Set H) → HasContribution listing.header (2 ^ 64 - 1) old s
     → HasOne (listing.represents (listing.entries s)))
     → HasOne (HasSets listing sets) → HasOne (ListsSection listing sets)
-one_section {H} listing sets entries lists =
-    one_after lists (λ items are. one_of_items (ListsSet listing) one_set are)
-  where
-    one_set : (old : Remaining) (s : Set H) → HasSet listing.header (2 ^ 64 - 1) old s → HasOne (ListsSet listing s)
-    one_set old s has =
-        one_joined (Ok (listing.header_line s)) (one_after (entries old s has)
-        (λ items are. one_of_lines listing.entry_line items))
+one_section listing sets entries lists =
+    one_after lists (λ items are.
+    one_of_items (ListsSet listing) (λ old s has. one_set listing s (entries old s has)) are)
 
 -- the address size of a set of addresses is above 0
-pub address_size : {greatest : ℕ} (old : Remaining) (s : Set ℕ) → HasSet AddressHeaderAt greatest old s → 0 < s.header
+pub address_size : {greatest : ℕ} (old : Remaining) (s : Set ℕ) → HasContribution AddressHeaderAt greatest old s
+    → 0 < s.header
 address_size old s has = size-positive s.header has.said.sized
+
+-- ---- one set
+
+-- the first of the sets that remain is one of them
+first_set : {H : Type 0} (listing : SetListing H) {sets : Remaining} {s : Set H} {items : List (Result (Set H) Error)}
+    → HasSets listing sets (Ok s ∷ items) → HasContribution listing.header (2 ^ 64 - 1) sets s
+first_set listing (value_first some is others) = is
+
+-- the first set has exactly one text or error if the section has exactly one list of sets, and each set one list of
+-- entries
+one_first : {H : Type 0} (listing : SetListing H) (sets : Remaining)
+    → ((old : Remaining) (s : Set H) → HasContribution listing.header (2 ^ 64 - 1) old s
+    → HasOne (listing.represents (listing.entries s)))
+    → HasOne (HasSets listing sets) → HasOne (ListsFirst listing sets)
+one_first {H} listing sets entries lists = one_after lists of
+  where
+    of : (items : List (Result (Set H) Error)) → HasSets listing sets items
+        → HasOne (ListsFirstOf listing sets.rest items)
+    of [] are = (Err (end_fault sets.rest), refl, λ other h. h)
+    of (Err e ∷ items) are = (Err e, refl, λ other h. h)
+    of (Ok s ∷ items) are = one_set listing s (entries sets s (first_set listing are))
+
+module _ {H : Type 0} (listing : SetListing H) (endian : RunTimeEndian) (section : List ℕ) (offset : ℕ) where
+  -- past the section's end there is only the error of that
+  only_past : length section < offset → (other : Result (List ℕ) Error)
+      → ListsSetAt listing endian section offset other
+      → other ≡ Err (end_fault (section_of section (is_big_at_run_time endian)))
+  only_past past other (past_end same) = refl
+  only_past past other (set_there within lists) = absurd (omega (arith, past, within))
+
+  -- in the section there is only what is listed of the first set
+  only_there : offset ≤ length section → {listed : Result (List ℕ) Error} → ((other : Result (List ℕ) Error)
+      → ListsFirst listing (record { offset = 0; rest = after offset (section_of section (is_big_at_run_time endian)) })
+      other → other ≡ listed) → (other : Result (List ℕ) Error) → ListsSetAt listing endian section offset other
+      → other ≡ listed
+  only_there within only other (past_end past) = absurd (omega (arith, past, within))
+  only_there within only other (set_there same lists) = only other lists
+
+  -- a set at an offset has exactly one text or error if there is exactly one list of sets, and one of the entries of
+  -- each
+  pub one_at : ((old : Remaining) (s : Set H) → HasContribution listing.header (2 ^ 64 - 1) old s
+      → HasOne (listing.represents (listing.entries s)))
+      → ((sets : Remaining) → HasOne (HasSets listing sets)) → HasOne (ListsSetAt listing endian section offset)
+  one_at entries lists =
+      elim (cases_lt (length section) offset) [
+        | inl past ↦ (_, past_end past, only_past past)
+        | inr within ↦
+            let first = one_first listing _ entries (lists _) in
+            (first.0, set_there within first.1, only_there within first.2)
+      ]

@@ -1,13 +1,17 @@
 -- What consecutive writes leave.
-use Rattle.dwarf_listing_core.proofs.Common.{arith, ◌≡◌, ◌≢◌, ℕ, suc, ◌<◌, Bool, true, false, Option, Result, Ok, refl, one_more, List, [], ◌∷◌, ◌++◌, length, take, drop, get_or, flat_map, take-append-drop, drop-cons, common_steps, Appends, ListsAll}
+use Rattle.dwarf_listing_core.proofs.Common.{◌≡◌, ◌≢◌, ℕ, Bool, true, false, Option, Result, Ok, Err, refl, inl, inr, one_more, List, [], ◌∷◌, ◌++◌, flat_map, common_steps, Appends, Error, EndsAt, ListsAll, ListsOne}
 use Rattle.std.proofs.Common.{subst}
 use Rattle.std.proofs.KnownBytes.{Appends-trans}
 use Rattle.std.proofs.lemmas.List.{flat_map_more}
-use Rattle.dwarf_listing_core.specs.Many.{ListsAt, ListsFirst, WritesEach, nothing}
+use Rattle.dwarf_listing_core.specs.Many.{ListsAt, ListsFront, Texts, WritesEach, error_line, nothing}
+use Rattle.dwarf_listing_core.specs.ManyFault.{IsListingFault}
 use Rattle.dwarf_listing_core.specs.declared.arguments.Kind.{Kind}
 use Rattle.dwarf_listing_core.specs.declared.arguments.OnError.{OnError}
-use Rattle.dwarf_listing_core.specs.declared.arguments.OnError.TheVariants.{Stop}
+use Rattle.dwarf_listing_core.specs.declared.arguments.OnError.TheVariants.{Stop, GoOn}
+use Rattle.dwarf_listing_core.specs.declared.fault.Fault.{Fault}
+use Rattle.dwarf_listing_core.specs.declared.fault.Fault.TheVariants.{Write}
 use Rattle.dwarf_listing_core.specs.declared.many.fault.ManyFault.{ManyFault}
+use Rattle.dwarf_listing_core.specs.declared.many.fault.ManyFault.TheVariants.{At, Line, ReadSection, ReadOffsets, Other}
 
 -- two texts that are written in order are one
 pub ruleset one_text = (common_steps, Appends-trans)
@@ -19,36 +23,73 @@ pub text_more : {A : Type 0} (text_of : A → List ℕ) (old now new : Option (L
 text_more text_of old now new items next before one =
     subst (Appends old new) (flat_map_more text_of [] items next) (Appends-trans old now new _ _ before one)
 
--- the text of the offsets so far is that of the offsets before the next one
-pub first_offsets : {on_error : OnError} {kind : Kind} {section text : List ℕ} {failed : Bool}
-    (offsets : List ℕ) (i : ℕ) → i < length offsets → ListsAll on_error kind section (take i offsets) text failed
-    → ListsFirst on_error kind section offsets text
-first_offsets {failed = failed} offsets i within listed = record {
-  before = take i offsets;
-  offset = get_or offsets i 0;
-  after = drop (suc i) offsets;
-  parts = grind (arith, take-append-drop, drop-cons);
-  failed = failed;
-  listed = listed;
-}
-
--- with `Stop` no text is the line of an error
-ListsAt-stop : (kind : Kind) (section : List ℕ) (offset : ℕ) (text : List ℕ) (fails : Bool)
-    → ListsAt Stop kind section offset text fails → fails ≡ false
-ListsAt-stop kind section offset text false listed = refl
-ListsAt-stop kind section offset text true listed = absurd listed
+-- with `Stop` nothing that is written is the line of an error
+ListsAt-stop : (kind : Kind) (section : List ℕ) (offset : ℕ) (texts : Texts) (fails : Bool)
+    → ListsAt Stop kind section offset texts fails → fails ≡ false
+ListsAt-stop kind section offset texts false listed = refl
+ListsAt-stop kind section offset texts true listed = absurd listed
 
 -- with `Stop` no offset that is listed has an error
-pub ListsAll-stop : {kind : Kind} {section offsets text : List ℕ} {failed : Bool}
-    → ListsAll Stop kind section offsets text failed → failed ≡ false
+pub ListsAll-stop : {kind : Kind} {section offsets : List ℕ} {texts : Texts} {failed : Bool}
+    → ListsAll Stop kind section offsets texts failed → failed ≡ false
 ListsAll-stop nothing = refl
-ListsAll-stop (one_more offsets text more offset failed fails before one) =
+ListsAll-stop (one_more offsets texts more offset failed fails before one) =
     rw (ListsAll-stop before) (ListsAt-stop _ _ _ _ fails one)
 
 -- a run that stops at an error doesn't return that there was one
-pub stop_without_error : (on_error : OnError) (kind : Kind) (section offsets : List ℕ) (Wrote : List ℕ → Type 0)
+pub stop_without_error : (on_error : OnError) (kind : Kind) (section offsets : List ℕ) (Wrote : Texts → Type 0)
     (r : Result Bool ManyFault) → WritesEach on_error kind section offsets Wrote r → on_error ≡ Stop → r ≢ Ok true
 stop_without_error on_error kind section offsets Wrote r writes stops same =
     let listed = rw (same, stops) at writes in
     let none : true ≡ false = ListsAll-stop listed.1 in
     absurd cc
+
+-- the line of an error is what is written of its offset, unless the run stops there
+pub error_listed : (on_error : OnError) (kind : Kind) (section : List ℕ) (offset : ℕ) (error : Error) → on_error ≢ Stop
+    → ListsOne kind section offset (Err error)
+    → ListsAt on_error kind section offset ([], error_line offset error) true
+error_listed Stop kind section offset error going one = absurd (going refl)
+error_listed GoOn kind section offset error going one = (error, one, refl)
+
+-- ---- a run that ends at an offset
+
+-- a result that is one error is another
+abbrev Fails : ManyFault → ManyFault → Type 0
+Fails one other = ◌≡◌ {A = Result (Bool × ℕ) ManyFault} (Err one) (Err other)
+
+module _ {on_error : OnError} {kind : Kind} {section before : List ℕ} {texts : Texts} {failed : Bool} (offset : ℕ)
+    (after : List ℕ) (listed : ListsAll on_error kind section before texts failed) where
+  -- if the offset has an error, and that ends the run, it is the first error
+  first_error : {error : Error} → on_error ≡ Stop → ListsOne kind section offset (Err error)
+      → EndsAt kind section (before ++ offset ∷ after) offset error texts
+  first_error stops fails =
+      let stopped = rw stops at listed in
+      record {
+        before = before;
+        after = after;
+        parts = refl;
+        listed = rw (ListsAll-stop stopped) at stopped;
+        fails = fails;
+      }
+
+  -- if writing at the offset failed, what was written is that of the offsets before it
+  pub ended_at : {Same Silent : Type 0} (Wrote : Texts → Type 0) (fault : ManyFault) → (Same → Silent → Wrote texts)
+      → ((place : ℕ) (error : Error) → Fails fault (At place error) → (on_error ≡ Stop)
+      × (place ≡ offset) × Same × Silent × ListsOne kind section offset (Err error))
+      → ((other : Fault) → Fails fault (Other other) → other ≢ Write → Same × Silent) → IsListingFault fault
+      → WritesEach on_error kind section (before ++ offset ∷ after) Wrote (Err fault)
+  ended_at Wrote (At place error) wrote at stopped is_fault =
+      let h = at place error refl in
+      (h.0, texts, rw h.1 (first_error h.0 h.4), wrote h.2 h.3)
+  ended_at Wrote (Other fault) wrote at stopped (inl write) = inl write
+  ended_at Wrote (Other fault) wrote at stopped (inr memory) =
+      let same = stopped fault refl (λ same. absurd cc) in
+      inr (
+        memory,
+        texts,
+        record { before = before; offset = offset; after = after; parts = refl; failed = failed; listed = listed },
+        wrote same.0 same.1,
+      )
+  ended_at Wrote (Line number quote) wrote at stopped is_fault = absurd is_fault
+  ended_at Wrote ReadSection wrote at stopped is_fault = absurd is_fault
+  ended_at Wrote ReadOffsets wrote at stopped is_fault = absurd is_fault

@@ -1,6 +1,7 @@
 pub mod Arguments
 pub mod Command
 pub mod Fault
+pub mod Found
 pub mod Items
 pub mod Lines
 pub mod Listing
@@ -13,3 +14,4 @@ pub mod Quote
 pub mod Sets
 pub mod Tables
 pub mod Text
+pub mod Walk

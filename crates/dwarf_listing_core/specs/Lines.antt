@@ -1,7 +1,8 @@
 -- Single lines: a string, and bytes in hexadecimal.
-use Rattle.std.specs.Prelude.{ℕ, ◌/◌, ◌%◌, false, List, [], ◌∷◌, ◌++◌, map, Result}
+use Rattle.std.specs.Prelude.{ℕ, ◌/◌, ◌%◌, ◌&&◌, ◌==◌, not, nat_le, nat_lt, Bool, false, List, [], ◌∷◌, ◌++◌, map, Result, if◌then◌else◌}
 use Rattle.std.specs.Fmt.{digit_glyph}
-use Rattle.std.specs.List.{join_with_byte}
+use Rattle.std.specs.Char.Escape.{escape_ascii}
+use Rattle.std.specs.List.{flat_map, join_with_byte}
 use Rattle.dwarf_read_core.specs.declared.Error.{Error}
 use Rattle.dwarf_read_core.specs.Input.{Input, section_of}
 use Rattle.dwarf_read_core.specs.Strings.{StringAt}
@@ -22,6 +23,22 @@ hex_text bytes = join_with_byte 32 (map hex_byte bytes)
 -- the line of a string
 abbrev pub string_line : Input → List ℕ
 string_line string = line string.bytes
+
+-- whether a byte stands for itself in a text: a printable character, other than a backslash
+abbrev pub is_plain : ℕ → Bool
+is_plain byte = nat_le 32 byte && nat_lt byte 127 && not (byte == 92)
+
+-- a byte of a string as text: itself, or an escape
+abbrev pub shown_byte : ℕ → List ℕ
+shown_byte byte = if is_plain byte then byte ∷ [] else escape_ascii byte
+
+-- the line of a string of which every byte is text
+abbrev pub shown_line : Input → List ℕ
+shown_line string = line (flat_map shown_byte string.bytes)
+
+-- the same of the string at an offset of a section, or the section's error
+abbrev pub ShowsString : List ℕ → ℕ → Result (List ℕ) Error → Type 0
+ShowsString section offset answer = ListsBy shown_line (StringAt (section_of section false) offset) answer
 
 -- the line of the string at an offset of a section, or the section's error
 abbrev pub ListsString : List ℕ → ℕ → Result (List ℕ) Error → Type 0

@@ -1,83 +1,103 @@
--- What the program that takes many offsets writes.
+-- What the program writes that lists a section at many offsets, or whole.
 use Rattle.std.specs.Prelude.{◌≡◌, ◌||◌, ◌⊎◌, ℕ, Bool, true, false, List, [], ◌∷◌, ◌++◌, Option, IfSome, Result, Ok, Err, codes}
 use Rattle.dwarf_read_core.specs.declared.Error.{Error}
-use Rattle.dwarf_read_core.specs.ErrorText.{error_text, hexadecimal}
+use Rattle.dwarf_read_core.specs.ErrorText.{hexadecimal}
 use Rattle.dwarf_listing_core.specs.Fault.{IsMemoryFault}
-use Rattle.dwarf_listing_core.specs.Lines.{ListsString, line}
-use Rattle.dwarf_listing_core.specs.Tables.{ListsTable}
+use Rattle.dwarf_listing_core.specs.Lines.{line}
+use Rattle.dwarf_listing_core.specs.ManyFault.{many_fault_text}
+use Rattle.dwarf_listing_core.specs.Walk.{ListsOne, Walk}
 use Rattle.dwarf_listing_core.specs.declared.arguments.Kind.{Kind}
-use Rattle.dwarf_listing_core.specs.declared.arguments.Kind.TheVariants.{Tables, Strings}
+use Rattle.dwarf_listing_core.specs.declared.arguments.Kind.TheVariants.{Tables, Strings, RawStrings, Addresses, StringOffsets}
 use Rattle.dwarf_listing_core.specs.declared.arguments.OnError.{OnError}
 use Rattle.dwarf_listing_core.specs.declared.arguments.OnError.TheVariants.{Stop, GoOn}
 use Rattle.dwarf_listing_core.specs.declared.fault.Fault.TheVariants.{Write}
 use Rattle.dwarf_listing_core.specs.declared.many.fault.ManyFault.{ManyFault}
 use Rattle.dwarf_listing_core.specs.declared.many.fault.ManyFault.TheVariants.{At, Other}
 
+-- what is written to the two outputs: text, and lines of errors
+abbrev pub Texts : Type 0
+Texts = List ℕ × List ℕ
+
+-- no text and no error
+abbrev pub no_texts : Texts
+no_texts = ([], [])
+
+-- texts, and others after them
+abbrev pub then_texts : Texts → Texts → Texts
+then_texts one other = (one.0 ++ other.0, one.1 ++ other.1)
+
+-- what was written to two outputs, by what each was given before and after
+abbrev pub WroteBoth : (List ℕ → Type 0) → (List ℕ → Type 0) → Texts → Type 0
+WroteBoth Wrote Told texts = Wrote texts.0 × Told texts.1
+
 -- the title of an offset, before its lines
 abbrev pub title : Kind → ℕ → List ℕ
 title Tables offset = line (codes "table 0x" ++ hexadecimal offset ++ codes ":")
 title Strings offset = codes "0x" ++ hexadecimal offset ++ codes ": "
+title RawStrings offset = codes "0x" ++ hexadecimal offset ++ codes ": "
+title (Addresses _) offset = codes "set 0x" ++ hexadecimal offset ++ codes ": "
+title (StringOffsets _) offset = codes "set 0x" ++ hexadecimal offset ++ codes ": "
 
--- the line of an error at an offset, in the output of a run that goes on
+-- the line of an error at an offset
 abbrev pub error_line : ℕ → Error → List ℕ
-error_line offset error =
-    line (codes "error at 0x" ++ hexadecimal offset ++ codes ", status 1: " ++ error_text error)
+error_line offset error = line (many_fault_text (At offset error))
 
--- the lines at an offset of a section, or the error there
-abbrev pub ListsOne : Kind → List ℕ → ℕ → Result (List ℕ) Error → Type 0
-ListsOne Tables = ListsTable
-ListsOne Strings = ListsString
+-- what is written of an offset: its title and its lines, or the line of its error if the run goes on
+abbrev pub ListsAt : OnError → Kind → List ℕ → ℕ → Texts → Bool → Type 0
+ListsAt _ kind section offset texts false =
+    (lines : List ℕ) × ListsOne kind section offset (Ok lines) × (texts ≡ (title kind offset ++ lines, []))
+ListsAt GoOn kind section offset texts true =
+    (error : Error) × ListsOne kind section offset (Err error) × (texts ≡ ([], error_line offset error))
+ListsAt Stop kind section offset texts true = ⊥
 
--- the text of an offset: its title and its lines, or the line of its error if the run goes on
-abbrev pub ListsAt : OnError → Kind → List ℕ → ℕ → List ℕ → Bool → Type 0
-ListsAt _ kind section offset text false =
-    (lines : List ℕ) × ListsOne kind section offset (Ok lines) × (text ≡ title kind offset ++ lines)
-ListsAt GoOn kind section offset text true =
-    (error : Error) × ListsOne kind section offset (Err error) × (text ≡ error_line offset error)
-ListsAt Stop kind section offset text true = ⊥
+-- what is written of these offsets in order, and whether one of them has an error
+pub data ListsAll (on_error : OnError) (kind : Kind) (section : List ℕ) : List ℕ → Texts → Bool → Type 0 where
+  nothing : ListsAll on_error kind section [] no_texts false
+  one_more : (offsets : List ℕ) (texts more : Texts) (offset : ℕ) (failed fails : Bool)
+      → ListsAll on_error kind section offsets texts failed → ListsAt on_error kind section offset more fails
+      → ListsAll on_error kind section (offsets ++ offset ∷ []) (then_texts texts more) (failed || fails)
 
--- the texts of these offsets in order, and whether one of them is an error
-pub data ListsAll (on_error : OnError) (kind : Kind) (section : List ℕ) : List ℕ → List ℕ → Bool → Type 0 where
-  nothing : ListsAll on_error kind section [] [] false
-  one_more : (offsets text more : List ℕ) (offset : ℕ) (failed fails : Bool)
-      → ListsAll on_error kind section offsets text failed → ListsAt on_error kind section offset more fails
-      → ListsAll on_error kind section (offsets ++ offset ∷ []) (text ++ more) (failed || fails)
-
--- the first error is at this offset, and the text is that of the offsets before it
-pub record EndsAt (kind : Kind) (section offsets : List ℕ) (offset : ℕ) (error : Error) (text : List ℕ) : Type 0 where
+-- the first error is at this offset, and what is written is that of the offsets before it
+pub record EndsAt (kind : Kind) (section offsets : List ℕ) (offset : ℕ) (error : Error) (texts : Texts) : Type 0 where
   pub before : List ℕ
   pub after : List ℕ
   pub parts : offsets ≡ before ++ offset ∷ after
-  pub listed : ListsAll Stop kind section before text false
+  pub listed : ListsAll Stop kind section before texts false
   pub fails : ListsOne kind section offset (Err error)
 
--- the outcome of a run over these offsets, if memory suffices and the output doesn't fail: whether one of them has an
--- error, or the first error, which ends a run that stops; and the text
-abbrev pub IsRun : OnError → Kind → List ℕ → List ℕ → Result Bool (ℕ × Error) × List ℕ → Type 0
-IsRun on_error kind section offsets (Ok failed, text) = ListsAll on_error kind section offsets text failed
-IsRun on_error kind section offsets (Err at, text) =
-    (on_error ≡ Stop) × EndsAt kind section offsets at.0 at.1 text
+-- the outcome of a run over these offsets, if memory suffices and no output fails: whether one of them has an error, or
+-- the first error, which ends a run that stops; and what is written
+abbrev pub IsRun : OnError → Kind → List ℕ → List ℕ → Result Bool (ℕ × Error) × Texts → Type 0
+IsRun on_error kind section offsets (Ok failed, texts) = ListsAll on_error kind section offsets texts failed
+IsRun on_error kind section offsets (Err at, texts) =
+    (on_error ≡ Stop) × EndsAt kind section offsets at.0 at.1 texts
 
--- the text is that of the offsets before one of them, whichever that is
-pub record ListsFirst (on_error : OnError) (kind : Kind) (section offsets text : List ℕ) : Type 0 where
+-- what is written is that of the offsets before one of them, whichever that is
+pub record ListsFront (on_error : OnError) (kind : Kind) (section offsets : List ℕ) (texts : Texts) : Type 0 where
   pub before : List ℕ
   pub offset : ℕ
   pub after : List ℕ
   pub parts : offsets ≡ before ++ offset ∷ after
   pub failed : Bool
-  pub listed : ListsAll on_error kind section before text failed
+  pub listed : ListsAll on_error kind section before texts failed
 
--- what a run over these offsets returns, and which text it wrote: that of all of them; with the first error, which ends
--- a run that stops, that of the offsets before it; if memory ran out, that of the offsets before one of them; or the
--- output failed
-abbrev pub WritesEach : OnError → Kind → List ℕ → List ℕ → (List ℕ → Type 0) → Result Bool ManyFault → Type 0
+-- what a run over these offsets returns, and what it wrote: that of all of them; with the first error, which ends a run
+-- that stops, that of the offsets before it; if memory ran out, that of the offsets before one of them; or an output
+-- failed
+abbrev pub WritesEach : OnError → Kind → List ℕ → List ℕ → (Texts → Type 0) → Result Bool ManyFault → Type 0
 WritesEach on_error kind section offsets Wrote (Ok failed) =
-    (text : List ℕ) × ListsAll on_error kind section offsets text failed × Wrote text
+    (texts : Texts) × ListsAll on_error kind section offsets texts failed × Wrote texts
 WritesEach on_error kind section offsets Wrote (Err (At offset error)) =
-    (on_error ≡ Stop) × (text : List ℕ) × EndsAt kind section offsets offset error text × Wrote text
+    (on_error ≡ Stop) × (texts : Texts) × EndsAt kind section offsets offset error texts × Wrote texts
 WritesEach on_error kind section offsets Wrote (Err (Other fault)) =
-    (fault ≡ Write) ⊎ (IsMemoryFault fault × (text : List ℕ) × ListsFirst on_error kind section offsets text × Wrote text)
+    (fault ≡ Write)
+    ⊎ (IsMemoryFault fault × (texts : Texts) × ListsFront on_error kind section offsets texts × Wrote texts)
 WritesEach _ _ _ _ _ (Err _) = ⊥
+
+-- what a run over the whole section returns, and what it wrote: that of the offsets of its walk
+abbrev pub WritesWalk : OnError → Kind → List ℕ → (Texts → Type 0) → Result Bool ManyFault → Type 0
+WritesWalk on_error kind section Wrote result =
+    (offsets : List ℕ) × Walk kind section 0 offsets × WritesEach on_error kind section offsets Wrote result
 
 -- the bytes of a section and of its offsets have this property, if both are known
 abbrev pub IfKnown : Option (List ℕ) → Option (List ℕ) → (List ℕ → List ℕ → Type 0) → Type 0

@@ -14,7 +14,8 @@ many_fault_text (Line number quote) =
     codes "error: line " ++ decimal number ++ codes " of the offsets is no offset: " ++ quote_text quote
 many_fault_text ReadSection = codes "error: cannot read the section"
 many_fault_text ReadOffsets = codes "error: cannot read the offsets"
-many_fault_text (Other Usage) = codes "usage: dwarf_list_many [--keep-going] abbrev|str SECTION [OFFSETS]"
+many_fault_text (Other Usage) =
+    codes "usage: dwarf_list_many [--keep-going] [--raw] [--all] KIND SECTION [OFFSETS], where KIND is abbrev, str, addr le|be or str-offsets le|be"
 many_fault_text (Other fault) = fault_text fault
 
 -- the exit status: 1 for malformed input, 3 for an input that can't be read

@@ -1,15 +1,26 @@
-//! The arguments of `dwarf_list_many`, which name a section and say where its offsets are.
+//! The arguments of `dwarf_list_many`, which say what is listed of a section, and at which offsets.
 
 ghost use Rattle.std.specs.Prelude.{◌≡◌, Some, None, MatchOption, map, string_bytes};
-ghost use Rattle.dwarf_listing_core.specs.Arguments.{arguments_of, inputs_of, kind_of, named_inputs};
+ghost use Rattle.std.specs.Option.{option_map};
+ghost use Rattle.dwarf_listing_core.specs.Arguments.{arguments_of, inputs_of, named_by, order_of, with_offsets};
 
-/// What is listed at each offset.
+use crate::command::parse_endian;
+use dwarf_read_core::RunTimeEndian;
+
+/// What is listed of a section.
 #[derive(Clone, Copy, Debug, PartialEq, Eq)]
 pub enum Kind {
     /// Abbreviation tables of `.debug_abbrev`.
     Tables,
-    /// Strings of `.debug_str` or `.debug_line_str`.
+    /// Strings of `.debug_str` or `.debug_line_str`, with an escape for each byte that isn't
+    /// printable.
     Strings,
+    /// Strings, byte for byte.
+    RawStrings,
+    /// Sets of addresses of `.debug_addr`.
+    Addresses(RunTimeEndian),
+    /// Sets of string offsets of `.debug_str_offsets`.
+    StringOffsets(RunTimeEndian),
 }
 
 /// What is done about an error at an offset.
@@ -17,7 +28,7 @@ pub enum Kind {
 pub enum OnError {
     /// The run ends.
     Stop,
-    /// The error is a line of the output, and the run goes on.
+    /// The error is a line of the second output, and the run goes on.
     GoOn,
 }
 
@@ -29,77 +40,153 @@ pub const STANDARD_INPUT: &str = "-";
 pub struct Arguments<'a> {
     /// What is done about an error at an offset.
     pub on_error: OnError,
-    /// What is listed at each offset.
+    /// What is listed.
     pub kind: Kind,
     /// The file of the section, or [`STANDARD_INPUT`].
     pub section: &'a str,
-    /// The file of the offsets, or [`STANDARD_INPUT`].
-    pub offsets: &'a str,
+    /// The file of the offsets, or [`STANDARD_INPUT`]. Without offsets the whole section is listed.
+    pub offsets: Option<&'a str>,
 }
 
-/// Returns what the arguments name: a kind, a section, and where its offsets are. With
-/// `--keep-going` before these, the run goes on after an error at an offset.
+// What the options before a kind set.
+#[derive(Clone, Copy)]
+struct Options {
+    on_error: OnError,
+    is_raw: bool,
+    is_whole: bool,
+}
+
+/// Returns what the arguments name: a kind, a section, and where its offsets are. Before these are
+/// any of the options `--keep-going`, with which the run goes on after an error at an offset,
+/// `--raw`, with which strings are listed byte for byte, and `--all`, with which the whole section
+/// is listed. After `addr` and `str-offsets` is the byte order, `le` or `be`.
 ///
 /// Without an argument for the offsets they are read from standard input. Returns `None` if the
 /// arguments are anything else, or if both inputs are standard input.
 pub fn parse_arguments(words: &[String]) -> Option<Arguments<'_>>
     ensures { MatchOption result (arguments_of (map string_bytes words.now) ≡ None)
         (λ named. arguments_of (map string_bytes words.now)
-        ≡ Some (named.on_error, named.kind, named.section.now, named.offsets.now)) }
+        ≡ Some (
+          named.on_error,
+          named.kind,
+          named.section.now,
+          option_map (λ name. name.now) named.offsets,
+        )) }
 {
-    let [option, rest @ ..] = words else {
-        return None;
+    let mut options = Options {
+        on_error: OnError::Stop,
+        is_raw: false,
+        is_whole: false,
     };
-    if option.as_str() == "--keep-going" {
-        return parse_inputs(OnError::GoOn, rest);
+    let mut rest = words;
+    while let [word, others @ ..] = rest {
+        match word.as_str() {
+            "--keep-going" => options.on_error = OnError::GoOn,
+            "--raw" => options.is_raw = true,
+            "--all" => options.is_whole = true,
+            name => return parse_kind(options, name, others),
+        }
+        rest = others;
     }
-    parse_inputs(OnError::Stop, words)
+    None
 }
 
-fn parse_inputs(on_error: OnError, words: &[String]) -> Option<Arguments<'_>>
-    ensures { MatchOption result (inputs_of on_error (map string_bytes words.now) ≡ None)
-        (λ named. inputs_of on_error (map string_bytes words.now)
-        ≡ Some (named.on_error, named.kind, named.section.now, named.offsets.now)) }
+fn parse_kind<'a>(options: Options, name: &str, words: &'a [String]) -> Option<Arguments<'a>>
+    ensures { MatchOption result
+        (named_by options name.now (map string_bytes words.now) ≡ None)
+        (λ named. named_by options name.now (map string_bytes words.now)
+        ≡ Some (
+          named.on_error,
+          named.kind,
+          named.section.now,
+          option_map (λ name. name.now) named.offsets,
+        )) }
 {
-    match words {
-        [name, section] => {
-            named_inputs(on_error, name.as_str(), section.as_str(), STANDARD_INPUT)
+    if name == "str" {
+        let kind = if options.is_raw {
+            Kind::RawStrings
+        } else {
+            Kind::Strings
+        };
+        return parse_inputs(options, kind, words);
+    }
+    if options.is_raw {
+        return None;
+    }
+    match name {
+        "abbrev" => parse_inputs(options, Kind::Tables, words),
+        "addr" => {
+            let (endian, inputs) = split_order(words)?;
+            parse_inputs(options, Kind::Addresses(endian), inputs)
         }
-        [name, section, offsets] => {
-            named_inputs(on_error, name.as_str(), section.as_str(), offsets.as_str())
+        "str-offsets" => {
+            let (endian, inputs) = split_order(words)?;
+            parse_inputs(options, Kind::StringOffsets(endian), inputs)
         }
         _ => None,
     }
 }
 
-fn named_inputs<'a>(
+// Returns the byte order at the front of some words, and the words after it.
+fn split_order(words: &[String]) -> Option<(RunTimeEndian, &[String])>
+    ensures { MatchOption result (order_of (map string_bytes words.now) ≡ None)
+        (λ sets. order_of (map string_bytes words.now)
+        ≡ Some (sets.0, map string_bytes sets.1.now)) }
+{
+    let [order, inputs @ ..] = words else {
+        return None;
+    };
+    let endian = parse_endian(order.as_str())?;
+    Some((endian, inputs))
+}
+
+fn parse_inputs(options: Options, kind: Kind, words: &[String]) -> Option<Arguments<'_>>
+    ensures { MatchOption result (inputs_of options kind (map string_bytes words.now) ≡ None)
+        (λ named. inputs_of options kind (map string_bytes words.now)
+        ≡ Some (
+          named.on_error,
+          named.kind,
+          named.section.now,
+          option_map (λ name. name.now) named.offsets,
+        )) }
+{
+    match words {
+        [section] if options.is_whole => Some(Arguments {
+            on_error: options.on_error,
+            kind,
+            section: section.as_str(),
+            offsets: None,
+        }),
+        [section] => with_offsets(options.on_error, kind, section.as_str(), STANDARD_INPUT),
+        [section, offsets] if !options.is_whole => {
+            with_offsets(options.on_error, kind, section.as_str(), offsets.as_str())
+        }
+        _ => None,
+    }
+}
+
+fn with_offsets<'a>(
     on_error: OnError,
-    name: &str,
+    kind: Kind,
     section: &'a str,
     offsets: &'a str,
 ) -> Option<Arguments<'a>>
-    ensures { MatchOption result (named_inputs on_error name.now section.now offsets.now ≡ None)
-        (λ named. named_inputs on_error name.now section.now offsets.now
-        ≡ Some (named.on_error, named.kind, named.section.now, named.offsets.now)) }
+    ensures { MatchOption result (with_offsets on_error kind section.now offsets.now ≡ None)
+        (λ named. with_offsets on_error kind section.now offsets.now
+        ≡ Some (
+          named.on_error,
+          named.kind,
+          named.section.now,
+          option_map (λ name. name.now) named.offsets,
+        )) }
 {
     if section == STANDARD_INPUT && offsets == STANDARD_INPUT {
         return None;
     }
-    let kind = kind_of(name)?;
     Some(Arguments {
         on_error,
         kind,
         section,
-        offsets,
+        offsets: Some(offsets),
     })
-}
-
-fn kind_of(name: &str) -> Option<Kind>
-    ensures { result ≡ kind_of name.now }
-{
-    match name {
-        "abbrev" => Some(Kind::Tables),
-        "str" => Some(Kind::Strings),
-        _ => None,
-    }
 }

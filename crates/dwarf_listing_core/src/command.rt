@@ -51,7 +51,7 @@ fn named_command(name: &str, argument: &str) -> Option<Command>
     }
 }
 
-fn parse_endian(name: &str) -> Option<RunTimeEndian>
+pub(crate) fn parse_endian(name: &str) -> Option<RunTimeEndian>
     ensures { result ≡ endian_of name.now }
 {
     match name {

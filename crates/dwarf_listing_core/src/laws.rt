@@ -1,6 +1,6 @@
 //! Laws over the definitions: each function has one as its contract, and does nothing.
 
-ghost use Rattle.std.specs.Prelude.{◌≡◌, ℕ, List, Result};
+ghost use Rattle.std.specs.Prelude.{◌≡◌, ℕ, List, Result, length};
 ghost use Rattle.dwarf_read_core.specs.Once.{HasOne};
 ghost use Rattle.dwarf_read_core.specs.declared.Error.{Error};
 ghost use Rattle.dwarf_listing_core.specs.Lines.{ListsString};
@@ -8,8 +8,9 @@ ghost use Rattle.dwarf_listing_core.specs.Many.{IsRun};
 ghost use Rattle.dwarf_listing_core.specs.Sets.{ListsAddresses, ListsStringOffsets};
 ghost use Rattle.dwarf_listing_core.specs.Tables.{ListsStrictTable, ListsTable};
 ghost use Rattle.dwarf_listing_core.specs.Text.{IsText, Lists};
+ghost use Rattle.dwarf_listing_core.specs.Walk.{Follows, HasEnd, ListsOne, Walk};
 
-use dwarf_read_core::{AddressSize, laws};
+use dwarf_read_core::{AddressSize, EndianSlice, RunTimeEndian, laws};
 
 /// Every section has exactly one listing of each kind, at each offset or in each byte order: a
 /// text, or its first error.
@@ -24,9 +25,9 @@ pub fn exactly_one_listing()
 {
     laws::exactly_one_answer();
     laws::exactly_one_strict_answer();
-    laws::exactly_one_list_of_sets::<AddressSize>();
+    laws::exactly_one_list_of_contributions::<EndianSlice<'static, RunTimeEndian>, AddressSize>();
     laws::exactly_one_list_of_addresses();
-    laws::exactly_one_list_of_sets::<()>();
+    laws::exactly_one_list_of_contributions::<EndianSlice<'static, RunTimeEndian>, ()>();
     laws::exactly_one_list_of_string_offsets();
 }
 
@@ -41,11 +42,33 @@ pub fn exactly_one_text()
     laws::exactly_one_shortest();
 }
 
-/// Offsets have exactly one outcome: the text of all, and whether one of them has an error; or, for a
-/// run that stops at an error, the first error and the text of the offsets before it.
+/// Each offset of a section has exactly one listing of each kind, and the next begins at exactly one
+/// offset. So there is exactly one walk over the section from each offset on.
+pub fn exactly_one_walk()
+    ensures listing { (kind : _) (section : List ℕ) (offset : ℕ)
+        → HasOne (ListsOne kind section offset) }
+    ensures next { (kind : _) (section : List ℕ) (offset : ℕ)
+        → HasOne (Follows (HasEnd kind section offset) (length section)) }
+    ensures walk { (kind : _) (section : List ℕ) (offset : ℕ)
+        → HasOne (Walk kind section offset) }
+{
+    exactly_one_listing();
+    laws::exactly_one_answer();
+    laws::exactly_one_end();
+    laws::exactly_one_lookup();
+    laws::exactly_one_initial_length();
+    laws::exactly_one_list_of_contributions::<EndianSlice<'static, RunTimeEndian>, AddressSize>();
+    laws::exactly_one_list_of_addresses();
+    laws::exactly_one_list_of_contributions::<EndianSlice<'static, RunTimeEndian>, ()>();
+    laws::exactly_one_list_of_string_offsets();
+}
+
+/// Offsets have exactly one outcome: what is written of all, and whether one of them has an error;
+/// or, for a run that stops at an error, the first error and what is written of the offsets before
+/// it.
 pub fn exactly_one_run()
     ensures { (on_error : _) (kind : _) (section offsets : List ℕ)
         → HasOne (IsRun on_error kind section offsets) }
 {
-    exactly_one_listing();
+    exactly_one_walk();
 }

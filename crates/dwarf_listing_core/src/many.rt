@@ -1,38 +1,39 @@
-//! A run over many offsets of one section: what is listed at each offset, after its title.
+//! A run over one section: what is listed at many offsets, or of the whole section, each after its
+//! title, and the errors there.
 
-ghost use Rattle.std.specs.Prelude.{◌≡◌, ◌≢◌, ◌⊎◌, ℕ, true, List, Ok, Err, IfErr, IfOk, IfSome, OnOk};
+ghost use Rattle.std.specs.Prelude.{◌≡◌, ◌≢◌, ◌⊎◌, ◌<◌, ◌≤◌, ℕ, true, List, Ok, Err, IfErr, IfOk, IfSome, OnOk, length};
 ghost use Rattle.std.specs.Io.KnownBytes.{Appends, IsAtEnd};
-ghost use Rattle.dwarf_listing_core.specs.Fault.{IsMemoryFault, WasRead};
 ghost use Rattle.dwarf_read_core.specs.declared.Error.TheVariants.{OutOfMemory};
-ghost use Rattle.dwarf_read_core.specs.Lookups.{UnlessOutOfMemory};
-ghost use Rattle.dwarf_listing_core.specs.Many.{IfKnown, ListsAt, ListsOne, WritesEach, error_line, title};
+ghost use Rattle.dwarf_listing_core.specs.Fault.{IsMemoryFault, WasRead};
+ghost use Rattle.dwarf_listing_core.specs.Many.{IfKnown, ListsAt, Texts, WritesEach, WritesWalk, WroteBoth, error_line, title};
 ghost use Rattle.dwarf_listing_core.specs.ManyFault.{IsListingFault};
 ghost use Rattle.dwarf_listing_core.specs.Offsets.{AreOffsets, IsBadLine, lines_of};
-ghost use Rattle.dwarf_listing_core.specs.Text.{text_bytes};
+ghost use Rattle.dwarf_listing_core.specs.Walk.{Follows, HasEnd, ListsOne};
 
 use crate::arguments::{Kind, OnError};
 use crate::fault::Fault;
 use crate::input::read_input;
-use crate::lines::string;
+use crate::laws;
 use crate::offsets::parse_offsets;
 use crate::output::{BUFFER_SIZE, Buffered};
-use crate::tables::abbreviations;
-use crate::text::Text;
 use dwarf_read_core::Error;
 use fault::ManyFault;
+use found::{found_at, is_padding};
 use std::alloc::Global;
 use std::io;
 use std::io::{Read, Write};
 
 pub mod fault;
+mod found;
 
-/// Writes what is listed at each offset of a section, after its title.
+/// Writes what is listed at each offset of a section, after its title, and the errors there to a
+/// second output.
 ///
 /// Both inputs are read to their ends, and all offsets are parsed, in decimal or hexadecimal.
 /// Then what each offset names is read whole, and its lines are written through a buffer. The
 /// output is flushed at the end, and before an error at an offset is returned, also if memory ran
-/// out there. With `GoOn` an error at an offset is a line of the output, and the run goes on. What
-/// is returned is whether there is such a line.
+/// out there. With `GoOn` an error at an offset is a line of the second output, and the run goes on.
+/// What is returned is whether there is such a line.
 ///
 /// # Errors
 ///
@@ -43,23 +44,25 @@ pub mod fault;
 ///   before it are written.
 /// - `Other` with `OutOfMemory` if memory runs out. The lines before the offset where that happens
 ///   are written, or nothing if it happens earlier.
-/// - `Other` with `Write` if the output can't be written. A part of the text may be written then.
-pub fn run_many<S: Read, I: Read, O: Write>(
+/// - `Other` with `Write` if an output can't be written. A part of the text may be written then.
+pub fn run_many<S: Read, I: Read, O: Write, E: Write>(
     mem: Global,
     on_error: OnError,
     kind: Kind,
     section: &mut S,
     offsets: &mut I,
     output: &mut O,
+    errors: &mut E,
 ) -> Result<bool, ManyFault>
-    // What was written, and nothing else, once the offsets are known.
+    // What was written to each output, and nothing else, once the offsets are known.
     ensures listed { IfErr result IsListingFault
         → IfKnown (S.remaining section.old) (I.remaining offsets.old) (λ bytes input.
         (numbers : List ℕ) × AreOffsets (lines_of input) numbers
         × WritesEach on_error kind bytes numbers
-        (Appends (O.contents output.old) (O.contents output.new)) result)
+        (WroteBoth (Appends (O.contents output.old) (O.contents output.new))
+        (Appends (E.contents errors.old) (E.contents errors.new))) result)
         ⊎ ((result ≡ Err (ManyFault.Other (Fault.Section OutOfMemory)))
-        × (output.new ≡ output.old)) }
+        × (output.new ≡ output.old) × (errors.new ≡ errors.old)) }
     ensures stops { on_error ≡ OnError.Stop → result ≢ Ok true }
     ensures end { OnOk result
         (IsAtEnd (S.remaining section.new) × IsAtEnd (I.remaining offsets.new)) }
@@ -69,9 +72,11 @@ pub fn run_many<S: Read, I: Read, O: Write>(
         → on_error ≡ OnError.Stop }
     ensures line { (number : ℕ) (quote : _) → result ≡ Err (ManyFault.Line number quote)
         → IfSome (I.remaining offsets.old) (λ input. IsBadLine (lines_of input) number quote)
-        × (output.new ≡ output.old) }
-    ensures read_section { result ≡ Err ManyFault.ReadSection → output.new ≡ output.old }
-    ensures read_offsets { result ≡ Err ManyFault.ReadOffsets → output.new ≡ output.old }
+        × (output.new ≡ output.old) × (errors.new ≡ errors.old) }
+    ensures read_section { result ≡ Err ManyFault.ReadSection
+        → (output.new ≡ output.old) × (errors.new ≡ errors.old) }
+    ensures read_offsets { result ≡ Err ManyFault.ReadOffsets
+        → (output.new ≡ output.old) × (errors.new ≡ errors.old) }
     // The section is read first, and the offsets once it is at its end.
     ensures section_first { result ≡ Err ManyFault.ReadSection → offsets.new ≡ offsets.old }
     ensures offsets_second { result ≡ Err ManyFault.ReadOffsets
@@ -95,35 +100,84 @@ pub fn run_many<S: Read, I: Read, O: Write>(
         Err(error) => return Err(ManyFault::of_reading(error, ManyFault::ReadOffsets)),
     };
     let offsets = parse_offsets(mem, &input)?;
-    write_all_at(mem, on_error, kind, &section, &offsets, output)
+    write_all_at(mem, on_error, kind, &section, &offsets, output, errors)
+}
+
+/// Writes what is listed of a whole section, in turn, and the errors there to a second output.
+///
+/// The section is walked from its start. What begins at an offset is read whole, and written as
+/// [`run_many`] writes it. The next begins where it ends, which the length of a set says even if the
+/// set is malformed. Before each table and each set the walk passes over as many fours of zero bytes
+/// as there are. After an error that leaves the end unknown nothing more is listed.
+///
+/// # Errors
+///
+/// - `ReadSection` if the section can't be read. Nothing is written then.
+/// - `At` and `Other` as [`run_many`] returns them.
+pub fn run_whole<S: Read, O: Write, E: Write>(
+    mem: Global,
+    on_error: OnError,
+    kind: Kind,
+    section: &mut S,
+    output: &mut O,
+    errors: &mut E,
+) -> Result<bool, ManyFault>
+    // What was written to each output, and nothing else, once the section is known.
+    ensures listed { IfErr result IsListingFault → IfSome (S.remaining section.old) (λ bytes.
+        WritesWalk on_error kind bytes
+        (WroteBoth (Appends (O.contents output.old) (O.contents output.new))
+        (Appends (E.contents errors.old) (E.contents errors.new))) result)
+        ⊎ ((result ≡ Err (ManyFault.Other (Fault.Section OutOfMemory)))
+        × (output.new ≡ output.old) × (errors.new ≡ errors.old)) }
+    ensures stops { on_error ≡ OnError.Stop → result ≢ Ok true }
+    ensures end { OnOk result (IsAtEnd (S.remaining section.new)) }
+
+    // When each error is returned.
+    ensures kinds { IfErr result
+        (λ fault. (fault ≡ ManyFault.ReadSection) ⊎ IsListingFault fault) }
+    ensures first { (offset : ℕ) (error : _) → result ≡ Err (ManyFault.At offset error)
+        → on_error ≡ OnError.Stop }
+    ensures read_section { result ≡ Err ManyFault.ReadSection
+        → (output.new ≡ output.old) × (errors.new ≡ errors.old) }
+    // A section of which nothing can be read isn't `OutOfMemory`.
+    ensures memory { result ≡ Err (ManyFault.Other (Fault.Section OutOfMemory))
+        → WasRead (S.remaining section.old) (S.remaining section.new) }
+{
+    let section = match read_input(mem, section) {
+        Ok(section) => section,
+        Err(error) => return Err(ManyFault::of_reading(error, ManyFault::ReadSection)),
+    };
+    write_whole(mem, on_error, kind, &section, output, errors)
 }
 
 /// Writes what is listed at these offsets of a section, each after its title, through a buffer,
-/// and flushes the output. With `GoOn` an error at an offset is a line of the output. Returns
+/// and flushes the output. With `GoOn` an error at an offset is a line of the second output. Returns
 /// whether there is such a line.
 ///
 /// # Errors
 ///
-/// The first other error. Unless it is one of the output, the lines before it are written.
+/// The first other error. Unless it is one of an output, the lines before it are written.
 #[tactic(auto, using(crate::proofs::Written::stop_without_error))]
-pub fn write_all_at<O: Write>(
+pub fn write_all_at<O: Write, E: Write>(
     mem: Global,
     on_error: OnError,
     kind: Kind,
     section: &[u8],
     offsets: &[u64],
     output: &mut O,
+    errors: &mut E,
 ) -> Result<bool, ManyFault>
     // The buffer needs memory before anything is written.
     ensures listed { WritesEach on_error kind section.now offsets.now
-        (Appends (O.contents output.old) (O.contents output.new)) result
+        (WroteBoth (Appends (O.contents output.old) (O.contents output.new))
+        (Appends (E.contents errors.old) (E.contents errors.new))) result
         ⊎ ((result ≡ Err (ManyFault.Other (Fault.Section OutOfMemory)))
-        × (output.new ≡ output.old)) }
+        × (output.new ≡ output.old) × (errors.new ≡ errors.old)) }
     ensures stops { on_error ≡ OnError.Stop → result ≢ Ok true }
 {
     let buffer = Vec::with_capacity(mem, BUFFER_SIZE)?;
     let mut buffered = Buffered::new(output, buffer);
-    let listed = write_each_at(mem, on_error, kind, section, offsets, &mut buffered);
+    let listed = write_each_at(mem, on_error, kind, section, offsets, &mut buffered, errors);
     let write_failed = listed == Err(ManyFault::Other(Fault::Write));
     // The text before any other error is written too.
     if write_failed || buffered.flush().is_err() {
@@ -135,69 +189,134 @@ pub fn write_all_at<O: Write>(
     listed
 }
 
-fn write_each_at<O: Write>(
+/// Writes what is listed of a whole section, in turn, as [`write_all_at`] writes it.
+///
+/// # Errors
+///
+/// As [`write_all_at`] returns them.
+#[tactic(auto, using(crate::proofs::Written::stop_without_error))]
+pub fn write_whole<O: Write, E: Write>(
+    mem: Global,
+    on_error: OnError,
+    kind: Kind,
+    section: &[u8],
+    output: &mut O,
+    errors: &mut E,
+) -> Result<bool, ManyFault>
+    // The buffer needs memory before anything is written.
+    ensures listed { WritesWalk on_error kind section.now
+        (WroteBoth (Appends (O.contents output.old) (O.contents output.new))
+        (Appends (E.contents errors.old) (E.contents errors.new))) result
+        ⊎ ((result ≡ Err (ManyFault.Other (Fault.Section OutOfMemory)))
+        × (output.new ≡ output.old) × (errors.new ≡ errors.old)) }
+    ensures stops { on_error ≡ OnError.Stop → result ≢ Ok true }
+{
+    let buffer = Vec::with_capacity(mem, BUFFER_SIZE)?;
+    let mut buffered = Buffered::new(output, buffer);
+    let listed = write_walk(mem, on_error, kind, section, &mut buffered, errors);
+    let write_failed = listed == Err(ManyFault::Other(Fault::Write));
+    // The text before any other error is written too.
+    if write_failed || buffered.flush().is_err() {
+        return Err(ManyFault::Other(Fault::Write));
+    }
+    // This does nothing when it runs. The proof reads from it what the output holds.
+    let output = buffered.into_inner();
+    let _ = &*output;
+    listed
+}
+
+fn write_each_at<O: Write, E: Write>(
     mem: Global,
     on_error: OnError,
     kind: Kind,
     section: &[u8],
     offsets: &[u64],
     output: &mut O,
+    errors: &mut E,
 ) -> Result<bool, ManyFault>
     ensures { WritesEach on_error kind section.now offsets.now
-        (Appends (O.contents output.old) (O.contents output.new)) result }
+        (WroteBoth (Appends (O.contents output.old) (O.contents output.new))
+        (Appends (E.contents errors.old) (E.contents errors.new))) result }
 {
     let mut failed = false;
     for offset in offsets {
-        failed |= write_at(mem, on_error, kind, section, *offset, output)?;
+        let (fails, _) = write_at(mem, on_error, kind, section, *offset, output, errors)?;
+        failed |= fails;
     }
     Ok(failed)
 }
 
-// Writes the text of an offset, and returns whether that is the line of an error.
-fn write_at<O: Write>(
+fn write_walk<O: Write, E: Write>(
+    mem: Global,
+    on_error: OnError,
+    kind: Kind,
+    section: &[u8],
+    output: &mut O,
+    errors: &mut E,
+) -> Result<bool, ManyFault>
+    ensures { WritesWalk on_error kind section.now
+        (WroteBoth (Appends (O.contents output.old) (O.contents output.new))
+        (Appends (E.contents errors.old) (E.contents errors.new))) result }
+{
+    laws::exactly_one_walk();
+    let mut failed = false;
+    let mut offset = 0;
+    while offset < section.len() {
+        if is_padding(kind, section, offset) {
+            offset += 4;
+            continue;
+        }
+        let (fails, next) = write_at(mem, on_error, kind, section, offset as u64, output, errors)?;
+        failed |= fails;
+        offset = next as usize;
+    }
+    Ok(failed)
+}
+
+// Writes what is listed at an offset. Returns whether that is the line of an error, and where the
+// next begins.
+fn write_at<O: Write, E: Write>(
     mem: Global,
     on_error: OnError,
     kind: Kind,
     section: &[u8],
     offset: u64,
     output: &mut O,
-) -> Result<bool, ManyFault>
-    ensures ok { IfOk result (λ fails. (text : List ℕ)
-        × ListsAt on_error kind section.now offset text fails
-        × Appends (O.contents output.old) (O.contents output.new) text) }
+    errors: &mut E,
+) -> Result<(bool, u64), ManyFault>
+    ensures ok { IfOk result (λ found. (texts : Texts)
+        × ListsAt on_error kind section.now offset texts found.0
+        × WroteBoth (Appends (O.contents output.old) (O.contents output.new))
+        (Appends (E.contents errors.old) (E.contents errors.new)) texts) }
+    ensures next { IfOk result
+        (λ found. Follows (HasEnd kind section.now offset) (length section.now) found.1) }
+    ensures later { IfOk result (λ found. offset < length section.now → offset < found.1) }
+    ensures within { IfOk result (λ found. found.1 ≤ length section.now) }
     ensures at { (place : ℕ) (error : _) → result ≡ Err (ManyFault.At place error)
         → (on_error ≡ OnError.Stop) × (place ≡ offset) × (output.new ≡ output.old)
-        × ListsOne kind section.now offset (Err error) }
+        × (errors.new ≡ errors.old) × ListsOne kind section.now offset (Err error) }
     ensures stopped { (fault : _) → result ≡ Err (ManyFault.Other fault) → fault ≢ Fault.Write
-        → output.new ≡ output.old }
+        → (output.new ≡ output.old) × (errors.new ≡ errors.old) }
     ensures err { IfErr result IsListingFault }
 {
-    let text = match text_at(mem, kind, section, offset) {
+    let (found, next) = found_at(mem, kind, section, offset);
+    let text = match found {
         Ok(text) => text,
         Err(Error::OutOfMemory) => return Err(ManyFault::Other(Fault::out_of_memory())),
         Err(error) => {
             if on_error == OnError::Stop {
                 return Err(ManyFault::At(offset, error));
             }
-            if write_error(output, offset, error).is_err() {
+            if write_error(errors, offset, error).is_err() {
                 return Err(ManyFault::Other(Fault::Write));
             }
-            return Ok(true);
+            return Ok((true, next));
         }
     };
     if write_title(output, kind, offset).is_err() || text.write_to(output).is_err() {
         return Err(ManyFault::Other(Fault::Write));
     }
-    Ok(false)
-}
-
-fn text_at(mem: Global, kind: Kind, section: &[u8], offset: u64) -> Result<Text, Error>
-    ensures { UnlessOutOfMemory (ListsOne kind section.now offset) text_bytes result }
-{
-    match kind {
-        Kind::Tables => abbreviations(mem, section, offset),
-        Kind::Strings => string(mem, section, offset).map(Text::Bytes),
-    }
+    Ok((false, next))
 }
 
 fn write_title<O: Write>(output: &mut O, kind: Kind, offset: u64) -> io::Result<()>
@@ -206,13 +325,14 @@ fn write_title<O: Write>(output: &mut O, kind: Kind, offset: u64) -> io::Result<
 {
     match kind {
         Kind::Tables => writeln!(output, "table 0x{offset:x}:"),
-        Kind::Strings => write!(output, "0x{offset:x}: "),
+        Kind::Strings | Kind::RawStrings => write!(output, "0x{offset:x}: "),
+        Kind::Addresses(_) | Kind::StringOffsets(_) => write!(output, "set 0x{offset:x}: "),
     }
 }
 
-fn write_error<O: Write>(output: &mut O, offset: u64, error: Error) -> io::Result<()>
+fn write_error<E: Write>(errors: &mut E, offset: u64, error: Error) -> io::Result<()>
     ensures { OnOk result
-        (Appends (O.contents output.old) (O.contents output.new) (error_line offset error)) }
+        (Appends (E.contents errors.old) (E.contents errors.new) (error_line offset error)) }
 {
-    writeln!(output, "error at 0x{offset:x}, status 1: {error}")
+    writeln!(errors, "{}", ManyFault::At(offset, error))
 }

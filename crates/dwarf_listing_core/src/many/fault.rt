@@ -99,7 +99,8 @@ impl fmt::Display for ManyFault {
             ManyFault::Other(Fault::Usage) => {
                 write!(
                     f,
-                    "usage: dwarf_list_many [--keep-going] abbrev|str SECTION [OFFSETS]"
+                    "usage: dwarf_list_many [--keep-going] [--raw] [--all] KIND SECTION [OFFSETS], \
+                     where KIND is abbrev, str, addr le|be or str-offsets le|be"
                 )
             }
             ManyFault::Other(fault) => write!(f, "{fault}"),

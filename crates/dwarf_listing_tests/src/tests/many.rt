@@ -4,13 +4,14 @@
 use super::arguments::Given;
 use super::ends::Failing;
 use super::{STRINGS, end_requests};
-use dwarf_listing_core::arguments::Kind::{Strings, Tables};
+use dwarf_listing_core::arguments::Kind::{Addresses, RawStrings, StringOffsets, Strings, Tables};
 use dwarf_listing_core::arguments::OnError::{GoOn, Stop};
 use dwarf_listing_core::arguments::{Kind, OnError, parse_arguments};
 use dwarf_listing_core::fault::Fault;
 use dwarf_listing_core::many::fault::ManyFault;
-use dwarf_listing_core::many::run_many;
+use dwarf_listing_core::many::{run_many, run_whole};
 use dwarf_listing_core::words::command_line;
+use dwarf_read_core::RunTimeEndian::{Big, Little};
 use dwarf_read_core::{Error, ReaderOffsetId};
 use std::alloc::Global;
 use std::io::{ErrorKind, Write};
@@ -19,38 +20,119 @@ use std::test::Fail;
 
 type Bytes = &'static [u8];
 
-// A section, its offsets, what is written, and how the run ends.
-type Run = (OnError, Kind, Bytes, Bytes, Bytes, Result<bool, ManyFault>);
+// A section and its offsets, if there are any, what is written to each output, and how the run ends.
+type Run = (
+    OnError,
+    Kind,
+    Bytes,
+    Option<Bytes>,
+    Bytes,
+    Bytes,
+    Result<bool, ManyFault>,
+);
 
 #[rattlefmt::skip]
-const THREE_STRINGS: Run = (Stop, Strings, STRINGS, b"4\n0x0\n0008", b"0x4: two\n0x0: one\n0x8: \n", Ok(false));
+const THREE_STRINGS: Run = (
+    Stop, Strings, STRINGS, Some(b"4\n0x0\n0008"), b"0x4: two\n0x0: one\n0x8: \n", b"", Ok(false),
+);
 
 #[rattlefmt::skip]
 const TABLES: Run = (
-    Stop, Tables, b"\x01\x11\0\0\0", b"0\n5\n6\n", b"table 0x0:\n1 DW_TAG_compile_unit no\ntable 0x5:\n",
+    Stop, Tables, b"\x01\x11\0\0\0", Some(b"0\n5\n6\n"), b"table 0x0:\n1 DW_TAG_compile_unit no\ntable 0x5:\n", b"",
     Err(ManyFault::At(6, Error::UnexpectedEof(ReaderOffsetId(0)))),
 );
 
 // The table in the middle is malformed.
 #[rattlefmt::skip]
 const GOES_ON: Run = (
-    GoOn, Tables, b"\x01\x11\0\0\0\0\x01\0", b"0\n6\n5\n",
-    b"table 0x0:\n1 DW_TAG_compile_unit no\n\
-        error at 0x6, status 1: invalid abbreviation tag: zero\ntable 0x5:\n",
+    GoOn, Tables, b"\x01\x11\0\0\0\0\x01\0", Some(b"0\n6\n5\n"),
+    b"table 0x0:\n1 DW_TAG_compile_unit no\ntable 0x5:\n", b"error at 0x6: invalid abbreviation tag: zero\n",
     Ok(true),
 );
 
-const NO_OFFSETS: Run = (Stop, Strings, STRINGS, b"", b"", Ok(false));
+const NO_OFFSETS: Run = (Stop, Strings, STRINGS, Some(b""), b"", b"", Ok(false));
 
 // Each of the tables needs memory.
 #[rattlefmt::skip]
 const TWO_TABLES: Run = (
-    Stop, Tables, b"\x01\x11\0\0\0\0\x01\x11\0\0\0\0", b"0\n6\n",
-    b"table 0x0:\n1 DW_TAG_compile_unit no\ntable 0x6:\n1 DW_TAG_compile_unit no\n",
+    Stop, Tables, b"\x01\x11\0\0\0\0\x01\x11\0\0\0\0", Some(b"0\n6\n"),
+    b"table 0x0:\n1 DW_TAG_compile_unit no\ntable 0x6:\n1 DW_TAG_compile_unit no\n", b"",
     Ok(false),
 );
 
-const RUNS: [Run; 5] = [THREE_STRINGS, TABLES, GOES_ON, NO_OFFSETS, TWO_TABLES];
+// Four bytes of padding are between the tables, and three zero bytes, each of which is a table, after them.
+#[rattlefmt::skip]
+const ALL_TABLES: Run = (
+    Stop, Tables, b"\x01\x11\0\0\0\0\0\0\0\0\x01\x2e\0\0\0\0\0\0\0", None,
+    b"table 0x0:\n1 DW_TAG_compile_unit no\ntable 0xa:\n1 DW_TAG_subprogram no\n\
+        table 0x10:\ntable 0x11:\ntable 0x12:\n", b"",
+    Ok(false),
+);
+
+// Where a malformed table ends isn't known.
+#[rattlefmt::skip]
+const BAD_TABLE: Run = (
+    GoOn, Tables, b"\0\x01\0\0\x01\x11\0\0\0\0", None,
+    b"table 0x0:\n", b"error at 0x1: invalid abbreviation tag: zero\n", Ok(true),
+);
+
+// No zero byte is padding, and the last string has none after it.
+#[rattlefmt::skip]
+const ALL_STRINGS: Run = (
+    GoOn, Strings, b"a\0\0\0\0\0\\\x1b[\n\xc3\xa9\"~\0end", None,
+    b"0x0: a\n0x2: \n0x3: \n0x4: \n0x5: \n0x6: \\\\\\x1b[\\n\\xc3\\xa9\"~\n",
+    b"error at 0xf: unexpected end of input\n", Ok(true),
+);
+
+#[rattlefmt::skip]
+const RAW_STRINGS: Run = (
+    Stop, RawStrings, b"\\\x1b[\n\xc3\xa9\0\0", None, b"0x0: \\\x1b[\n\xc3\xa9\n0x7: \n", b"", Ok(false),
+);
+
+// The second set has an unknown version, and the third one an address that is cut. Padding is before the last.
+#[rattlefmt::skip]
+const ALL_SETS: Run = (
+    GoOn, Addresses(Little),
+    b"\x08\0\0\0\x05\0\x04\0\x78\x56\x34\x12\x04\0\0\0\x04\0\x04\0\x05\0\0\0\x05\0\x04\0\x01\
+        \0\0\0\0\0\0\0\0\x06\0\0\0\x05\0\x02\0\xef\xbe", None,
+    b"set 0x0: length 8, 32-bit, address size 4\n  0x12345678\n\
+        set 0x25: length 6, 32-bit, address size 2\n  0xbeef\n",
+    b"error at 0xc: unknown DWARF version: 4\nerror at 0x14: unexpected end of input\n", Ok(true),
+);
+
+// At the offsets the sets are given, the last of them past the end.
+#[rattlefmt::skip]
+const SETS: Run = (
+    GoOn, StringOffsets(Big),
+    b"\0\0\0\x08\0\x05\0\0\0\0\0\x2a\xff\xff\xff\xff\0\0\0\0\0\0\0\x0c\0\x05\0\0\x01\0\0\0\0\0\0\0",
+    Some(b"12\n0\n36\n37\n4\n"),
+    b"set 0xc: length 12, 64-bit\n  0x100000000000000\nset 0x0: length 8, 32-bit\n  0x2a\n",
+    b"error at 0x24: unexpected end of input\nerror at 0x25: unexpected end of input\n\
+        error at 0x4: unexpected end of input\n",
+    Ok(true),
+);
+
+// The length of the set is past the end, and so nothing follows.
+#[rattlefmt::skip]
+const LONG_SET: Run = (
+    Stop, StringOffsets(Little), b"\x04\0\0\0\x05\0\0\0\x05\0\0\0\x05\0\0\0", None,
+    b"set 0x0: length 4, 32-bit\n", b"", Err(ManyFault::At(8, Error::UnexpectedEof(ReaderOffsetId(12)))),
+);
+
+const RUNS: [Run; 12] = [
+    THREE_STRINGS,
+    TABLES,
+    GOES_ON,
+    NO_OFFSETS,
+    TWO_TABLES,
+    ALL_TABLES,
+    BAD_TABLE,
+    ALL_STRINGS,
+    RAW_STRINGS,
+    ALL_SETS,
+    SETS,
+    LONG_SET,
+];
 
 // Offsets, and the number and the quote of the first line that isn't one.
 #[rattlefmt::skip]
@@ -71,9 +153,39 @@ static BAD_LINES: &[(&[u8], u64, &str)] = &[
     (b"a234567890b234567890c234567890d234567890e", 1, r#""a234567890b234567890c234567890d234567890"..."#),
 ];
 
-fn write_run<O: Write>(mem: Global, run: &Run, output: &mut O) -> Result<bool, ManyFault> {
-    let (on_error, kind, mut section, mut offsets, _, _) = *run;
-    run_many(mem, on_error, kind, &mut section, &mut offsets, output)
+fn write_run<O: Write, E: Write>(
+    mem: Global,
+    run: &Run,
+    output: &mut O,
+    errors: &mut E,
+) -> Result<bool, ManyFault> {
+    let (on_error, kind, mut section, offsets, _, _, _) = *run;
+    let Some(mut offsets) = offsets else {
+        return run_whole(mem, on_error, kind, &mut section, output, errors);
+    };
+    run_many(
+        mem,
+        on_error,
+        kind,
+        &mut section,
+        &mut offsets,
+        output,
+        errors,
+    )
+}
+
+// A run that nothing disturbs.
+#[test]
+fn writes_text_and_errors(rt: HostRuntime) -> Result<(), Fail> {
+    let mem = rt.alloc();
+    for run in RUNS {
+        let (mut output, mut errors) = (Vec::new(mem), Vec::new(mem));
+        let outcome = write_run(mem, &run, &mut output, &mut errors);
+        let (_, kind, section, _, text, told, wanted) = run;
+        let written = (output.as_slice(), errors.as_slice(), outcome);
+        assert_eq!(rt; written, (text, told, wanted), "{kind:?} {section:?}");
+    }
+    Ok(())
 }
 
 #[test]
@@ -86,17 +198,19 @@ fn a_bad_line_ends_the_run(rt: HostRuntime) -> Result<(), Fail> {
                 on_error,
                 Strings,
                 *offsets,
-                *offsets,
+                Some(*offsets),
+                b"".as_slice(),
                 b"".as_slice(),
                 Ok(false),
             );
-            let mut output = Vec::new(mem);
-            let Err(fault) = write_run(mem, &run, &mut output) else {
+            let (mut output, mut errors) = (Vec::new(mem), Vec::new(mem));
+            let Err(fault) = write_run(mem, &run, &mut output, &mut errors) else {
                 assert!(rt; false, "{offsets:?}");
                 continue;
             };
             assert_eq!(rt; fault.to_string(mem)?.as_str(), wanted.as_str());
-            assert_eq!(rt; (fault.status(), output.len()), (1, 0), "{offsets:?}");
+            let ended = (fault.status(), output.len(), errors.len());
+            assert_eq!(rt; ended, (1, 0, 0), "{offsets:?}");
         }
     }
     Ok(())
@@ -105,24 +219,37 @@ fn a_bad_line_ends_the_run(rt: HostRuntime) -> Result<(), Fail> {
 // Arguments, and what they name.
 type Named = (
     &'static [Bytes],
-    Option<(OnError, Kind, &'static str, &'static str)>,
+    Option<(OnError, Kind, &'static str, Option<&'static str>)>,
 );
 
 #[rattlefmt::skip]
 static NAMED: &[Named] = &[
-    (&[b"abbrev", b"x"], Some((Stop, Tables, "x", "-"))),
-    (&[b"str", b"x", b"-"], Some((Stop, Strings, "x", "-"))),
-    (&[b"str", b"-", b"x"], Some((Stop, Strings, "-", "x"))),
-    (&[b"str", b"x", b"x"], Some((Stop, Strings, "x", "x"))),
-    (&[b"--keep-going", b"str", b"x"], Some((GoOn, Strings, "x", "-"))),
+    (&[b"abbrev", b"x"], Some((Stop, Tables, "x", Some("-")))),
+    (&[b"str", b"x", b"-"], Some((Stop, Strings, "x", Some("-")))),
+    (&[b"str", b"-", b"x"], Some((Stop, Strings, "-", Some("x")))),
+    (&[b"str", b"x", b"x"], Some((Stop, Strings, "x", Some("x")))),
+    (&[b"--keep-going", b"str", b"x"], Some((GoOn, Strings, "x", Some("-")))),
+    (&[b"--raw", b"str", b"x"], Some((Stop, RawStrings, "x", Some("-")))),
+    (&[b"addr", b"le", b"x"], Some((Stop, Addresses(Little), "x", Some("-")))),
+    (&[b"str-offsets", b"be", b"x", b"y"], Some((Stop, StringOffsets(Big), "x", Some("y")))),
+    (&[b"--all", b"abbrev", b"-"], Some((Stop, Tables, "-", None))),
+    (&[b"--all", b"--raw", b"--keep-going", b"--all", b"str", b"x"], Some((GoOn, RawStrings, "x", None))),
+    (&[b"--all", b"addr", b"be", b"x"], Some((Stop, Addresses(Big), "x", None))),
     (&[], None),
     (&[b"--keep-going"], None),
     (&[b"abbrev"], None),
     (&[b"addr", b"x"], None),
+    (&[b"addr", b"x", b"x"], None),
+    (&[b"addr"], None),
     (&[b"abbrev", b"-"], None),
     (&[b"abbrev", b"-", b"-"], None),
     (&[b"abbrev", b"x", b"-", b"0"], None),
     (&[b"abbrev", b"x", b"--keep-going", b"0"], None),
+    (&[b"--raw", b"abbrev", b"x"], None),
+    (&[b"--raw", b"addr", b"le", b"x"], None),
+    (&[b"--all", b"str", b"x", b"y"], None),
+    (&[b"str", b"--all", b"x", b"y"], None),
+    (&[b"--many", b"str", b"x"], None),
 ];
 
 #[test]
@@ -146,14 +273,27 @@ fn check_ends(
     mem: Global,
     run: &Run,
     (section_calls, calls): (usize, usize),
-    wanted: (&[u8], Result<bool, ManyFault>),
+    wanted: (&[u8], &[u8], Result<bool, ManyFault>),
 ) -> Result<(), Fail> {
-    let (on_error, kind, section, offsets, _, _) = *run;
+    let (on_error, kind, section, offsets, _, _, _) = *run;
     let mut section = Failing::new(section, section_calls, ErrorKind::OutOfMemory);
-    let mut offsets = Failing::new(offsets, calls, ErrorKind::OutOfMemory);
-    let mut output = Vec::new(mem);
-    let outcome = run_many(mem, on_error, kind, &mut section, &mut offsets, &mut output);
-    assert_eq!(rt; (output.as_slice(), outcome), wanted);
+    let (mut output, mut errors) = (Vec::new(mem), Vec::new(mem));
+    let outcome = match offsets {
+        Some(offsets) => {
+            let mut offsets = Failing::new(offsets, calls, ErrorKind::OutOfMemory);
+            run_many(
+                mem,
+                on_error,
+                kind,
+                &mut section,
+                &mut offsets,
+                &mut output,
+                &mut errors,
+            )
+        }
+        None => run_whole(mem, on_error, kind, &mut section, &mut output, &mut errors),
+    };
+    assert_eq!(rt; (output.as_slice(), errors.as_slice(), outcome), wanted);
     Ok(())
 }
 
@@ -161,21 +301,29 @@ fn check_ends(
 #[test]
 fn inputs_fail_at_each_call(rt: HostRuntime) -> Result<(), Fail> {
     let mem = rt.alloc();
+    let none = b"".as_slice();
     for run in RUNS {
-        let (_, _, section, offsets, text, outcome) = run;
-        let (section_calls, calls) = (section.len() + 1, offsets.len() + 1);
+        let (_, _, section, offsets, text, told, outcome) = run;
+        let section_calls = section.len().saturating_add(1);
+        let calls = offsets.map_or(0, |it| it.len().saturating_add(1));
         for good_calls in 0..section_calls {
-            let end = (b"".as_slice(), Err(ManyFault::ReadSection));
+            let end = (none, none, Err(ManyFault::ReadSection));
             check_ends(&rt, mem, &run, (good_calls, calls), end)?;
         }
         for good_calls in 0..calls {
-            let end = (b"".as_slice(), Err(ManyFault::ReadOffsets));
+            let end = (none, none, Err(ManyFault::ReadOffsets));
             check_ends(&rt, mem, &run, (section_calls, good_calls), end)?;
         }
         // The section is read first.
-        let end = (b"".as_slice(), Err(ManyFault::ReadSection));
+        let end = (none, none, Err(ManyFault::ReadSection));
         check_ends(&rt, mem, &run, (0, 0), end)?;
-        check_ends(&rt, mem, &run, (section_calls, calls), (text, outcome))?;
+        check_ends(
+            &rt,
+            mem,
+            &run,
+            (section_calls, calls),
+            (text, told, outcome),
+        )?;
     }
     Ok(())
 }
@@ -186,20 +334,50 @@ fn inputs_fail_at_each_call(rt: HostRuntime) -> Result<(), Fail> {
 fn outputs_fail_at_each_call(rt: HostRuntime) -> Result<(), Fail> {
     let mem = rt.alloc();
     for run in RUNS {
-        let (_, _, _, _, text, outcome) = run;
-        for good_calls in 0..text.len() + 2 {
+        let (_, _, _, _, text, told, outcome) = run;
+        for good_calls in 0..text.len().saturating_add(2) {
             let mut output = Failing::new(Vec::new(mem), good_calls, ErrorKind::OutOfMemory);
-            let ended = write_run(mem, &run, &mut output);
+            let mut errors = Vec::new(mem);
+            let ended = write_run(mem, &run, &mut output, &mut errors);
             let wanted = if good_calls > text.len() {
                 outcome
             } else {
                 Err(ManyFault::Other(Fault::Write))
             };
             assert_eq!(rt; ended, wanted, "{good_calls}");
+            // The text is in a buffer while errors are written.
+            assert_eq!(rt; errors.as_slice(), told, "{good_calls}");
             let written = &text[..good_calls.min(text.len())];
             assert_eq!(rt; output.inner.as_slice(), written, "{good_calls}");
-            let calls = (text.len() + 1).min(good_calls.saturating_add(1));
+            let calls = text.len().min(good_calls).saturating_add(1);
             assert_eq!(rt; output.calls, calls, "{good_calls}");
+        }
+    }
+    Ok(())
+}
+
+// So may each call of the second output, which isn't flushed. After one that fails nothing is written.
+#[test]
+fn errors_fail_at_each_call(rt: HostRuntime) -> Result<(), Fail> {
+    let mem = rt.alloc();
+    for run in RUNS {
+        let (_, _, _, _, text, told, outcome) = run;
+        for good_calls in 0..told.len().saturating_add(1) {
+            let mut output = Vec::new(mem);
+            let mut errors = Failing::new(Vec::new(mem), good_calls, ErrorKind::OutOfMemory);
+            let ended = write_run(mem, &run, &mut output, &mut errors);
+            let (wanted, written) = if good_calls == told.len() {
+                (outcome, text)
+            } else {
+                (Err(ManyFault::Other(Fault::Write)), b"".as_slice())
+            };
+            assert_eq!(rt;
+                (ended, output.as_slice()),
+                (wanted, written),
+                "{good_calls}"
+            );
+            let told = &told[..good_calls.min(told.len())];
+            assert_eq!(rt; errors.inner.as_slice(), told, "{good_calls}");
         }
     }
     Ok(())
@@ -216,7 +394,16 @@ fn no_write_follows_one_that_fails(rt: HostRuntime) -> Result<(), Fail> {
     section.push(0)?;
     let mut output = Failing::new(Vec::new(mem), 0, ErrorKind::OutOfMemory);
     let (mut section, mut offsets) = (section.as_slice(), b"0\n0\n0\n".as_slice());
-    let outcome = run_many(mem, Stop, Strings, &mut section, &mut offsets, &mut output);
+    let mut errors = Vec::new(mem);
+    let outcome = run_many(
+        mem,
+        Stop,
+        Strings,
+        &mut section,
+        &mut offsets,
+        &mut output,
+        &mut errors,
+    );
     let wanted = (Err(ManyFault::Other(Fault::Write)), 1);
     assert_eq!(rt; (outcome, output.calls), wanted);
     Ok(())
@@ -225,17 +412,21 @@ fn no_write_follows_one_that_fails(rt: HostRuntime) -> Result<(), Fail> {
 // A run writes the whole text, or it returns that memory ran out and has written the text of the offsets before. How
 // many bytes these are is printed, for `tools/fail-alloc`.
 fn check_refused<R: Abort + Print>(rt: &R, mem: Global, run: &Run) -> Result<(), Fail> {
-    let Ok(mut output) = Vec::with_capacity(mem, 128) else {
+    let Ok(mut output) = Vec::with_capacity(mem, 256) else {
         return Ok(());
     };
-    let (_, _, _, offsets, text, wanted) = *run;
-    let outcome = write_run(mem, run, &mut output);
+    let Ok(mut errors) = Vec::with_capacity(mem, 256) else {
+        return Ok(());
+    };
+    let (_, _, _, offsets, text, told, wanted) = *run;
+    let outcome = write_run(mem, run, &mut output, &mut errors);
     if outcome == Err(ManyFault::Other(Fault::out_of_memory())) {
         assert!(rt; text.starts_with(output.as_slice()), "{offsets:?}");
+        assert!(rt; told.starts_with(errors.as_slice()), "{offsets:?}");
         println!(rt; "reached: {} of {} bytes", output.len(), text.len())?;
     } else {
-        assert_eq!(rt; outcome, wanted, "{offsets:?}");
-        assert_eq!(rt; output.as_slice(), text, "{offsets:?}");
+        let written = (output.as_slice(), errors.as_slice(), outcome);
+        assert_eq!(rt; written, (text, told, wanted), "{offsets:?}");
     }
     Ok(())
 }
@@ -254,6 +445,9 @@ fn refused_memory_for_many_offsets(rt: HostRuntime) -> Result<(), Fail> {
     Ok(())
 }
 
+const USAGE: &str = "usage: dwarf_list_many [--keep-going] [--raw] [--all] KIND SECTION [OFFSETS], \
+    where KIND is abbrev, str, addr le|be or str-offsets le|be";
+
 // Errors, each with its line and its status.
 #[rattlefmt::skip]
 static SAID: &[(ManyFault, &str, u8)] = &[
@@ -261,7 +455,7 @@ static SAID: &[(ManyFault, &str, u8)] = &[
     (ManyFault::ReadSection, "error: cannot read the section", 3),
     (ManyFault::ReadOffsets, "error: cannot read the offsets", 3),
     (ManyFault::Other(Fault::Section(Error::OutOfMemory)), "error: out of memory", 1),
-    (ManyFault::Other(Fault::Usage), "usage: dwarf_list_many [--keep-going] abbrev|str SECTION [OFFSETS]", 2),
+    (ManyFault::Other(Fault::Usage), USAGE, 2),
     (ManyFault::Other(Fault::Write), "error: cannot write output", 3),
 ];
 

@@ -1,6 +1,6 @@
 use Rattle.dwarf_listing_core.proofs.Common.{ℕ, List, unsigned64, signed64, HasOne, command_of, Lists, Command}
 use Rattle.dwarf_listing_core.specs.declared.command.Command.TheVariants.{Abbrev, Str, Addr, Uleb, Sleb, AbbrevStrict, StrOffsets}
-use Rattle.dwarf_read_core.proofs.sets.ItemLists.{same_of_one}
+use Rattle.dwarf_read_core.proofs.public.Items.{same_of_one}
 use Rattle.dwarf_listing_core.proofs.Texts.{one_number, one_result}
 use Rattle.dwarf_listing_core.proofs.laws.exactly_one_text.Goals as goal
 

@@ -1,5 +1,5 @@
-use Rattle.dwarf_listing_core.proofs.Common.{rules, append_assoc}
+use Rattle.dwarf_listing_core.proofs.Common.{arith, append_assoc, common_steps}
 use Rattle.dwarf_listing_core.proofs.sets.push_address_header.Goals as goal
 
 pub returns : goal.returns
-returns c = simp append_assoc (search rules)
+returns c = grind (arith, common_steps, append_assoc)

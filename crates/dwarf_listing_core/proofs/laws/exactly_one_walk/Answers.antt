@@ -1,0 +1,58 @@
+use Rattle.dwarf_listing_core.proofs.Common.{◌-◌, ◌^◌, ℕ, List, false, HasOne, section_of, string_line, address_listing, offset_listing, addresses_of, string_offsets_of}
+use Rattle.std.specs.Prelude.{length}
+use Rattle.dwarf_read_core.specs.Endian.{is_big_at_run_time}
+use Rattle.dwarf_read_core.specs.Input.{after}
+use Rattle.dwarf_read_core.proofs.public.Entries.{word_size-positive}
+use Rattle.dwarf_listing_core.specs.Lines.{shown_line}
+use Rattle.dwarf_listing_core.specs.Walk.{Follows, HasEnd, ListsOne, Walk}
+use Rattle.dwarf_listing_core.specs.declared.arguments.Kind.{Kind}
+use Rattle.dwarf_listing_core.specs.declared.arguments.Kind.TheVariants.{Tables, Strings, RawStrings, Addresses, StringOffsets}
+use Rattle.dwarf_listing_core.specs.declared.sets.Style.TheVariants.{Titled}
+use Rattle.dwarf_listing_core.proofs.Ends.{end_later, next_later, set_end, string_end, table_end}
+use Rattle.dwarf_listing_core.proofs.OneText.{one_text_by}
+use Rattle.dwarf_listing_core.proofs.SetTexts.{address_size, one_at}
+use Rattle.dwarf_listing_core.proofs.Walks.{EndOrNone, one_following, one_walk}
+use Rattle.dwarf_listing_core.proofs.laws.exactly_one_walk.Goals as goal
+
+module _ (c : goal.After-exactly_one_list_of_string_offsets) where
+  listing : (kind : Kind) (section : List ℕ) (offset : ℕ) → HasOne (ListsOne kind section offset)
+  listing Tables section offset = c.exactly_one_listing.ensures.table section offset
+  listing Strings section offset =
+      one_text_by shown_line _ (c.exactly_one_lookup.ensures.string (section_of section false) offset)
+  listing RawStrings section offset = c.exactly_one_listing.ensures.string section offset
+  listing (Addresses endian) section offset =
+      one_at (address_listing Titled) endian section offset
+      (λ old s has. c.exactly_one_list_of_addresses.ensures.one (addresses_of s) (address_size old s has))
+      (c.exactly_one_list_of_contributions.ensures.one (2 ^ 64 - 1))
+  listing (StringOffsets endian) section offset =
+      one_at (offset_listing Titled (2 ^ 64 - 1)) endian section offset
+      (λ old s has. c.exactly_one_list_of_string_offsets.ensures.one (2 ^ 64 - 1) (string_offsets_of s)
+      (word_size-positive s.format)) (c.exactly_one_list_of_contributions-2.ensures.one (2 ^ 64 - 1))
+
+  end : (kind : Kind) (section : List ℕ) (offset : ℕ) → EndOrNone (HasEnd kind section offset)
+  end Tables section offset =
+      table_end section offset (c.exactly_one_answer.ensures (section_of section false) offset)
+      (c.exactly_one_end.ensures.one (section_of section false) offset)
+  end Strings section offset =
+      string_end section offset (c.exactly_one_lookup.ensures.string (section_of section false) offset)
+  end RawStrings section offset =
+      string_end section offset (c.exactly_one_lookup.ensures.string (section_of section false) offset)
+  end (Addresses endian) section offset =
+      set_end (section_of section (is_big_at_run_time endian)) offset (c.exactly_one_initial_length.ensures (2 ^ 64 - 1) _)
+  end (StringOffsets endian) section offset =
+      set_end (section_of section (is_big_at_run_time endian)) offset (c.exactly_one_initial_length.ensures (2 ^ 64 - 1) _)
+
+  next : (kind : Kind) (section : List ℕ) (offset : ℕ)
+      → HasOne (Follows (HasEnd kind section offset) (length section))
+  next kind section offset = one_following (length section) (end kind section offset)
+
+pub returns : goal.returns
+returns c = record {
+  listing = listing c;
+  next = next c;
+  walk = λ kind section offset.
+      one_walk kind section (next c kind section)
+      (λ at following within. next_later within (λ stop. end_later kind section
+      (λ low high t. c.exactly_one_end.ensures.after (section_of section false) low high t) at stop within) following)
+      offset;
+}
