@@ -1,7 +1,9 @@
 -- The attributes of an abbreviation are those of the table from its index on.
-use Rattle.dwarf_read_core.proofs.Common.{◌≡◌, ◌∙◌, ℕ, zero, suc, ◌+◌, List, [], ◌∷◌, ◌++◌, length, take, drop, map, Some, refl, sym, ap, subst, arith, append_assoc, length-append, length-drop, drop-append-le, take-append-le, take_all, nil_from_length, values, Declaration, Table}
+use Rattle.dwarf_read_c.proofs.Common.{◌≡◌, ◌∙◌, ℕ, suc, ◌+◌, List, [], ◌∷◌, ◌++◌, length, take, drop, map, refl, sym, ap, subst, arith, length-append, length-drop, values, Declaration}
+use Rattle.std.proofs.Common.{zero, Some, append_assoc}
 use Rattle.std.specs.Prelude.{slice_get}
-use Rattle.std.proofs.lemmas.List.{length-map}
+use Rattle.std.proofs.lemmas.List.{length-map, drop-append-le, take-append-le, take_all, nil_from_length}
+use Rattle.dwarf_read_core.specs.Grammar.{Table}
 use Rattle.dwarf_read_c.specs.Tables.{abbreviation_of, abbreviations_of, attribute_of, attributes_in, attributes_of, laid_from}
 use Rattle.dwarf_read_c.specs.declared.tables.DwarfAbbreviation.{DwarfAbbreviation}
 use Rattle.dwarf_read_c.specs.declared.tables.DwarfAttributeSpec.{DwarfAttributeSpec}

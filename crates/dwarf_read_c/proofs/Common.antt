@@ -10,8 +10,8 @@ pub use Rattle.dwarf_read_core.specs.Grammar.{Declaration, ByCode}
 pub use Rattle.dwarf_read_core.specs.Input.{Input, after}
 pub use Rattle.dwarf_read_core.specs.Leb128.{Kind, ReadsNoNumber}
 pub use Rattle.dwarf_read_core.specs.Headers.{AddressHeaderAt, StringOffsetsHeaderAt}
-pub use Rattle.dwarf_read_core.specs.Sets.{Remaining, Set, RepresentsSets, addresses_of, string_offsets_of}
-pub use Rattle.dwarf_read_core.proofs.Headers.{address_header, string_offsets_header}
+pub use Rattle.dwarf_read_core.specs.Contributions.{Contribution, HasNoContributionAt, addresses_of, string_offsets_of}
+pub use Rattle.dwarf_read_core.proofs.public.Headers.{address_header, string_offsets_header}
 pub use Rattle.dwarf_read_core.specs.Strings.{HoldsString, StringAt}
 pub use Rattle.dwarf_read_core.specs.declared.Error.{Error}
 pub use Rattle.dwarf_fault.specs.Fault.{IsKnown, error_number, fault_of}
@@ -19,5 +19,5 @@ pub use Rattle.dwarf_fault.specs.declared.DwarfFault.{DwarfFault}
 pub use Rattle.dwarf_read_c.specs.Fault.{Rejects}
 pub use Rattle.dwarf_read_c.specs.Numbers.{HasNoNumber, cut, bad}
 pub use Rattle.dwarf_read_c.specs.Sections.{section_of, part_of}
-pub use Rattle.dwarf_read_c.specs.Sets.{HasNoSetAt, TellsSet, sets_from, set_from, outside, faulty}
+pub use Rattle.dwarf_read_c.specs.Sets.{TellsSet, set_from}
 pub use Rattle.dwarf_read_c.specs.Tables.{abbreviation_of, laid_from, attribute_of, attributes_in}

@@ -1,22 +1,19 @@
 -- The errors that a call for C can return have numbers of their own.
 use Rattle.dwarf_read_core.specs.declared.Error.TheVariants.{OutOfMemory}
+use Rattle.dwarf_read_core.specs.declared.Format.{Format}
 use Rattle.dwarf_read_core.specs.Answer.{Answers, IsFirstError}
 use Rattle.dwarf_read_core.specs.Headers.{AddressHeaderAt, HasNoVersion, Header, StringOffsetsHeaderAt}
 use Rattle.dwarf_read_core.specs.InitialLength.{HasNoLength}
-use Rattle.dwarf_read_core.specs.Sets.{set_cut, set_headless, set_unmeasured}
+use Rattle.dwarf_read_core.specs.Contributions.{contribution_cut, contribution_faulty, contribution_headless, contribution_outside, contribution_unmeasured}
 use Rattle.dwarf_read_core.specs.Strings.{string_past_end, string_unended}
 use Rattle.dwarf_read_core.specs.Words.{Slot, HasNoPlace, no_base, no_distance, no_place, WordAt, word_unplaced, word_cut, word_too_great, AddressAt, address_unplaced, address_unsized, address_cut}
-use Rattle.dwarf_read_c.proofs.Common.{◌≢◌, ℕ, List, Err, arith, Error, eof, Input, Kind, StringAt, error_number, IsKnown, HasNoNumber, HasNoSetAt, outside, faulty}
+use Rattle.dwarf_read_c.proofs.Common.{◌≢◌, ℕ, List, Err, arith, Error, Input, Kind, StringAt, error_number, IsKnown, HasNoNumber, HasNoContributionAt}
 
 -- the error of bytes that begin with no number has a number of its own
 pub known_number : {k : Kind} {bytes : List ℕ} {e : Error} → HasNoNumber k bytes e → IsKnown e
 known_number absent = grind arith
 
 -- ---- lookups
-
--- the error for missing bytes has a number of its own
-known_end : (position : ℕ) → IsKnown (eof position)
-known_end position = omega arith
 
 -- the error of a lookup of a string has a number of its own
 pub known_string : (section : Input) (offset : ℕ) (e : Error) → StringAt section offset (Err e) → IsKnown e
@@ -49,12 +46,13 @@ known_length : {greatest : ℕ} {old new : Input} {e : Error} → HasNoLength gr
 known_length absent = grind arith
 
 -- the error in place of a set has a number of its own, if each error of the header has
-known_set : {H : Type 0} {header : Header H} {section : Input} {offset : ℕ} {e : Error}
-    → ((unit : Input) (e : Error) → header unit (Err e) → IsKnown e) → HasNoSetAt header section offset e → IsKnown e
-known_set law (outside past) = omega arith
-known_set law (faulty e some (set_unmeasured none)) = known_length none
-known_set law (faulty e some (set_cut measured short)) = omega arith
-known_set law (faulty e some (set_headless measured enough none)) = law _ e none
+known_set : {H : Type 0} {header : Header H} {greatest : ℕ} {section : Input} {offset : ℕ} {e : Error}
+    → ((greatest : ℕ) (format : Format) (unit : Input) (e : Error) → header greatest format unit (Err e) → IsKnown e)
+    → HasNoContributionAt header greatest section offset e → IsKnown e
+known_set law (contribution_outside past) = omega arith
+known_set law (contribution_faulty within (contribution_unmeasured none)) = known_length none
+known_set law (contribution_faulty within (contribution_cut measured short)) = omega arith
+known_set law (contribution_faulty within (contribution_headless measured enough none)) = law _ _ _ _ none
 
 -- the error in place of version 5 has a number of its own
 known_version : {unit : Input} {e : Error} → HasNoVersion unit e → IsKnown e
@@ -62,19 +60,24 @@ known_version absent = grind arith
 
 -- the error in place of a set of addresses has a number of its own
 pub known_address_set :
-    {section : Input} {offset : ℕ} {e : Error} → HasNoSetAt AddressHeaderAt section offset e → IsKnown e
+    {greatest : ℕ} {section : Input} {offset : ℕ} {e : Error}
+    → HasNoContributionAt AddressHeaderAt greatest section offset e → IsKnown e
 known_address_set absent = known_set known absent
   where
-    known : (unit : Input) (e : Error) → AddressHeaderAt unit (Err e) → IsKnown e
-    known unit e none = grind (arith, known_version)
+    known : (greatest : ℕ) (format : Format) (unit : Input) (e : Error) → AddressHeaderAt greatest format unit (Err e)
+        → IsKnown e
+    known greatest format unit e none = grind (arith, known_version)
 
 -- the error in place of a set of string offsets has a number of its own
 pub known_str_offset_set :
-    {section : Input} {offset : ℕ} {e : Error} → HasNoSetAt StringOffsetsHeaderAt section offset e → IsKnown e
+    {greatest : ℕ} {section : Input} {offset : ℕ} {e : Error}
+    → HasNoContributionAt StringOffsetsHeaderAt greatest section offset e → IsKnown e
 known_str_offset_set absent = known_set known absent
   where
-    known : (unit : Input) (e : Error) → StringOffsetsHeaderAt unit (Err e) → IsKnown e
-    known unit e none = grind (arith, known_version)
+    known : (greatest : ℕ) (format : Format) (unit : Input) (e : Error)
+        → StringOffsetsHeaderAt greatest format unit (Err e)
+        → IsKnown e
+    known greatest format unit e none = grind (arith, known_version)
 
 -- ---- tables
 

@@ -3,6 +3,6 @@ pub mod AttributeIndexes
 pub mod NumberLemmas
 pub mod StringLemmas
 pub mod TableLemmas
-pub mod SetLemmas
+pub mod FoundSets
 pub mod KnownErrors
 pub mod FamilyLemmas

@@ -1,27 +1,16 @@
 -- A set of addresses or of string offsets at an offset of a section, as C sees it.
-use Rattle.std.specs.Prelude.{◌≡◌, ℕ, ◌+◌, ◌-◌, ◌/◌, ◌<◌, ◌≤◌, ◌^◌, true, List, Result, length, count_by, is_ok}
+use Rattle.std.specs.Prelude.{◌≡◌, ℕ, ◌+◌, ◌-◌, ◌/◌, ◌≤◌, ◌^◌, true, List, Result, length, count_by, is_ok}
 use Rattle.dwarf_read_core.specs.declared.Error.{Error}
 use Rattle.dwarf_read_core.specs.declared.Format.{Format}
 use Rattle.dwarf_read_core.specs.Entries.{AreNumbers, Entries}
-use Rattle.dwarf_read_core.specs.Faults.{end_fault}
 use Rattle.dwarf_read_core.specs.Format.{initial_length_size, word_size}
 use Rattle.dwarf_read_core.specs.Headers.{Header}
-use Rattle.dwarf_read_core.specs.Input.{Input, after}
-use Rattle.dwarf_read_core.specs.Sets.{HasNoSet, HasSet, Remaining, Set, set_size}
+use Rattle.dwarf_read_core.specs.Input.{Input}
+use Rattle.dwarf_read_core.specs.Contributions.{Contribution, HasContribution, contribution_size, contributions_from}
 use Rattle.dwarf_read_c.specs.declared.sets.DwarfSet.{DwarfSet}
 
--- the sets of a section from an offset on
-abbrev pub sets_from : ℕ → Input → Remaining
-sets_from offset section = record { offset = offset; rest = after offset section }
-
--- no set is at the offset: it is past the end, or the bytes from there on don't begin with a set
-pub data HasNoSetAt {H : Type 0} (header : Header H) (section : Input) (offset : ℕ) : Error → Type 0 where
-  outside : length section.bytes < offset → HasNoSetAt header section offset (end_fault section)
-  faulty : (e : Error) → offset < length section.bytes
-      → HasNoSet header (2 ^ 64 - 1) (after offset section) e → HasNoSetAt header section offset e
-
 -- a set as C sees it, with its entries and where the next set may begin. Only whole entries are counted
-abbrev pub shown : {H : Type 0} → Set H → Entries → ℕ → DwarfSet
+abbrev pub shown : {H : Type 0} → Contribution H → Entries → ℕ → DwarfSet
 shown s entries next = record {
   next = next;
   unit_length = s.unit_length;
@@ -31,14 +20,14 @@ shown s entries next = record {
   entry_size = entries.width;
 }
 
--- what is written for C describes a set that begins at an offset, and its entries: the next set may begin where it ends,
--- and as many entries are counted as are numbers
-pub record TellsSet {H : Type 0} (header : Header H) (entries_of : Set H → Entries) (section : Input) (offset : ℕ)
-    (reported : DwarfSet) : Type 0 where
-  pub s : Set H
+-- what is written for C describes a set that begins at an offset, and its entries: the next set may begin where it
+-- ends, and as many entries are counted as are numbers
+pub record TellsSet {H : Type 0} (header : Header H) (entries_of : Contribution H → Entries) (section : Input)
+    (offset : ℕ) (reported : DwarfSet) : Type 0 where
+  pub s : Contribution H
   pub within : offset ≤ length section.bytes
-  pub has : HasSet header (2 ^ 64 - 1) (sets_from offset section) s
-  pub fields : reported ≡ shown s (entries_of s) (offset + set_size s)
+  pub has : HasContribution header (2 ^ 64 - 1) (contributions_from offset section) s
+  pub fields : reported ≡ shown s (entries_of s) (offset + contribution_size s)
   pub counted : (items : List (Result ℕ Error)) → AreNumbers (λ x. true) (entries_of s) items
       → reported.entry_count ≡ count_by is_ok items
 

@@ -1,17 +1,17 @@
 //! Sets of addresses (DWARF 5, 7.27) and of string offsets (7.26).
 
-ghost use Rattle.std.specs.Prelude.{◌≡◌, ◌≢◌, ◌+◌, ◌<◌, ◌≤◌, ◌^◌, true, length, IfOk, IfErr, IfSome, IfNone};
+ghost use Rattle.std.specs.Prelude.{◌≡◌, ◌≢◌, ◌↔◌, ◌+◌, ◌-◌, ◌<◌, ◌≤◌, ◌^◌, true, length, IfOk, IfErr};
 ghost use Rattle.dwarf_read_core.specs.Format.{initial_length_size};
 ghost use Rattle.dwarf_read_core.specs.Headers.{AddressHeaderAt, StringOffsetsHeaderAt};
-ghost use Rattle.dwarf_read_core.specs.Sets.{addresses_of, string_offsets_of};
+ghost use Rattle.dwarf_read_core.specs.Contributions.{HasNoContributionAt, addresses_of, string_offsets_of};
 ghost use Rattle.dwarf_read_c.specs.Fault.{Rejects};
 ghost use Rattle.dwarf_read_c.specs.Sections.{section_of};
-ghost use Rattle.dwarf_read_c.specs.Sets.{HasNoSetAt, TellsSet, set_from};
+ghost use Rattle.dwarf_read_c.specs.Sets.{TellsSet, set_from};
 
 use crate::sections::order;
 use crate::status::{DWARF_END, DWARF_OK};
 use dwarf_fault::{DwarfFault, reject};
-use dwarf_read_core::{DebugAddr, DebugStrOffsets, EndianSlice, Error, Format, Reader};
+use dwarf_read_core::{AddrHeader, EndianSlice, Error, Format, Reader, StrOffsetsHeader};
 
 /// A set of addresses or of string offsets. Its entries are the numbers from `first_entry` up to
 /// `next`.
@@ -64,20 +64,22 @@ pub extern "C" fn dwarf_address_set_0_3(
 ) -> u32
     ensures found { let s = section_of section.now is_big in
         result ≡ DWARF_OK → TellsSet AddressHeaderAt addresses_of s offset set.new }
-    ensures end { result ≡ DWARF_END → (offset ≡ length section.now) × (fault.new ≡ fault.old) }
+    ensures end { (result ≡ DWARF_END) ↔ (offset ≡ length section.now) }
+    ensures end_fault { result ≡ DWARF_END → fault.new ≡ fault.old }
     ensures rejected { let s = section_of section.now is_big in
         result ≢ DWARF_OK → result ≢ DWARF_END
-        → Rejects (HasNoSetAt AddressHeaderAt s offset) result fault.new }
+        → Rejects (HasNoContributionAt AddressHeaderAt (2 ^ 64 - 1) s offset) result fault.new }
     ensures no_set { result ≢ DWARF_OK → set.new ≡ set.old }
     ensures no_fault { result ≡ DWARF_OK → fault.new ≡ fault.old }
 {
-    let section = EndianSlice::new(section, order(is_big));
-    match address_set_at(section, offset) {
-        Ok(Some(found)) => {
+    if offset == section.len() {
+        return DWARF_END;
+    }
+    match address_set_at(EndianSlice::new(section, order(is_big)), offset) {
+        Ok(found) => {
             *set = found;
             DWARF_OK
         }
-        Ok(None) => DWARF_END,
         Err(error) => reject(error, fault),
     }
 }
@@ -104,68 +106,56 @@ pub extern "C" fn dwarf_str_offset_set_0_3(
 ) -> u32
     ensures found { let s = section_of section.now is_big in
         result ≡ DWARF_OK → TellsSet StringOffsetsHeaderAt string_offsets_of s offset set.new }
-    ensures end { result ≡ DWARF_END → (offset ≡ length section.now) × (fault.new ≡ fault.old) }
+    ensures end { (result ≡ DWARF_END) ↔ (offset ≡ length section.now) }
+    ensures end_fault { result ≡ DWARF_END → fault.new ≡ fault.old }
     ensures rejected { let s = section_of section.now is_big in
         result ≢ DWARF_OK → result ≢ DWARF_END
-        → Rejects (HasNoSetAt StringOffsetsHeaderAt s offset) result fault.new }
+        → Rejects (HasNoContributionAt StringOffsetsHeaderAt (2 ^ 64 - 1) s offset) result
+        fault.new }
     ensures no_set { result ≢ DWARF_OK → set.new ≡ set.old }
     ensures no_fault { result ≡ DWARF_OK → fault.new ≡ fault.old }
 {
-    let section = EndianSlice::new(section, order(is_big));
-    match str_offset_set_at(section, offset) {
-        Ok(Some(found)) => {
+    if offset == section.len() {
+        return DWARF_END;
+    }
+    match str_offset_set_at(EndianSlice::new(section, order(is_big)), offset) {
+        Ok(found) => {
             *set = found;
             DWARF_OK
         }
-        Ok(None) => DWARF_END,
         Err(error) => reject(error, fault),
     }
 }
 
-// Returns the set of addresses at an offset, or `None` at the section's end.
-#[tactic(auto, using(crate::proofs::SetLemmas::set_outside))]
-fn address_set_at<R: Reader<Offset = usize>>(
-    mut section: R,
-    offset: usize,
-) -> Result<Option<DwarfSet>, Error>
+// Returns the set of addresses at an offset.
+fn address_set_at<R: Reader<Offset = usize>>(section: R, offset: usize) -> Result<DwarfSet, Error>
     requires starts { (R.view section).position ≡ 0 }
     requires clones { R.clone_is_free ≡ true }
     ensures found { let s = R.view section in
-        IfOk result (λ found. IfSome found (TellsSet AddressHeaderAt addresses_of s offset)) }
-    ensures end { IfOk result (λ found. IfNone found (offset ≡ length (R.view section).bytes)) }
-    ensures err { IfErr result (HasNoSetAt AddressHeaderAt (R.view section) offset) }
+        IfOk result (TellsSet AddressHeaderAt addresses_of s offset) }
+    ensures err { let s = R.view section in
+        IfErr result (HasNoContributionAt AddressHeaderAt (2 ^ 64 - 1) s offset) }
 {
-    section.skip(offset)?;
-    match DebugAddr::from(section).headers()?.next()? {
-        Some(header) => {
-            let (length, encoding) = (header.length(), header.encoding());
-            Ok(Some(set_from(offset, encoding.format, length, encoding.address_size)))
-        }
-        None => Ok(None),
-    }
+    let header = AddrHeader::at(&section, offset)?;
+    let (length, encoding) = (header.length(), header.encoding());
+    Ok(set_from(offset, encoding.format, length, encoding.address_size))
 }
 
-// Returns the set of string offsets at an offset, or `None` at the section's end.
-#[tactic(auto, using(crate::proofs::SetLemmas::set_outside))]
+// Returns the set of string offsets at an offset.
 fn str_offset_set_at<R: Reader<Offset = usize>>(
-    mut section: R,
+    section: R,
     offset: usize,
-) -> Result<Option<DwarfSet>, Error>
+) -> Result<DwarfSet, Error>
     requires starts { (R.view section).position ≡ 0 }
     requires clones { R.clone_is_free ≡ true }
-    ensures found { let s = R.view section in IfOk result
-        (λ found. IfSome found (TellsSet StringOffsetsHeaderAt string_offsets_of s offset)) }
-    ensures end { IfOk result (λ found. IfNone found (offset ≡ length (R.view section).bytes)) }
-    ensures err { IfErr result (HasNoSetAt StringOffsetsHeaderAt (R.view section) offset) }
+    ensures found { let s = R.view section in
+        IfOk result (TellsSet StringOffsetsHeaderAt string_offsets_of s offset) }
+    ensures err { let s = R.view section in
+        IfErr result (HasNoContributionAt StringOffsetsHeaderAt (2 ^ 64 - 1) s offset) }
 {
-    section.skip(offset)?;
-    match DebugStrOffsets::from(section).headers()?.next()? {
-        Some(header) => {
-            let (length, format) = (header.length(), header.format());
-            Ok(Some(set_from(offset, format, length, format.word_size())))
-        }
-        None => Ok(None),
-    }
+    let header = StrOffsetsHeader::at(&section, offset)?;
+    let (length, format) = (header.length(), header.format());
+    Ok(set_from(offset, format, length, format.word_size()))
 }
 
 // Returns a set whose header has four bytes, as C sees it.

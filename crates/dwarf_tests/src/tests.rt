@@ -1,8 +1,8 @@
 //! The public calls of dwarf_read_core and dwarf_uses, each by worked results.
 
 use dwarf_read_core::{
-    EndianSlice, Endianity, HeaderFields, LittleEndian, Reader, ReaderOffsetId, Result,
-    SetHeaderIter,
+    ContributionHeaderIter, EndianSlice, Endianity, HeaderFields, LittleEndian, Reader,
+    ReaderOffsetId, Result,
 };
 use std::alloc::Global;
 use std::fmt::Debug;
@@ -48,14 +48,16 @@ fn check_part<R: Reader>(rt: &impl Abort, part: &R, bytes: &[u8], position: u64)
 }
 
 // Whether a set follows.
-fn has_next<R: Reader, H: HeaderFields>(headers: &mut SetHeaderIter<R, H>) -> Result<bool> {
+fn has_next<R: Reader, H: HeaderFields<R>>(
+    headers: &mut ContributionHeaderIter<R, H>,
+) -> Result<bool> {
     Ok(headers.next()?.is_some())
 }
 
 // Ends the test if the sets don't end so, or one follows their end, however often it is requested.
-fn check_end<R: Reader, H: HeaderFields, W: Debug + Copy>(
+fn check_end<R: Reader, H: HeaderFields<R>, W: Debug + Copy>(
     rt: &impl Abort,
-    headers: &mut SetHeaderIter<R, H>,
+    headers: &mut ContributionHeaderIter<R, H>,
     end: Result<()>,
     what: W,
 ) {

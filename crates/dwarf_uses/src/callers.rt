@@ -8,7 +8,7 @@ ghost use Rattle.dwarf_read_core.specs.Grammar.{Table};
 ghost use Rattle.dwarf_read_core.specs.Answer.{Answer};
 ghost use Rattle.dwarf_read_core.specs.Input.{section_of};
 ghost use Rattle.dwarf_read_core.specs.Sections.{debug_abbrev_reader, debug_str_offsets_reader, debug_str_reader};
-ghost use Rattle.dwarf_read_core.specs.Sets.{addresses_of, seen_by};
+ghost use Rattle.dwarf_read_core.specs.Contributions.{addresses_of, seen_by};
 ghost use Rattle.dwarf_read_core.specs.Strings.{StringAt};
 ghost use Rattle.dwarf_read_core.specs.Words.{WordAt, slot};
 ghost use Rattle.dwarf_uses.specs.Callers.{AreTablesUpTo, HaveLengths, IsFirstError};

@@ -6,17 +6,17 @@ use super::tables::table_at;
 use super::worked::{FOUR_ADDRESSES, THREE, TWO_SETS};
 use super::{little, same};
 use dwarf_read_core::{
-    AbbreviationsIter, AddrEntryIter, AddrHeader, DebugAddr, DebugStrOffset, DebugStrOffsets,
-    Error, HeaderFields, Reader, ReaderOffset, Result, SetHeader, SetHeaderIter,
+    AbbreviationsIter, AddrEntryIter, AddrHeader, ContributionHeader, ContributionHeaderIter,
+    DebugAddr, DebugStrOffset, DebugStrOffsets, Error, HeaderFields, Reader, ReaderOffset, Result,
     StrOffsetsEntryIter, StrOffsetsHeader,
 };
 use std::alloc::Global;
 use std::process::Abort;
 
 // The first set, by a copied iterator.
-fn first_set<R: Reader + Clone, H: HeaderFields>(
-    headers: &SetHeaderIter<R, H>,
-) -> Result<SetHeader<R, H>> {
+fn first_set<R: Reader + Clone, H: HeaderFields<R>>(
+    headers: &ContributionHeaderIter<R, H>,
+) -> Result<ContributionHeader<R, H>> {
     headers
         .clone()?
         .next()?
@@ -24,8 +24,8 @@ fn first_set<R: Reader + Clone, H: HeaderFields>(
 }
 
 // Whether a copy of a set equals it.
-fn is_copied<R: Reader + Clone + PartialEq, H: HeaderFields + Eq>(
-    header: &SetHeader<R, H>,
+fn is_copied<R: Reader + Clone + PartialEq, H: HeaderFields<R> + Eq>(
+    header: &ContributionHeader<R, H>,
 ) -> Result<bool> {
     Ok(header.clone()? == *header)
 }

@@ -2,6 +2,12 @@ use Rattle.dwarf_read_c.proofs.Common.{arith, refl}
 use Rattle.dwarf_read_c.proofs.TableLemmas.{rooms-enough}
 use Rattle.dwarf_read_c.proofs.tables.dwarf_table_read_0_3.Goals as goal
 
+pub returns-in-Ok-clause-room : goal.returns-in-Ok-clause-room
+returns-in-Ok-clause-room c =
+    λ rows attributes no_room.
+    let full = c.put_table.ensures.full (grind arith) in
+    grind (arith, rooms-enough, rows, attributes, full)
+
 pub returns-in-Ok-clause-read : goal.returns-in-Ok-clause-read
 returns-in-Ok-clause-read c =
     let answer = c.in-Ok.ensures.answer in
@@ -15,9 +21,3 @@ returns-in-Ok-clause-full c =
     λ no_room.
     let full = c.put_table.ensures.full (grind arith) in
     (c.in-Ok.table, answer.0, (c.in-Ok.end, answer.1, c.put_table.ensures.measured), full.1, refl)
-
-pub returns-in-Ok-clause-room : goal.returns-in-Ok-clause-room
-returns-in-Ok-clause-room c =
-    λ rows attributes no_room.
-    let full = c.put_table.ensures.full (grind arith) in
-    grind (arith, rooms-enough, rows, attributes, full)

@@ -1,7 +1,7 @@
 use Rattle.std.proofs.Common.{false, Ok, arith, rules, subst}
 use Rattle.dwarf_read_core.specs.Answer.{Answer, TableEndsAt}
 use Rattle.dwarf_read_core.specs.Input.{Input, section_of}
-use Rattle.dwarf_read_core.proofs.tables.TableEnds.{end_after}
+use Rattle.dwarf_read_core.proofs.public.Tables.{end_after}
 use Rattle.dwarf_uses.specs.Callers.{none, one_more}
 use Rattle.dwarf_uses.proofs.callers.all_tables.Goals as goal
 

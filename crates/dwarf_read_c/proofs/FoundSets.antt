@@ -1,0 +1,76 @@
+-- What is written for C describes the set that is at an offset.
+use Rattle.std.proofs.lemmas.List.{length-take}
+use Rattle.dwarf_read_core.specs.Contributions.{HasContribution, HasNoContributionAt, contribution_size, contributions_from}
+use Rattle.dwarf_read_core.specs.Entries.{AreNumbers, Entries}
+use Rattle.dwarf_read_core.specs.Format.{initial_length_size, word_size}
+use Rattle.dwarf_read_core.specs.Headers.{Header, IsHeader, four_bytes}
+use Rattle.dwarf_read_core.proofs.public.InitialLengths.{length_taken}
+use Rattle.dwarf_read_core.proofs.public.Entries.{numbers_counted}
+use Rattle.dwarf_read_c.specs.declared.sets.DwarfSet.{DwarfSet}
+use Rattle.dwarf_read_c.proofs.Common.{◌≡◌, ◌∙◌, Bool, true, ℕ, ◌+◌, ◌-◌, ◌/◌, ◌<◌, ◌≤◌, ◌^◌, length, drop, sym, ap, subst, arith, ◌⊎◌, inl, inr, length-drop, Error, CloneRanOutOfMemory, Input, after, Contribution, take, TellsSet, set_from}
+use Rattle.dwarf_read_c.specs.Sets.{shown}
+
+-- what is known of a set at an offset
+pub record FoundSet {H : Type 0} (header : Header H) (section : Input) (offset : ℕ) (s : Contribution H) : Type 0 where
+  pub has : HasContribution header (2 ^ 64 - 1) (contributions_from offset section) s
+  pub within : offset + initial_length_size s.format + s.unit_length ≤ length section.bytes
+  pub four : 4 ≤ s.unit_length
+  pub first : s.entries.position ≡ offset + initial_length_size s.format + 4
+  pub rest : length s.entries.bytes ≡ s.unit_length - 4
+
+-- a set at an offset ends within the section, and its entries are what follows the four bytes of its header
+pub set_found : {H : Type 0} {header : Header H} {section : Input} {offset : ℕ} {s : Contribution H}
+    → IsHeader 4 four_bytes header → section.position ≡ 0
+    → HasContribution header (2 ^ 64 - 1) (contributions_from offset section) s → FoundSet header section offset s
+set_found {section = section} {offset} {s} is_header starts has =
+    let rest = after offset section in
+    let whole = length-drop offset section.bytes in
+    let part = is_header.sized _ _ _ has.said in
+    let long = length-take s.unit_length (drop (initial_length_size s.format) rest.bytes) in
+    let unit = length-drop (initial_length_size s.format) rest.bytes in
+    let entries = ap (λ (i : Input). length i.bytes) part.left in
+    let cut = length-drop 4 (take s.unit_length (drop (initial_length_size s.format) rest.bytes)) in
+    let place = ap (λ (i : Input). i.position) part.left in
+    let front = length_taken has.measured in
+    record {
+      has = has;
+      within = omega (arith, whole, has.within, front.enough);
+      four = omega (arith, part.enough, long);
+      first = omega (arith, starts, place);
+      rest = omega (arith, entries, cut, long, unit, has.within);
+    }
+
+-- if clones can't fail, the error is that of the section
+pub set_absent : {H : Type 0} {header : Header H} {section : Input} {offset : ℕ} {e : Error} {is_free : Bool}
+    → is_free ≡ true
+    → HasNoContributionAt header (2 ^ 64 - 1) section offset e ⊎ CloneRanOutOfMemory is_free e
+    → HasNoContributionAt header (2 ^ 64 - 1) section offset e
+set_absent free (inl lacks) = lacks
+set_absent free (inr want) = let costs = want.costs in absurd (cc)
+
+-- what is written for C describes a set that was found
+pub set_reported : {H : Type 0} {header : Header H} {section : Input} {offset : ℕ} {s : Contribution H}
+    {reported : DwarfSet} (entries_of : Contribution H → Entries) (width : ℕ) → 0 < width
+    → entries_of s ≡ record { width = width; rest = s.entries } → FoundSet header section offset s
+    → reported ≡ set_from offset s.format s.unit_length width → TellsSet header entries_of section offset reported
+set_reported {offset = offset} {s} {reported} entries_of width positive entries found fields =
+    let front = initial_length_size s.format in
+    let ends : offset + front + s.unit_length ≡ offset + (front + s.unit_length) = omega arith in
+    record {
+      s = s;
+      within = omega (arith, found.within);
+      has = found.has;
+      fields = fields ∙ (λ i. record {
+        next = ends i;
+        unit_length = s.unit_length;
+        first_entry = (sym found.first) i;
+        entry_count = (sym found.rest) i / width;
+        word_size = word_size s.format;
+        entry_size = width;
+      })
+          ∙ ap (λ (e : Entries). shown s e (offset + contribution_size s)) (sym entries);
+      counted = λ items are.
+          let count = numbers_counted (record { width = width; rest = s.entries }) items positive
+          (subst (λ (e : Entries). AreNumbers (λ x. true) e items) entries are) in
+          ap (λ (told : DwarfSet). told.entry_count) fields ∙ ap (λ n. n / width) (sym found.rest) ∙ sym count;
+    }
