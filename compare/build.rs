@@ -1,11 +1,8 @@
-//! Links both static libraries, which `tools/compare` has built and whose folder it names, says which gimli is there, and
-//! compares the structs that are passed with the header.
+//! Links the static library of `crates/dwarf_compare`, which `tools/compare` has built and whose folder it names, and
+//! says which gimli is there. The crate for Rust links the library for C.
 
 use std::env;
 use std::fs;
-
-#[path = "src/layout.rs"]
-mod layout;
 
 /// The version of gimli by the lock file, which cargo has written before it runs this.
 fn gimli_version() -> Option<String> {
@@ -16,8 +13,6 @@ fn gimli_version() -> Option<String> {
 }
 
 fn main() {
-    println!("cargo:rerun-if-env-changed=COMPARE_INCLUDE");
-    layout::check(&env::var("COMPARE_INCLUDE").expect("COMPARE_INCLUDE names the folder of the headers"));
     println!("cargo:rerun-if-changed=build.rs");
     println!("cargo:rerun-if-changed=Cargo.lock");
     println!("cargo:rerun-if-env-changed=COMPARE_LIB");
@@ -29,13 +24,11 @@ fn main() {
     if minor >= 34 {
         println!("cargo:rustc-cfg=gimli_0_34");
     }
-    let folder = env::var("COMPARE_LIB").expect("COMPARE_LIB names the folder of both static libraries");
+    let folder = env::var("COMPARE_LIB").expect("COMPARE_LIB names the folder of the static libraries");
     println!("cargo:rustc-link-search=native={folder}");
     // Nothing names what is in it. It moves the code of the libraries after it.
     println!("cargo:rerun-if-changed={folder}/libin_front.a");
     println!("cargo:rustc-link-lib=static:+whole-archive=in_front");
-    for library in ["dwarf_read_c", "dwarf_compare", "dwarf_read_heap"] {
-        println!("cargo:rerun-if-changed={folder}/lib{library}.a");
-        println!("cargo:rustc-link-lib=static={library}");
-    }
+    println!("cargo:rerun-if-changed={folder}/libdwarf_compare.a");
+    println!("cargo:rustc-link-lib=static=dwarf_compare");
 }

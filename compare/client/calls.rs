@@ -5,10 +5,16 @@
 
 use crate::common::Format;
 use crate::endianity::Endianity;
-use crate::library::*;
 use crate::read::{Error, Reader, ReaderOffset, ReaderOffsetId, Result};
+use crate::room::Room;
+use crate::sys::*;
 use std::cell::RefCell;
 use std::string::String;
+
+extern "C" {
+    fn compare_short(bytes: *const u8, len: usize, value: &mut u16, rest: &mut usize, fault: &mut Fault) -> u32;
+    fn compare_skipped(bytes: *const u8, len: usize, rest: &mut usize, fault: &mut Fault) -> u32;
+}
 
 thread_local! {
     static PLANTED: String = std::env::var("COMPARE_PLANTED").unwrap_or_default();

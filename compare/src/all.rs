@@ -1,5 +1,5 @@
-//! All short inputs: sections over a small alphabet, sets whose headers are nearly right, lookups in a few bytes, numbers
-//! of up to three bytes, and the edges of longer ones.
+//! All short inputs: sections over a small alphabet, sets and units whose headers are nearly right, lookups in a few
+//! bytes, numbers of up to three bytes, and the edges of longer ones.
 
 use crate::question::{Question, What};
 use crate::tally::Tally;
@@ -66,6 +66,40 @@ fn sets(tally: &mut Tally) {
     }
 }
 
+/// The headers of units that are nearly right, without their lengths: each version, type and address size, and words of
+/// four or eight bytes. All fields of the longest header are there, so of others some are entries.
+fn unit_headers() -> impl Iterator<Item = (bool, Vec<u8>)> {
+    let fronts =
+        (0..=6u8).flat_map(|version| (0..=7u8).flat_map(move |kind| (0..=9u8).map(move |size| (version, kind, size))));
+    fronts.flat_map(|(version, kind, size)| {
+        [false, true].map(|is_long| {
+            let word = &[0x11, 0, 0, 0, 0, 0, 0, 0][..if is_long { 8 } else { 4 }];
+            let fields = if version == 5 { [&[kind, size], word].concat() } else { [word, &[size]].concat() };
+            (is_long, [&[version, 0], &fields[..], &[1, 2, 3, 4, 5, 6, 7, 0x88], word, &[kind]].concat())
+        })
+    })
+}
+
+/// Asks for the units whose first one has each of these headers, with each length up to one too many, and cut at each
+/// byte. In the other byte order all but the cut ones are malformed.
+fn units(tally: &mut Tally) {
+    for (is_long, header) in unit_headers() {
+        let with_length = |length: usize| match is_long {
+            true => [&[0xff; 4], &length.to_le_bytes()[..], &header].concat(),
+            false => [&(length as u32).to_le_bytes()[..], &header].concat(),
+        };
+        let whole = with_length(header.len());
+        let cut = (0..whole.len()).map(|it| whole[..it].to_vec());
+        for bytes in (0..=header.len() + 1).map(with_length).chain(cut) {
+            for what in [What::InfoUnits, What::TypesUnits, What::UnitAt] {
+                for is_big in [false, true] {
+                    tally.ask(&Question { is_big, ..Question::new(what, 0) }, &bytes);
+                }
+            }
+        }
+    }
+}
+
 /// Asks for the number at each index, counted from each base, in up to five bytes: at small places, and where the
 /// product of index and size is as large as an offset can be.
 fn lookups(tally: &mut Tally) {
@@ -125,6 +159,7 @@ fn long_numbers(tally: &mut Tally) {
 pub fn ask(tally: &mut Tally) {
     sections(tally);
     sets(tally);
+    units(tally);
     lookups(tally);
     short_numbers(tally);
     long_numbers(tally);

@@ -299,6 +299,47 @@ fn of_sets(random: &mut Random) -> (Question, Vec<u8>) {
     (question, bytes)
 }
 
+/// A unit. Its entries are fewer than ten bytes, or as many as are missing of a longer header.
+fn unit(random: &mut Random, to: &mut Vec<u8>, is_big: bool) {
+    let (word, mut unit) = (random.pick(&[4, 4, 8]), vec![]);
+    let version = if random.one_of(12) { random.next() >> random.below(64) } else { random.pick(&[2, 3, 4, 5, 5, 5]) };
+    let kind = if random.one_of(12) { random.next() as u8 } else { 1 + random.below(6) as u8 };
+    let size = if random.one_of(12) { random.next() as u8 >> random.below(8) } else { random.pick(&[1, 2, 4, 8]) };
+    put(&mut unit, version, 2, is_big);
+    if version & 0xffff == 5 {
+        unit.extend([kind, size]);
+    }
+    put(&mut unit, random.number(), word, is_big);
+    if version & 0xffff != 5 {
+        unit.push(size);
+    }
+    let entries = random.pick(&[0, 7, 8, 11, 12, 15, 16]) + random.below(10);
+    unit.extend(random.bytes(entries));
+    let length = if random.one_of(12) { random.number() & random.pick(&[31, u64::MAX]) } else { unit.len() as u64 };
+    if word == 8 {
+        put(to, 0xffff_ffff, 4, is_big);
+    }
+    put(to, length, word, is_big);
+    to.extend(unit);
+}
+
+fn of_units(random: &mut Random) -> (Question, Vec<u8>) {
+    let (mut bytes, mut offset, is_big) = (Vec::new(), 0, random.one_of(2));
+    for _ in 0..random.pick(&[1, 1, 2, 3, 6]) {
+        offset = bytes.len();
+        unit(random, &mut bytes, is_big);
+    }
+    if random.one_of(3) {
+        mutate(random, &mut bytes);
+    }
+    if random.one_of(6) {
+        offset = place(random, bytes.len());
+    }
+    let what = random.pick(&[What::InfoUnits, What::TypesUnits, What::UnitAt]);
+    let at = if what == What::UnitAt { offset } else { 0 };
+    (Question { is_big, ..Question::new(what, at) }, bytes)
+}
+
 /// The next question and its bytes.
 pub fn next(random: &mut Random) -> (Question, Vec<u8>) {
     match random.below(16) {
@@ -313,6 +354,7 @@ pub fn next(random: &mut Random) -> (Question, Vec<u8>) {
         6 => of_strings(random),
         7 | 8 => of_lookups(random),
         9 | 10 => of_sets(random),
+        11 => of_units(random),
         _ => of_tables(random),
     }
 }
@@ -358,6 +400,20 @@ pub fn made_sets(random: &mut Random, count: usize, most: usize) -> (Vec<u8>, us
         all += entries;
     }
     (to, all)
+}
+
+/// The headers of units, of versions 4 and 5 by turns, with as many tables.
+#[cfg(not(gimli_0_34))]
+pub fn made_units(count: u32) -> Vec<u8> {
+    let mut to = vec![];
+    for i in 0..count {
+        let offset = (16 * i).to_le_bytes();
+        match i % 2 {
+            0 => to.extend([&[7, 0, 0, 0, 4, 0], &offset[..], &[8]].concat()),
+            _ => to.extend([&[8, 0, 0, 0, 5, 0, 1, 8], &offset[..]].concat()),
+        }
+    }
+    to
 }
 
 /// Tags and attributes whose names each version of gimli has.

@@ -4,14 +4,17 @@
 
 mod all;
 mod cost;
-#[allow(dead_code)] // The copy of gimli needs more of it.
-mod library;
 mod made;
 mod measure;
 mod ours;
 mod plain;
 mod question;
+mod room;
 mod shrink;
+#[allow(dead_code)] // The crate for Rust makes all of these calls.
+#[path = "../../rust/src/sys.rs"]
+#[rustfmt::skip] // It is laid out there.
+mod sys;
 mod tally;
 mod theirs;
 
@@ -22,6 +25,7 @@ use question::{Question, What};
 use std::process::ExitCode;
 use std::time::{Duration, Instant};
 use tally::Tally;
+use theirs::HAS_UNITS;
 
 /// How many inputs are made between two looks at the clock.
 const TURN: u32 = 1000;
@@ -87,7 +91,8 @@ fn wanted(words: &mut dyn Iterator<Item = String>) -> Result<Wanted, String> {
                 found.table = Some((kind, count.parse().map_err(|_| "--table needs a number")?));
             }
             "--all" => found.is_all = true,
-            "--plants" => found.plants = (0..PLANTS.len()).collect(),
+            // The last one is planted where the units of gimli 0.27 are compared.
+            "--plants" => found.plants = (0..PLANTS.len() - usize::from(!HAS_UNITS)).collect(),
             "--plant" => {
                 let name = next()?;
                 let place = PLANTS.iter().position(|it| *it == name);
@@ -111,6 +116,13 @@ fn ask_at(tally: &mut Tally, kind: &str, bytes: &[u8], at: usize, random: &mut R
     let (kind, is_big) = (little.unwrap_or(kind), little.is_some());
     let mut ask = |what, size, more| tally.ask(&Question { is_big, size, more, ..Question::new(what, at) }, bytes);
     match kind {
+        "debug_info" | "debug_types" => {
+            if at == 0 {
+                ask(What::InfoUnits, 0, 0);
+                ask(What::TypesUnits, 0, 0);
+            }
+            ask(What::UnitAt, 0, 0);
+        }
         "debug_abbrev" => {
             ask(What::Table, 0, 0);
             ask(What::Strict, 0, 0);

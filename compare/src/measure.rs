@@ -1,14 +1,15 @@
 //! Measures the library and gimli on equal inputs: time by turns, one call of each side to be counted, or the memory
 //! that a call touches.
 //!
-//! The library's side is a call of `crates/dwarf_compare` that does the whole loop, or a call for C for each table.
+//! The library's side is a call of `crates/dwarf_compare` that does the whole loop, or for tables a call for C, or of the
+//! crate for Rust.
 //! What fills a cache from units is left out, since units belong to gimli's upper layers, and so are written numbers,
 //! which another feature has.
 
 use crate::cost::{hidden, nanos_of, touched_bytes};
-use crate::library::Room;
 use crate::made::{made_sets, put_signed, put_unsigned, shaped_table, Random};
 use crate::plain;
+use crate::room::Room;
 use gimli::{
     DebugAbbrev, DebugAbbrevOffset, DebugAddr, DebugAddrBase, DebugAddrIndex, DebugStr, DebugStrOffset,
     DebugStrOffsets, DebugStrOffsetsBase, DebugStrOffsetsIndex, EndianSlice, Format, LittleEndian, Reader,
@@ -152,8 +153,18 @@ fn reading(name: String, count: usize, s: Bytes, o: Places) -> Workload {
 /// Where a table is, and its codes as they rise.
 type Table = (usize, Vec<u64>);
 
-/// What reads and looks at a section's tables, and what reads them by the call for C.
-fn of_tables_for_c(name: &str, section: Vec<u8>, given: Vec<Table>, all: &mut Vec<Workload>) {
+/// The calls of the crate for Rust that read tables, by their names. Each returns how many it has read.
+const BY_CRATE: [(&str, fn(Bytes, Places) -> u64); 3] = [
+    ("`tables`", |s, o| dwarf_read::tables(s).take(o.len()).filter(|it| it.is_ok()).count() as u64),
+    ("`Table::read`", |s, o| o.iter().filter(|it| dwarf_read::Table::read(s, **it).is_ok()).count() as u64),
+    ("`Table::read_again`", |s, o| {
+        let mut table = dwarf_read::Table::default();
+        o.iter().filter(|it| table.read_again(s, **it).is_ok()).count() as u64
+    }),
+];
+
+/// What reads and looks at a section's tables, and what reads them by the call for C and by the crate for Rust.
+fn of_calls(name: &str, section: Vec<u8>, given: Vec<Table>, all: &mut Vec<Workload>) {
     let count = given.iter().map(|it| it.1.len()).sum();
     let (s, o) = of_tables(name, section, given, all);
     // The places are made once for the section, as the loop of docs/C.md makes them.
@@ -161,8 +172,12 @@ fn of_tables_for_c(name: &str, section: Vec<u8>, given: Vec<Table>, all: &mut Ve
         let mut room = Room::default();
         o.iter().filter(|it| room.read(s, **it).is_ok()).count() as u64
     };
-    let name = format!("a declaration of a table by the call for C, {name}");
-    all.push(workload(name, count, move || tables(s, o), ours));
+    let by_c = format!("a declaration of a table by the call for C, {name}");
+    all.push(workload(by_c, count, move || tables(s, o), ours));
+    for (call, read) in BY_CRATE {
+        let by_crate = format!("a declaration of a table by {call} for Rust, {name}");
+        all.push(workload(by_crate, count, move || tables(s, o), move || read(s, o)));
+    }
 }
 
 /// What reads and looks at a section's tables. Returns the section and where they are.
@@ -206,7 +221,7 @@ fn all_of_tables(random: &mut Random, all: &mut Vec<Workload>) {
         let mut section = vec![];
         shaped_table(random, codes.iter().copied(), &mut section);
         codes.sort();
-        of_tables_for_c(name, section, vec![(0, codes)], all);
+        of_calls(name, section, vec![(0, codes)], all);
     }
     let (mut small, mut tables) = (vec![], vec![]);
     for _ in 0..400 {
@@ -214,7 +229,7 @@ fn all_of_tables(random: &mut Random, all: &mut Vec<Workload>) {
         tables.push((small.len(), (1..=count).collect()));
         shaped_table(random, 1..=count, &mut small);
     }
-    of_tables_for_c("small tables", small, tables, all);
+    of_calls("small tables", small, tables, all);
 }
 
 fn all_of_numbers(random: &mut Random, all: &mut Vec<Workload>) {
@@ -335,6 +350,32 @@ fn all_of_sets(random: &mut Random, all: &mut Vec<Workload>) {
     }
 }
 
+/// The sum of the offsets at which the tables of units begin.
+#[cfg(not(gimli_0_34))]
+#[inline(never)]
+fn units_sum(section: Bytes) -> gimli::Result<u64> {
+    let (mut units, mut sum) = (gimli::DebugInfo::new(section, LittleEndian).units(), 0u64);
+    while let Some(unit) = units.next()? {
+        sum = sum.wrapping_add(unit.debug_abbrev_offset().0 as u64);
+    }
+    Ok(sum)
+}
+
+/// The library reads units as gimli 0.27 does, and is measured beside that.
+#[cfg(gimli_0_34)]
+fn all_of_units(_all: &mut Vec<Workload>) {}
+
+#[cfg(not(gimli_0_34))]
+fn all_of_units(all: &mut Vec<Workload>) {
+    extern "C" {
+        fn compare_unit_headers(bytes: Byte, len: usize) -> u64;
+    }
+    let count = 100_000;
+    let s: Bytes = crate::made::made_units(count).leak();
+    let ours = move || unsafe { compare_unit_headers(s.as_ptr(), s.len()) };
+    all.push(workload("the header of a unit", count as usize, move || units_sum(s).unwrap(), ours));
+}
+
 fn made_strings(random: &mut Random) -> Vec<u8> {
     let mut text = vec![];
     for _ in 0..40_000 {
@@ -352,7 +393,7 @@ pub fn workloads(sections: &[(String, String, Vec<u8>)]) -> Vec<Workload> {
     for (name, kind, bytes) in sections {
         let name = name.rsplit('/').next().unwrap_or_default();
         match kind.as_str() {
-            "debug_abbrev" => of_tables_for_c(name, bytes.clone(), plain::tables(bytes), &mut all),
+            "debug_abbrev" => of_calls(name, bytes.clone(), plain::tables(bytes), &mut all),
             "debug_str" => of_strings(&format!("strings of {name}"), &mut random, bytes.clone(), &mut all),
             _ => {}
         }
@@ -362,6 +403,7 @@ pub fn workloads(sections: &[(String, String, Vec<u8>)]) -> Vec<Workload> {
         all_of_numbers(&mut random, &mut all);
         all_of_lookups(&mut random, &mut all);
         all_of_sets(&mut random, &mut all);
+        all_of_units(&mut all);
         let made = made_strings(&mut random);
         of_strings("made-up strings", &mut random, made, &mut all);
     }

@@ -4,11 +4,10 @@
 //! many items as its length says, a vector for as many as its capacity, and an output overlaps nothing, since it is
 //! borrowed mutably.
 
-use crate::library::*;
 use crate::plain::length_at;
-use crate::question::{error_name, fault_of_text, Answer, Declaration, Question, What};
-
-const END: u32 = 102;
+use crate::question::{error_name, fault_of_text, Answer, Declaration, Question, Unit, What};
+use crate::room::Room;
+use crate::sys::*;
 
 /// What one of `READERS` is asked.
 #[repr(C)]
@@ -24,6 +23,8 @@ struct Asked {
 type Byte = *const u8;
 
 extern "C" {
+    fn compare_short(bytes: Byte, len: usize, value: &mut u16, rest: &mut usize, fault: &mut Fault) -> u32;
+    fn compare_skipped(bytes: Byte, len: usize, rest: &mut usize, fault: &mut Fault) -> u32;
     fn compare_grown(
         bytes: Byte, len: usize, before: usize, offset: usize, count: &mut usize, fault: &mut Fault,
     ) -> u32;
@@ -35,6 +36,10 @@ extern "C" {
     fn compare_addresses(bytes: Byte, len: usize) -> u64;
     fn compare_readers(
         bytes: Byte, len: usize, asked: &Asked, found: &mut [u64; 4], text: *mut u8, room: usize,
+    ) -> usize;
+    fn compare_units(
+        bytes: Byte, len: usize, asked: &Asked, units: *mut Unit, places: usize, count: &mut usize, text: *mut u8,
+        room: usize,
     ) -> usize;
 }
 
@@ -76,6 +81,7 @@ impl Ours {
                 returned(|it, fault| unsafe { dwarf_str_offset_set(data, len, is_big, at, it, fault) }, Answer::Set)
             }
             What::Addresses => Answer::value(unsafe { compare_addresses(data, len) }),
+            What::InfoUnits | What::TypesUnits | What::UnitAt => units(question, bytes),
         }
     }
 
@@ -130,7 +136,7 @@ fn number(what: What, bytes: &[u8]) -> Answer {
 
 /// How many bytes remain after an error, which the calls for C don't tell.
 fn rest_of_error(what: What, bytes: &[u8]) -> usize {
-    let asked = Asked { reader: 0, question: what as u32, is_big: 0, size: 0, base: 0, index: 0 };
+    let asked = asked(0, &Question::new(what, 0));
     let (mut found, mut text) = ([u64::MAX; 4], [0; 1]);
     unsafe { compare_readers(bytes.as_ptr(), bytes.len(), &asked, &mut found, text.as_mut_ptr(), 1) };
     found[3] as usize
@@ -177,6 +183,28 @@ fn found(bytes: &[u8], offset: usize, codes: &[u64]) -> Answer {
     }
 }
 
+/// The units that are asked for, and the error after them.
+fn units(question: &Question, bytes: &[u8]) -> Answer {
+    let (asked, mut units, mut text) = (asked(0, question), vec![Unit::default(); 4], [0; 100]);
+    loop {
+        let (data, to, room, mut count) = (bytes.as_ptr(), units.as_mut_ptr(), units.len(), 0);
+        let (at, most) = (text.as_mut_ptr(), text.len());
+        let len = unsafe { compare_units(data, bytes.len(), &asked, to, room, &mut count, at, most) };
+        let is_whole = count <= room;
+        units.resize(count, Unit::default());
+        if is_whole {
+            let shown = String::from_utf8_lossy(text.get(..len).unwrap_or_default());
+            return Answer::units(units, (len != 0).then(|| fault_of_text(&shown, None)));
+        }
+    }
+}
+
+/// What a reader is asked.
+fn asked(reader: u32, question: &Question) -> Asked {
+    let Question { what, is_big, size, at, more, .. } = *question;
+    Asked { reader, question: what as u32, is_big: is_big.into(), size: size.into(), base: at, index: more }
+}
+
 /// The readers that are asked now and then: slices whose byte order is their type's or known at run time, and the
 /// readers of `crates/dwarf_uses`.
 const READERS: [&str; 4] = ["EndianSlice<BigEndian>", "EndianSlice<RunTimeEndian>", OWNED, "SharedReader"];
@@ -214,14 +242,7 @@ fn by_reader(reader: u32, question: &Question, bytes: &[u8]) -> Option<Answer> {
         return None;
     }
     let has_order = question.what as u32 >= What::StrOffset as u32;
-    let asked = Asked {
-        reader,
-        question: question.what as u32,
-        is_big: (question.is_big || !has_order).into(),
-        size: question.size.into(),
-        base: question.at,
-        index: question.more,
-    };
+    let asked = asked(reader, &Question { is_big: question.is_big || !has_order, ..question.clone() });
     let (mut found, mut text) = ([0; 4], [0; 100]);
     let (at, to) = (bytes.as_ptr(), text.as_mut_ptr());
     let len = unsafe { compare_readers(at, bytes.len(), &asked, &mut found, to, text.len()) };

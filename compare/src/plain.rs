@@ -1,10 +1,11 @@
-//! A second reader, written from the text of the standard: DWARF 5, 7.4, 7.5.3, 7.26 and 7.27, and DWARF 4, 7.6.
+//! A second reader, written from the text of the standard: DWARF 5, 7.4, 7.5.1, 7.5.3, 7.26 and 7.27, and DWARF 4,
+//! 7.5.1.1 and 7.6.
 //!
 //! It is plain, and slow where that is plainer. It shares nothing with the library. The standard doesn't say which
 //! error a reader gives of bytes that are malformed, nor where; that is as the library's documentation says.
 
-use crate::library::Set;
-use crate::question::{Answer, Declaration, Question, What};
+use crate::question::{sum_of, Answer, Declaration, Question, Unit, What, UNKNOWN_UNIT_TYPE};
+use crate::sys::Set;
 use std::collections::BTreeMap;
 use std::sync::atomic::{AtomicUsize, Ordering::Relaxed};
 
@@ -65,8 +66,18 @@ plants! {
     Get "get",
     /// A number is written with one byte too many.
     Written "written",
+    /// The offset of the table comes before the address size in version 5 too.
+    Layout "layout",
+    /// A type that no unit has is seen before it is known that the other fields aren't there.
+    UnitType "unit-type",
+    /// Units of `.debug_types` are compilation units before version 5.
+    TypeUnit "type-unit",
+    /// The entries of a unit begin where its own fields do.
+    Entries "entries",
     /// gimli's result of a number leaves one byte more. This one is planted where gimli is called.
     Gimli "gimli",
+    /// A gimli that takes any address size of a unit is held to the library's error. It is planted where that is decided.
+    AnySize "any-size",
 }
 
 /// The number of the one that is planted, or 0.
@@ -208,6 +219,7 @@ fn found(question: &Question, bytes: &[u8]) -> Result<Answer, Fault> {
         What::StrOffset | What::Address => Answer::value(slot(bytes, size, at, more, is_big)?),
         What::AddressSet | What::StrOffsetSet => set(bytes, is_big, at, what == What::AddressSet)?,
         What::Addresses => Answer::value(addresses(bytes).unwrap_or(0)),
+        What::InfoUnits | What::TypesUnits | What::UnitAt => units(question, bytes, false),
     })
 }
 
@@ -407,4 +419,79 @@ fn addresses(bytes: &[u8]) -> Result<u64, Fault> {
         offset = found.next;
     }
     Ok(sum)
+}
+
+/// The units that are asked for, and the error after them. Their addresses have a size that is valid, or any.
+pub fn units(question: &Question, bytes: &[u8], takes_any_size: bool) -> Answer {
+    let Question { what, is_big, at, .. } = *question;
+    let (mut units, mut offset) = (vec![], at);
+    let mut next = || -> Result<(), Fault> {
+        while offset < bytes.len() || what == What::UnitAt && units.is_empty() {
+            let own_type = if what == What::TypesUnits && !has(Plant::TypeUnit) { 2 } else { 1 };
+            let (found, next) = unit(bytes, offset, is_big, own_type, takes_any_size)?;
+            units.push(found);
+            offset = if what == What::UnitAt { bytes.len() } else { next };
+        }
+        Ok(())
+    };
+    let error = next().err().map(|(kind, value)| (kind, Some(value)));
+    Answer::Units { units, error }
+}
+
+/// The unit at an offset, and where the next one begins. Before version 5 its type is the section's.
+fn unit(bytes: &[u8], offset: usize, is_big: bool, own_type: u8, takes_any: bool) -> Result<(Unit, usize), Fault> {
+    if offset > bytes.len() {
+        return Err(eof(0));
+    }
+    let mut input = Input { bytes, at: offset };
+    let (length, word_size) = initial_length(&mut input, is_big)?;
+    if length > (bytes.len() - input.at) as u64 {
+        return Err(eof(input.at));
+    }
+    let (unit_length, next) = (length as usize, input.at + length as usize);
+    let mut rest = Input { bytes: &bytes[..next], at: input.at };
+    let (word, version) = (usize::from(word_size), rest.fixed(2, is_big)? as u16);
+    let address_size = |rest: &mut Input| {
+        let size = rest.byte()?;
+        if is_size(size) || takes_any {
+            Ok(size)
+        } else {
+            Err(("UnsupportedAddressSize", u64::from(size)))
+        }
+    };
+    let (mut found, mut unit_type) = (Unit { offset, unit_length, version, word_size, ..Unit::default() }, own_type);
+    match version {
+        2..=4 => {
+            found.abbrev_offset = rest.fixed(word, is_big)? as usize;
+            found.address_size = address_size(&mut rest)?;
+        }
+        5 => {
+            unit_type = rest.byte()?;
+            if has(Plant::UnitType) && !(1..=6).contains(&unit_type) {
+                return Err((UNKNOWN_UNIT_TYPE, unit_type.into()));
+            }
+            if has(Plant::Layout) {
+                found.abbrev_offset = rest.fixed(word, is_big)? as usize;
+            }
+            found.address_size = address_size(&mut rest)?;
+            if !has(Plant::Layout) {
+                found.abbrev_offset = rest.fixed(word, is_big)? as usize;
+            }
+        }
+        _ => return Err(("UnknownVersion", version.into())),
+    }
+    let own_fields = rest.at;
+    if !(1..=6).contains(&unit_type) {
+        return Err((UNKNOWN_UNIT_TYPE, unit_type.into()));
+    }
+    if !matches!(unit_type, 1 | 3) {
+        found.signature = rest.fixed(8, is_big)?;
+    }
+    if matches!(unit_type, 2 | 6) {
+        found.type_offset = rest.fixed(word, is_big)? as usize;
+    }
+    let first = if has(Plant::Entries) { own_fields } else { rest.at };
+    let entries = &rest.bytes[first..];
+    let (first_entry, count, sum) = (first as u64, entries.len(), sum_of(entries));
+    Ok((Unit { unit_type, first_entry, entries: count, sum, ..found }, next))
 }

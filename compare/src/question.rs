@@ -1,6 +1,6 @@
 //! What is asked of each reader, and what it gives.
 
-use crate::library::Set;
+use crate::sys::Set;
 use std::fmt;
 
 /// The errors by the numbers of `include/dwarf_read.h`.
@@ -33,14 +33,21 @@ pub fn error_name(number: u32) -> &'static str {
 }
 
 /// The names of errors that older versions of gimli have, and today's.
-const OLD_NAMES: [(&str, &str); 2] =
-    [("BadHasChildren", "InvalidAbbreviationChildren"), ("ExpectedZero", "AttributeNameZero")];
+const OLD_NAMES: [(&str, &str); 3] = [
+    ("BadHasChildren", "InvalidAbbreviationChildren"),
+    ("ExpectedZero", "AttributeNameZero"),
+    ("UnsupportedUnitType", UNKNOWN_UNIT_TYPE),
+];
+
+/// The error of units alone, which no call for C returns.
+pub const UNKNOWN_UNIT_TYPE: &str = "UnknownUnitType";
 
 /// An error as its debug text tells it: its name, and the number in it, if there is one.
 pub fn fault_of_text(text: &str, rest: Option<usize>) -> Answer {
     let name = text.split('(').next().unwrap_or_default();
     let name = OLD_NAMES.iter().find(|it| it.0 == name).map_or(name, |it| it.1);
-    let kind = ERRORS.iter().find(|it| **it == name).copied().unwrap_or("an error without a number");
+    let known = ERRORS.iter().chain([&UNKNOWN_UNIT_TYPE]).find(|it| **it == name);
+    let kind = known.copied().unwrap_or("an error without a number");
     let value = text.rsplit('(').next().and_then(|it| it.trim_end_matches(')').parse().ok());
     Answer::Fault { kind, value, rest }
 }
@@ -48,7 +55,8 @@ pub fn fault_of_text(text: &str, rest: Option<usize>) -> Answer {
 /// Declares what is asked, each with the word that asks it.
 macro_rules! whats {
     ($($(#[$doc:meta])* $what:ident $word:literal,)*) => {
-        /// What is asked. Those up to `Addresses` are numbered as in `crates/dwarf_compare/src/readers.rt`.
+        /// What is asked. Those up to `Addresses` are numbered as in `crates/dwarf_compare/src/readers.rt`, and those of
+        /// units as in `units.rt` there.
         #[derive(Debug, Clone, Copy, PartialEq)]
         pub enum What { $($(#[$doc])* $what,)* }
 
@@ -77,6 +85,10 @@ whats! {
     StrOffsetSet "str-offset-set",
     /// The sum of all addresses of all sets, or 0 for an error.
     Addresses "addresses",
+    /// The units of `.debug_info` and of `.debug_types`, and the one at an offset of `.debug_info`.
+    InfoUnits "units",
+    TypesUnits "type-units",
+    UnitAt "unit-at",
     /// The length of the table of a cache that was filled from this many bytes, before the section grew.
     Grown "grown",
     /// How many declarations a cache that was filled at these offsets has there, twice. An error counts as 2^32.
@@ -122,6 +134,32 @@ impl Declaration {
     }
 }
 
+/// What the header of a unit says, and its entries. What a unit of its type doesn't have is 0.
+#[repr(C)]
+#[derive(Debug, Default, Clone, Copy, PartialEq)]
+pub struct Unit {
+    pub offset: usize,
+    pub unit_length: usize,
+    pub abbrev_offset: usize,
+    /// The signature of a type, or the identifier of a split unit.
+    pub signature: u64,
+    pub type_offset: usize,
+    /// Where the entries begin, how many bytes they have, and the sum of these.
+    pub first_entry: u64,
+    pub entries: usize,
+    pub sum: u64,
+    pub version: u16,
+    pub word_size: u8,
+    pub address_size: u8,
+    /// The number of the type in version 5.
+    pub unit_type: u8,
+}
+
+/// A sum of bytes that depends on their order.
+pub fn sum_of(bytes: &[u8]) -> u64 {
+    bytes.iter().fold(0, |sum: u64, it| sum.wrapping_mul(31).wrapping_add((*it).into()))
+}
+
 /// What a reader gives. `None` is what a reader doesn't tell.
 #[derive(Debug, Clone, PartialEq)]
 pub enum Answer {
@@ -138,6 +176,11 @@ pub enum Answer {
     },
     Tags(Vec<u16>),
     Set(Set),
+    /// The units up to the section's end, or up to an error by its name, with its value or position.
+    Units {
+        units: Vec<Unit>,
+        error: Option<(&'static str, Option<u64>)>,
+    },
     /// There is no set, since the offset is the section's end.
     End,
     /// Any of these as four numbers, which a caller can have of each reader.
@@ -149,6 +192,17 @@ pub enum Answer {
     },
 }
 
+/// What the last unit of a section is, by the number of its type.
+const UNIT_TYPES: [&str; 7] = [
+    "no type",
+    "a compilation unit",
+    "a type unit",
+    "a partial unit",
+    "a skeleton",
+    "a split compilation unit",
+    "a split type unit",
+];
+
 fn same_if_known<T: PartialEq>(one: &Option<T>, other: &Option<T>) -> bool {
     one.is_none() || other.is_none() || one == other
 }
@@ -156,6 +210,15 @@ fn same_if_known<T: PartialEq>(one: &Option<T>, other: &Option<T>) -> bool {
 impl Answer {
     pub fn value(value: u64) -> Answer {
         Answer::Value { value: value.into(), rest: None }
+    }
+
+    /// These units, and the error after them, if there is one.
+    pub fn units(units: Vec<Unit>, fault: Option<Answer>) -> Answer {
+        let error = match fault {
+            Some(Answer::Fault { kind, value, .. }) => Some((kind, value)),
+            _ => None,
+        };
+        Answer::Units { units, error }
     }
 
     /// Whether two readers tell the same, as far as both tell it.
@@ -167,6 +230,10 @@ impl Answer {
             ) => kind == other_kind && same_if_known(value, other_value) && same_if_known(rest, other_rest),
             (Answer::Table { declarations, close }, Answer::Table { declarations: others, close: other }) => {
                 declarations == others && same_if_known(close, other)
+            }
+            (Answer::Units { units, error }, Answer::Units { units: others, error: other }) => {
+                let (value, other_value) = (error.and_then(|it| it.1), other.and_then(|it| it.1));
+                units == others && error.map(|it| it.0) == other.map(|it| it.0) && same_if_known(&value, &other_value)
             }
             _ => self == other,
         }
@@ -201,6 +268,8 @@ impl Answer {
             Answer::Tags(tags) if tags.iter().all(|it| *it == 0) => "only codes that no declaration has",
             Answer::Tags(_) => "a tag of a code",
             Answer::Set(_) => "a set",
+            Answer::Units { error: Some((kind, _)), .. } => kind,
+            Answer::Units { units, .. } => units.last().map_or("no units", |it| UNIT_TYPES[usize::from(it.unit_type)]),
             Answer::End => "the end of the sets",
             Answer::Parts(_) => "parts",
         }

@@ -4,7 +4,7 @@ use crate::ours::{by_readers, Ours};
 use crate::plain;
 use crate::question::{Answer, Question};
 use crate::shrink::shrink;
-use crate::theirs::{Theirs, HAS_SETS};
+use crate::theirs::{Theirs, HAS_SETS, HAS_UNITS};
 use std::collections::BTreeMap;
 
 /// How many differences of one question are printed. The others are counted.
@@ -43,6 +43,8 @@ pub struct Tally {
     asked_of_gimli: u64,
     /// How many of them all readers of the library were asked.
     by_all: u64,
+    /// How many of them have a unit whose address size is an error here, and none for gimli.
+    of_any_size: u64,
     pub differences: u64,
     /// How often each question was asked, and how often it differed.
     questions: BTreeMap<&'static str, (u64, u64)>,
@@ -78,6 +80,8 @@ impl Tally {
         self.inputs += 1;
         self.by_all += u64::from(is_by_all);
         self.asked_of_gimli += u64::from(given.theirs.is_some());
+        let is_of_units = matches!(given.ours, Answer::Units { .. });
+        self.of_any_size += u64::from(is_of_units && given.wanted != given.ours);
         let counts = self.questions.entry(question.name()).or_default();
         counts.0 += 1;
         *self.reached.entry((question.name(), given.ours.reached())).or_default() += 1;
@@ -116,6 +120,16 @@ impl Tally {
         if !HAS_SETS {
             println!("left out: this gimli has no sets of addresses, so the second reader alone had them");
             skipped += 1;
+        }
+        if !HAS_UNITS {
+            println!("left out: units are compared with gimli 0.27, so the second reader alone had them");
+            skipped += 1;
+        }
+        if self.theirs.takes_any_size {
+            println!(
+                "this gimli takes any address size of a unit, and was compared with a reading that does too at {} inputs",
+                self.of_any_size
+            );
         }
         if self.theirs.is_strict {
             println!("this gimli wants the null code of a table, so it was compared with the strict reading");

@@ -1,26 +1,35 @@
 //! The published gimli, as far as the version at hand has what is asked.
 
-use crate::plain::{has, Plant};
+use crate::plain::{has, units as plain_units, Plant};
 use crate::question::{fault_of_text, Answer, Declaration, Question, What};
+#[cfg(not(gimli_0_34))]
+use crate::question::{sum_of, Unit};
 #[cfg(gimli_0_34)]
-use crate::{library::Set, measure::sets_sum};
+use crate::{measure::sets_sum, sys::Set};
 use gimli::{
     DebugAbbrev, DebugAbbrevOffset, DebugAddr, DebugAddrBase, DebugAddrIndex, DebugStr, DebugStrOffset,
     DebugStrOffsets, DebugStrOffsetsBase, DebugStrOffsetsIndex, EndianSlice, Error, Format, LittleEndian, Reader,
     RunTimeEndian,
 };
+#[cfg(not(gimli_0_34))]
+use gimli::{DebugInfo, DebugInfoOffset, DebugTypes, UnitHeader, UnitOffset, UnitSectionOffset, UnitType};
 
 /// gimli, and what its version reads otherwise.
 #[derive(Default)]
 pub struct Theirs {
     /// A table that the section's end closes is an error.
     pub is_strict: bool,
+    /// Addresses of a unit may have any size.
+    pub takes_any_size: bool,
 }
 
 impl Theirs {
     pub fn new() -> Theirs {
         let unclosed = DebugAbbrev::new(&[1, 0x11, 0, 0, 0], LittleEndian).abbreviations(DebugAbbrevOffset(0));
-        Theirs { is_strict: unclosed.is_err() }
+        let of_three = Question::new(What::UnitAt, 0);
+        let unit = units(&of_three, EndianSlice::new(&[7, 0, 0, 0, 4, 0, 0, 0, 0, 0, 3], RunTimeEndian::Little));
+        let takes_any_size = matches!(unit, Some(Answer::Units { error: None, .. }));
+        Theirs { is_strict: unclosed.is_err(), takes_any_size }
     }
 
     /// What gimli gives, or `None` if it has no such call. `plain` is the second reader's result: gimli's tables can't
@@ -38,7 +47,8 @@ impl Theirs {
     }
 
     /// The result that gimli has to agree with if the library's result is this one: a table that the section's end
-    /// closes is an error in a version that needs the null code.
+    /// closes is an error in a version that needs the null code, and an address size that the library rejects is none
+    /// in a version that takes any, which reads on.
     pub fn wanted(&self, question: &Question, bytes: &[u8], ours: Answer) -> Answer {
         let is_unclosed = match (question.what, &ours) {
             (What::Table, Answer::Table { close, .. }) => matches!(close, Some((false, _))),
@@ -51,6 +61,10 @@ impl Theirs {
         };
         if self.is_strict && is_unclosed {
             return Answer::Fault { kind: "UnexpectedEof", value: Some(bytes.len() as u64), rest: None };
+        }
+        let is_of_size = matches!(ours, Answer::Units { error: Some(("UnsupportedAddressSize", _)), .. });
+        if self.takes_any_size && is_of_size && !has(Plant::AnySize) {
+            return plain_units(question, bytes, true);
         }
         ours
     }
@@ -77,6 +91,7 @@ fn lookup(question: &Question, bytes: &[u8]) -> Option<Answer> {
         What::Address => {
             DebugAddr::from(input).get_address(size, DebugAddrBase(at), DebugAddrIndex(more)).map(Answer::value)
         }
+        What::InfoUnits | What::TypesUnits | What::UnitAt => return units(question, input),
         _ => return sets(question, input),
     };
     Some(found.unwrap_or_else(|error| fault(error, bytes, None)))
@@ -156,5 +171,70 @@ fn sets(question: &Question, input: EndianSlice<RunTimeEndian>) -> Option<Answer
         }
         What::Addresses => Some(Answer::value(sets_sum::<true>(bytes).unwrap_or(0))),
         _ => None,
+    }
+}
+
+/// Whether the units of this gimli are compared, which are those of version 0.27.
+pub const HAS_UNITS: bool = cfg!(not(gimli_0_34));
+
+#[cfg(gimli_0_34)]
+fn units(_question: &Question, _input: EndianSlice<RunTimeEndian>) -> Option<Answer> {
+    None
+}
+
+#[cfg(not(gimli_0_34))]
+fn units(question: &Question, input: EndianSlice<RunTimeEndian>) -> Option<Answer> {
+    let (mut of_info, mut of_types) = (DebugInfo::from(input).units(), DebugTypes::from(input).units());
+    let mut at = Some(question.at);
+    let mut next = || match question.what {
+        What::InfoUnits => of_info.next(),
+        What::TypesUnits => of_types.next(),
+        _ => at.take().map(|it| DebugInfo::from(input).header_from_offset(DebugInfoOffset(it))).transpose(),
+    };
+    let mut units = vec![];
+    let found = loop {
+        match next() {
+            Ok(Some(unit)) => units.push(shown_unit(&unit, input.slice())),
+            Ok(None) => break None,
+            Err(error) => break Some(fault(error, input.slice(), None)),
+        }
+    };
+    Some(Answer::units(units, found))
+}
+
+#[cfg(not(gimli_0_34))]
+fn shown_unit(unit: &UnitHeader<EndianSlice<RunTimeEndian>>, bytes: &[u8]) -> Unit {
+    let (unit_type, signature, type_offset) = match unit.type_() {
+        UnitType::Compilation => (1, 0, 0),
+        UnitType::Type { type_signature, type_offset } => (2, type_signature.0, type_offset.0),
+        UnitType::Partial => (3, 0, 0),
+        UnitType::Skeleton(id) => (4, id.0, 0),
+        UnitType::SplitCompilation(id) => (5, id.0, 0),
+        UnitType::SplitType { type_signature, type_offset } => (6, type_signature.0, type_offset.0),
+    };
+    let (encoding, header_size) = (unit.encoding(), unit.header_size());
+    let offset = match unit.offset() {
+        UnitSectionOffset::DebugInfoOffset(it) => it.0,
+        UnitSectionOffset::DebugTypesOffset(it) => it.0,
+    };
+    // Entries without bytes can't be asked for, so that their place is where the header ends.
+    let entries = unit.range_from(UnitOffset(header_size)..).map_or(&[][..], |it| it.slice());
+    let first_entry = match entries {
+        [] => offset + header_size,
+        _ => (entries.as_ptr() as usize).wrapping_sub(bytes.as_ptr() as usize),
+    };
+    Unit {
+        offset,
+        unit_length: unit.unit_length(),
+        abbrev_offset: unit.debug_abbrev_offset().0,
+        signature,
+        type_offset,
+        first_entry: first_entry as u64,
+        entries: entries.len(),
+        sum: sum_of(entries),
+        version: encoding.version,
+        word_size: encoding.format.word_size(),
+        address_size: encoding.address_size,
+        unit_type,
     }
 }

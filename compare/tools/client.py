@@ -14,7 +14,7 @@ import tempfile
 from collections.abc import Sequence
 
 import checks
-from common import DEBIAN, INCLUDE, OUT, PACKAGE, Failed, Missing, files_by_default, link_libraries, must, need, put
+from common import CRATE, DEBIAN, OUT, PACKAGE, Failed, Missing, files_by_default, link_libraries, must, need, put
 from common import put_sections, run
 
 MANIFEST = """[package]
@@ -45,14 +45,10 @@ debug = 2
 
 [workspace]
 """
-BUILD = """#[path = "src/layout.rs"]
-mod layout;
-
-fn main() {
-    layout::check("INCLUDE");
+BUILD = """fn main() {
     println!("cargo:rerun-if-changed=build.rs");
     println!("cargo:rustc-link-search=native=FOLDER");
-    for library in ["dwarf_read_c", "dwarf_compare", "dwarf_read_heap"] {
+    for library in ["dwarf_compare", "dwarf_read"] {
         println!("cargo:rerun-if-changed=FOLDER/lib{}.a", library);
         println!("cargo:rustc-link-lib=static={}", library);
     }
@@ -125,7 +121,7 @@ def with_body(text: str, after: str, function: str, body: str) -> str:
 def patched(name: str, text: str) -> str:
     """A source file of gimli's that reads by the library."""
     if name == "lib.rs":
-        modules = MODULE.format("calls") + MODULE.format("library")
+        modules = "".join(map(MODULE.format, ("calls", "room", "sys")))
         return text.replace("pub mod leb128;", f"pub mod leb128;\n{modules}", 1)
     for file, after, function, body in BODIES:
         if file == name:
@@ -160,10 +156,9 @@ def copy(gimli: str, folder: str, is_patched: bool) -> None:
     # The documentation of gimli has examples that include its page.
     put(f"{gimli}/README.md", f"{folder}/README.md")
     if is_patched:
-        write(BUILD.replace("FOLDER", f"{OUT}/lib").replace("INCLUDE", INCLUDE), f"{folder}/build.rs")
-        put(f"{PACKAGE}/client/calls.rs", f"{folder}/src/calls.rs")
-        for name in ("library.rs", "layout.rs"):
-            put(f"{PACKAGE}/src/{name}", f"{folder}/src/{name}")
+        write(BUILD.replace("FOLDER", f"{OUT}/lib"), f"{folder}/build.rs")
+        for path in (f"{PACKAGE}/client/calls.rs", f"{PACKAGE}/src/room.rs", f"{CRATE}/src/sys.rs"):
+            put(path, f"{folder}/src/{os.path.basename(path)}")
 
 
 def tests(folder: str, planted: str = "") -> list[tuple[int, int]]:

@@ -13,14 +13,18 @@ import kit
 import products
 
 PACKAGE = f"{kit.ROOT}/compare"
+CRATE = f"{kit.ROOT}/rust"
 OUT = f"{PACKAGE}/out"
 INCLUDE = f"{kit.ROOT}/include"
 DEBIAN = "/usr/share/cargo/registry"
 # How long cargo may try to reach crates.io.
 FETCH_SECONDS = 120
-SECTIONS = ("debug_abbrev", "debug_str", "debug_line_str", "debug_addr", "debug_str_offsets")
+SECTIONS = (
+    *("debug_info", "debug_types", "debug_abbrev"),
+    *("debug_str", "debug_line_str", "debug_addr", "debug_str_offsets"),
+)
 # Those whose words are read in the byte order of the file.
-BY_ORDER = ("debug_addr", "debug_str_offsets")
+BY_ORDER = ("debug_info", "debug_types", "debug_addr", "debug_str_offsets")
 
 
 class Missing(Exception):
@@ -80,23 +84,30 @@ def put_in_front(count: int) -> None:
     # The R keeps a linker from leaving the section out.
     text = f'.section .text.in_front, "axR", @progbits\n.balign 64\n.skip {64 + count}, 0x90\n'
     kit.put(source, text + '.section .note.GNU-stack, "", @progbits\n')
-    put(make_library(source), f"{OUT}/lib/libin_front.a")
+    put(make_library(make_object(source)), f"{OUT}/lib/libin_front.a")
 
 
-def make_library(source: str) -> str:
-    """Makes a static library of a source in assembler or C, and returns where it is."""
-    name = os.path.splitext(os.path.basename(source))[0]
-    made = f"{OUT}/{name}.a"
-    it = f"{OUT}/object.o"
-    must([os.environ.get("CC", "cc"), "-O2", "-fPIC", "-c", source, "-o", it], f"{source} isn't compiled")
+def make_object(source: str) -> str:
+    """Compiles a source in assembler or C, and returns where the object is."""
+    made = f"{OUT}/{os.path.splitext(os.path.basename(source))[0]}.o"
+    must([os.environ.get("CC", "cc"), "-O2", "-fPIC", "-c", source, "-o", made], f"{source} isn't compiled")
+    return made
+
+
+def make_library(*parts: str) -> str:
+    """Makes a static library of an object, or of a static library and an object, and returns where it is."""
+    made = f"{OUT}/made.a"
     with contextlib.suppress(OSError):
         os.unlink(made)
-    must(["ar", "rcsD", made, it], f"the library of {source} isn't made")
+    for library in parts[:-1]:
+        shutil.copyfile(library, made)
+    must(["ar", "rcsD", made, parts[-1]], f"the library of {parts[-1]} isn't made")
     return made
 
 
 def link_libraries() -> None:
-    """Puts both static libraries, and the functions by which they request memory, into one folder."""
+    """Puts the library for C, with the functions by which it requests memory, and that of dwarf_compare into one
+    folder."""
     for crate in kit.STATIC:
         path = products.static_library(crate)
         if not products.find(path, crate) and not (shutil.which("rt") and shutil.which("rattle")):
@@ -104,8 +115,17 @@ def link_libraries() -> None:
         words = [f"{kit.ROOT}/tools/static-library", crate]
         if subprocess.run(words, stdin=subprocess.DEVNULL, check=False).returncode:
             raise Failed(f"the static library of {crate} isn't built")
-        put(path, f"{OUT}/lib/lib{crate}.a")
-    put(make_library(f"{INCLUDE}/dwarf_read_heap.c"), f"{OUT}/lib/libdwarf_read_heap.a")
+    heap = make_object(f"{INCLUDE}/dwarf_read_heap.c")
+    put(make_library(products.static_library("dwarf_read_c"), heap), f"{OUT}/lib/libdwarf_read.a")
+    put(products.static_library("dwarf_compare"), f"{OUT}/lib/libdwarf_compare.a")
+
+
+def copy_crate() -> None:
+    """Copies the crate for Rust to where the copies of the package name it."""
+    for part in ("", "src", "examples"):
+        for name in os.listdir(f"{CRATE}/{part}"):
+            if name.endswith((".rs", ".toml")):
+                put(f"{CRATE}/{part}/{name}", f"{OUT}/rust/{part}/{name}")
 
 
 def copy_package(folder: str, is_locked: bool) -> None:
@@ -152,12 +172,14 @@ def build(is_debian: bool, in_front: int = 0) -> str:
     need("cargo", "cargo")
     need(os.environ.get("CC", "cc"), "gcc")
     need("objcopy", "binutils")
+    copy_crate()
     folder, words = sources_of_gimli(is_debian)
     link_libraries()
     put_in_front(in_front)
     # The processor that the kit compiles for.
     flags = os.environ.get("RUSTFLAGS", "") + " -C target-cpu=x86-64-v2"
-    environment = {**os.environ, "COMPARE_LIB": f"{OUT}/lib", "COMPARE_INCLUDE": INCLUDE, "RUSTFLAGS": flags.strip()}
+    folders = {it: f"{OUT}/lib" for it in ("COMPARE_LIB", "DWARF_READ_LIB")}
+    environment = {**os.environ, **folders, "RUSTFLAGS": flags.strip()}
     words = ["cargo", "build", "--quiet", "--release", "--target-dir", f"{folder}/target", *words]
     must(words, "the program that compares isn't built", cwd=folder, env=environment)
     return f"{folder}/target/release/compare"

@@ -1,50 +1,79 @@
-//! The named constants of DWARF, by the names of the standard and of the vendors, and these names.
+//! The named constants of DWARF, by the names of the standard and of the vendors: a type for each
+//! family, as in gimli.
 //!
 //! ```
-//! use dwarf_read::constants::{DW_AT_name, DW_LANG_Rust, Family};
+//! use dwarf_read::constants::{DwLang, DW_AT_name, DW_LANG_Rust};
 //!
-//! assert_eq!(DW_AT_name, 3);
-//! assert_eq!(Family::Lang.name(DW_LANG_Rust.into()), Some("DW_LANG_Rust"));
-//! assert_eq!(Family::Lang.name(0x7fff), None);
+//! assert_eq!(DW_AT_name.0, 3);
+//! assert_eq!(DW_LANG_Rust.to_string(), "DW_LANG_Rust");
+//! assert_eq!(DW_LANG_Rust.name().unwrap(), "DW_LANG_Rust");
+//! assert_eq!(DwLang(0x7fff).to_string(), "Unknown DwLang: 32767");
+//! assert_eq!(DwLang(0x7fff).name(), None);
+//! ```
+//!
+//! A constant of one family isn't one of another:
+//!
+//! ```compile_fail,E0308
+//! dwarf_read::tag_name(dwarf_read::constants::DW_AT_name);
 //! ```
 #![allow(missing_docs, non_upper_case_globals)]
 
+use crate::sys;
+use crate::text::Name;
+use core::fmt;
+
 macro_rules! families {
-    ($($(#[$said:meta])* $family:ident($number:ty) = $at:literal { $($name:ident = $value:literal),* })*) => {
-        /// A family of constants: those that one field of DWARF can have.
-        #[derive(Debug, Clone, Copy, PartialEq, Eq, Hash)]
-        #[non_exhaustive]
-        #[repr(u32)]
-        pub enum Family { $($(#[$said])* $family = $at),* }
+    ($(
+        $(#[$said:meta])*
+        $family:ident($number:ty) = $at:literal { $($name:ident = $value:literal),* }
+    )*) => {
+        $(
+            $(#[$said])*
+            #[derive(Debug, Clone, Copy, PartialEq, Eq, PartialOrd, Ord, Hash)]
+            pub struct $family(pub $number);
 
-        impl Family {
-            /// All families.
-            pub const ALL: &'static [Family] = &[$(Family::$family),*];
-
-            // The values and names of its constants, by rising value. If a value has several names,
-            // the first is the one that is returned.
-            fn rows(self) -> &'static [(u64, &'static str)] {
-                match self { $(Family::$family => &[$(($value, stringify!($name))),*]),* }
+            impl $family {
+                /// Returns the name of the constant with this value, if there is one. If there are
+                /// several, it is the first that the standard or the vendor has.
+                pub fn name(self) -> Option<Name> {
+                    name_of($at, self.0.into())
+                }
             }
-        }
 
-        $($(pub const $name: $number = $value;)*)*
+            /// Writes the name of the constant, or the family and the number if it has none.
+            impl fmt::Display for $family {
+                fn fmt(&self, f: &mut fmt::Formatter<'_>) -> fmt::Result {
+                    match self.name() {
+                        Some(name) => f.pad(&name),
+                        None => write!(f, "Unknown {}: {}", stringify!($family), self.0),
+                    }
+                }
+            }
+
+            $(pub const $name: $family = $family($value);)*
+        )*
+
+        // Each family with its number, and the values and names of its constants.
+        #[cfg(test)]
+        const FAMILIES: &[(u32, &str, &[(u64, &str)])] = &[
+            $(($at, stringify!($family), &[$(($value, stringify!($name))),*])),*
+        ];
     };
 }
 
-impl Family {
-    /// Returns the name of the constant with this value, such as `DW_LANG_Rust`, if there is one.
-    pub fn name(self, value: u64) -> Option<&'static str> {
-        let rows = self.rows();
-        let at = rows.partition_point(|row| row.0 < value);
-        rows.get(at).filter(|row| row.0 == value).map(|row| row.1)
-    }
+// The library's name of a constant, which is proved.
+fn name_of(family: u32, value: u64) -> Option<Name> {
+    // SAFETY: see `sys`.
+    Name::written(|name, room, len| unsafe {
+        sys::dwarf_constant_name(family, value, name, room, len)
+    })
+    .ok()
 }
 
 // tools/constants writes this list.
 families! {
     /// Tags: what kind of thing an entry describes.
-    Tag(u16) = 1 {
+    DwTag(u16) = 1 {
         DW_TAG_null = 0x00, DW_TAG_array_type = 0x01, DW_TAG_class_type = 0x02,
         DW_TAG_entry_point = 0x03, DW_TAG_enumeration_type = 0x04, DW_TAG_formal_parameter = 0x05,
         DW_TAG_global_subroutine = 0x06, DW_TAG_global_variable = 0x07,
@@ -94,7 +123,7 @@ families! {
         DW_TAG_BORLAND_Delphi_variant = 0xb004, DW_TAG_hi_user = 0xffff
     }
     /// Attributes: what a value of an entry is about.
-    At(u16) = 2 {
+    DwAt(u16) = 2 {
         DW_AT_null = 0x00, DW_AT_sibling = 0x01, DW_AT_location = 0x02, DW_AT_name = 0x03,
         DW_AT_fund_type = 0x05, DW_AT_mod_fund_type = 0x06, DW_AT_user_def_type = 0x07,
         DW_AT_mod_u_d_type = 0x08, DW_AT_ordering = 0x09, DW_AT_subscr_data = 0x0a,
@@ -208,7 +237,7 @@ families! {
         DW_AT_APPLE_property = 0x3fed, DW_AT_hi_user = 0x3fff
     }
     /// Forms: how the value of an attribute is encoded.
-    Form(u16) = 3 {
+    DwForm(u16) = 3 {
         DW_FORM_null = 0x00, DW_FORM_addr = 0x01, DW_FORM_ref = 0x02, DW_FORM_block2 = 0x03,
         DW_FORM_block4 = 0x04, DW_FORM_data2 = 0x05, DW_FORM_data4 = 0x06, DW_FORM_data8 = 0x07,
         DW_FORM_string = 0x08, DW_FORM_block = 0x09, DW_FORM_block1 = 0x0a, DW_FORM_data1 = 0x0b,
@@ -225,13 +254,13 @@ families! {
         DW_FORM_GNU_ref_alt = 0x1f20, DW_FORM_GNU_strp_alt = 0x1f21
     }
     /// Index attributes: what a value in .debug_names is about.
-    Idx(u16) = 4 {
+    DwIdx(u16) = 4 {
         DW_IDX_compile_unit = 0x01, DW_IDX_type_unit = 0x02, DW_IDX_die_offset = 0x03,
         DW_IDX_parent = 0x04, DW_IDX_type_hash = 0x05, DW_IDX_lo_user = 0x2000,
         DW_IDX_hi_user = 0x3fff
     }
     /// Source languages.
-    Lang(u16) = 5 {
+    DwLang(u16) = 5 {
         DW_LANG_C89 = 0x01, DW_LANG_C = 0x02, DW_LANG_Ada83 = 0x03, DW_LANG_C_plus_plus = 0x04,
         DW_LANG_Cobol74 = 0x05, DW_LANG_Cobol85 = 0x06, DW_LANG_Fortran77 = 0x07,
         DW_LANG_Fortran90 = 0x08, DW_LANG_Pascal83 = 0x09, DW_LANG_Modula2 = 0x0a,
@@ -251,21 +280,21 @@ families! {
         DW_LANG_BORLAND_Delphi = 0xb000, DW_LANG_hi_user = 0xffff
     }
     /// Content types: what is kept of a file in a line number program.
-    Lnct(u16) = 6 {
+    DwLnct(u16) = 6 {
         DW_LNCT_path = 0x01, DW_LNCT_directory_index = 0x02, DW_LNCT_timestamp = 0x03,
         DW_LNCT_size = 0x04, DW_LNCT_MD5 = 0x05, DW_LNCT_lo_user = 0x2000,
         DW_LNCT_LLVM_source = 0x2001, DW_LNCT_hi_user = 0x3fff
     }
     /// Accessibility of members.
-    Access(u8) = 7 {
+    DwAccess(u8) = 7 {
         DW_ACCESS_public = 0x01, DW_ACCESS_protected = 0x02, DW_ACCESS_private = 0x03
     }
     /// Address classes.
-    Addr(u64) = 8 {
+    DwAddr(u64) = 8 {
         DW_ADDR_none = 0x00
     }
     /// Encodings of base types.
-    Ate(u8) = 9 {
+    DwAte(u8) = 9 {
         DW_ATE_address = 0x01, DW_ATE_boolean = 0x02, DW_ATE_complex_float = 0x03,
         DW_ATE_float = 0x04, DW_ATE_signed = 0x05, DW_ATE_signed_char = 0x06,
         DW_ATE_unsigned = 0x07, DW_ATE_unsigned_char = 0x08, DW_ATE_imaginary_float = 0x09,
@@ -275,13 +304,13 @@ families! {
         DW_ATE_hi_user = 0xff
     }
     /// Calling conventions.
-    Cc(u8) = 10 {
+    DwCc(u8) = 10 {
         DW_CC_normal = 0x01, DW_CC_program = 0x02, DW_CC_nocall = 0x03,
         DW_CC_pass_by_reference = 0x04, DW_CC_pass_by_value = 0x05, DW_CC_lo_user = 0x40,
         DW_CC_hi_user = 0xff
     }
     /// Instructions of call frames.
-    Cfa(u8) = 11 {
+    DwCfa(u8) = 11 {
         DW_CFA_nop = 0x00, DW_CFA_set_loc = 0x01, DW_CFA_advance_loc1 = 0x02,
         DW_CFA_advance_loc2 = 0x03, DW_CFA_advance_loc4 = 0x04, DW_CFA_offset_extended = 0x05,
         DW_CFA_restore_extended = 0x06, DW_CFA_undefined = 0x07, DW_CFA_same_value = 0x08,
@@ -296,24 +325,24 @@ families! {
         DW_CFA_advance_loc = 0x40, DW_CFA_offset = 0x80, DW_CFA_restore = 0xc0
     }
     /// Whether an entry has children.
-    Children(u8) = 12 {
+    DwChildren(u8) = 12 {
         DW_CHILDREN_no = 0x00, DW_CHILDREN_yes = 0x01
     }
     /// Defaulted member functions.
-    Defaulted(u8) = 13 {
+    DwDefaulted(u8) = 13 {
         DW_DEFAULTED_no = 0x00, DW_DEFAULTED_in_class = 0x01, DW_DEFAULTED_out_of_class = 0x02
     }
     /// Signs of decimal numbers.
-    Ds(u8) = 14 {
+    DwDs(u8) = 14 {
         DW_DS_unsigned = 0x01, DW_DS_leading_overpunch = 0x02, DW_DS_trailing_overpunch = 0x03,
         DW_DS_leading_separate = 0x04, DW_DS_trailing_separate = 0x05
     }
     /// Lists of discriminant values.
-    Dsc(u8) = 15 {
+    DwDsc(u8) = 15 {
         DW_DSC_label = 0x00, DW_DSC_range = 0x01
     }
     /// Encodings of the pointers of .eh_frame.
-    EhPe(u8) = 16 {
+    DwEhPe(u8) = 16 {
         DW_EH_PE_absptr = 0x00, DW_EH_PE_uleb128 = 0x01, DW_EH_PE_udata2 = 0x02,
         DW_EH_PE_udata4 = 0x03, DW_EH_PE_udata8 = 0x04, DW_EH_PE_sleb128 = 0x09,
         DW_EH_PE_sdata2 = 0x0a, DW_EH_PE_sdata4 = 0x0b, DW_EH_PE_sdata8 = 0x0c,
@@ -322,46 +351,46 @@ families! {
         DW_EH_PE_omit = 0xff
     }
     /// Byte orders of data.
-    End(u8) = 17 {
+    DwEnd(u8) = 17 {
         DW_END_default = 0x00, DW_END_big = 0x01, DW_END_little = 0x02, DW_END_lo_user = 0x40,
         DW_END_hi_user = 0xff
     }
     /// Case of identifiers.
-    Id(u8) = 18 {
+    DwId(u8) = 18 {
         DW_ID_case_sensitive = 0x00, DW_ID_up_case = 0x01, DW_ID_down_case = 0x02,
         DW_ID_case_insensitive = 0x03
     }
     /// Inlined subroutines.
-    Inl(u8) = 19 {
+    DwInl(u8) = 19 {
         DW_INL_not_inlined = 0x00, DW_INL_inlined = 0x01, DW_INL_declared_not_inlined = 0x02,
         DW_INL_declared_inlined = 0x03
     }
     /// Entries of location lists.
-    Lle(u8) = 20 {
+    DwLle(u8) = 20 {
         DW_LLE_end_of_list = 0x00, DW_LLE_base_addressx = 0x01, DW_LLE_startx_endx = 0x02,
         DW_LLE_startx_length = 0x03, DW_LLE_offset_pair = 0x04, DW_LLE_default_location = 0x05,
         DW_LLE_base_address = 0x06, DW_LLE_start_end = 0x07, DW_LLE_start_length = 0x08,
         DW_LLE_GNU_view_pair = 0x09
     }
     /// Extended opcodes of a line number program.
-    Lne(u8) = 21 {
+    DwLne(u8) = 21 {
         DW_LNE_end_sequence = 0x01, DW_LNE_set_address = 0x02, DW_LNE_define_file = 0x03,
         DW_LNE_set_discriminator = 0x04, DW_LNE_lo_user = 0x80, DW_LNE_hi_user = 0xff
     }
     /// Standard opcodes of a line number program.
-    Lns(u8) = 22 {
+    DwLns(u8) = 22 {
         DW_LNS_copy = 0x01, DW_LNS_advance_pc = 0x02, DW_LNS_advance_line = 0x03,
         DW_LNS_set_file = 0x04, DW_LNS_set_column = 0x05, DW_LNS_negate_stmt = 0x06,
         DW_LNS_set_basic_block = 0x07, DW_LNS_const_add_pc = 0x08, DW_LNS_fixed_advance_pc = 0x09,
         DW_LNS_set_prologue_end = 0x0a, DW_LNS_set_epilogue_begin = 0x0b, DW_LNS_set_isa = 0x0c
     }
     /// Entries of .debug_macinfo.
-    Macinfo(u8) = 23 {
+    DwMacinfo(u8) = 23 {
         DW_MACINFO_define = 0x01, DW_MACINFO_undef = 0x02, DW_MACINFO_start_file = 0x03,
         DW_MACINFO_end_file = 0x04, DW_MACINFO_vendor_ext = 0xff
     }
     /// Entries of .debug_macro.
-    Macro(u8) = 24 {
+    DwMacro(u8) = 24 {
         DW_MACRO_define = 0x01, DW_MACRO_undef = 0x02, DW_MACRO_start_file = 0x03,
         DW_MACRO_end_file = 0x04, DW_MACRO_define_strp = 0x05, DW_MACRO_undef_strp = 0x06,
         DW_MACRO_import = 0x07, DW_MACRO_define_sup = 0x08, DW_MACRO_undef_sup = 0x09,
@@ -369,7 +398,7 @@ families! {
         DW_MACRO_lo_user = 0xe0, DW_MACRO_hi_user = 0xff
     }
     /// Operations of an expression.
-    Op(u8) = 25 {
+    DwOp(u8) = 25 {
         DW_OP_addr = 0x03, DW_OP_deref = 0x06, DW_OP_const1u = 0x08, DW_OP_const1s = 0x09,
         DW_OP_const2u = 0x0a, DW_OP_const2s = 0x0b, DW_OP_const4u = 0x0c, DW_OP_const4s = 0x0d,
         DW_OP_const8u = 0x0e, DW_OP_const8s = 0x0f, DW_OP_constu = 0x10, DW_OP_consts = 0x11,
@@ -419,38 +448,38 @@ families! {
         DW_OP_GNU_addr_index = 0xfb, DW_OP_GNU_const_index = 0xfc, DW_OP_GNU_variable_value = 0xfd
     }
     /// Order of the elements of an array.
-    Ord(u8) = 26 {
+    DwOrd(u8) = 26 {
         DW_ORD_row_major = 0x00, DW_ORD_col_major = 0x01
     }
     /// Entries of range lists.
-    Rle(u8) = 27 {
+    DwRle(u8) = 27 {
         DW_RLE_end_of_list = 0x00, DW_RLE_base_addressx = 0x01, DW_RLE_startx_endx = 0x02,
         DW_RLE_startx_length = 0x03, DW_RLE_offset_pair = 0x04, DW_RLE_base_address = 0x05,
         DW_RLE_start_end = 0x06, DW_RLE_start_length = 0x07
     }
     /// Sections of a package file.
-    Sect(u32) = 28 {
+    DwSect(u32) = 28 {
         DW_SECT_INFO = 0x01, DW_SECT_ABBREV = 0x03, DW_SECT_LINE = 0x04, DW_SECT_LOCLISTS = 0x05,
         DW_SECT_STR_OFFSETS = 0x06, DW_SECT_MACRO = 0x07, DW_SECT_RNGLISTS = 0x08
     }
     /// Sections of a package file before DWARF 5.
-    SectV2(u32) = 29 {
+    DwSectV2(u32) = 29 {
         DW_SECT_V2_INFO = 0x01, DW_SECT_V2_TYPES = 0x02, DW_SECT_V2_ABBREV = 0x03,
         DW_SECT_V2_LINE = 0x04, DW_SECT_V2_LOC = 0x05, DW_SECT_V2_STR_OFFSETS = 0x06,
         DW_SECT_V2_MACINFO = 0x07, DW_SECT_V2_MACRO = 0x08
     }
     /// Unit types.
-    Ut(u8) = 30 {
+    DwUt(u8) = 30 {
         DW_UT_compile = 0x01, DW_UT_type = 0x02, DW_UT_partial = 0x03, DW_UT_skeleton = 0x04,
         DW_UT_split_compile = 0x05, DW_UT_split_type = 0x06, DW_UT_lo_user = 0x80,
         DW_UT_hi_user = 0xff
     }
     /// Virtual functions and base classes.
-    Virtuality(u8) = 31 {
+    DwVirtuality(u8) = 31 {
         DW_VIRTUALITY_none = 0x00, DW_VIRTUALITY_virtual = 0x01, DW_VIRTUALITY_pure_virtual = 0x02
     }
     /// Visibility of declarations.
-    Vis(u8) = 32 {
+    DwVis(u8) = 32 {
         DW_VIS_local = 0x01, DW_VIS_exported = 0x02, DW_VIS_qualified = 0x03
     }
     /// Kinds of symbols in .gdb_index.
@@ -465,31 +494,33 @@ families! {
 #[cfg(test)]
 mod tests {
     use super::*;
-    use crate::sys;
+    use std::string::ToString;
 
-    // What the proved call returns.
-    fn called(family: u32, value: u64) -> Option<String> {
-        let (mut name, mut len) = ([0; 64], 0);
-        // SAFETY: see `sys`.
-        let status = unsafe {
-            sys::dwarf_constant_name(family, value, name.as_mut_ptr(), name.len(), &mut len)
-        };
-        (status == sys::OK).then(|| String::from_utf8(name[..len].to_vec()).unwrap())
+    // The names that are declared here, beside those that the library has.
+    #[test]
+    fn names_are_those_of_the_library() {
+        for (number, family, rows) in FAMILIES {
+            for value in (0..=0x1_0000).chain([u32::MAX.into(), 1 << 32, u64::MAX]) {
+                let declared = rows.iter().find(|row| row.0 == value).map(|row| row.1);
+                let name = name_of(*number, value);
+                assert_eq!(name.as_deref(), declared, "{} {}", family, value);
+            }
+        }
+        assert_eq!(FAMILIES.len(), 33);
+        for number in [0, 34, u32::MAX] {
+            assert_eq!(name_of(number, 1), None);
+        }
     }
 
     #[test]
-    fn names_are_those_of_the_library() {
-        let mut named = 0;
-        for family in Family::ALL {
-            for value in (0..=0x1_0000).chain([u32::MAX.into(), 1 << 32, u64::MAX]) {
-                let name = family.name(value);
-                assert_eq!(called(*family as u32, value).as_deref(), name, "{family:?} {value}");
-                named += usize::from(name.is_some());
-            }
-        }
-        assert!(named > 800 && Family::ALL.len() == 33);
-        for number in [0, 34, u32::MAX] {
-            assert_eq!(called(number, 1), None);
-        }
+    fn a_constant_is_shown_by_its_name() {
+        assert_eq!(DW_TAG_label.to_string(), "DW_TAG_label");
+        assert_eq!(DW_ADDR_none.to_string(), "DW_ADDR_none");
+        assert_eq!(GDB_INDEX_SYMBOL_KIND_TYPE.to_string(), "GDB_INDEX_SYMBOL_KIND_TYPE");
+        assert_eq!(DwSect(2).to_string(), "Unknown DwSect: 2");
+        assert_eq!(
+            std::format!("{:>14}|{:?}", DW_TAG_label, DW_TAG_label),
+            "  DW_TAG_label|DwTag(10)"
+        );
     }
 }

@@ -1,10 +1,11 @@
 //! Errors: a number and a value of the library, as a Rust type.
 
 use crate::sys;
-use std::fmt;
+use crate::text::Name;
+use core::fmt;
 
 /// The result of a call.
-pub type Result<T> = std::result::Result<T, Error>;
+pub type Result<T> = core::result::Result<T, Error>;
 
 /// What is wrong with the bytes, or with what was to be read of them.
 #[derive(Debug, Clone, Copy, PartialEq, Eq, Hash)]
@@ -48,10 +49,9 @@ pub enum ErrorKind {
     OutOfMemory,
     /// Only the section's end closes a table. The value is the position.
     UnterminatedAbbreviations,
+    /// An error that only a newer library than this crate has, by its number.
+    Other(u32),
 }
-
-// No text of an error has more bytes.
-const TEXT_ROOM: usize = 64;
 
 // In the order of their numbers, from 1.
 const KINDS: [ErrorKind; 19] = [
@@ -97,9 +97,14 @@ impl Error {
         Error(sys::Fault { kind: 19, value: end as u64 })
     }
 
+    /// The error for an index that no offset fits.
+    pub(crate) const UNSUPPORTED_OFFSET: Error = Error(sys::Fault { kind: 10, value: 0 });
+
     /// Which error it is.
     pub fn kind(&self) -> ErrorKind {
-        KINDS[self.0.kind as usize - 1]
+        let number = self.0.kind;
+        let index = (number as usize).wrapping_sub(1);
+        KINDS.get(index).copied().unwrap_or(ErrorKind::Other(number))
     }
 
     /// The value of the error. For `UnexpectedEof` and `UnterminatedAbbreviations` it is a
@@ -119,32 +124,44 @@ impl fmt::Debug for Error {
 
 impl fmt::Display for Error {
     fn fmt(&self, f: &mut fmt::Formatter<'_>) -> fmt::Result {
-        let (mut text, mut len) = ([0; TEXT_ROOM], 0);
         // SAFETY: see `sys`.
-        let status =
-            unsafe { sys::dwarf_fault_text(&self.0, text.as_mut_ptr(), TEXT_ROOM, &mut len) };
-        // There is a text for each error, unless memory runs out.
-        match std::str::from_utf8(&text[..len]) {
-            Ok(text) if status == sys::OK => f.write_str(text),
-            _ => f.write_str("out of memory"),
+        let text = Name::written(|text, room, len| unsafe {
+            sys::dwarf_fault_text(&self.0, text, room, len)
+        });
+        match text {
+            Ok(text) => f.pad(&text),
+            // There wasn't enough memory for the text.
+            Err(status) if status == Error::OUT_OF_MEMORY.0.kind => f.pad("out of memory"),
+            Err(_) => write!(f, "unknown error {}", self.0.kind),
         }
     }
 }
 
+#[cfg(feature = "std")]
 impl std::error::Error for Error {}
 
-/// Makes a call, and returns its status, unless that is the number of an error.
-pub(crate) fn check(call: impl FnOnce(&mut sys::Fault) -> u32) -> Result<u32> {
+/// Makes a call that can only succeed or return an error.
+pub(crate) fn check(call: impl FnOnce(&mut sys::Fault) -> u32) -> Result<()> {
+    check_unless(sys::OK, call).map(drop)
+}
+
+/// Makes a call, and returns whether it succeeded. If not, its status is the one that is named.
+pub(crate) fn check_unless(named: u32, call: impl FnOnce(&mut sys::Fault) -> u32) -> Result<bool> {
     let mut fault = sys::Fault::default();
     match call(&mut fault) {
-        status @ (sys::OK | sys::NO_ROOM..) => Ok(status),
-        _ => Err(Error(fault)),
+        sys::OK => Ok(true),
+        status if status == named => Ok(false),
+        1..=99 => Err(Error(fault)),
+        // Only a newer library returns another status.
+        kind => Err(Error(sys::Fault { kind, value: 0 })),
     }
 }
 
 #[cfg(test)]
 mod tests {
     use super::*;
+    use std::format;
+    use std::string::ToString;
 
     // The text of each error without a value, or with the value 0.
     fn text_of(kind: ErrorKind) -> &'static str {
@@ -168,15 +185,35 @@ mod tests {
             ErrorKind::UnsupportedRegister => "unsupported register: 0x0",
             ErrorKind::OutOfMemory => "out of memory",
             ErrorKind::UnterminatedAbbreviations => "unterminated abbreviation table",
+            ErrorKind::Other(_) => "unknown error 20",
         }
     }
 
     // The library's text of a number, which is proved, shows that the number is that of the kind.
     #[test]
     fn numbers_are_those_of_the_library() {
-        for (number, kind) in (1..).zip(KINDS) {
+        for (number, kind) in (1..).zip(KINDS.into_iter().chain([ErrorKind::Other(20)])) {
             let error = Error(sys::Fault { kind: number, value: 0 });
             assert_eq!((error.kind(), error.to_string().as_str()), (kind, text_of(kind)));
         }
+    }
+
+    // As a library would return them that is newer than this crate, or wrong.
+    #[test]
+    fn unknown_numbers_are_errors() {
+        for (status, value, shown) in [(0, 0, "Ok(true)"), (102, 0, "Ok(false)")]
+            .into_iter()
+            .chain([(1, 7, "Err(UnexpectedEof(7))"), (20, 7, "Err(Other(20)(7))")])
+            .chain([(99, 7, "Err(Other(99)(7))"), (100, 7, "Err(Other(100)(0))")])
+            .chain([(u32::MAX, 7, "Err(Other(4294967295)(0))")])
+        {
+            let made = check_unless(sys::END, |fault| {
+                *fault = sys::Fault { kind: status, value };
+                status
+            });
+            assert_eq!(format!("{:?}", made), shown);
+        }
+        let error = Error(sys::Fault { kind: 0, value: 0 });
+        assert_eq!((error.kind(), &*error.to_string()), (ErrorKind::Other(0), "unknown error 0"));
     }
 }

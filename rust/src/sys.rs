@@ -1,13 +1,15 @@
-//! The declarations of `include/dwarf_read.h`, which says what each call does.
+//! The declarations of `dwarf_read.h`, which says what each call does.
 //!
 //! A call is safe if what a caller promises there holds. This is so for each call of this crate: a
 //! slice is valid for as many items as its length says, and a vector for as many as its capacity;
 //! an output overlaps nothing, since it is borrowed mutably for the call.
 //!
-//! `build.rs` compares the structs with those of the header.
+//! The symbol of a call that passes one of these structs ends in the version of that struct, so a
+//! library with other structs isn't linked. `tests/layouts.rs` compares them with the header.
 
 pub const OK: u32 = 0;
 pub const NO_ROOM: u32 = 100;
+pub const END: u32 = 102;
 
 /// The error of a call.
 #[repr(C)]
@@ -19,7 +21,7 @@ pub struct Fault {
 
 /// A set of addresses or of string offsets.
 #[repr(C)]
-#[derive(Debug, Default, Clone, Copy, PartialEq, Eq, Hash)]
+#[derive(Debug, Default, Clone, Copy, PartialEq, Eq)]
 pub struct Set {
     pub next: usize,
     pub unit_length: usize,
@@ -31,7 +33,7 @@ pub struct Set {
 
 /// How large a table is.
 #[repr(C)]
-#[derive(Debug, Default, Clone, Copy, PartialEq, Eq, Hash)]
+#[derive(Debug, Default, Clone, Copy, PartialEq, Eq)]
 pub struct Measure {
     pub abbreviations: usize,
     pub attributes: usize,
@@ -41,7 +43,7 @@ pub struct Measure {
 
 /// An abbreviation.
 #[repr(C)]
-#[derive(Debug, Default, Clone, Copy, PartialEq, Eq, Hash)]
+#[derive(Debug, Default, Clone, Copy)]
 pub struct Abbreviation {
     pub code: u64,
     pub tag: u16,
@@ -52,20 +54,22 @@ pub struct Abbreviation {
 
 /// An attribute of an abbreviation.
 #[repr(C)]
-#[derive(Debug, Default, Clone, Copy, PartialEq, Eq, Hash)]
+#[derive(Debug, Default, Clone, Copy, PartialEq, Eq)]
 pub struct Attribute {
     pub name: u16,
     pub form: u16,
     pub implicit_const: i64,
 }
 
-unsafe extern "C" {
+extern "C" {
     pub fn dwarf_uleb128(
         bytes: *const u8, len: usize, value: &mut u64, number_len: &mut usize, fault: &mut Fault,
     ) -> u32;
     pub fn dwarf_sleb128(
         bytes: *const u8, len: usize, value: &mut i64, number_len: &mut usize, fault: &mut Fault,
     ) -> u32;
+    pub fn dwarf_uleb128_write(value: u64, bytes: *mut u8, room: usize, len: &mut usize) -> u32;
+    pub fn dwarf_sleb128_write(value: i64, bytes: *mut u8, room: usize, len: &mut usize) -> u32;
     pub fn dwarf_string(
         section: *const u8, len: usize, offset: usize, string_len: &mut usize, fault: &mut Fault,
     ) -> u32;
@@ -87,6 +91,10 @@ unsafe extern "C" {
         section: *const u8, len: usize, is_big: bool, offset: usize, set: &mut Set,
         fault: &mut Fault,
     ) -> u32;
+    #[link_name = "dwarf_table_measure_0_3"]
+    pub fn dwarf_table_measure(
+        section: *const u8, len: usize, offset: usize, measure: &mut Measure, fault: &mut Fault,
+    ) -> u32;
     #[link_name = "dwarf_table_read_0_3"]
     pub fn dwarf_table_read(
         section: *const u8, len: usize, offset: usize, abbreviations: *mut Abbreviation,
@@ -96,9 +104,9 @@ unsafe extern "C" {
     pub fn dwarf_form_size(
         form: u16, version: u16, address_size: u8, is_64: bool, size: &mut usize,
     ) -> u32;
-    #[cfg(test)]
     pub fn dwarf_constant_name(
         family: u32, value: u64, name: *mut u8, room: usize, len: &mut usize,
     ) -> u32;
     pub fn dwarf_fault_text(fault: &Fault, text: *mut u8, room: usize, len: &mut usize) -> u32;
+    pub fn dwarf_read_version(version: *mut u8, room: usize, len: &mut usize) -> u32;
 }

@@ -1,9 +1,9 @@
 //! The three functions through which the library requests memory, over those of the C library.
 
-use std::ffi::c_void;
-use std::ptr::NonNull;
+use core::ffi::c_void;
+use core::ptr::NonNull;
 
-unsafe extern "C" {
+extern "C" {
     fn malloc(size: usize) -> *mut c_void;
     fn realloc(block: *mut c_void, size: usize) -> *mut c_void;
     fn free(block: *mut c_void);
@@ -23,22 +23,26 @@ fn tried(block: *mut c_void) -> Tried {
 
 // A block of no bytes has as many as its alignment, so that null means that the allocation failed.
 fn size_of(size: usize, align: usize) -> usize {
-    if size == 0 { align } else { size }
+    if size == 0 {
+        align
+    } else {
+        size
+    }
 }
 
-#[unsafe(no_mangle)]
+#[no_mangle]
 unsafe extern "C" fn rattle_alloc(size: usize, align: usize) -> Tried {
-    tried(unsafe { malloc(size_of(size, align)) })
+    tried(malloc(size_of(size, align)))
 }
 
-#[unsafe(no_mangle)]
+#[no_mangle]
 unsafe extern "C" fn rattle_realloc(
     block: *mut c_void, _kept: usize, size: usize, align: usize,
 ) -> Tried {
-    tried(unsafe { realloc(block, size_of(size, align)) })
+    tried(realloc(block, size_of(size, align)))
 }
 
-#[unsafe(no_mangle)]
+#[no_mangle]
 unsafe extern "C" fn rattle_dealloc(block: *mut c_void) {
-    unsafe { free(block) }
+    free(block)
 }

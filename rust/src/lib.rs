@@ -7,18 +7,18 @@
 //!
 //! ```
 //! use dwarf_read::constants::{DW_AT_name, DW_TAG_compile_unit};
-//! use dwarf_read::{Table, form_name, tag_name};
+//! use dwarf_read::Table;
 //!
 //! # fn main() -> Result<(), dwarf_read::Error> {
 //! let section = [1, 0x11, 1, 3, 8, 0, 0, 0];
 //! let table = Table::read(&section, 0)?;
 //! let unit = table.get(1).unwrap();
 //! assert_eq!(unit.tag(), DW_TAG_compile_unit);
-//! assert_eq!(tag_name(unit.tag()), Some("DW_TAG_compile_unit"));
+//! assert_eq!(unit.tag().to_string(), "DW_TAG_compile_unit");
 //! assert!(unit.has_children());
 //! let attribute = unit.attributes()[0];
 //! assert_eq!(attribute.name(), DW_AT_name);
-//! assert_eq!(form_name(attribute.form()), Some("DW_FORM_string"));
+//! assert_eq!(attribute.form().to_string(), "DW_FORM_string");
 //! # Ok(())
 //! # }
 //! ```
@@ -27,9 +27,21 @@
 //!
 //! `tools/install` of the repository installs the static library. `build.rs` finds it by
 //! `pkg-config`, or in the folder that the environment variable `DWARF_READ_LIB` names. It is for
-//! Linux on processors from x86-64-v2 on. `cargo check` and `cargo doc` need no library.
+//! Linux on processors from x86-64-v2 on. `cargo check` and `cargo doc` need no library. A library
+//! whose structs differ from those of this crate isn't linked, since its symbols have other names.
+//!
+//! # Features
+//!
+//! The crate needs `alloc`, and a C library. `std`, which is on by default, implements
+//! `std::error::Error` for [`Error`].
+#![no_std]
 #![warn(missing_docs)]
 
+extern crate alloc;
+#[cfg(any(feature = "std", test))]
+extern crate std;
+
+mod bytes;
 pub mod constants;
 mod error;
 #[cfg(has_heap)]
@@ -37,12 +49,19 @@ mod heap;
 mod sets;
 mod sys;
 mod table;
+mod text;
 
-use constants::Family;
+use constants::{DwAt, DwForm, DwTag};
 use error::check;
 pub use error::{Error, ErrorKind, Result};
-pub use sets::{Entries, Set, Sets, address_sets, str_offset_sets};
-pub use table::{Abbreviation, Abbreviations, Attribute, Table, Tables, tables};
+pub use sets::{address_sets, str_offset_sets, Entries, Set, Sets};
+pub use table::{measure, tables, Abbreviation, Abbreviations, Attribute, Measure, Table, Tables};
+pub use text::Name;
+
+// The program that is shown there.
+#[cfg(doctest)]
+#[doc = include_str!("../README.md")]
+struct Readme;
 
 /// The order of the bytes of a number.
 #[derive(Debug, Clone, Copy, PartialEq, Eq, Hash)]
@@ -97,6 +116,39 @@ pub fn sleb128(bytes: &[u8]) -> Result<(i64, usize)> {
     Ok((value, len))
 }
 
+/// Writes the shortest bytes of an unsigned LEB128 number to the front of these. Returns how many
+/// they are, at most ten; or `None`, and writes nothing, if there are fewer places.
+///
+/// ```
+/// let mut bytes = [0; 10];
+/// assert_eq!(dwarf_read::uleb128_write(12857, &mut bytes), Some(2));
+/// assert_eq!(bytes[..2], [0xb9, 0x64]);
+/// assert_eq!(dwarf_read::uleb128_write(12857, &mut bytes[..1]), None);
+/// ```
+pub fn uleb128_write(value: u64, bytes: &mut [u8]) -> Option<usize> {
+    let mut len = 0;
+    // SAFETY: see `sys`.
+    let status =
+        unsafe { sys::dwarf_uleb128_write(value, bytes.as_mut_ptr(), bytes.len(), &mut len) };
+    (status == sys::OK).then_some(len)
+}
+
+/// Writes the shortest bytes of a signed LEB128 number, as [`uleb128_write`] those of an unsigned
+/// one.
+///
+/// ```
+/// let mut bytes = [0; 10];
+/// assert_eq!(dwarf_read::sleb128_write(-42, &mut bytes), Some(1));
+/// assert_eq!(bytes[0], 0x56);
+/// ```
+pub fn sleb128_write(value: i64, bytes: &mut [u8]) -> Option<usize> {
+    let mut len = 0;
+    // SAFETY: see `sys`.
+    let status =
+        unsafe { sys::dwarf_sleb128_write(value, bytes.as_mut_ptr(), bytes.len(), &mut len) };
+    (status == sys::OK).then_some(len)
+}
+
 /// Returns the string at an offset of `.debug_str` or `.debug_line_str`, without the zero byte that
 /// ends it.
 ///
@@ -128,8 +180,9 @@ pub fn string(section: &[u8], offset: usize) -> Result<&[u8]> {
 /// - `UnexpectedEof` at `base` if the entry begins past the end, and at the entry if it ends past
 ///   the end.
 pub fn str_offset(
-    section: &[u8], order: ByteOrder, is_64: bool, base: usize, index: usize,
+    section: &[u8], order: ByteOrder, is_64: bool, base: usize, index: u64,
 ) -> Result<usize> {
+    let index = sets::place(index)?;
     let (bytes, len, is_big, mut offset) = (section.as_ptr(), section.len(), order.is_big(), 0);
     // SAFETY: see `sys`.
     check(|fault| unsafe {
@@ -145,9 +198,8 @@ pub fn str_offset(
 ///
 /// Those of [`str_offset`], and before the last of them `UnsupportedAddressSize` for any other
 /// size.
-pub fn address(
-    section: &[u8], order: ByteOrder, size: u8, base: usize, index: usize,
-) -> Result<u64> {
+pub fn address(section: &[u8], order: ByteOrder, size: u8, base: usize, index: u64) -> Result<u64> {
+    let index = sets::place(index)?;
     let (bytes, len, is_big, mut address) = (section.as_ptr(), section.len(), order.is_big(), 0);
     // SAFETY: see `sys`.
     check(|fault| unsafe {
@@ -168,24 +220,37 @@ pub fn address(
 /// assert_eq!(form_size(DW_FORM_ref_addr, 5, 8, false), Some(4));
 /// assert_eq!(form_size(DW_FORM_udata, 5, 8, false), None);
 /// ```
-pub fn form_size(form: u16, version: u16, address_size: u8, is_64: bool) -> Option<usize> {
+pub fn form_size(form: DwForm, version: u16, address_size: u8, is_64: bool) -> Option<usize> {
     let mut size = 0;
     // SAFETY: see `sys`.
-    let status = unsafe { sys::dwarf_form_size(form, version, address_size, is_64, &mut size) };
+    let status = unsafe { sys::dwarf_form_size(form.0, version, address_size, is_64, &mut size) };
     (status == sys::OK).then_some(size)
 }
 
-/// Returns the name of a tag, if it has one. [`Family::name`] returns that of any constant.
-pub fn tag_name(tag: u16) -> Option<&'static str> {
-    Family::Tag.name(tag.into())
+/// Returns the name of a tag, if it has one. Each type of [`constants`] has a call `name`.
+pub fn tag_name(tag: DwTag) -> Option<Name> {
+    tag.name()
 }
 
 /// Returns the name of an attribute, if it has one.
-pub fn attribute_name(name: u16) -> Option<&'static str> {
-    Family::At.name(name.into())
+pub fn attribute_name(name: DwAt) -> Option<Name> {
+    name.name()
 }
 
 /// Returns the name of a form, if it has one.
-pub fn form_name(form: u16) -> Option<&'static str> {
-    Family::Form.name(form.into())
+pub fn form_name(form: DwForm) -> Option<Name> {
+    form.name()
+}
+
+/// Returns the version of the library, such as 0.3.0. That of a library that isn't proved ends in
+/// `-unproved`.
+///
+/// ```
+/// assert!(dwarf_read::version().starts_with("0."));
+/// ```
+pub fn version() -> Name {
+    // SAFETY: see `sys`.
+    let written =
+        Name::written(|version, room, len| unsafe { sys::dwarf_read_version(version, room, len) });
+    written.unwrap_or_default()
 }

@@ -1,8 +1,10 @@
 //! Sets of addresses and of string offsets.
 
-use crate::error::{Result, check};
-use crate::{ByteOrder, address, str_offset, sys};
-use std::iter::FusedIterator;
+use crate::bytes::Bytes;
+use crate::error::{check_unless, Error, Result};
+use crate::{address, str_offset, sys, ByteOrder};
+use core::fmt;
+use core::iter::FusedIterator;
 
 #[derive(Debug, Clone, Copy, PartialEq, Eq)]
 enum Kind {
@@ -45,8 +47,13 @@ pub fn str_offset_sets(section: &[u8], order: ByteOrder) -> Sets<'_> {
     Sets { section, order, kind: Kind::StrOffsets, offset: Some(0) }
 }
 
+/// An index, as the calls take it. One that no offset fits is the error that a product is.
+pub(crate) fn place(index: u64) -> Result<usize> {
+    usize::try_from(index).map_err(|_| Error::UNSUPPORTED_OFFSET)
+}
+
 /// The sets of a section, in the order of their offsets. If there is an error, it is the last item.
-#[derive(Debug, Clone)]
+#[derive(Clone)]
 pub struct Sets<'s> {
     section: &'s [u8],
     order: ByteOrder,
@@ -64,10 +71,11 @@ impl<'s> Sets<'s> {
         let (bytes, len, is_big) = (self.section.as_ptr(), self.section.len(), self.order.is_big());
         let mut header = sys::Set::default();
         // SAFETY: see `crate::sys`.
-        let status =
-            check(|fault| unsafe { call(bytes, len, is_big, offset, &mut header, fault) })?;
+        let is_set = check_unless(sys::END, |fault| unsafe {
+            call(bytes, len, is_big, offset, &mut header, fault)
+        })?;
         let Sets { order, kind, .. } = *self;
-        Ok((status == sys::OK).then(|| {
+        Ok(is_set.then(|| {
             // Nothing after the set is read.
             let section = &self.section[..header.next];
             Set { section, order, kind, offset, header }
@@ -88,8 +96,21 @@ impl<'s> Iterator for Sets<'s> {
 
 impl FusedIterator for Sets<'_> {}
 
+impl fmt::Debug for Sets<'_> {
+    fn fmt(&self, f: &mut fmt::Formatter<'_>) -> fmt::Result {
+        f.debug_struct("Sets")
+            .field("section", &Bytes(self.section))
+            .field("order", &self.order)
+            .field("offset", &self.offset)
+            .finish()
+    }
+}
+
 /// A set of addresses or of string offsets.
-#[derive(Debug, Clone, Copy, PartialEq, Eq)]
+///
+/// Sets are equal if both are of the same kind, and equal in their headers and entries: not by
+/// where they are, nor by the order of their bytes.
+#[derive(Clone, Copy)]
 pub struct Set<'s> {
     section: &'s [u8],
     order: ByteOrder,
@@ -135,7 +156,7 @@ impl<'s> Set<'s> {
     ///
     /// `UnexpectedEof` if the set doesn't contain all of its bytes, and `UnsupportedOffset` if the
     /// index times the size of an entry is 2^64 or more.
-    pub fn get(&self, index: usize) -> Result<u64> {
+    pub fn get(&self, index: u64) -> Result<u64> {
         let (base, size) = (self.header.first_entry, self.header.entry_size);
         match self.kind {
             Kind::Addresses => address(self.section, self.order, size, base, index),
@@ -152,12 +173,36 @@ impl<'s> Set<'s> {
     }
 }
 
+impl PartialEq for Set<'_> {
+    fn eq(&self, other: &Self) -> bool {
+        let of_header = |it: &Self| (it.kind, it.unit_length(), it.is_64(), it.entry_size());
+        // The lengths of both and the sizes of their entries are equal, and so are the counts.
+        let whole = |it: &Self| it.entries().take(it.entry_count());
+        of_header(self) == of_header(other) && whole(self).eq(whole(other))
+    }
+}
+
+impl Eq for Set<'_> {}
+
+impl fmt::Debug for Set<'_> {
+    fn fmt(&self, f: &mut fmt::Formatter<'_>) -> fmt::Result {
+        f.debug_struct("Set")
+            .field("offset", &self.offset())
+            .field("unit_length", &self.unit_length())
+            .field("is_64", &self.is_64())
+            .field("entry_size", &self.entry_size())
+            .field("entry_count", &self.entry_count())
+            .field("bytes", &Bytes(&self.section[self.base()..]))
+            .finish()
+    }
+}
+
 /// The entries of a set.
 #[derive(Debug, Clone)]
 pub struct Entries<'s> {
     set: Set<'s>,
     // The index of the next entry, unless there was an error.
-    index: Option<usize>,
+    index: Option<u64>,
 }
 
 impl Iterator for Entries<'_> {
@@ -167,8 +212,8 @@ impl Iterator for Entries<'_> {
         let index = self.index.take()?;
         let header = &self.set.header;
         // An entry that is cut counts, too, so that reading it is an error.
-        let count = (header.next - header.first_entry).div_ceil(header.entry_size.into());
-        if index == count {
+        let is_cut = (header.next - header.first_entry) % usize::from(header.entry_size) != 0;
+        if index == header.entry_count as u64 + u64::from(is_cut) {
             return None;
         }
         let entry = self.set.get(index);

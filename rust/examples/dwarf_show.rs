@@ -15,13 +15,8 @@ use std::process::ExitCode;
 
 type Result<T> = std::result::Result<T, Box<dyn Error>>;
 
-fn named(name: Option<&str>, kind: &str, value: u16) -> String {
-    name.map_or_else(|| format!("Unknown {kind}: {value}"), str::to_owned)
-}
-
 fn attribute_line(attribute: &Attribute) -> String {
-    let name = named(dwarf_read::attribute_name(attribute.name()), "DwAt", attribute.name());
-    let form = named(dwarf_read::form_name(attribute.form()), "DwForm", attribute.form());
+    let (name, form) = (attribute.name(), attribute.form());
     match attribute.implicit_const() {
         Some(value) => format!("  {name} {form} {value}"),
         None => format!("  {name} {form}"),
@@ -30,9 +25,8 @@ fn attribute_line(attribute: &Attribute) -> String {
 
 fn write_table(out: &mut impl Write, section: &[u8], offset: usize) -> Result<()> {
     for it in &Table::read(section, offset)? {
-        let tag = named(dwarf_read::tag_name(it.tag()), "DwTag", it.tag());
         let children = if it.has_children() { "yes" } else { "no" };
-        writeln!(out, "{} {tag} {children}", it.code())?;
+        writeln!(out, "{} {} {children}", it.code(), it.tag())?;
         for attribute in it.attributes() {
             writeln!(out, "{}", attribute_line(attribute))?;
         }
@@ -85,11 +79,16 @@ fn show(command: &str, word: &str) -> Result<()> {
 
 fn main() -> ExitCode {
     let words: Vec<String> = std::env::args().skip(1).collect();
-    let [command, word] = words.as_slice() else {
-        eprintln!("usage: dwarf_show abbrev OFFSET | str OFFSET | addr le|be | str-offsets le|be");
-        return ExitCode::from(2);
+    let shown = match words.as_slice() {
+        [command, word] => show(command, word),
+        _ => {
+            eprintln!(
+                "usage: dwarf_show abbrev OFFSET | str OFFSET | addr le|be | str-offsets le|be"
+            );
+            return ExitCode::from(2);
+        }
     };
-    match show(command, word) {
+    match shown {
         Ok(()) => ExitCode::SUCCESS,
         Err(error) => {
             eprintln!("error: {error}");
