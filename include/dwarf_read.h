@@ -6,9 +6,10 @@
  * The headers need C99 or C++11, or a later standard. The library is for Linux on x86-64, on processors of
  * level x86-64-v2 and above.
  *
- * Link libdwarf_read.a, which `tools/install` installs. It contains all calls, and the three functions
- * of dwarf_read_heap.h that they allocate memory with. A program that defines all three is linked with
- * its own. Without an installation, link libdwarf_read_c.a and dwarf_read_heap.c.
+ * Link libdwarf_read.so or libdwarf_read.a. Each contains all calls, and the three functions of
+ * dwarf_read_heap.h that they allocate memory with. A program that defines all three needs the archive, and
+ * is linked with its own: the shared library calls those inside. Without an installation, link
+ * libdwarf_read_c.a and dwarf_read_heap.c.
  *
  * WHAT A CALL DOES. A call returns DWARF_OK and has written its outputs, or it returns another status.
  * A status from 1 to 99 is the number of an error. The call has then written that number to `fault`,

@@ -1,6 +1,7 @@
 /*
  * The three functions that the library allocates memory with. dwarf_read_heap.c defines them over malloc, realloc and
- * free. A program may define all three instead, over one other allocator; then those of the library aren't linked.
+ * free. A program that links libdwarf_read.a may define all three instead, over one other allocator; then those of the
+ * archive aren't linked. libdwarf_read.so calls those inside.
  *
  * They have the names that the compiler of the library, Rattle's, gives to them in each library that it makes. So two
  * such libraries in a program use the same three.

@@ -12,7 +12,6 @@ import typing
 from dataclasses import dataclass
 
 if typing.TYPE_CHECKING:
-    from debug_file import Section
     from debug_relocations import Relocations
 
 MAGIC = b"\x7fELF"
@@ -43,6 +42,8 @@ class Unopened(Unlisted):
     status = 3
 
 
+# What is called with a line that says which part of a file can't be read.
+Say = typing.Callable[[str], object]
 # What is called with a place at which a relocation can't be applied, and with the reason.
 OnError = typing.Callable[[int, Unlisted], object]
 # What finds the tables of relocations of some bytes. Most have none.
@@ -72,13 +73,6 @@ def layouts(bits: int, order: str) -> Layouts:
     else:
         forms = "16x2H12xI10x3H", "3I4x4I8x", "2I4x"
     return Layouts(*(struct.Struct(mark + it) for it in forms))
-
-
-class Say(typing.Protocol):
-    """What tells that a part of a file can't be read."""
-
-    def __call__(self, text: str, *, section: Section | None = None) -> object:
-        """Tells it in these words, maybe of a section."""
 
 
 class Body:

@@ -185,21 +185,19 @@ class DebugFile(ElfFile):
         try:
             yield
         except Unlisted as error:
-            if isinstance(what, Section):
-                self.say(f"{what} {error}", section=what)
-            else:
-                self.tell_of(what, str(error))
+            self.tell_of(what, error)
 
-    def tell_of(self, unit: Unit, text: str) -> None:
-        """Tells what is wrong with a unit."""
-        self.errors[unit.section.number] += 1
-        self.say(f"{unit} {text}", section=unit.section)
+    def tell_of(self, what: Section | Unit, text: object) -> None:
+        """Tells what is wrong with a section or a unit."""
+        if isinstance(what, Unit):
+            self.errors[what.section.number] += 1
+        self.say(f"{what} {text}")
 
     def has_many_errors(self, section: Section) -> bool:
         """Whether so many units of a section have errors that the rest isn't read, which is told then."""
         if self.errors[section.number] < ERRORS:
             return False
-        self.say(f"{section} has {ERRORS} errors, and the rest of its units isn't read", section=section)
+        self.say(f"{section} has {ERRORS} errors, and the rest of its units isn't read")
         return True
 
     def named(self, *bases: str) -> list[Section]:
@@ -347,8 +345,8 @@ class DebugFile(ElfFile):
             raise Unlisted(f"has the reserved length 0x{length:x}")
         return length, 4, at + 4
 
-    def zeros(self, section: Section, body: Body, at: int) -> int:
-        """How many bytes of value 0 are at an offset, in fours, as padding is. They are told."""
+    def padding(self, body: Body, at: int) -> int:
+        """How many bytes of value 0 are at an offset, in fours."""
         # Most places have none.
         if body[at : at + 4] != bytes(4):
             return 0
@@ -358,7 +356,6 @@ class DebugFile(ElfFile):
             found += many
             if many < len(chunk):
                 break
-        self.say(f"the {found} bytes at 0x{at:x} of {section} are zero, and passed over")
         return found
 
     def units(self, family: tuple[str, str]) -> list[Unit]:
@@ -379,8 +376,9 @@ class DebugFile(ElfFile):
         while body.has(at) and not self.has_many_errors(section):
             unit = Unit(section, at)
             try:
-                padding = self.zeros(section, body, at)
+                padding = self.padding(body, at)
                 if padding:
+                    self.say(f"the {padding} bytes at 0x{at:x} of {section} are zero, and passed over")
                     at += padding
                     continue
                 length, unit.word, begin = self.initial_length(body, at)
@@ -436,9 +434,10 @@ class DebugFile(ElfFile):
 
     def place_of_table(self, unit: Unit) -> int:
         """Where a unit's table is in its section: in a package the unit counts from its contribution."""
-        if self.package is None or not unit.section.family[1]:
+        package = self.package_of(unit.section)
+        if package is None:
             return unit.table
-        row = self.package.row(unit)
+        row = package.row(unit)
         if "debug_abbrev" not in row:
             raise Unlisted("has no row with a table in the package's index, so its table isn't found")
         start, size = row["debug_abbrev"]
@@ -448,6 +447,10 @@ class DebugFile(ElfFile):
 
     # Packages.
 
+    def package_of(self, section: Section) -> Package | None:
+        """The package whose indexes are for a section, or None if there is none."""
+        return self.package if section.family[1] else None
+
     def is_unindexed(self, family: tuple[str, str]) -> bool:
         """Whether these are sections of a package whose indexes have no rows, so that nothing says where a unit's
         contributions are."""
@@ -455,9 +458,10 @@ class DebugFile(ElfFile):
 
     def users(self, section: Section, start: int, units: list[Unit]) -> list[Unit]:
         """The units that use what is at an offset of a section. In a package the rows say it, and else all do."""
-        if self.package is None or not section.family[1]:
+        package = self.package_of(section)
+        if package is None:
             return units
-        return [it for it in units if self.package.row(it).get(section.base, (None,))[0] == start]
+        return [it for it in units if package.row(it).get(section.base, (None,))[0] == start]
 
     def indexed(self) -> Package | None:
         """The indexes of a package, or None if the file is none."""

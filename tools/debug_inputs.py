@@ -258,7 +258,7 @@ def checksum(body: Body) -> int:
 def build_id_of(path: str) -> str:
     """The build-id of a file, or an empty text."""
     try:
-        link = link_of(ElfFile(opened(path), lambda *_, **__: None))
+        link = link_of(ElfFile(opened(path), lambda _: None))
     except Unlisted:
         return ""
     return link.build_id if link else ""

@@ -158,6 +158,43 @@ def copy_crates(crates: Sequence[str], folder: str) -> None:
     kit.put(f"{folder}/crates.txt", "".join(it for it in lines if re.split(r"\W", it)[0] in crates))
 
 
+def take_libraries(crates: Sequence[str], folder: str) -> bool:
+    """Puts the libraries that `rt ci` has kept of these crates, lowest first, into a copy of their sources. Returns
+    whether it has kept all of them."""
+    rt = kit.load_rt()
+    if not hasattr(rt, "Kept"):
+        # An older kit keeps none.
+        return False
+    known: dict[str, object] = {}
+    copies = [rt.Crate(f"{folder}/crates/{it}", folder, known) for it in crates]
+    kept = rt.Kept(copies)
+    for it in copies:
+        os.makedirs(f"{it.folder}/out", exist_ok=True)
+        if not kept.give(it, False, kept.key(it)):
+            return False
+        # The keys of those above are made from what stands there.
+        kept.is_built(it)
+    return True
+
+
+@contextlib.contextmanager
+def libraries(crate: str, tell: Callable[[str], object]) -> Iterator[Optional[str]]:
+    """A copy of the sources of a crate and of those below it, with the proved libraries of these. If `rt ci` has kept all
+    of them on this machine, they are taken, and nothing is proved or run. Otherwise `rt ci` passes first, with their
+    tests. If one isn't proved, there is no copy, but None."""
+    below = kit.below(crate)
+    with tempfile.TemporaryDirectory(prefix="libraries-") as folder:
+        copy_crates([*below, crate], folder)
+        if take_libraries(below, folder):
+            tell(f"{', '.join(below)}: an earlier rt ci has kept their libraries")
+            yield folder
+            return
+    with proved(below, tell) as copy:
+        if copy:
+            copy_crates([*below, crate], copy)
+        yield copy
+
+
 @contextlib.contextmanager
 def proved(crates: Sequence[str], tell: Callable[[str], object]) -> Iterator[Optional[str]]:
     """A copy of the sources of these crates and of those below them, in which the kit's `rt ci` has passed. It proves

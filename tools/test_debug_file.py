@@ -6,7 +6,6 @@ The whole tool is compared with other programs by `tools/compare-elf`.
 from __future__ import annotations
 
 import io
-import json
 import os
 import struct
 import sys
@@ -23,8 +22,9 @@ from debug_elf import ERRORS, Body, Stream, Unlisted
 from debug_file import DebugFile
 import debug_inputs
 from debug_inputs import DebugLink, inputs, kind_of, link_of
-from debug_listing import Span, end_of_table, joined, parts_between, places_of_strings
-from debug_output import Json, Text
+import debug_listing
+from debug_listing import Listing, Take, end_of_table, parts_between
+from debug_output import Report
 
 # Types of sections.
 PROGBITS, SYMTAB, STRTAB, RELA, NOTE = 1, 2, 3, 4, 7
@@ -65,7 +65,7 @@ def elf(
 def read(data: bytes) -> tuple[DebugFile, list[str]]:
     """A file, and what is told of it."""
     told: list[str] = []
-    return DebugFile(body(data), lambda text, **_: told.append(str(text))), told
+    return DebugFile(body(data), told.append), told
 
 
 def with_relocation(
@@ -248,7 +248,7 @@ class ManyErrors(unittest.TestCase):
         units = 50
         data = elf([(".debug_info", PROGBITS, (self.UNIT + bytes(4)) * units + b"x" * (1 << 20), 0, 0)])
         counting = CountingFile(data)
-        file = DebugFile(Body(counting, 0, len(data)), lambda *_, **__: None)
+        file = DebugFile(Body(counting, 0, len(data)), lambda _: None)
         file.tables()
         self.assertLess(counting.count, units * (1 << 13))
 
@@ -474,10 +474,6 @@ class Inputs(unittest.TestCase):
 
 
 class Places(unittest.TestCase):
-    def test_strings(self) -> None:
-        self.assertEqual(list(places_of_strings(body(b""))), [])
-        self.assertEqual(list(places_of_strings(body(b"a\0\0bc"))), [(0, 1), (2, 2), (3, 5)])
-
     def test_the_end_of_a_table(self) -> None:
         one = bytes.fromhex("01 11 01 03 08 13 21 ff 7f 00 00")
         # A zero and a form may be longer than they need to be.
@@ -520,69 +516,126 @@ class Places(unittest.TestCase):
             with self.subTest(data=data, offsets=offsets):
                 self.assertEqual(list(parts_between(data, offsets)), wanted)
 
-    def test_sets_that_follow_each_other(self) -> None:
-        sets = [Span(0, 4, True), Span(4, 8, True), Span(12, 16, True)]
-        self.assertEqual(list(joined(sets)), [(0, 8), (12, 16)])
+
+# A run of the program: the section, and the offsets or None for all of it.
+Run = tuple[bytes, typing.Optional[list[bytes]]]
+# What it prints, and its errors.
+Said = tuple[bytes, list[str]]
+# Units of version 4 and 5, and addresses with and without a header.
+UNIT_4 = struct.pack("<IHIB", 7, 4, 0, 8)
+UNIT_5 = struct.pack("<IHBBI", 8, 5, 1, 8, 0)
+ENTRY = struct.pack("<Q", 0x1234)
+HEADER = struct.pack("<IHBB", 12, 5, 8, 0)
+MADE = b"\xff\xff\xff\xff" + struct.pack("<QHBB", 12, 5, 8, 0)
 
 
-class Objects(unittest.TestCase):
-    def printed(self, call: typing.Callable[[Json], None]) -> list[typing.Any]:
-        """The objects that a call prints, without the name of the file."""
-        text = io.BytesIO()
-        with mock.patch.object(sys, "stdout", mock.Mock(buffer=text)):
-            call(Json())
-        found = [json.loads(it) for it in text.getvalue().splitlines()]
-        return [{name: it for name, it in one.items() if name != "file"} for one in found]
+class Sets(unittest.TestCase):
+    """How the program is run, in whose place a function is here."""
 
-    def test_tables(self) -> None:
-        lines = (
-            b"table 0x10:\n",
-            b"1 Unknown DwTag: 4660 no\n",
-            b"  DW_AT_decl_file DW_FORM_implicit_const -42\n",
-            b"  Unknown DwAt: 9000 Unknown DwForm: 99\n",
-            b"error at 0x20, status 1: invalid abbreviation tag: zero\n",
-            b"table 0x30:\n",
+    def listed(
+        self, command: str, sections: list[Section], said: typing.Sequence[Said], *options: str
+    ) -> tuple[list[Run], bytes, list[str]]:
+        """The runs of the program, which prints these texts and errors. Returns what is listed and told, too."""
+        runs: list[Run] = []
+        texts = iter(said)
+
+        def run(
+            kind: list[str], section: typing.BinaryIO, offsets: typing.Iterable[bytes] | None, take: Take
+        ) -> tuple[int, list[str]]:
+            section.seek(0)
+            runs.append((section.read(), None if offsets is None else list(offsets)))
+            text, errors = next(texts)
+            take(io.BytesIO(text))
+            return int(bool(errors)), errors
+
+        file, told = read(elf(sections))
+        report = Report()
+        output = io.BytesIO()
+        with mock.patch.object(debug_listing, "run", run), mock.patch.object(debug_listing, "program", lambda: ""):
+            with mock.patch.object(sys, "stdout", mock.Mock(buffer=output)), mock.patch("debug_output.tell"):
+                Listing(file, command, report).list_all(None, {*options})
+        self.assertEqual(next(texts, None), None)
+        return runs, output.getvalue(), [*told, *sorted(report.reported)]
+
+    def test_how_sets_are_listed(self) -> None:
+        good, bad = HEADER + ENTRY, HEADER[:4] + b"\6" + HEADER[5:] + ENTRY
+        no_headers = "section 2 .debug_addr has no headers, as in DWARF 4, and is listed by the units' address size, 8"
+        why = "since a unit of DWARF 4 may have them, as a set without a header"
+        error = "error at 0x0: unknown version: 6"
+        rows: tuple[tuple[str, bytes, bytes, list[str], list[Run], bytes, list[str]], ...] = (
+            ("of version 5", UNIT_5, good, [], [(good, None)], b"set 0x0: x\n  0x1\n", []),
+            ("without units", b"", good, [], [(good, None)], b"set 0x0: x\n  0x1\n", []),
+            (
+                "malformed",
+                UNIT_5,
+                bad + good,
+                [error],
+                [(bad + good, None)],
+                b"set 0x0: x\n  0x1\n",
+                [f"section 2 .debug_addr: {error}"],
+            ),
+            (
+                "of version 4",
+                UNIT_4,
+                ENTRY,
+                [],
+                [(MADE + ENTRY, None)],
+                b"set 0x0: no header, 8 bytes, address size 8\n  0x1\n",
+                [no_headers],
+            ),
+            ("of both", UNIT_4 + UNIT_5, good, [], [(good, None)], b"set 0x0: x\n  0x1\n", []),
+            (
+                "of both, malformed",
+                UNIT_4 + UNIT_5,
+                ENTRY + good,
+                [error],
+                [(ENTRY + good, None)],
+                b"",
+                [f"section 2 .debug_addr: the bytes from 0x0 to 0x18 aren't listed, {why}"],
+            ),
         )
-        attributes = [
-            {"name": "DW_AT_decl_file", "form": "DW_FORM_implicit_const", "value": -42},
-            {"name": "Unknown DwAt: 9000", "form": "Unknown DwForm: 99"},
-        ]
-        one = {"code": 1, "tag": "Unknown DwTag: 4660", "children": False, "attributes": attributes}
-        wanted = [{"offset": 16, "abbreviations": [one]}, {"offset": 48, "abbreviations": []}]
-        errors: list[typing.Any] = []
-        output = io.BytesIO(b"".join(lines))
-        self.assertEqual(self.printed(lambda it: it.tables(output, lambda *error: errors.append(error))), wanted)
-        self.assertEqual(errors, [(32, 1, "invalid abbreviation tag: zero")])
+        for what, units, addresses, errors, runs, wanted, told in rows:
+            sections = [(".debug_info", PROGBITS, units, 0, 0), (".debug_addr", PROGBITS, addresses, 0, 0)]
+            with self.subTest(what):
+                found = self.listed("addr", sections, [(b"set 0x0: x\n  0x1\n", errors)])
+                self.assertEqual(found, (runs, wanted, told))
 
-    def test_that_errors_are_found_in_many_lines(self) -> None:
-        good = b"1 DW_TAG_member no\n" * 5000
-        one, last = b"error at 0x20, status 1: one\n", b"error at 0x30, status 1: last"
-        errors: list[typing.Any] = []
-        text = io.BytesIO()
-        with mock.patch.object(sys, "stdout", mock.Mock(buffer=text)):
-            Text().tables(io.BytesIO(one + good + one + good + last), lambda *error: errors.append(error))
-        self.assertEqual(text.getvalue(), good + good)
-        self.assertEqual(errors, [(32, 1, "one"), (32, 1, "one"), (48, 1, "last")])
-
-    def test_strings(self) -> None:
-        # A newline in a string ends none, a byte that isn't UTF-8 is printed as a number, and the last has an error.
-        wanted = [{"offset": 0, "string": "a\n0x2: b"}, {"offset": 9, "bytes": "e9"}]
-        text = io.BytesIO(b"0x0: a\n0x2: b\n0x9: \xe9\n")
-        self.assertEqual(self.printed(lambda it: it.strings(text, [(0, 8), (9, 10), (11, 12)])), wanted)
-
-    def test_sets(self) -> None:
-        lines = (
-            b"set 0: length 12, 32-bit, address size 8\n",
-            b"  0xfffffffffffffffe\n",
-            b"set 0x10: no header, 8 bytes, 32-bit\n",
-            b"  7\n",
-            b"  0\n",
+    def test_sets_of_a_package(self) -> None:
+        good = struct.pack("<IHHI", 8, 5, 0, 7)
+        bad = b"\xf5\xff\xff\xff" + good[4:]
+        units = struct.pack("<IHBBI", 8, 5, 1, 8, 0) * 2
+        rows = [((0, 12), (0, 12)), ((12, 12), (12, 12))]
+        errors = ["error at 0x0: reserved"]
+        cases: tuple[tuple[bytes, list[Said], list[Run]], ...] = (
+            (good + good, [(b"set 0x0: x\n", [])], [(good + good, None)]),
+            (bad + good, [(b"", errors), (b"x", errors)], [(bad + good, None), (bad + good, [b"0", b"12"])]),
         )
-        wanted = [
-            {"offset": 0, "length": 12, "format": 32, "address_size": 8, "addresses": [0xFFFFFFFFFFFFFFFE]},
-            {"offset": 16, "size": 8, "format": 32, "offsets": [7, 0]},
+        for data, said, runs in cases:
+            sections = [
+                (".debug_info.dwo", PROGBITS, units, 0, 0),
+                (".debug_str_offsets.dwo", PROGBITS, data, 0, 0),
+                (".debug_cu_index", PROGBITS, index(rows, columns=(1, 6)), 0, 0),
+            ]
+            section = "section 2 .debug_str_offsets.dwo:"
+            told = [f"{section} error at 0x0: reserved", f"{section} only the first set of each contribution is listed"]
+            with self.subTest(data=data):
+                wanted = (runs, said[-1][0], told if said[-1][1] else [])
+                self.assertEqual(self.listed("str-offsets", sections, said), wanted)
+
+    def test_strings_of_offsets(self) -> None:
+        sections = [
+            (".debug_info", PROGBITS, UNIT_5, 0, 0),
+            (".debug_str_offsets", PROGBITS, b"sets", 0, 0),
+            (".debug_str", PROGBITS, b"strings", 0, 0),
         ]
-        self.assertEqual(self.printed(lambda it: it.sets(lines, None)), wanted)
+        error = "error at 0x9: the offset is past the end"
+        # A string looks like the line of another offset, and two offsets are one.
+        text = b"set 0x0: length 24, 32-bit\n  0x4\n  0x9\n  0x5\n  0x5\nset 0x1c: length 4, 32-bit\n  0x4\n"
+        said: list[Said] = [(text, []), (b"0x4: 0x9: a\n0x5: b\n0x5: b\n0x4: 0x9: a\n", [error])]
+        lines = text.replace(b"0x4\n", b"0x4: 0x9: a\n").replace(b"0x5\n", b"0x5: b\n")
+        runs = [(b"sets", None), (b"strings", [b"0x4", b"0x9", b"0x5", b"0x5", b"0x4"])]
+        wanted = (runs, lines, [f"section 3 .debug_str: {error}"])
+        self.assertEqual(self.listed("str-offsets", sections, said, "--strings"), wanted)
 
 
 if __name__ == "__main__":

@@ -1,8 +1,11 @@
-"""Tests of where products are kept."""
+"""Tests of where products are kept, and of the libraries that `rt ci` has kept."""
+import contextlib
 import os
 import sys
 import tempfile
 import unittest
+from collections.abc import Iterator
+from types import SimpleNamespace
 from unittest import mock
 
 sys.dont_write_bytecode = True
@@ -26,6 +29,51 @@ class Keeping(unittest.TestCase):
             self.assertEqual(products.find(place, crate), place)
             self.assertEqual(kit.text_of(place), "the program")
             self.assertIsNone(products.find(place, other))
+
+
+class Libraries(unittest.TestCase):
+    """The libraries below a crate are taken if `rt ci` has kept all of them. Otherwise `rt ci` runs."""
+
+    def made(self, kept: set[str]) -> list[str]:
+        """What is done where these are kept: each library that is taken, and the run of `rt ci`."""
+        done: list[str] = []
+
+        class Kept:
+            """What `rt ci` has kept."""
+
+            def __init__(self, crates: object) -> None:
+                pass
+
+            def key(self, crate: SimpleNamespace) -> str:
+                return f"key of {crate.name}"
+
+            def give(self, crate: SimpleNamespace, tests: bool, key: str) -> bool:
+                return not tests and key == f"key of {crate.name}" and crate.name in kept
+
+            def is_built(self, crate: SimpleNamespace) -> None:
+                done.append(crate.name)
+
+        def crate_of(folder: str, root: str, known: object) -> SimpleNamespace:
+            return SimpleNamespace(folder=folder, name=os.path.basename(folder))
+
+        @contextlib.contextmanager
+        def proved(crates: list[str], tell: object) -> Iterator[None]:
+            done.append("rt ci")
+            yield None
+
+        rt = SimpleNamespace(Kept=Kept, Crate=crate_of)
+        with mock.patch.object(kit, "load_rt", return_value=rt), mock.patch.object(products, "proved", proved):
+            with products.libraries("dwarf_read_c", lambda text: None) as copy:
+                self.assertEqual(copy is None, "rt ci" in done)
+        return done
+
+    def test_all_are_kept(self) -> None:
+        below = kit.below("dwarf_read_c")
+        self.assertEqual(self.made({*below}), below)
+
+    def test_one_is_missing(self) -> None:
+        below = kit.below("dwarf_read_c")
+        self.assertEqual(self.made({*below} - {below[2]}), [*below[:2], "rt ci"])
 
 
 if __name__ == "__main__":
