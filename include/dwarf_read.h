@@ -107,12 +107,14 @@ struct dwarf_fault {
  * LEB128 NUMBERS (7.6).
  */
 
-/* Reads the number of at most 64 bits, in at most ten bytes, at the front of the bytes. More bytes may
-   follow it. `number_len` is how many bytes the number has.
+/* A number may have more bytes than it needs, up to a limit: ten bytes for 64 bits, three for the 16 bits of
+   a tag, name or form. It is too long if the last byte of the limit doesn't end it. */
 
-   Errors: DWARF_UNEXPECTED_EOF at `len` if the number doesn't end in the bytes, and there are fewer than
-   ten; DWARF_BAD_UNSIGNED_LEB128 or DWARF_BAD_SIGNED_LEB128 if the number has more than ten bytes or
-   doesn't fit 64 bits. */
+/* Reads the number of at most 64 bits at the front of the bytes. More bytes may follow it. `number_len` is
+   how many bytes the number has.
+
+   Errors: DWARF_UNEXPECTED_EOF at `len` if the bytes end before the number does and before the limit;
+   DWARF_BAD_UNSIGNED_LEB128 or DWARF_BAD_SIGNED_LEB128 if the number is too long or doesn't fit 64 bits. */
 uint32_t dwarf_uleb128(const uint8_t *bytes, size_t len, uint64_t *value, size_t *number_len,
                        struct dwarf_fault *fault);
 uint32_t dwarf_sleb128(const uint8_t *bytes, size_t len, int64_t *value, size_t *number_len,
@@ -253,9 +255,9 @@ struct dwarf_attribute_spec {
 /* Measures the table at an offset of .debug_abbrev. If the bytes there don't begin with a table, the error
    is the first of them:
     - DWARF_UNEXPECTED_EOF at 0 if the offset is past the end, and at `len` if an abbreviation is cut short;
-    - DWARF_BAD_UNSIGNED_LEB128 for a code with more than ten bytes or a value of 2^64 or more, or for a tag, name or
-      form with more than three bytes or a value of 2^16 or more;
-    - DWARF_BAD_SIGNED_LEB128 for a value with more than ten bytes, or one that doesn't fit 64 bits;
+    - DWARF_BAD_UNSIGNED_LEB128 for a code that is too long or doesn't fit 64 bits, or for a tag, name or form that is
+      too long or doesn't fit 16 bits;
+    - DWARF_BAD_SIGNED_LEB128 for a value that is too long or doesn't fit 64 bits;
     - DWARF_ABBREVIATION_TAG_ZERO, DWARF_INVALID_ABBREVIATION_CHILDREN, DWARF_ATTRIBUTE_NAME_ZERO or
       DWARF_ATTRIBUTE_FORM_ZERO for a field with a value that no abbreviation has;
     - DWARF_DUPLICATE_ABBREVIATION_CODE for a whole abbreviation with the code of an earlier one. */

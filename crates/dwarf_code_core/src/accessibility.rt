@@ -24,7 +24,10 @@ pub const DW_ACCESS_protected: DwAccess = DwAccess(0x02);
 pub const DW_ACCESS_private: DwAccess = DwAccess(0x03);
 
 // tools/constants writes this list from the declarations.
-const NAMES: Names = names![DW_ACCESS_public, DW_ACCESS_protected, DW_ACCESS_private,];
+#[rattlefmt::skip]
+const NAMES: Names = names![
+    DW_ACCESS_public, DW_ACCESS_protected, DW_ACCESS_private,
+];
 
 impl DwAccess {
     /// Returns the name of this value, such as `DW_ACCESS_public`, or `None` if it has none.

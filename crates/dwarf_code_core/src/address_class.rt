@@ -21,7 +21,10 @@ pub struct DwAddr(pub u64);
 pub const DW_ADDR_none: DwAddr = DwAddr(0x00);
 
 // tools/constants writes this list from the declarations.
-const NAMES: Names = names![DW_ADDR_none,];
+#[rattlefmt::skip]
+const NAMES: Names = names![
+    DW_ADDR_none,
+];
 
 impl DwAddr {
     /// Returns the name of this value, such as `DW_ADDR_none`, or `None` if it has none.

@@ -22,7 +22,10 @@ pub const DW_ORD_row_major: DwOrd = DwOrd(0x00);
 pub const DW_ORD_col_major: DwOrd = DwOrd(0x01);
 
 // tools/constants writes this list from the declarations.
-const NAMES: Names = names![DW_ORD_row_major, DW_ORD_col_major,];
+#[rattlefmt::skip]
+const NAMES: Names = names![
+    DW_ORD_row_major, DW_ORD_col_major,
+];
 
 impl DwOrd {
     /// Returns the name of this value, such as `DW_ORD_row_major`, or `None` if it has none.

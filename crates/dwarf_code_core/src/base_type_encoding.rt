@@ -70,27 +70,13 @@ pub const DW_ATE_lo_user: DwAte = DwAte(0x80);
 pub const DW_ATE_hi_user: DwAte = DwAte(0xff);
 
 // tools/constants writes this list from the declarations.
+#[rattlefmt::skip]
 const NAMES: Names = names![
-    DW_ATE_address,
-    DW_ATE_boolean,
-    DW_ATE_complex_float,
-    DW_ATE_float,
-    DW_ATE_signed,
-    DW_ATE_signed_char,
-    DW_ATE_unsigned,
-    DW_ATE_unsigned_char,
-    DW_ATE_imaginary_float,
-    DW_ATE_packed_decimal,
-    DW_ATE_numeric_string,
-    DW_ATE_edited,
-    DW_ATE_signed_fixed,
-    DW_ATE_unsigned_fixed,
-    DW_ATE_decimal_float,
-    DW_ATE_UTF,
-    DW_ATE_UCS,
-    DW_ATE_ASCII,
-    DW_ATE_lo_user,
-    DW_ATE_hi_user,
+    DW_ATE_address, DW_ATE_boolean, DW_ATE_complex_float, DW_ATE_float, DW_ATE_signed,
+    DW_ATE_signed_char, DW_ATE_unsigned, DW_ATE_unsigned_char, DW_ATE_imaginary_float,
+    DW_ATE_packed_decimal, DW_ATE_numeric_string, DW_ATE_edited, DW_ATE_signed_fixed,
+    DW_ATE_unsigned_fixed, DW_ATE_decimal_float, DW_ATE_UTF, DW_ATE_UCS, DW_ATE_ASCII,
+    DW_ATE_lo_user, DW_ATE_hi_user,
 ];
 
 impl DwAte {

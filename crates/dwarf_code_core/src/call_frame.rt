@@ -99,39 +99,16 @@ pub const DW_CFA_GNU_negative_offset_extended: DwCfa = DwCfa(0x2f);
 pub const DW_CFA_AARCH64_negate_ra_state: DwCfa = DwCfa(0x2d);
 
 // tools/constants writes this list from the declarations.
+#[rattlefmt::skip]
 const NAMES: Names = names![
-    DW_CFA_nop,
-    DW_CFA_set_loc,
-    DW_CFA_advance_loc1,
-    DW_CFA_advance_loc2,
-    DW_CFA_advance_loc4,
-    DW_CFA_offset_extended,
-    DW_CFA_restore_extended,
-    DW_CFA_undefined,
-    DW_CFA_same_value,
-    DW_CFA_register,
-    DW_CFA_remember_state,
-    DW_CFA_restore_state,
-    DW_CFA_def_cfa,
-    DW_CFA_def_cfa_register,
-    DW_CFA_def_cfa_offset,
-    DW_CFA_def_cfa_expression,
-    DW_CFA_expression,
-    DW_CFA_offset_extended_sf,
-    DW_CFA_def_cfa_sf,
-    DW_CFA_def_cfa_offset_sf,
-    DW_CFA_val_offset,
-    DW_CFA_val_offset_sf,
-    DW_CFA_val_expression,
-    DW_CFA_lo_user,
-    DW_CFA_MIPS_advance_loc8,
-    DW_CFA_GNU_window_save,
-    DW_CFA_GNU_args_size,
-    DW_CFA_GNU_negative_offset_extended,
-    DW_CFA_hi_user,
-    DW_CFA_advance_loc,
-    DW_CFA_offset,
-    DW_CFA_restore,
+    DW_CFA_nop, DW_CFA_set_loc, DW_CFA_advance_loc1, DW_CFA_advance_loc2, DW_CFA_advance_loc4,
+    DW_CFA_offset_extended, DW_CFA_restore_extended, DW_CFA_undefined, DW_CFA_same_value,
+    DW_CFA_register, DW_CFA_remember_state, DW_CFA_restore_state, DW_CFA_def_cfa,
+    DW_CFA_def_cfa_register, DW_CFA_def_cfa_offset, DW_CFA_def_cfa_expression, DW_CFA_expression,
+    DW_CFA_offset_extended_sf, DW_CFA_def_cfa_sf, DW_CFA_def_cfa_offset_sf, DW_CFA_val_offset,
+    DW_CFA_val_offset_sf, DW_CFA_val_expression, DW_CFA_lo_user, DW_CFA_MIPS_advance_loc8,
+    DW_CFA_GNU_window_save, DW_CFA_GNU_args_size, DW_CFA_GNU_negative_offset_extended,
+    DW_CFA_hi_user, DW_CFA_advance_loc, DW_CFA_offset, DW_CFA_restore,
 ];
 
 impl DwCfa {

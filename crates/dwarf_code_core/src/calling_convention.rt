@@ -38,14 +38,10 @@ pub const DW_CC_lo_user: DwCc = DwCc(0x40);
 pub const DW_CC_hi_user: DwCc = DwCc(0xff);
 
 // tools/constants writes this list from the declarations.
+#[rattlefmt::skip]
 const NAMES: Names = names![
-    DW_CC_normal,
-    DW_CC_program,
-    DW_CC_nocall,
-    DW_CC_pass_by_reference,
-    DW_CC_pass_by_value,
-    DW_CC_lo_user,
-    DW_CC_hi_user,
+    DW_CC_normal, DW_CC_program, DW_CC_nocall, DW_CC_pass_by_reference, DW_CC_pass_by_value,
+    DW_CC_lo_user, DW_CC_hi_user,
 ];
 
 impl DwCc {

@@ -22,7 +22,10 @@ pub const DW_CHILDREN_no: DwChildren = DwChildren(0);
 pub const DW_CHILDREN_yes: DwChildren = DwChildren(1);
 
 // tools/constants writes this list from the declarations.
-const NAMES: Names = names![DW_CHILDREN_no, DW_CHILDREN_yes,];
+#[rattlefmt::skip]
+const NAMES: Names = names![
+    DW_CHILDREN_no, DW_CHILDREN_yes,
+];
 
 impl DwChildren {
     /// Returns the name of this value, such as `DW_CHILDREN_no`, or `None` if it has none.

@@ -28,11 +28,9 @@ pub const DW_DS_leading_separate: DwDs = DwDs(0x04);
 pub const DW_DS_trailing_separate: DwDs = DwDs(0x05);
 
 // tools/constants writes this list from the declarations.
+#[rattlefmt::skip]
 const NAMES: Names = names![
-    DW_DS_unsigned,
-    DW_DS_leading_overpunch,
-    DW_DS_trailing_overpunch,
-    DW_DS_leading_separate,
+    DW_DS_unsigned, DW_DS_leading_overpunch, DW_DS_trailing_overpunch, DW_DS_leading_separate,
     DW_DS_trailing_separate,
 ];
 

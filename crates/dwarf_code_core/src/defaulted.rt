@@ -24,10 +24,9 @@ pub const DW_DEFAULTED_in_class: DwDefaulted = DwDefaulted(0x01);
 pub const DW_DEFAULTED_out_of_class: DwDefaulted = DwDefaulted(0x02);
 
 // tools/constants writes this list from the declarations.
+#[rattlefmt::skip]
 const NAMES: Names = names![
-    DW_DEFAULTED_no,
-    DW_DEFAULTED_in_class,
-    DW_DEFAULTED_out_of_class,
+    DW_DEFAULTED_no, DW_DEFAULTED_in_class, DW_DEFAULTED_out_of_class,
 ];
 
 impl DwDefaulted {

@@ -22,7 +22,10 @@ pub const DW_DSC_label: DwDsc = DwDsc(0x00);
 pub const DW_DSC_range: DwDsc = DwDsc(0x01);
 
 // tools/constants writes this list from the declarations.
-const NAMES: Names = names![DW_DSC_label, DW_DSC_range,];
+#[rattlefmt::skip]
+const NAMES: Names = names![
+    DW_DSC_label, DW_DSC_range,
+];
 
 impl DwDsc {
     /// Returns the name of this value, such as `DW_DSC_label`, or `None` if it has none.

@@ -28,12 +28,9 @@ pub const DW_END_lo_user: DwEnd = DwEnd(0x40);
 pub const DW_END_hi_user: DwEnd = DwEnd(0xff);
 
 // tools/constants writes this list from the declarations.
+#[rattlefmt::skip]
 const NAMES: Names = names![
-    DW_END_default,
-    DW_END_big,
-    DW_END_little,
-    DW_END_lo_user,
-    DW_END_hi_user,
+    DW_END_default, DW_END_big, DW_END_little, DW_END_lo_user, DW_END_hi_user,
 ];
 
 impl DwEnd {

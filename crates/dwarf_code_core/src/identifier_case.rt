@@ -26,11 +26,9 @@ pub const DW_ID_down_case: DwId = DwId(0x02);
 pub const DW_ID_case_insensitive: DwId = DwId(0x03);
 
 // tools/constants writes this list from the declarations.
+#[rattlefmt::skip]
 const NAMES: Names = names![
-    DW_ID_case_sensitive,
-    DW_ID_up_case,
-    DW_ID_down_case,
-    DW_ID_case_insensitive,
+    DW_ID_case_sensitive, DW_ID_up_case, DW_ID_down_case, DW_ID_case_insensitive,
 ];
 
 impl DwId {

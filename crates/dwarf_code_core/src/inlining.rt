@@ -26,11 +26,9 @@ pub const DW_INL_declared_not_inlined: DwInl = DwInl(0x02);
 pub const DW_INL_declared_inlined: DwInl = DwInl(0x03);
 
 // tools/constants writes this list from the declarations.
+#[rattlefmt::skip]
 const NAMES: Names = names![
-    DW_INL_not_inlined,
-    DW_INL_inlined,
-    DW_INL_declared_not_inlined,
-    DW_INL_declared_inlined,
+    DW_INL_not_inlined, DW_INL_inlined, DW_INL_declared_not_inlined, DW_INL_declared_inlined,
 ];
 
 impl DwInl {

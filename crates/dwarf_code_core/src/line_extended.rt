@@ -36,13 +36,10 @@ pub const DW_LNE_lo_user: DwLne = DwLne(0x80);
 pub const DW_LNE_hi_user: DwLne = DwLne(0xff);
 
 // tools/constants writes this list from the declarations.
+#[rattlefmt::skip]
 const NAMES: Names = names![
-    DW_LNE_end_sequence,
-    DW_LNE_set_address,
-    DW_LNE_define_file,
-    DW_LNE_set_discriminator,
-    DW_LNE_lo_user,
-    DW_LNE_hi_user,
+    DW_LNE_end_sequence, DW_LNE_set_address, DW_LNE_define_file, DW_LNE_set_discriminator,
+    DW_LNE_lo_user, DW_LNE_hi_user,
 ];
 
 impl DwLne {

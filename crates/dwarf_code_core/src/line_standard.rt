@@ -45,19 +45,11 @@ pub const DW_LNS_set_epilogue_begin: DwLns = DwLns(0x0b);
 pub const DW_LNS_set_isa: DwLns = DwLns(0x0c);
 
 // tools/constants writes this list from the declarations.
+#[rattlefmt::skip]
 const NAMES: Names = names![
-    DW_LNS_copy,
-    DW_LNS_advance_pc,
-    DW_LNS_advance_line,
-    DW_LNS_set_file,
-    DW_LNS_set_column,
-    DW_LNS_negate_stmt,
-    DW_LNS_set_basic_block,
-    DW_LNS_const_add_pc,
-    DW_LNS_fixed_advance_pc,
-    DW_LNS_set_prologue_end,
-    DW_LNS_set_epilogue_begin,
-    DW_LNS_set_isa,
+    DW_LNS_copy, DW_LNS_advance_pc, DW_LNS_advance_line, DW_LNS_set_file, DW_LNS_set_column,
+    DW_LNS_negate_stmt, DW_LNS_set_basic_block, DW_LNS_const_add_pc, DW_LNS_fixed_advance_pc,
+    DW_LNS_set_prologue_end, DW_LNS_set_epilogue_begin, DW_LNS_set_isa,
 ];
 
 impl DwLns {

@@ -41,17 +41,11 @@ pub const DW_LLE_start_length: DwLle = DwLle(0x08);
 pub const DW_LLE_GNU_view_pair: DwLle = DwLle(0x09);
 
 // tools/constants writes this list from the declarations.
+#[rattlefmt::skip]
 const NAMES: Names = names![
-    DW_LLE_end_of_list,
-    DW_LLE_base_addressx,
-    DW_LLE_startx_endx,
-    DW_LLE_startx_length,
-    DW_LLE_offset_pair,
-    DW_LLE_default_location,
-    DW_LLE_base_address,
-    DW_LLE_start_end,
-    DW_LLE_start_length,
-    DW_LLE_GNU_view_pair,
+    DW_LLE_end_of_list, DW_LLE_base_addressx, DW_LLE_startx_endx, DW_LLE_startx_length,
+    DW_LLE_offset_pair, DW_LLE_default_location, DW_LLE_base_address, DW_LLE_start_end,
+    DW_LLE_start_length, DW_LLE_GNU_view_pair,
 ];
 
 impl DwLle {

@@ -29,11 +29,9 @@ pub const DW_MACINFO_end_file: DwMacinfo = DwMacinfo(0x04);
 pub const DW_MACINFO_vendor_ext: DwMacinfo = DwMacinfo(0xff);
 
 // tools/constants writes this list from the declarations.
+#[rattlefmt::skip]
 const NAMES: Names = names![
-    DW_MACINFO_define,
-    DW_MACINFO_undef,
-    DW_MACINFO_start_file,
-    DW_MACINFO_end_file,
+    DW_MACINFO_define, DW_MACINFO_undef, DW_MACINFO_start_file, DW_MACINFO_end_file,
     DW_MACINFO_vendor_ext,
 ];
 

@@ -46,20 +46,11 @@ pub const DW_MACRO_lo_user: DwMacro = DwMacro(0xe0);
 pub const DW_MACRO_hi_user: DwMacro = DwMacro(0xff);
 
 // tools/constants writes this list from the declarations.
+#[rattlefmt::skip]
 const NAMES: Names = names![
-    DW_MACRO_define,
-    DW_MACRO_undef,
-    DW_MACRO_start_file,
-    DW_MACRO_end_file,
-    DW_MACRO_define_strp,
-    DW_MACRO_undef_strp,
-    DW_MACRO_import,
-    DW_MACRO_define_sup,
-    DW_MACRO_undef_sup,
-    DW_MACRO_import_sup,
-    DW_MACRO_define_strx,
-    DW_MACRO_undef_strx,
-    DW_MACRO_lo_user,
+    DW_MACRO_define, DW_MACRO_undef, DW_MACRO_start_file, DW_MACRO_end_file, DW_MACRO_define_strp,
+    DW_MACRO_undef_strp, DW_MACRO_import, DW_MACRO_define_sup, DW_MACRO_undef_sup,
+    DW_MACRO_import_sup, DW_MACRO_define_strx, DW_MACRO_undef_strx, DW_MACRO_lo_user,
     DW_MACRO_hi_user,
 ];
 

@@ -63,22 +63,11 @@ pub const DW_EH_PE_absptr: DwEhPe = DwEhPe(0x00);
 pub const DW_EH_PE_omit: DwEhPe = DwEhPe(0xff);
 
 // tools/constants writes this list from the declarations.
+#[rattlefmt::skip]
 const NAMES: Names = names![
-    DW_EH_PE_absptr,
-    DW_EH_PE_uleb128,
-    DW_EH_PE_udata2,
-    DW_EH_PE_udata4,
-    DW_EH_PE_udata8,
-    DW_EH_PE_sleb128,
-    DW_EH_PE_sdata2,
-    DW_EH_PE_sdata4,
-    DW_EH_PE_sdata8,
-    DW_EH_PE_pcrel,
-    DW_EH_PE_textrel,
-    DW_EH_PE_datarel,
-    DW_EH_PE_funcrel,
-    DW_EH_PE_aligned,
-    DW_EH_PE_indirect,
+    DW_EH_PE_absptr, DW_EH_PE_uleb128, DW_EH_PE_udata2, DW_EH_PE_udata4, DW_EH_PE_udata8,
+    DW_EH_PE_sleb128, DW_EH_PE_sdata2, DW_EH_PE_sdata4, DW_EH_PE_sdata8, DW_EH_PE_pcrel,
+    DW_EH_PE_textrel, DW_EH_PE_datarel, DW_EH_PE_funcrel, DW_EH_PE_aligned, DW_EH_PE_indirect,
     DW_EH_PE_omit,
 ];
 

@@ -34,15 +34,10 @@ pub const DW_RLE_start_end: DwRle = DwRle(0x06);
 pub const DW_RLE_start_length: DwRle = DwRle(0x07);
 
 // tools/constants writes this list from the declarations.
+#[rattlefmt::skip]
 const NAMES: Names = names![
-    DW_RLE_end_of_list,
-    DW_RLE_base_addressx,
-    DW_RLE_startx_endx,
-    DW_RLE_startx_length,
-    DW_RLE_offset_pair,
-    DW_RLE_base_address,
-    DW_RLE_start_end,
-    DW_RLE_start_length,
+    DW_RLE_end_of_list, DW_RLE_base_addressx, DW_RLE_startx_endx, DW_RLE_startx_length,
+    DW_RLE_offset_pair, DW_RLE_base_address, DW_RLE_start_end, DW_RLE_start_length,
 ];
 
 impl DwRle {

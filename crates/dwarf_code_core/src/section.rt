@@ -32,14 +32,10 @@ pub const DW_SECT_MACRO: DwSect = DwSect(7);
 pub const DW_SECT_RNGLISTS: DwSect = DwSect(8);
 
 // tools/constants writes this list from the declarations.
+#[rattlefmt::skip]
 const NAMES: Names = names![
-    DW_SECT_INFO,
-    DW_SECT_ABBREV,
-    DW_SECT_LINE,
-    DW_SECT_LOCLISTS,
-    DW_SECT_STR_OFFSETS,
-    DW_SECT_MACRO,
-    DW_SECT_RNGLISTS,
+    DW_SECT_INFO, DW_SECT_ABBREV, DW_SECT_LINE, DW_SECT_LOCLISTS, DW_SECT_STR_OFFSETS,
+    DW_SECT_MACRO, DW_SECT_RNGLISTS,
 ];
 
 impl DwSect {

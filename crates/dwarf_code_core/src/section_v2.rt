@@ -35,15 +35,10 @@ pub const DW_SECT_V2_MACINFO: DwSectV2 = DwSectV2(7);
 pub const DW_SECT_V2_MACRO: DwSectV2 = DwSectV2(8);
 
 // tools/constants writes this list from the declarations.
+#[rattlefmt::skip]
 const NAMES: Names = names![
-    DW_SECT_V2_INFO,
-    DW_SECT_V2_TYPES,
-    DW_SECT_V2_ABBREV,
-    DW_SECT_V2_LINE,
-    DW_SECT_V2_LOC,
-    DW_SECT_V2_STR_OFFSETS,
-    DW_SECT_V2_MACINFO,
-    DW_SECT_V2_MACRO,
+    DW_SECT_V2_INFO, DW_SECT_V2_TYPES, DW_SECT_V2_ABBREV, DW_SECT_V2_LINE, DW_SECT_V2_LOC,
+    DW_SECT_V2_STR_OFFSETS, DW_SECT_V2_MACINFO, DW_SECT_V2_MACRO,
 ];
 
 impl DwSectV2 {

@@ -34,15 +34,10 @@ pub const DW_UT_lo_user: DwUt = DwUt(0x80);
 pub const DW_UT_hi_user: DwUt = DwUt(0xff);
 
 // tools/constants writes this list from the declarations.
+#[rattlefmt::skip]
 const NAMES: Names = names![
-    DW_UT_compile,
-    DW_UT_type,
-    DW_UT_partial,
-    DW_UT_skeleton,
-    DW_UT_split_compile,
-    DW_UT_split_type,
-    DW_UT_lo_user,
-    DW_UT_hi_user,
+    DW_UT_compile, DW_UT_type, DW_UT_partial, DW_UT_skeleton, DW_UT_split_compile, DW_UT_split_type,
+    DW_UT_lo_user, DW_UT_hi_user,
 ];
 
 impl DwUt {

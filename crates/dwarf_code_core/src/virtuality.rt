@@ -24,10 +24,9 @@ pub const DW_VIRTUALITY_virtual: DwVirtuality = DwVirtuality(0x01);
 pub const DW_VIRTUALITY_pure_virtual: DwVirtuality = DwVirtuality(0x02);
 
 // tools/constants writes this list from the declarations.
+#[rattlefmt::skip]
 const NAMES: Names = names![
-    DW_VIRTUALITY_none,
-    DW_VIRTUALITY_virtual,
-    DW_VIRTUALITY_pure_virtual,
+    DW_VIRTUALITY_none, DW_VIRTUALITY_virtual, DW_VIRTUALITY_pure_virtual,
 ];
 
 impl DwVirtuality {

@@ -24,7 +24,10 @@ pub const DW_VIS_exported: DwVis = DwVis(0x02);
 pub const DW_VIS_qualified: DwVis = DwVis(0x03);
 
 // tools/constants writes this list from the declarations.
-const NAMES: Names = names![DW_VIS_local, DW_VIS_exported, DW_VIS_qualified,];
+#[rattlefmt::skip]
+const NAMES: Names = names![
+    DW_VIS_local, DW_VIS_exported, DW_VIS_qualified,
+];
 
 impl DwVis {
     /// Returns the name of this value, such as `DW_VIS_local`, or `None` if it has none.

@@ -31,14 +31,10 @@ pub const DW_IDX_lo_user: DwIdx = DwIdx(0x2000);
 pub const DW_IDX_hi_user: DwIdx = DwIdx(0x3fff);
 
 // tools/constants writes this list from the declarations.
+#[rattlefmt::skip]
 const NAMES: Names = names![
-    DW_IDX_compile_unit,
-    DW_IDX_type_unit,
-    DW_IDX_die_offset,
-    DW_IDX_parent,
-    DW_IDX_type_hash,
-    DW_IDX_lo_user,
-    DW_IDX_hi_user,
+    DW_IDX_compile_unit, DW_IDX_type_unit, DW_IDX_die_offset, DW_IDX_parent, DW_IDX_type_hash,
+    DW_IDX_lo_user, DW_IDX_hi_user,
 ];
 
 impl DwIdx {

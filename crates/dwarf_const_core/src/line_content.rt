@@ -33,15 +33,10 @@ pub const DW_LNCT_LLVM_source: DwLnct = DwLnct(0x2001);
 pub const DW_LNCT_hi_user: DwLnct = DwLnct(0x3fff);
 
 // tools/constants writes this list from the declarations.
+#[rattlefmt::skip]
 const NAMES: Names = names![
-    DW_LNCT_path,
-    DW_LNCT_directory_index,
-    DW_LNCT_timestamp,
-    DW_LNCT_size,
-    DW_LNCT_MD5,
-    DW_LNCT_lo_user,
-    DW_LNCT_LLVM_source,
-    DW_LNCT_hi_user,
+    DW_LNCT_path, DW_LNCT_directory_index, DW_LNCT_timestamp, DW_LNCT_size, DW_LNCT_MD5,
+    DW_LNCT_lo_user, DW_LNCT_LLVM_source, DW_LNCT_hi_user,
 ];
 
 impl DwLnct {

@@ -3,7 +3,7 @@ use Rattle.dwarf_listing_core.proofs.Common.{arith, ◌≡◌, ◌-◌, ◌^◌,
 use Rattle.std.proofs.lemmas.Bool.{cases_lt}
 use Rattle.dwarf_read_core.specs.declared.RunTimeEndian.{RunTimeEndian}
 use Rattle.dwarf_read_core.specs.Endian.{is_big_at_run_time}
-use Rattle.dwarf_read_core.specs.Faults.{end_fault}
+use Rattle.dwarf_read_core.specs.Faults.{eof_here}
 use Rattle.dwarf_read_core.specs.Headers.{AddressHeaderAt}
 use Rattle.dwarf_read_core.specs.Input.{after}
 use Rattle.dwarf_read_core.specs.Items.{AreItems, no_items, value_first, only_error}
@@ -67,7 +67,7 @@ one_first {H} listing sets entries lists = one_after lists of
   where
     of : (items : List (Result (Set H) Error)) → HasSets listing sets items
         → HasOne (ListsFirstOf listing sets.rest items)
-    of [] are = (Err (end_fault sets.rest), refl, λ other h. h)
+    of [] are = (Err (eof_here sets.rest), refl, λ other h. h)
     of (Err e ∷ items) are = (Err e, refl, λ other h. h)
     of (Ok s ∷ items) are = one_set listing s (entries sets s (first_set listing are))
 
@@ -75,7 +75,7 @@ module _ {H : Type 0} (listing : SetListing H) (endian : RunTimeEndian) (section
   -- past the section's end there is only the error of that
   only_past : length section < offset → (other : Result (List ℕ) Error)
       → ListsSetAt listing endian section offset other
-      → other ≡ Err (end_fault (section_of section (is_big_at_run_time endian)))
+      → other ≡ Err (eof_here (section_of section (is_big_at_run_time endian)))
   only_past past other (past_end same) = refl
   only_past past other (set_there within lists) = absurd (omega (arith, past, within))
 

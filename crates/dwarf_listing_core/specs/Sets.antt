@@ -7,7 +7,7 @@ use Rattle.dwarf_read_core.specs.Entries.{Entries, RepresentsAddresses, Represen
 use Rattle.dwarf_read_core.specs.ErrorText.{hexadecimal}
 use Rattle.dwarf_read_core.specs.Format.{word_size}
 use Rattle.dwarf_read_core.specs.Headers.{AddressHeaderAt, Header, StringOffsetsHeaderAt}
-use Rattle.dwarf_read_core.specs.Faults.{end_fault}
+use Rattle.dwarf_read_core.specs.Faults.{eof_here}
 use Rattle.dwarf_read_core.specs.Input.{Input, after, section_of}
 use Rattle.dwarf_read_core.specs.Contributions.{Remaining, Contribution as Set, RepresentsContributions, addresses_of, string_offsets_of}
 use Rattle.dwarf_listing_core.specs.Items.{Joins, ListsItemsOf}
@@ -113,7 +113,7 @@ ListsStringOffsets endian section listed =
 -- missing where there is none
 abbrev pub ListsFirstOf : {H : Type 0} → SetListing H → Input → List (Result (Set H) Error) → Result (List ℕ) Error
     → Type 0
-ListsFirstOf listing input [] listed = listed ≡ Err (end_fault input)
+ListsFirstOf listing input [] listed = listed ≡ Err (eof_here input)
 ListsFirstOf listing input (Err e ∷ _) listed = listed ≡ Err e
 ListsFirstOf listing input (Ok s ∷ _) listed = ListsSet listing s listed
 
@@ -126,7 +126,7 @@ ListsFirst {H} listing sets listed =
 pub data ListsSetAt {H : Type 0} (listing : SetListing H) (endian : RunTimeEndian) (section : List ℕ) (offset : ℕ)
     : Result (List ℕ) Error → Type 0 where
   past_end : length section < offset
-      → ListsSetAt listing endian section offset (Err (end_fault (section_of section (is_big_at_run_time endian))))
+      → ListsSetAt listing endian section offset (Err (eof_here (section_of section (is_big_at_run_time endian))))
   set_there : {listed : Result (List ℕ) Error} → offset ≤ length section
       → ListsFirst listing (record { offset = 0; rest = after offset (section_of section (is_big_at_run_time endian)) })
       listed

@@ -1,8 +1,8 @@
 pub mod Common
 pub mod AttributeIndexes
-pub mod NumberLemmas
-pub mod StringLemmas
-pub mod TableLemmas
+pub mod AbsentNumbers
+pub mod FoundStrings
+pub mod WrittenTables
 pub mod FoundSets
 pub mod KnownErrors
-pub mod FamilyLemmas
+pub mod FamilyBounds

@@ -1,4 +1,4 @@
--- The families of constants, by their numbers.
+-- The families of constants, by their numbers. tools/constants writes the list and what it imports.
 use Rattle.std.specs.Prelude.{ℕ, List, [], ◌∷◌, ◌==◌, Option, option_and_then}
 use Rattle.std.specs.Map.{lookup}
 use Rattle.dwarf_const_core.specs.DwAt.{attribute_names}

@@ -11,13 +11,12 @@ use dwarf_fault::{DwarfFault, reject};
 use dwarf_read_core::leb128::write::Leb128;
 use dwarf_read_core::{EndianSlice, LittleEndian, Reader};
 
-/// Reads the unsigned number of at most 64 bits, in at most ten bytes, at the front of `bytes`.
-/// More bytes may follow it. `len` is how many bytes the number has.
+/// Reads the unsigned number of at most 64 bits at the front of `bytes`. More bytes may follow it.
+/// `len` is how many bytes the number has.
 ///
 /// # Errors
 ///
-/// - 1 (`UnexpectedEof`) at the end of `bytes` if they are fewer than ten and don't end the number;
-/// - 2 (`BadUnsignedLeb128`) if ten bytes don't end the number, or if it is 2^64 or more.
+/// 1 (`UnexpectedEof`) or 2 (`BadUnsignedLeb128`), [as for all numbers](dwarf_read_core::leb128).
 #[unsafe(no_mangle)]
 pub extern "C" fn dwarf_uleb128(
     bytes: &[u8],
@@ -42,14 +41,12 @@ pub extern "C" fn dwarf_uleb128(
     }
 }
 
-/// Reads the signed number of at most 64 bits, in at most ten bytes, at the front of `bytes`. More
-/// bytes may follow it. `len` is how many bytes the number has.
+/// Reads the signed number of at most 64 bits at the front of `bytes`. More bytes may follow it.
+/// `len` is how many bytes the number has.
 ///
 /// # Errors
 ///
-/// - 1 (`UnexpectedEof`) at the end of `bytes` if they are fewer than ten and don't end the number;
-/// - 3 (`BadSignedLeb128`) if ten bytes don't end the number, or if it is below -2^63 or is 2^63 or
-///   more.
+/// 1 (`UnexpectedEof`) or 3 (`BadSignedLeb128`), [as for all numbers](dwarf_read_core::leb128).
 #[unsafe(no_mangle)]
 pub extern "C" fn dwarf_sleb128(
     bytes: &[u8],

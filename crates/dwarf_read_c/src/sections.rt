@@ -22,7 +22,7 @@ use dwarf_read_core::{
 /// 1 (`UnexpectedEof`) at 0 if `offset` is past the end, and at `offset` if no zero byte ends the
 /// string.
 #[unsafe(no_mangle)]
-#[tactic(auto, using(crate::proofs::StringLemmas::string_steps))]
+#[tactic(auto, using(crate::proofs::FoundStrings::string_steps))]
 pub extern "C" fn dwarf_string(
     section: &[u8],
     offset: usize,

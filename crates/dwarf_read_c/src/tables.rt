@@ -67,9 +67,9 @@ pub struct DwarfAttributeSpec {
 ///
 /// - 1 (`UnexpectedEof`) at 0 if `offset` is past the end, and at the section's end if a
 ///   declaration is cut short;
-/// - 2 (`BadUnsignedLeb128`) for a code with more than ten bytes or a value of 2^64 or more, or for
-///   a tag, name or form with more than three bytes or a value of 2^16 or more;
-/// - 3 (`BadSignedLeb128`) for a value with more than ten bytes, or one that doesn't fit `i64`;
+/// - 2 (`BadUnsignedLeb128`) for a code that is too long or doesn't fit `u64`, or for a tag, name or
+///   form that is too long or doesn't fit `u16` ([the limits](dwarf_read_core::leb128));
+/// - 3 (`BadSignedLeb128`) for a value that is too long or doesn't fit `i64`;
 /// - 4 to 7 for a field that no declaration has: a tag of 0, a byte for children other than 0 and
 ///   1, a name of 0 with a form other than 0, or a form of 0 with another name;
 /// - 8 (`DuplicateAbbreviationCode`) for a whole declaration with the code of an earlier one.
@@ -211,7 +211,7 @@ fn put_table(
 }
 
 // Writes the abbreviations, in the order of their codes, to the front of the places.
-#[tactic(auto, using(crate::proofs::TableLemmas::table_steps))]
+#[tactic(auto, using(crate::proofs::WrittenTables::table_steps))]
 fn fill_abbreviations(table: &Abbreviations, places: &mut [DwarfAbbreviation])
     requires room { finite.len table.now.by_code ≤ length places.old }
     requires counted { attribute_count table.now.by_code < 2 ^ 64 }

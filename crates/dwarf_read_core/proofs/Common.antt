@@ -37,7 +37,7 @@ pub use Rattle.dwarf_base_core.specs.declared.error.Error.TheVariants.{Attribute
 pub use Rattle.dwarf_base_core.specs.declared.error.Error.TheVariants.{InvalidAbbreviationChildren}
 pub use Rattle.dwarf_base_core.specs.declared.error.Error.TheVariants.{UnterminatedAbbreviations}
 pub use Rattle.dwarf_reader_core.specs.Appended.{followed_by, IsNotEof}
-pub use Rattle.dwarf_reader_core.specs.Faults.{IsTooShort, end_fault, is_number_size, HasNoByte, ReadsNoWord, CloneRanOutOfMemory}
+pub use Rattle.dwarf_reader_core.specs.Faults.{IsTooShort, eof_here, is_number_size, HasNoByte, ReadsNoWord, CloneRanOutOfMemory}
 pub use Rattle.dwarf_reader_core.specs.Faults.{ReadsNoAddress, eof}
 pub use Rattle.dwarf_reader_core.specs.Input.{Input, first, Takes, after, TakesNumber, TakesString, end_of}
 pub use Rattle.dwarf_reader_core.specs.Leb128.{Kind, Number, IsEncoding, NoneIsLast, IsNumber, IsMalformed, unsigned64}

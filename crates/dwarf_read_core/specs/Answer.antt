@@ -4,7 +4,7 @@ use Rattle.std.specs.FinMap as finite
 use Rattle.dwarf_base_core.specs.declared.error.Error.{Error}
 use Rattle.dwarf_base_core.specs.declared.error.Error.TheVariants.{AbbreviationTagZero, InvalidAbbreviationChildren, AttributeNameZero, AttributeFormZero, DuplicateAbbreviationCode, OutOfMemory, UnterminatedAbbreviations}
 use Rattle.dwarf_reader_core.specs.Leb128.{Kind, unsigned64, unsigned16, signed64, overflow_error, IsNumber, IsTruncated, IsMalformed}
-use Rattle.dwarf_reader_core.specs.Faults.{eof, end_fault}
+use Rattle.dwarf_reader_core.specs.Faults.{eof, eof_here}
 use Rattle.dwarf_reader_core.specs.Input.{Input, end_of}
 use Rattle.dwarf_reader_core.specs.Appended.{IsNotEof}
 use Rattle.dwarf_read_core.specs.Grammar.{Declaration, implicit_const, Table, by_null, is_by_null, attribute_count, IsCode, IsHead, IsFront, IsDeclaration, Declares, AreDeclarations, IsTable, IsTableBefore}
@@ -49,7 +49,7 @@ pub data IsFirstError (end : ℕ) : List ℕ → Error → Type 0 where
 
 -- the result for a section and an offset: the table there, or the first error
 pub data Answer (section : Input) (offset : ℕ) : Result Table Error → Type 0 where
-  outside : length section.bytes < offset → Answer section offset (Err (end_fault section))
+  outside : length section.bytes < offset → Answer section offset (Err (eof_here section))
   table : (t : Table) → offset ≤ length section.bytes → IsTable (drop offset section.bytes) t
       → Answer section offset (Ok t)
   first_error : (e : Error) → offset ≤ length section.bytes

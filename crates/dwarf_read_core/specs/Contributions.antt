@@ -5,7 +5,7 @@ use Rattle.dwarf_base_core.specs.declared.common.Format.{Format}
 use Rattle.dwarf_base_core.specs.declared.error.Error.{Error}
 use Rattle.dwarf_base_core.specs.Format.{initial_length_size, word_size}
 use Rattle.dwarf_reader_core.specs.Appended.{followed_by}
-use Rattle.dwarf_reader_core.specs.Faults.{end_fault}
+use Rattle.dwarf_reader_core.specs.Faults.{eof_here}
 use Rattle.dwarf_reader_core.specs.InitialLength.{HasLength, HasNoLength}
 use Rattle.dwarf_reader_core.specs.Input.{Input, after, first}
 use Rattle.dwarf_read_core.specs.Entries.{Entries}
@@ -77,7 +77,7 @@ pub data HasNoContribution {H : Type 0} (header : Header H) (greatest : ℕ) (in
       → HasNoContribution header greatest input e
   contribution_cut : {format : Format} {n : ℕ} {mid : Input} → HasLength greatest input format n mid
       → length mid.bytes < n
-      → HasNoContribution header greatest input (end_fault mid)
+      → HasNoContribution header greatest input (eof_here mid)
   contribution_headless : {format : Format} {n : ℕ} {mid : Input} {e : Error} → HasLength greatest input format n mid
       → n ≤ length mid.bytes → header greatest format (first n mid) (Err e) → HasNoContribution header greatest input e
 
@@ -95,7 +95,7 @@ contributions_from offset section = record { offset = offset; rest = after offse
 pub data HasNoContributionAt {H : Type 0} (header : Header H) (greatest : ℕ) (section : Input) (offset : ℕ) :
     Error → Type 0 where
   contribution_outside : length section.bytes < offset
-      → HasNoContributionAt header greatest section offset (end_fault section)
+      → HasNoContributionAt header greatest section offset (eof_here section)
   contribution_faulty : {e : Error} → offset ≤ length section.bytes
       → HasNoContribution header greatest (after offset section) e
       → HasNoContributionAt header greatest section offset e

@@ -3,7 +3,7 @@ use Rattle.std.specs.Prelude.{◌≡◌, ℕ, ◌+◌, ◌*◌, ◌<◌, ◌≤�
 use Rattle.dwarf_base_core.specs.declared.error.Error.{Error}
 use Rattle.dwarf_base_core.specs.declared.error.Error.TheVariants.{UnsupportedOffset, UnsupportedAddressSize}
 use Rattle.dwarf_base_core.specs.Number.{number_of}
-use Rattle.dwarf_reader_core.specs.Faults.{end_fault, is_number_size}
+use Rattle.dwarf_reader_core.specs.Faults.{eof_here, is_number_size}
 use Rattle.dwarf_reader_core.specs.Input.{Input, after}
 
 -- one of the numbers that follow each other from a base on, each of `width` bytes
@@ -49,17 +49,17 @@ pub record HasAddress (greatest : ℕ) (section : Input) (s : Slot) (x : ℕ) : 
 -- a section has no place for a slot: the base is past the end, the distance is too great for an offset, or the place
 -- is past the end
 pub data HasNoPlace (greatest : ℕ) (section : Input) (s : Slot) : Error → Type 0 where
-  no_base : length section.bytes < s.base → HasNoPlace greatest section s (end_fault section)
+  no_base : length section.bytes < s.base → HasNoPlace greatest section s (eof_here section)
   no_distance : s.base ≤ length section.bytes → greatest < distance s
       → HasNoPlace greatest section s UnsupportedOffset
   no_place : s.base ≤ length section.bytes → distance s ≤ greatest → length section.bytes < slot_offset s
-      → HasNoPlace greatest section s (end_fault (after s.base section))
+      → HasNoPlace greatest section s (eof_here (after s.base section))
 
 -- a section has no word at a slot: it has no place for it, too few bytes there, or a number too great for an offset
 pub data HasNoWord (greatest : ℕ) (section : Input) (s : Slot) : Error → Type 0 where
   word_unplaced : {e : Error} → HasNoPlace greatest section s e → HasNoWord greatest section s e
   word_cut : IsPlaced greatest section s → length section.bytes < slot_offset s + s.width
-      → HasNoWord greatest section s (end_fault (after (slot_offset s) section))
+      → HasNoWord greatest section s (eof_here (after (slot_offset s) section))
   word_too_great : (x : ℕ) → IsPlaced greatest section s → Holds section s x → greatest < x
       → HasNoWord greatest section s UnsupportedOffset
 
@@ -70,7 +70,7 @@ pub data HasNoAddress (greatest : ℕ) (section : Input) (s : Slot) : Error → 
       → HasNoAddress greatest section s (UnsupportedAddressSize s.width)
   address_cut : IsPlaced greatest section s → is_number_size s.width ≡ true
       → length section.bytes < slot_offset s + s.width
-      → HasNoAddress greatest section s (end_fault (after (slot_offset s) section))
+      → HasNoAddress greatest section s (eof_here (after (slot_offset s) section))
 
 -- the result for a string offset at a slot: the word, or the error that there is none
 abbrev pub WordAt : ℕ → Input → Slot → Result ℕ Error → Type 0

@@ -43,16 +43,16 @@ pub fn exactly_one_answer()
     ensures { (section : Input) (offset : ℕ) → HasOne (Answer section offset) }
 {}
 
-/// In place of a table a section has one of these errors: bytes are missing, a number is malformed, a
-/// tag, a name or a form is 0, the byte for children is above 1, or a code is repeated.
+/// In place of a table a section has one of these errors: bytes are missing, a number is malformed,
+/// a tag, a name or a form is 0, the byte for children is above 1, or a code is repeated.
 #[tactic(auto, using(crate::proofs::tables::TableErrors::table_error))]
 pub fn errors_of_tables()
     ensures { (section : Input) (offset : ℕ) (e : Error) → Answer section offset (Err e)
         → IsTableError e }
 {}
 
-/// Every section has exactly one strict result at every offset. Some appended bytes change it exactly
-/// if it depends on where the section ends.
+/// Every section has exactly one strict result at every offset. Some appended bytes change it
+/// exactly if it depends on where the section ends.
 pub fn exactly_one_strict_answer()
     ensures one { (section : Input) (offset : ℕ) → HasOne (StrictAnswer section offset) }
     ensures stable { (section : Input) (more : List ℕ) (offset : ℕ) (answer : Result Table Error)
@@ -83,8 +83,8 @@ pub fn tables_have_no_byte_order()
 
 /// A table at an offset ends at exactly one offset. Appended bytes don't change where a table ends
 /// that a code of value 0 closes. A table that begins before the section's end takes at least one
-/// byte, so a walk from table to table ends. The end of a table is that of the shortest front of the
-/// section with the same table.
+/// byte, so a walk from table to table ends. The end of a table is that of the shortest front of
+/// the section with the same table.
 #[tactic(auto, using(crate::proofs::tables::TableEnds::ends))]
 pub fn exactly_one_end()
     ensures one { (section : Input) (offset : ℕ) (t : Table) → Answer section offset (Ok t)
@@ -109,8 +109,8 @@ pub fn exactly_one_cache()
         → KeepsAnswers least section offsets others → (key : ℕ) → others key ≡ kept key }
 {}
 
-/// `All` keeps each offset that occurs, and `Duplicates` each that occurs at least twice. Neither keeps
-/// any other.
+/// `All` keeps each offset that occurs, and `Duplicates` each that occurs at least twice. Neither
+/// keeps any other.
 #[tactic(auto, using(crate::proofs::cache::CountingOffsets::strategies))]
 pub fn strategies_count_offsets()
     ensures all { (section : Input) (before after : List ℕ) (key : ℕ)
@@ -178,10 +178,10 @@ pub fn exactly_one_lookup()
         → HasOne (AddressAt greatest section s) }
 {}
 
-/// The part of a section from its start on, of its length, is the section, and a part of a part is a
-/// part, at the sum of their offsets. A string is the part of its length at its offset, and a zero
-/// byte follows it. A string offset and an address are the number of the part at the place of their
-/// slot.
+/// The part of a section from its start on, of its length, is the section, and a part of a part is
+/// a part, at the sum of their offsets. A string is the part of its length at its offset, and a
+/// zero byte follows it. A string offset and an address are the number of the part at the place of
+/// their slot.
 pub fn lookups_are_parts()
     ensures whole { (section : Input) → RangeAt section 0 (length section.bytes) (Ok section) }
     ensures nested { (section part inner : Input) (offset size at n : ℕ)
@@ -201,9 +201,13 @@ pub fn lookups_are_parts()
         × (x ≡ number_of part.is_big part.bytes) }
 {}
 
-/// An `UnexpectedEof` in place of a table, a word or an address, and each error in place of a string or
-/// a range, is that of the first of these consecutive fields that isn't there whole, at the position
-/// where it begins. An `UnterminatedAbbreviations` is at the section's end.
+/// An `UnexpectedEof` in place of a table, a word or an address, and each error in place of a
+/// string or a range, is that of the first consecutive part that isn't there whole, at the position
+/// where the part begins. A table's parts are the bytes before its offset, those from there to the
+/// section's end, and the byte that is missing; a string's are the bytes before its offset, and one
+/// more than the section has; a range's are the bytes before its offset, and its own; those of a
+/// word or an address are the bytes before its base, those from there to its slot, and the slot's.
+/// An `UnterminatedAbbreviations` is at the section's end.
 pub fn missing_bytes_are_those_of_a_field()
     ensures table { (section : Input) (offset position : ℕ)
         → Answer section offset (Err (eof position))
@@ -325,8 +329,9 @@ pub fn entries_are_numbers()
         → count_by is_ok items ≡ length entries.rest.bytes / entries.width }
 {}
 
-/// The bytes that remain of a set have exactly one list of addresses, and then at most one error. So
-/// the list ends: an address has as many bytes as its size, and an error takes up at least one byte.
+/// The bytes that remain of a set have exactly one list of addresses, and then at most one error.
+/// So the list ends: an address has as many bytes as its size, and an error takes up at least one
+/// byte.
 pub fn exactly_one_list_of_addresses()
     ensures one { (entries : Entries) → 0 < entries.width → HasOne (RepresentsAddresses entries) }
     ensures bound { (entries : Entries) (items : List (Result ℕ Error))

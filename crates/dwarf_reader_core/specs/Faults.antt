@@ -9,13 +9,13 @@ abbrev pub eof : ℕ → Error
 eof position = UnexpectedEof (record { 0 = position })
 
 -- the error that bytes are missing at the input's position
-abbrev pub end_fault : Input → Error
-end_fault input = eof input.position
+abbrev pub eof_here : Input → Error
+eof_here input = eof input.position
 
 -- fewer than n bytes remain: the error is that of missing bytes, and nothing is consumed
 pub record IsTooShort (n : ℕ) (old : Input) (e : Error) (new : Input) : Type 0 where
   pub short : length old.bytes < n
-  pub fault : e ≡ end_fault old
+  pub fault : e ≡ eof_here old
   pub left : new ≡ old
 
 -- of consecutive fields of these sizes, the first that isn't there whole has this error: that of missing bytes, at the
@@ -28,7 +28,7 @@ IsCutIn input (size ∷ sizes) e =
 -- none of the bytes that remain has this value: the error is that of missing bytes
 pub record HasNoByte (byte : ℕ) (input : Input) (e : Error) : Type 0 where
   pub none : All (λ b. b ≢ byte) input.bytes
-  pub fault : e ≡ end_fault input
+  pub fault : e ≡ eof_here input
 
 -- a clone ran out of memory, which can only happen if clones can fail
 pub record CloneRanOutOfMemory (clone_is_free : Bool) (e : Error) : Type 0 where

@@ -4,7 +4,7 @@ use Rattle.dwarf_base_core.specs.declared.common.Format.{Format}
 use Rattle.dwarf_base_core.specs.declared.error.Error.{Error}
 use Rattle.dwarf_base_core.specs.declared.error.Error.TheVariants.{UnknownVersion, UnsupportedAddressSize, UnsupportedSegmentSize}
 use Rattle.dwarf_base_core.specs.Number.{number_of}
-use Rattle.dwarf_reader_core.specs.Faults.{end_fault, is_number_size}
+use Rattle.dwarf_reader_core.specs.Faults.{eof_here, is_number_size}
 use Rattle.dwarf_reader_core.specs.Input.{Input, Takes, after}
 use Rattle.dwarf_reader_core.specs.Once.{HasOne}
 
@@ -14,7 +14,7 @@ abbrev pub Header : Type 0 → Type 1
 Header H = ℕ → Format → Input → Result (H × Input) Error → Type 0
 
 -- bytes have exactly one result for a header of this kind; what such a header says determines how many bytes it has;
--- and these are at least so many
+-- and it has at least the least
 pub record IsHeader {H : Type 0} (least : ℕ) (size : Format → H → ℕ) (header : Header H) : Type 0 where
   pub one : (greatest : ℕ) (format : Format) (unit : Input) → HasOne (header greatest format unit)
   pub sized : {greatest : ℕ} {format : Format} (unit rest : Input) (said : H)
@@ -29,7 +29,7 @@ pub record HasVersion (unit : Input) : Type 0 where
 
 -- it doesn't: the version is cut, or another one
 pub data HasNoVersion (unit : Input) : Error → Type 0 where
-  version_cut : length unit.bytes < 2 → HasNoVersion unit (end_fault unit)
+  version_cut : length unit.bytes < 2 → HasNoVersion unit (eof_here unit)
   version_unknown : {v : ℕ} → 2 ≤ length unit.bytes → v ≡ number_of unit.is_big (take 2 unit.bytes) → v ≢ 5
       → HasNoVersion unit (UnknownVersion v)
 
@@ -45,11 +45,11 @@ pub record HasAddressHeader (unit : Input) (size : ℕ) (rest : Input) : Type 0 
 -- it doesn't: a field of such a header is cut, or has a value that isn't supported
 pub data HasNoAddressHeader (unit : Input) : Error → Type 0 where
   address_unversioned : {e : Error} → HasNoVersion unit e → HasNoAddressHeader unit e
-  address_size_cut : HasVersion unit → length unit.bytes < 3 → HasNoAddressHeader unit (end_fault (after 2 unit))
+  address_size_cut : HasVersion unit → length unit.bytes < 3 → HasNoAddressHeader unit (eof_here (after 2 unit))
   address_size_unknown : {size : ℕ} → HasVersion unit → 3 ≤ length unit.bytes → slice_index unit.bytes 2 ≡ size
       → is_number_size size ≡ false → HasNoAddressHeader unit (UnsupportedAddressSize size)
   segment_size_cut : HasVersion unit → IsTrue (is_number_size (slice_index unit.bytes 2)) → length unit.bytes ≡ 3
-      → HasNoAddressHeader unit (end_fault (after 3 unit))
+      → HasNoAddressHeader unit (eof_here (after 3 unit))
   segment_size_unknown : {size : ℕ} → HasVersion unit → IsTrue (is_number_size (slice_index unit.bytes 2))
       → 4 ≤ length unit.bytes → slice_index unit.bytes 3 ≡ size → size ≢ 0
       → HasNoAddressHeader unit (UnsupportedSegmentSize size)
@@ -63,7 +63,7 @@ pub record HasStringOffsetsHeader (unit rest : Input) : Type 0 where
 -- it doesn't: a field of such a header is cut, or the version is another one
 pub data HasNoStringOffsetsHeader (unit : Input) : Error → Type 0 where
   offsets_unversioned : {e : Error} → HasNoVersion unit e → HasNoStringOffsetsHeader unit e
-  padding_cut : HasVersion unit → length unit.bytes < 4 → HasNoStringOffsetsHeader unit (end_fault (after 2 unit))
+  padding_cut : HasVersion unit → length unit.bytes < 4 → HasNoStringOffsetsHeader unit (eof_here (after 2 unit))
 
 -- the result for the fields of the header of a set of addresses: its address size and the bytes after it, or the error
 abbrev pub AddressFieldsAt : Input → Result (ℕ × Input) Error → Type 0

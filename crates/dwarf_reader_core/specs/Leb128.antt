@@ -4,7 +4,7 @@ use Rattle.std.specs.List.{AllByRecursion}
 use Rattle.dwarf_base_core.specs.declared.error.Error.{Error}
 use Rattle.dwarf_base_core.specs.declared.error.Error.TheVariants.{BadUnsignedLeb128, BadSignedLeb128}
 use Rattle.dwarf_reader_core.specs.Input.{Input, after}
-use Rattle.dwarf_reader_core.specs.Faults.{end_fault}
+use Rattle.dwarf_reader_core.specs.Faults.{eof_here}
 
 -- bytes that encode a number: all but the last are from 128, the last is below 128
 abbrev pub IsEncoding : List ℕ → Type 0
@@ -111,7 +111,7 @@ pub record ReadsNumber (k : Kind) (old : Input) (number : Number k) (new : Input
 pub record IsTruncatedNumber (k : Kind) (old : Input) (e : Error) (new : Input) : Type 0 where
   pub cut : IsTruncated k old.bytes
   pub left : new ≡ after (length old.bytes) old
-  pub fault : e ≡ end_fault new
+  pub fault : e ≡ eof_here new
 
 -- the bytes are bad, and as many as the limit of the kind are consumed
 pub record IsMalformedNumber (k : Kind) (old : Input) (e : Error) (new : Input) : Type 0 where
@@ -134,7 +134,7 @@ pub record TakesEncoding (old new : Input) : Type 0 where
 pub record TakesNoEncoding (old : Input) (e : Error) (new : Input) : Type 0 where
   pub none : NoneIsLast old.bytes
   pub left : new ≡ after (length old.bytes) old
-  pub fault : e ≡ end_fault new
+  pub fault : e ≡ eof_here new
 
 -- a number is read, and it is at least the bound
 pub record IsOver (bound : ℕ) (old : Input) (e : Error) (new : Input) : Type 0 where

@@ -1,5 +1,15 @@
 //! LEB128 numbers (DWARF 5, 7.6): a byte carries seven bits of the number, the lowest first, and
 //! its highest bit says whether another byte follows.
+//!
+//! # Limits and errors
+//!
+//! A number may have more bytes than it needs, up to a limit: ten bytes for a type of 64 bits,
+//! three for `u16`. Reading it returns one of these errors:
+//!
+//! - `UnexpectedEof` at the end of the bytes, if they end before the number does and before the
+//!   limit. All of them are consumed.
+//! - `BadUnsignedLeb128` or `BadSignedLeb128`, if the last byte of the limit doesn't end the number,
+//!   or if the type can't hold it. The bytes of the limit are consumed.
 
 ghost use Rattle.std.specs.Prelude.{◌≡◌, ◌≤◌, ◌<◌, ◌*◌, ◌+◌, ◌%◌, ◌^◌, ◌↔◌, IsTrue, pos, ◌-ℤ◌, if◌then◌else◌};
 

@@ -421,14 +421,12 @@ pub trait Reader: Debug + Drop + Sized {
         }
     }
 
-    /// Reads an unsigned LEB128 number of at most ten bytes (DWARF 5, 7.6).
+    /// Reads an unsigned LEB128 number of at most 64 bits (DWARF 5, 7.6).
     ///
     /// # Errors
     ///
-    /// - [`Error::UnexpectedEof`] if the bytes end before the number does and before the tenth
-    ///   byte. All of them are consumed.
-    /// - [`Error::BadUnsignedLeb128`] if ten bytes don't end the number, or if it is 2^64 or more.
-    ///   Ten bytes are consumed.
+    /// [`Error::UnexpectedEof`] or [`Error::BadUnsignedLeb128`],
+    /// [as for all numbers](crate::leb128#limits-and-errors).
     #[inline(always)]
     fn read_uleb128(&mut self) -> Result<u64>
         ensures ok { IfOk result (λ v. ReadsNumber unsigned64 (view self.old) v (view self.new)) }
@@ -456,14 +454,12 @@ pub trait Reader: Debug + Drop + Sized {
         u32::try_from(value).map_err(|_| Error::BadUnsignedLeb128)
     }
 
-    /// Reads an unsigned LEB128 number of at most three bytes.
+    /// Reads an unsigned LEB128 number of at most 16 bits.
     ///
     /// # Errors
     ///
-    /// - [`Error::UnexpectedEof`] if the bytes end before the number does and before the third
-    ///   byte. All of them are consumed.
-    /// - [`Error::BadUnsignedLeb128`] if three bytes don't end the number, or if it is 2^16 or
-    ///   more. Three bytes are consumed.
+    /// [`Error::UnexpectedEof`] or [`Error::BadUnsignedLeb128`],
+    /// [as for all numbers](crate::leb128#limits-and-errors).
     #[inline(always)]
     fn read_uleb128_u16(&mut self) -> Result<u16>
         ensures ok { IfOk result (λ v. ReadsNumber unsigned16 (view self.old) v (view self.new)) }
@@ -488,14 +484,12 @@ pub trait Reader: Debug + Drop + Sized {
         Ok(with_digit(two, third, 14) as u16)
     }
 
-    /// Reads a signed LEB128 number of at most ten bytes (DWARF 5, 7.6).
+    /// Reads a signed LEB128 number of at most 64 bits (DWARF 5, 7.6).
     ///
     /// # Errors
     ///
-    /// - [`Error::UnexpectedEof`] if the bytes end before the number does and before the tenth
-    ///   byte. All of them are consumed.
-    /// - [`Error::BadSignedLeb128`] if ten bytes don't end the number, or if it is below -2^63 or
-    ///   is 2^63 or more. Ten bytes are consumed.
+    /// [`Error::UnexpectedEof`] or [`Error::BadSignedLeb128`],
+    /// [as for all numbers](crate::leb128#limits-and-errors).
     #[inline(always)]
     fn read_sleb128(&mut self) -> Result<i64>
         ensures ok { IfOk result (λ v. ReadsNumber signed64 (view self.old) v (view self.new)) }

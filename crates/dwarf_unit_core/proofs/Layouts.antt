@@ -1,10 +1,10 @@
--- An input has exactly one result for the fields of a layout; and the fields of two layouts, one after the other.
+-- An input has exactly one result for the fields of a layout; and the fields of two consecutive layouts.
 use Rattle.std.proofs.Common.{◌≡◌, ◌≤◌, ◌<◌, ℕ, length, refl, sym, Result, Ok, Err, arith, take}
 use Rattle.dwarf_read_core.proofs.public.Once.{one_unless}
 use Rattle.dwarf_read_core.specs.Number.{number_of}
 use Rattle.dwarf_read_core.specs.declared.Error.{Error}
 use Rattle.dwarf_read_core.specs.Input.{Input, TakesNumber, after}
-use Rattle.dwarf_read_core.specs.Faults.{end_fault}
+use Rattle.dwarf_read_core.specs.Faults.{eof_here}
 use Rattle.dwarf_read_core.specs.Once.{HasOne}
 use Rattle.dwarf_unit_core.specs.Layout.{Layout, says, lacks, field, ◌>>=◌, HasFields, HasNoFields, FieldsAt, no_field, one_field, unsupported, field_cut, later_field}
 
@@ -51,7 +51,7 @@ module _ {A : Type 0} where
   module _ (n : ℕ) (next : ℕ → Layout A) (old : Input) where
     -- a field that is cut is the error
     cut-only : length old.bytes < n → (r : Result (A × Input) Error) → FieldsAt (field n next) old r
-        → r ≡ Err (end_fault old)
+        → r ≡ Err (eof_here old)
     cut-only cut (Ok x) is = absurd (omega (arith, cut, (front-ok is).0))
     cut-only cut (Err e) (field_cut short) = refl
     cut-only cut (Err e) (later_field t h) = absurd (omega (arith, cut, t.enough))
@@ -74,7 +74,7 @@ module _ {A : Type 0} where
   fields-exactly_one (says x) old = (Ok (x, old), no_field, says-only x old)
   fields-exactly_one (lacks e) old = (Err e, unsupported, lacks-only e old)
   fields-exactly_one (field n next) old =
-      one_unless (length old.bytes) n (Err (end_fault old)) field_cut (cut-only n next old) (λ enough.
+      one_unless (length old.bytes) n (Err (eof_here old)) field_cut (cut-only n next old) (λ enough.
       let one = fields-exactly_one (next (front n old)) (after n old) in (
         one.0,
         front-first n next old enough one.0 one.1,

@@ -1,11 +1,11 @@
 -- Headers of fields in order, where the number of a field may say which fields follow it.
 use Rattle.std.specs.Prelude.{ℕ, ◌<◌, length, Result, Ok, Err}
 use Rattle.dwarf_read_core.specs.declared.Error.{Error}
-use Rattle.dwarf_read_core.specs.Faults.{end_fault}
+use Rattle.dwarf_read_core.specs.Faults.{eof_here}
 use Rattle.dwarf_read_core.specs.Input.{Input, TakesNumber}
 
--- the fields of a header: none are left, and it says x; or such a header isn't supported; or the next field has so many
--- bytes, and its number says what follows
+-- the fields of a header: none are left, and it says x; or such a header isn't supported; or the next field has a size
+-- in bytes, and its number says what follows
 pub data Layout (A : Type 0) : Type 0 where
   says : A → Layout A
   lacks : Error → Layout A
@@ -28,7 +28,7 @@ pub data HasFields {A : Type 0} : Layout A → Input → A → Input → Type 0 
 pub data HasNoFields {A : Type 0} : Layout A → Input → Error → Type 0 where
   unsupported : {old : Input} {e : Error} → HasNoFields (lacks e) old e
   field_cut : {n : ℕ} {next : ℕ → Layout A} {old : Input} → length old.bytes < n
-      → HasNoFields (field n next) old (end_fault old)
+      → HasNoFields (field n next) old (eof_here old)
   later_field : {n : ℕ} {next : ℕ → Layout A} {old mid : Input} {number : ℕ} {e : Error} → TakesNumber n old number mid
       → HasNoFields (next number) mid e → HasNoFields (field n next) old e
 

@@ -33,7 +33,11 @@ impl<'input, Endian: Endianity> DebugInfo<EndianSlice<'input, Endian>> {
     /// Returns the section of these bytes.
     pub fn new(debug_info_section: &'input [u8], endian: Endian) -> Self
         ensures view { input_of (debug_info_reader result)
-            ≡ record { bytes = debug_info_section.now; position = 0; is_big = Endian.is_big endian } }
+            ≡ record {
+              bytes = debug_info_section.now;
+              position = 0;
+              is_big = Endian.is_big endian;
+            } }
         ensures order { (debug_info_reader result).endian ≡ endian }
     {
         Self::from(EndianSlice::new(debug_info_section, endian))

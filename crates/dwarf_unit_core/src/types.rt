@@ -31,7 +31,11 @@ impl<'input, Endian: Endianity> DebugTypes<EndianSlice<'input, Endian>> {
     /// Returns the section of these bytes.
     pub fn new(debug_types_section: &'input [u8], endian: Endian) -> Self
         ensures view { input_of (debug_types_reader result)
-            ≡ record { bytes = debug_types_section.now; position = 0; is_big = Endian.is_big endian } }
+            ≡ record {
+              bytes = debug_types_section.now;
+              position = 0;
+              is_big = Endian.is_big endian;
+            } }
         ensures order { (debug_types_reader result).endian ≡ endian }
     {
         Self::from(EndianSlice::new(debug_types_section, endian))

@@ -4,7 +4,7 @@ ghost use Rattle.std.specs.Prelude.{◌≡◌, ◌≢◌, ◌<◌, ◌≤◌, �
 ghost use Rattle.std.specs.Io.KnownBytes.{Appends};
 ghost use Rattle.std.specs.List.{flat_map, list_all};
 ghost use Rattle.dwarf_read_core.specs.Endian.{is_big_at_run_time};
-ghost use Rattle.dwarf_read_core.specs.Faults.{end_fault};
+ghost use Rattle.dwarf_read_core.specs.Faults.{eof_here};
 ghost use Rattle.dwarf_read_core.specs.Input.{Input, after, section_of};
 ghost use Rattle.dwarf_read_core.specs.Lookups.{UnlessOutOfMemory};
 ghost use Rattle.dwarf_read_core.specs.Slice.{input_of};
@@ -204,7 +204,7 @@ fn set_at(
     ensures later { IfOk result (λ found. offset < length section.now → offset < found.1) }
     ensures within { IfOk result (λ found. found.1 ≤ length section.now) }
     ensures past { let whole = section_of section.now (is_big_at_run_time endian) in
-        IfErr result (λ error. (length section.now < offset) × (error ≡ end_fault whole)) }
+        IfErr result (λ error. (length section.now < offset) × (error ≡ eof_here whole)) }
 {
     let mut set = EndianSlice::new(section, endian);
     match set.skip(offset as usize) {

@@ -1,6 +1,6 @@
 -- Bytes have exactly one list of contributions, a contribution stays with more bytes appended, and what a reader reads
 -- of it is it.
-use Rattle.dwarf_read_core.proofs.Common.{◌≡◌, ◌≢◌, ◌∙◌, ℕ, ◌+◌, ◌-◌, ◌<◌, ◌≤◌, List, [], ◌∷◌, length, Result, Ok, Err, refl, sym, ap, subst, arith, Bool, ◌⊎◌, inl, inr, cases_lt, sum_by, length-append, length-drop, take-append-le, drop-append-le, Error, CloneRanOutOfMemory, end_fault, IsTooShort, Input, after, first, Takes, HasOne, IsNotEof, followed_by, ComesFirst, least_taken, Contribution, Remaining, RepresentsContributions, followed_remaining, rest-length, takes-both}
+use Rattle.dwarf_read_core.proofs.Common.{◌≡◌, ◌≢◌, ◌∙◌, ℕ, ◌+◌, ◌-◌, ◌<◌, ◌≤◌, List, [], ◌∷◌, length, Result, Ok, Err, refl, sym, ap, subst, arith, Bool, ◌⊎◌, inl, inr, cases_lt, sum_by, length-append, length-drop, take-append-le, drop-append-le, Error, CloneRanOutOfMemory, eof_here, IsTooShort, Input, after, first, Takes, HasOne, IsNotEof, followed_by, ComesFirst, least_taken, Contribution, Remaining, RepresentsContributions, followed_remaining, rest-length, takes-both}
 use Rattle.std.specs.Prelude.{if◌then◌else◌, nat_lt}
 use Rattle.std.proofs.lemmas.List.{length-take}
 use Rattle.dwarf_base_core.specs.declared.common.Format.{Format}
@@ -71,12 +71,12 @@ module _ {H : Type 0} {header : Header H} {least : ℕ} {size : Format → H →
   abbrev contribution_of : ℕ → Length → Result (Contribution H) Error
   contribution_of offset (Err e, new) = Err e
   contribution_of offset (Ok (format, n), mid) =
-      if nat_lt (length mid.bytes) n then Err (end_fault mid) else
+      if nat_lt (length mid.bytes) n then Err (eof_here mid) else
       contribution_said offset format n (is_header.one greatest format (first n mid)).0
 
   module _ (offset : ℕ) (format : Format) (n : ℕ) (mid : Input) where
     -- a contribution whose part is cut is the error
-    contribution_cut-is : length mid.bytes < n → Err (end_fault mid) ≡ contribution_of offset (Ok (format, n), mid)
+    contribution_cut-is : length mid.bytes < n → Err (eof_here mid) ≡ contribution_of offset (Ok (format, n), mid)
     contribution_cut-is short = grind arith
 
     -- a contribution that isn't is what its header says
@@ -117,7 +117,7 @@ module _ {H : Type 0} {header : Header H} {least : ℕ} {size : Format → H →
     contribution_some (Err e, new) lacks = (Err e, contribution_unmeasured lacks)
     contribution_some (Ok (format, n), mid) measured =
         elim (cases_lt (length mid.bytes) n) [
-          | inl short ↦ (Err (end_fault mid), contribution_cut measured short)
+          | inl short ↦ (Err (eof_here mid), contribution_cut measured short)
           | inr enough ↦
               let one = is_header.one greatest format (first n mid) in
               let taken : Takes n mid (after n mid) = record { enough = enough; left = refl } in (

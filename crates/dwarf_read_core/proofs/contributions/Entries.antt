@@ -1,5 +1,5 @@
 -- Bytes have exactly one list of entries, and `next` returns the first.
-use Rattle.dwarf_read_core.proofs.Common.{common_steps, ◌≡◌, ◌≢◌, ℕ, zero, suc, ◌+◌, ◌-◌, ◌*◌, ◌/◌, ◌<◌, ◌≤◌, Bool, cond, ◌∷◌, sum_by-cons, true, List, [], length, take, Result, Ok, Err, refl, sym, ap, subst, arith, inl, inr, sum_by, IsTrue, lt-leb, leb, UnsupportedOffset, Error, end_fault, is_number_size, ReadsNoAddress, ReadsNoWord, Input, after, TakesNumber, HasOne, Entries, ComesFirst, least_taken, length-drop}
+use Rattle.dwarf_read_core.proofs.Common.{common_steps, ◌≡◌, ◌≢◌, ℕ, zero, suc, ◌+◌, ◌-◌, ◌*◌, ◌/◌, ◌<◌, ◌≤◌, Bool, cond, ◌∷◌, sum_by-cons, true, List, [], length, take, Result, Ok, Err, refl, sym, ap, subst, arith, inl, inr, sum_by, IsTrue, lt-leb, leb, UnsupportedOffset, Error, eof_here, is_number_size, ReadsNoAddress, ReadsNoWord, Input, after, TakesNumber, HasOne, Entries, ComesFirst, least_taken, length-drop}
 use Rattle.std.specs.Prelude.{slice_get, count_by, is_ok, IfSome}
 use Rattle.std.proofs.lemmas.Nat.{div-mul-add}
 use Rattle.std.proofs.Math.Nat.{suc-mul}
@@ -20,7 +20,7 @@ module _ (fits : ℕ → Bool) (width : ℕ) where
   entry_exactly_one : (input : Input) → HasOne (EntryAt fits width input)
   entry_exactly_one input =
       let number = entry_number input in
-      one_unless (length input.bytes) width (Err (end_fault input)) entry_cut (λ short other is. grind arith)
+      one_unless (length input.bytes) width (Err (eof_here input)) entry_cut (λ short other is. grind arith)
       (λ enough.
       let taken : TakesNumber width input number (after width input) =
       record { enough = enough; encoded = refl; left = refl } in

@@ -1,5 +1,5 @@
 -- A section has exactly one result for the contribution at an offset, which stays with more bytes appended.
-use Rattle.dwarf_read_core.proofs.Common.{common_steps, ◌≡◌, ℕ, ◌<◌, ◌≤◌, List, length, Result, Ok, Err, refl, subst, sym, arith, Bool, IfOk, IfErr, ◌⊎◌, inl, inr, length-append, length-drop, drop-append-le, Error, CloneRanOutOfMemory, end_fault, IsTooShort, Input, after, Takes, HasOne, IsNotEof, followed_by, Contribution, followed_remaining}
+use Rattle.dwarf_read_core.proofs.Common.{common_steps, ◌≡◌, ℕ, ◌<◌, ◌≤◌, List, length, Result, Ok, Err, refl, subst, sym, arith, Bool, IfOk, IfErr, ◌⊎◌, inl, inr, length-append, length-drop, drop-append-le, Error, CloneRanOutOfMemory, eof_here, IsTooShort, Input, after, Takes, HasOne, IsNotEof, followed_by, Contribution, followed_remaining}
 use Rattle.dwarf_base_core.specs.declared.common.Format.{Format}
 use Rattle.dwarf_reader_core.proofs.public.Once.{one_unless}
 use Rattle.dwarf_reader_core.specs.Headers.{Header, IsHeader}
@@ -35,7 +35,7 @@ module _ {H : Type 0} (header : Header H) (greatest : ℕ) (section : Input) (of
 
   -- past the end there is no result but the error of the section's end
   contribution_at-past : length section.bytes < offset → (r : Result (Contribution H) Error)
-      → ContributionAtOffset header greatest section offset r → r ≡ Err (end_fault section)
+      → ContributionAtOffset header greatest section offset r → r ≡ Err (eof_here section)
   contribution_at-past past (Ok s) has = absurd (omega (arith, past, contribution_at-within has))
   contribution_at-past past (Err e) (contribution_outside outside) = refl
   contribution_at-past past (Err e) (contribution_faulty within lacks) = absurd (omega (arith, past, within))
@@ -63,7 +63,7 @@ pub contribution_at-exactly_one : {H : Type 0} {header : Header H} {least : ℕ}
     → IsHeader least size header → (greatest : ℕ) (section : Input) (offset : ℕ)
     → HasOne (ContributionAtOffset header greatest section offset)
 contribution_at-exactly_one is_header greatest section offset =
-    one_unless (length section.bytes) offset (Err (end_fault section)) contribution_outside
+    one_unless (length section.bytes) offset (Err (eof_here section)) contribution_outside
     (contribution_at-past _ greatest section offset) (λ within.
     let one = contribution_exactly_one is_header greatest (contributions_from offset section) in (
       one.0,

@@ -1,5 +1,5 @@
 -- Some appended bytes change each `UnexpectedEof` of a lookup.
-use Rattle.dwarf_read_core.proofs.Common.{◌≡◌, ◌≢◌, ℕ, ◌+◌, ◌-◌, ◌<◌, ◌≤◌, List, [], ◌∷◌, ◌++◌, length, drop, All, Result, Ok, Err, IfErr, refl, arith, length-append, drop-append-le, end_fault, Input, Error, IsNotEof, followed_by}
+use Rattle.dwarf_read_core.proofs.Common.{◌≡◌, ◌≢◌, ℕ, ◌+◌, ◌-◌, ◌<◌, ◌≤◌, List, [], ◌∷◌, ◌++◌, length, drop, All, Result, Ok, Err, IfErr, refl, arith, length-append, drop-append-le, eof_here, Input, Error, IsNotEof, followed_by}
 use Rattle.std.proofs.Common.{replicate}
 use Rattle.std.proofs.Math.Seq.{get_or-append_seam}
 use Rattle.std.proofs.lemmas.List.{length-replicate}
@@ -12,7 +12,7 @@ use Rattle.dwarf_reader_core.proofs.public.MissingFields.{eof-same}
 
 -- an offset within the section has no error of an offset past its end
 string-not_outside : (section : Input) (offset : ℕ) {e : Error} → HasNoString section offset e → 0 < offset
-    → offset ≤ length section.bytes → e ≡ end_fault section → ⊥
+    → offset ≤ length section.bytes → e ≡ eof_here section → ⊥
 string-not_outside section offset (string_past_end past) some within same = omega (arith, past, within)
 string-not_outside section offset (string_unended le none) some within same = omega (arith, some, eof-same same)
 

@@ -1,5 +1,5 @@
 -- The part that a reader reads after an offset is the section's part there, and a section has one result there.
-use Rattle.dwarf_read_core.proofs.Common.{common_steps, ◌≡◌, arith, ℕ, ◌+◌, ◌<◌, ◌≤◌, length, Ok, Err, refl, Error, end_fault, IsTooShort, Input, after, first, Takes, HasOne, rest-length}
+use Rattle.dwarf_read_core.proofs.Common.{common_steps, ◌≡◌, arith, ℕ, ◌+◌, ◌<◌, ◌≤◌, length, Ok, Err, refl, Error, eof_here, IsTooShort, Input, after, first, Takes, HasOne, rest-length}
 use Rattle.dwarf_reader_core.proofs.public.Once.{one_unless}
 use Rattle.dwarf_read_core.specs.Ranges.{HasNoRange, HoldsRange, RangeAt, range_cut, range_past_end}
 
@@ -26,9 +26,9 @@ range_outside section offset size e new short = rw short.fault (range_past_end s
 -- a section has exactly one part or error at an offset
 pub ranges_exactly_one : (section : Input) (offset size : ℕ) → HasOne (RangeAt section offset size)
 ranges_exactly_one section offset size =
-    one_unless (length section.bytes) offset (Err (end_fault section)) range_past_end (λ past other is. grind arith)
+    one_unless (length section.bytes) offset (Err (eof_here section)) range_past_end (λ past other is. grind arith)
     (λ within.
-    one_unless (length section.bytes) (offset + size) (Err (end_fault (after offset section))) (range_cut within)
+    one_unless (length section.bytes) (offset + size) (Err (eof_here (after offset section))) (range_cut within)
     (λ cut other is. grind arith) (λ enough. (
       Ok (first size (after offset section)),
       record { within = enough; content = refl; start = refl; order = refl },

@@ -1,5 +1,5 @@
 -- The string that a reader reads after an offset is the section's string there, and a section has one result there.
-use Rattle.dwarf_read_core.proofs.Common.{◌≡◌, ◌≢◌, ℕ, ◌+◌, ◌≤◌, List, length, drop, Result, Ok, Err, refl, sym, ap, subst, ◌∙◌, arith, ◌⊎◌, inl, inr, Bool, IfOk, IfErr, All, cases_lt, length-take-le, drop-append-le, Error, end_fault, followed_by, IsTooShort, HasNoByte, CloneRanOutOfMemory, Input, after, Takes, TakesString, HasOne, UnlessCloneRanOut, Stays, IsNotEof}
+use Rattle.dwarf_read_core.proofs.Common.{◌≡◌, ◌≢◌, ℕ, ◌+◌, ◌≤◌, List, length, drop, Result, Ok, Err, refl, sym, ap, subst, ◌∙◌, arith, ◌⊎◌, inl, inr, Bool, IfOk, IfErr, All, cases_lt, length-take-le, drop-append-le, Error, eof_here, followed_by, IsTooShort, HasNoByte, CloneRanOutOfMemory, Input, after, Takes, TakesString, HasOne, UnlessCloneRanOut, Stays, IsNotEof}
 use Rattle.dwarf_reader_core.specs.Input.{IsFirst}
 use Rattle.dwarf_read_core.proofs.lookups.Results.{first_more, lookup-stays, range_more}
 use Rattle.dwarf_read_core.proofs.lookups.Ranges.{range_taken}
@@ -82,7 +82,7 @@ string-stays {section = section} {offset = offset} =
 string_some : (section : Input) (offset : ℕ) → (r : Result Input Error) × StringAt section offset r
 string_some section offset =
     elim (cases_lt (length section.bytes) offset) [
-      | inl past ↦ (Err (end_fault section), string_past_end past)
+      | inl past ↦ (Err (eof_here section), string_past_end past)
       | inr within ↦
           let takes : Takes offset section (after offset section) = record { enough = within; left = refl } in
           elim (string_taken_or_none (after offset section)) [
@@ -106,7 +106,7 @@ string_or_none : {section string : Input} {offset : ℕ} {e : Error} → HoldsSt
     → HasNoString section offset e → ⊥
 string_or_none h (string_past_end past) = omega (arith, h.part.within)
 string_or_none {section} {string} {offset} h (string_unended within none) =
-    string_not_none (after offset section) string _ (end_fault (after offset section)) (string_there h)
+    string_not_none (after offset section) string _ (eof_here (after offset section)) (string_there h)
     (record { none = none; fault = refl })
 
 -- two results at an offset are equal

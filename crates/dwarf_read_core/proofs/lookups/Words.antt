@@ -1,5 +1,5 @@
 -- What a reader reads at the place of a slot is the section's result there, and a section has one result there.
-use Rattle.dwarf_read_core.proofs.Common.{common_steps, ◌≡◌, ℕ, ◌+◌, ◌<◌, ◌≤◌, length, take, drop, List, Bool, true, false, Result, Ok, Err, refl, arith, inl, inr, ◌⊎◌, IsTrue, IfOk, IfErr, OnOk, length-append, Error, UnsupportedOffset, UnsupportedAddressSize, end_fault, IsTooShort, ReadsNoAddress, ReadsNoWord, is_number_size, Input, after, Takes, TakesNumber, followed_by, IsNotEof, HasOne, UnlessCloneRanOut, rest-length, Stays}
+use Rattle.dwarf_read_core.proofs.Common.{common_steps, ◌≡◌, ℕ, ◌+◌, ◌<◌, ◌≤◌, length, take, drop, List, Bool, true, false, Result, Ok, Err, refl, arith, inl, inr, ◌⊎◌, IsTrue, IfOk, IfErr, OnOk, length-append, Error, UnsupportedOffset, UnsupportedAddressSize, eof_here, IsTooShort, ReadsNoAddress, ReadsNoWord, is_number_size, Input, after, Takes, TakesNumber, followed_by, IsNotEof, HasOne, UnlessCloneRanOut, rest-length, Stays}
 use Rattle.dwarf_base_core.specs.Number.{number_of}
 use Rattle.dwarf_reader_core.proofs.public.Once.{one_by_test, one_unless}
 use Rattle.dwarf_read_core.proofs.lookups.Results.{lookup-stays}
@@ -149,11 +149,11 @@ module _ (greatest : ℕ) (section : Input) (s : Slot) where
       → ((e : Error) → Is (Err e) → IsPlaced greatest section s ⊎ HasNoPlace greatest section s e)
       → (IsPlaced greatest section s → HasOne Is) → HasOne Is
   one_with_place Is unplaced ok err there =
-      one_unless (length section.bytes) s.base (Err (end_fault section)) (λ past. unplaced _ (no_base past))
+      one_unless (length section.bytes) s.base (Err (eof_here section)) (λ past. unplaced _ (no_base past))
       (λ past other is. grind arith) (λ based.
       one_unless greatest (distance s) (Err UnsupportedOffset) (λ over. unplaced _ (no_distance based over))
       (λ over other is. grind arith) (λ counted.
-      one_unless (length section.bytes) (slot_offset s) (Err (end_fault (after s.base section)))
+      one_unless (length section.bytes) (slot_offset s) (Err (eof_here (after s.base section)))
       (λ past. unplaced _ (no_place based counted past)) (λ past other is. grind arith)
       (λ within. there (record { based = based; counted = counted; within = within }))))
 
@@ -170,7 +170,7 @@ module _ (greatest : ℕ) (section : Input) (s : Slot) where
   words_exactly_one =
       one_with_place (WordAt greatest section s) (λ e. word_unplaced) (λ x has. has.placed) (λ e is. grind arith)
       (λ there.
-      one_unless (length section.bytes) (slot_offset s + s.width) (Err (end_fault (after (slot_offset s) section)))
+      one_unless (length section.bytes) (slot_offset s + s.width) (Err (eof_here (after (slot_offset s) section)))
       (word_cut there)
       (λ cut other is. grind arith) (λ within.
       let x = number_of section.is_big (take s.width (drop (slot_offset s) section.bytes)) in
@@ -189,7 +189,7 @@ module _ (greatest : ℕ) (section : Input) (s : Slot) where
   -- missing bytes are the only result for an address
   address_cut-is : IsPlaced greatest section s → is_number_size s.width ≡ true
       → length section.bytes < slot_offset s + s.width → (r : Result ℕ Error) → AddressAt greatest section s r
-      → r ≡ Err (end_fault (after (slot_offset s) section))
+      → r ≡ Err (eof_here (after (slot_offset s) section))
   address_cut-is there size cut (Ok x) is = grind arith
   address_cut-is there size cut (Err e) (address_unplaced none) = absurd (place_or_none there none)
   address_cut-is there size cut (Err e) (address_unsized here other) = absurd cc
@@ -209,7 +209,7 @@ module _ (greatest : ℕ) (section : Input) (s : Slot) where
       one_with_place (AddressAt greatest section s) (λ e. address_unplaced) (λ x has. has.placed) (λ e is. grind arith)
       (λ there.
       one_by_test (is_number_size s.width) (λ size.
-      one_unless (length section.bytes) (slot_offset s + s.width) (Err (end_fault (after (slot_offset s) section)))
+      one_unless (length section.bytes) (slot_offset s + s.width) (Err (eof_here (after (slot_offset s) section)))
       (address_cut there size) (address_cut-is there size) (λ within.
       let x = number_of section.is_big (take s.width (drop (slot_offset s) section.bytes)) in
       let held : Holds section s x = record { within = within; encoded = refl } in

@@ -1,5 +1,5 @@
 -- A section has exactly one result at each offset, and the parser returns it.
-use Rattle.dwarf_read_core.proofs.Common.{common_steps, ◌≡◌, ◌≢◌, ℕ, ◌+◌, ◌≤◌, cond, ltb, List, length, drop, None, Result, Ok, Err, IfErr, refl, sym, arith, inl, inr, lt-ltb, le-ltb, empty, length-drop, nil_from_length, Error, OutOfMemory, Input, end_of, Takes, end_fault, IsTooShort, HasOutcome, returned, failed, IsTable, HasOne, Answer, Answers, IsFirstError, TakesNoMemory, outside, table, first_error, declaration_at, table_in, cases_lt}
+use Rattle.dwarf_read_core.proofs.Common.{common_steps, ◌≡◌, ◌≢◌, ℕ, ◌+◌, ◌≤◌, cond, ltb, List, length, drop, None, Result, Ok, Err, IfErr, refl, sym, arith, inl, inr, lt-ltb, le-ltb, empty, length-drop, nil_from_length, Error, OutOfMemory, Input, end_of, Takes, eof_here, IsTooShort, HasOutcome, returned, failed, IsTable, HasOne, Answer, Answers, IsFirstError, TakesNoMemory, outside, table, first_error, declaration_at, table_in, cases_lt}
 use Rattle.std.specs.Result.{IsErrAnd}
 use Rattle.dwarf_reader_core.proofs.public.Consuming.{end_of-after}
 use Rattle.dwarf_read_core.proofs.tables.ReadingIsComplete.{zero_again, end_again}
@@ -9,7 +9,7 @@ use Rattle.dwarf_read_core.proofs.tables.TablesAreRead.{begins_with_none, table_
 -- what the functions read at an offset of a section
 unfoldable pub answer_at : Input → ℕ → TableRead
 answer_at section offset =
-    cond (ltb (length section.bytes) offset) (Err (end_fault section))
+    cond (ltb (length section.bytes) offset) (Err (eof_here section))
     (table_in (end_of section) empty (drop offset section.bytes))
 
 -- what the functions read at an offset is a result that the section has there

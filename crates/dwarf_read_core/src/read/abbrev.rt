@@ -78,9 +78,9 @@ impl<R: Reader> DebugAbbrev<R> {
     ///
     /// - `UnexpectedEof`, at the section's start if `offset` is past its end, and at the
     ///   section's end if a declaration is cut short;
-    /// - `BadUnsignedLeb128` for a code with more than ten bytes or a value of 2^64 or more, or for
-    ///   a tag, name or form with more than three bytes or a value of 2^16 or more;
-    /// - `BadSignedLeb128` for a value with more than ten bytes, or one that doesn't fit `i64`;
+    /// - `BadUnsignedLeb128` for a code that is too long or doesn't fit `u64`, or for a tag, name or
+    ///   form that is too long or doesn't fit `u16` ([the limits](crate::leb128#limits-and-errors));
+    /// - `BadSignedLeb128` for a value that is too long or doesn't fit `i64`;
     /// - `AbbreviationTagZero`, `InvalidAbbreviationChildren`, `AttributeNameZero` or
     ///   `AttributeFormZero` for a field with a value that no declaration has;
     /// - `DuplicateAbbreviationCode` for a whole declaration with the code of an earlier one.

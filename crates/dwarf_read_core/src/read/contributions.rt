@@ -396,6 +396,7 @@ impl<R: Reader, H: HeaderFields<R>> ContributionHeader<R, H> {
     {
         self.entries.try_clone()
     }
+
     /// Returns the reader of the entries, which isn't cloned.
     pub fn into_entries(self) -> R
         ensures { result ≡ self.entries }

@@ -1,5 +1,5 @@
 -- Bytes have exactly one header of each kind, or exactly one error in place of it, and what a reader reads is it.
-use Rattle.dwarf_reader_core.proofs.Common.{common_steps, ◌≡◌, ◌≢◌, ◌∙◌, ℕ, ◌+◌, ◌<◌, ◌≤◌, false, IsTrue, length, take, Result, Ok, Err, refl, sym, subst, arith, ◌⊎◌, inl, inr, HasOne, Error, IsTooShort, end_fault, Input, after, Takes, TakesByte, TakesNumber}
+use Rattle.dwarf_reader_core.proofs.Common.{common_steps, ◌≡◌, ◌≢◌, ◌∙◌, ℕ, ◌+◌, ◌<◌, ◌≤◌, false, IsTrue, length, take, Result, Ok, Err, refl, sym, subst, arith, ◌⊎◌, inl, inr, HasOne, Error, IsTooShort, eof_here, Input, after, Takes, TakesByte, TakesNumber}
 use Rattle.std.proofs.Common.{slice_index}
 use Rattle.std.proofs.lemmas.List.{get_or-drop}
 use Rattle.dwarf_base_core.specs.Number.{number_of}
@@ -30,7 +30,7 @@ one_after_version : {A : Type 0} (Is : Result A Error → Type 0) (unit : Input)
     → ((e : Error) → HasNoVersion unit e → Is (Err e)) → ((x : A) → Is (Ok x) → HasVersion unit)
     → ((e : Error) → Is (Err e) → HasVersion unit ⊎ HasNoVersion unit e) → (HasVersion unit → HasOne Is) → HasOne Is
 one_after_version Is unit lacks ok err following =
-    one_unless (length unit.bytes) 2 (Err (end_fault unit)) (λ short. lacks _ (version_cut short))
+    one_unless (length unit.bytes) 2 (Err (eof_here unit)) (λ short. lacks _ (version_cut short))
     (λ short other is. grind arith) (λ enough.
     one_by_equality (version_of unit) 5 (λ known. following (record { enough = enough; version = known }))
     (λ different. (
@@ -45,7 +45,7 @@ version_or_none version none = grind arith
 
 -- after version 5 and an address size only the segment size can be wrong: it is cut, or isn't 0
 sized_only : {unit : Input} → HasVersion unit → IsTrue (is_number_size (size_of unit)) → (e : Error)
-    → HasNoAddressHeader unit e → ((length unit.bytes < 4) × (e ≡ end_fault (after 3 unit)))
+    → HasNoAddressHeader unit e → ((length unit.bytes < 4) × (e ≡ eof_here (after 3 unit)))
     ⊎ ((4 ≤ length unit.bytes) × (segment_of unit ≢ 0) × (e ≡ UnsupportedSegmentSize (segment_of unit)))
     ⊎ (length unit.bytes < 3)
 sized_only version sized e (address_unversioned none) = absurd (version_or_none version none)
@@ -73,10 +73,10 @@ address_header-one : (unit : Input) → HasOne (AddressFieldsAt unit)
 address_header-one unit =
     one_after_version (AddressFieldsAt unit) unit (λ e. address_unversioned) (λ x has. has.version)
     (λ e is. grind arith) (λ version.
-    one_unless (length unit.bytes) 3 (Err (end_fault (after 2 unit))) (address_size_cut version)
+    one_unless (length unit.bytes) 3 (Err (eof_here (after 2 unit))) (address_size_cut version)
     (λ short other is. grind arith) (λ three.
     one_by_test (is_number_size (size_of unit)) (λ sized.
-    one_unless (length unit.bytes) 4 (Err (end_fault (after 3 unit)))
+    one_unless (length unit.bytes) 4 (Err (eof_here (after 3 unit)))
     (λ short. segment_size_cut version sized (omega (arith, short, three)))
     (λ short other is. grind (arith, sized_only version sized)) (λ four.
     one_by_equality (segment_of unit) 0
@@ -108,7 +108,7 @@ offsets_header-one : (unit : Input) → HasOne (StringOffsetsFieldsAt unit)
 offsets_header-one unit =
     one_after_version (StringOffsetsFieldsAt unit) unit (λ e. offsets_unversioned) (λ x has. has.version)
     (λ e is. grind arith) (λ version.
-    one_unless (length unit.bytes) 4 (Err (end_fault (after 2 unit))) (padding_cut version)
+    one_unless (length unit.bytes) 4 (Err (eof_here (after 2 unit))) (padding_cut version)
     (λ short other is. grind arith)
     (λ four. (
       Ok (tt, after 4 unit),
@@ -146,7 +146,7 @@ byte_after {n} {b} {unit} {mid} {new} takes byte = grind (arith, common_steps, g
 
 -- if no byte is read after n bytes, the input has these alone
 no_byte_after : {n : ℕ} {unit mid new : Input} {e : Error} → Takes n unit mid → IsTooShort 1 mid e new
-    → (length unit.bytes ≡ n) × (e ≡ end_fault (after n unit))
+    → (length unit.bytes ≡ n) × (e ≡ eof_here (after n unit))
 no_byte_after {n} {unit} {mid} {new} {e} takes short = grind (arith, common_steps)
 
 -- if two bytes aren't read, no version is there

@@ -1,5 +1,5 @@
 -- Bytes have exactly one initial length, or exactly one error in place of it, and either stays with more bytes appended.
-use Rattle.dwarf_reader_core.proofs.Common.{ℕ, ◌<◌, ◌≤◌, List, length, take, Result, Ok, Err, refl, sym, arith, Error, end_fault, IsTooShort, Input, after, Takes, TakesNumber, HasOne}
+use Rattle.dwarf_reader_core.proofs.Common.{ℕ, ◌<◌, ◌≤◌, List, length, take, Result, Ok, Err, refl, sym, arith, Error, eof_here, IsTooShort, Input, after, Takes, TakesNumber, HasOne}
 use Rattle.dwarf_base_core.specs.declared.common.Format.{Format}
 use Rattle.dwarf_base_core.specs.declared.common.Format.TheVariants.{Dwarf32, Dwarf64}
 use Rattle.dwarf_base_core.specs.declared.error.Error.TheVariants.{UnknownReservedLength, UnsupportedOffset}
@@ -19,7 +19,7 @@ front_taken : (n : ℕ) (old : Input) → n ≤ length old.bytes → TakesNumber
 front_taken n old enough = record { enough = enough; encoded = refl; left = refl }
 
 -- if there are fewer than n bytes, that is an error
-front_cut : (n : ℕ) (old : Input) → length old.bytes < n → IsTooShort n old (end_fault old) old
+front_cut : (n : ℕ) (old : Input) → length old.bytes < n → IsTooShort n old (eof_here old) old
 front_cut n old short = record { short = short; fault = refl; left = refl }
 
 -- a result for the initial length, and what remains
@@ -33,7 +33,7 @@ long_only : (greatest : ℕ) (old : Input) → TakesNumber 4 old 0xffff_ffff (af
     → HasOne (LengthAt greatest old)
 long_only greatest old four =
     let mid = after 4 old in
-    one_unless (length mid.bytes) 8 (Err (end_fault mid), mid) (λ short. eight_cut four (front_cut 8 mid short))
+    one_unless (length mid.bytes) 8 (Err (eof_here mid), mid) (λ short. eight_cut four (front_cut 8 mid short))
     (λ short other is. grind arith) (λ more.
     one_unless greatest (front_number 8 mid) (Err UnsupportedOffset, after 8 mid)
     (λ over. too_great four (front_taken 8 mid more) over) (λ over other is. grind arith)
@@ -48,7 +48,7 @@ pub lengths_exactly_one : (greatest : ℕ) (old : Input) → HasOne (LengthAt gr
 lengths_exactly_one greatest old =
     let n = front_number 4 old in
     let mid = after 4 old in
-    one_unless (length old.bytes) 4 (Err (end_fault old), old) (λ short. four_cut (front_cut 4 old short))
+    one_unless (length old.bytes) 4 (Err (eof_here old), old) (λ short. four_cut (front_cut 4 old short))
     (λ short other is. grind arith) (λ enough.
     one_unless n 0xffff_fff0 (Ok (Dwarf32, n), mid) (λ low. in_four_bytes (front_taken 4 old enough) low)
     (λ low other is. grind arith) (λ high.

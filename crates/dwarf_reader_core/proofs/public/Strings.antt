@@ -1,5 +1,5 @@
 -- Bytes either begin with exactly one string, or have no zero byte.
-use Rattle.dwarf_reader_core.proofs.Common.{◌≡◌, ◌≢◌, ℕ, zero, suc, ◌+◌, ◌<◌, take, refl, sym, ap, ◌∙◌, arith, ◌⊎◌, inl, inr, List, [], ◌∷◌, All, All-nil, All-cons, cases_lt, length, length-drop, length-take, Error, Input, after, first, IsFirst, Takes, TakesString, HasNoByte, end_fault}
+use Rattle.dwarf_reader_core.proofs.Common.{◌≡◌, ◌≢◌, ℕ, zero, suc, ◌+◌, ◌<◌, take, refl, sym, ap, ◌∙◌, arith, ◌⊎◌, inl, inr, List, [], ◌∷◌, All, All-nil, All-cons, cases_lt, length, length-drop, length-take, Error, Input, after, first, IsFirst, Takes, TakesString, HasNoByte, eof_here}
 use Rattle.std.proofs.Common.{get_or-take, slice_index}
 use Rattle.std.proofs.lemmas.List.Elements.{All-get_or}
 
@@ -65,7 +65,7 @@ HasString old = ((s : Input) × (x : Input) × TakesString old s x) ⊎ ((e : Er
 pub string_taken_or_none : (old : Input) → HasString old
 string_taken_or_none old =
     elim (zero_or_none old.bytes) [
-      | inl none ↦ inr (end_fault old, record { none = none; fault = refl })
+      | inl none ↦ inr (eof_here old, record { none = none; fault = refl })
       | inr found ↦
           let taken : TakesString old (first found.0 old) (after (found.0 + 1) old) =
           record { len = found.0; ends = found.1; content = refl; left = refl } in

@@ -21,14 +21,11 @@ pub fn skip<R: Reader>(r: &mut R) -> Result<()>
     r.skip_leb128()
 }
 
-/// Reads an unsigned number of at most 64 bits, in at most ten bytes.
+/// Reads an unsigned number of at most 64 bits.
 ///
 /// # Errors
 ///
-/// - `UnexpectedEof` at the end of the bytes if they end before the number and before the tenth
-///   byte. All of them are consumed.
-/// - `BadUnsignedLeb128` if ten bytes don't end the number, or if it is 2^64 or more. Ten bytes are
-///   consumed.
+/// `UnexpectedEof` or `BadUnsignedLeb128`, [as for all numbers](super#limits-and-errors).
 #[inline]
 pub fn unsigned<R: Reader>(r: &mut R) -> Result<u64>
     ensures ok { IfOk result (λ v. ReadsNumber unsigned64 (R.view r.old) v (R.view r.new)) }
@@ -38,14 +35,11 @@ pub fn unsigned<R: Reader>(r: &mut R) -> Result<u64>
     r.read_uleb128()
 }
 
-/// Reads an unsigned number of at most 16 bits, in at most three bytes.
+/// Reads an unsigned number of at most 16 bits.
 ///
 /// # Errors
 ///
-/// - `UnexpectedEof` at the end of the bytes if they end before the number and before the third
-///   byte. All of them are consumed.
-/// - `BadUnsignedLeb128` if three bytes don't end the number, or if it is 2^16 or more. Three bytes
-///   are consumed.
+/// `UnexpectedEof` or `BadUnsignedLeb128`, [as for all numbers](super#limits-and-errors).
 #[inline]
 pub fn u16<R: Reader>(r: &mut R) -> Result<u16>
     ensures ok { IfOk result (λ v. ReadsNumber unsigned16 (R.view r.old) v (R.view r.new)) }
@@ -55,14 +49,11 @@ pub fn u16<R: Reader>(r: &mut R) -> Result<u16>
     r.read_uleb128_u16()
 }
 
-/// Reads a signed number of at most 64 bits, in at most ten bytes.
+/// Reads a signed number of at most 64 bits.
 ///
 /// # Errors
 ///
-/// - `UnexpectedEof` at the end of the bytes if they end before the number and before the tenth
-///   byte. All of them are consumed.
-/// - `BadSignedLeb128` if ten bytes don't end the number, or if it is below -2^63 or is 2^63 or
-///   more. Ten bytes are consumed.
+/// `UnexpectedEof` or `BadSignedLeb128`, [as for all numbers](super#limits-and-errors).
 #[inline]
 pub fn signed<R: Reader>(r: &mut R) -> Result<i64>
     ensures ok { IfOk result (λ v. ReadsNumber signed64 (R.view r.old) v (R.view r.new)) }

@@ -1,4 +1,4 @@
--- The values of each list rise, so no value occurs twice.
+-- The values of each list rise, so no value occurs twice. tools/constants writes this file.
 use Rattle.std.proofs.Common.{refl}
 use Rattle.dwarf_code_core.specs.DwAccess.{accessibility_names}
 use Rattle.dwarf_code_core.specs.DwAddr.{address_class_names}

@@ -1,3 +1,4 @@
+-- The values of each list rise, so no value occurs twice. tools/constants writes this file.
 use Rattle.std.proofs.Common.{refl}
 use Rattle.dwarf_const_core.specs.DwAt.{attribute_names}
 use Rattle.dwarf_const_core.specs.DwForm.{form_names}

@@ -1,6 +1,6 @@
 use Rattle.std.proofs.Common.{arith}
 use Rattle.std.proofs.lemmas.Bool.Decides.{nat_tests}
-use Rattle.dwarf_read_c.proofs.FamilyLemmas.{unnamed}
+use Rattle.dwarf_read_c.proofs.FamilyBounds.{unnamed}
 use Rattle.dwarf_read_c.proofs.families.name_in.Goals as goal
 
 pub returns-in_err-word_of-in-28 : goal.returns-in_err-word_of-in-28

@@ -1,4 +1,4 @@
-use Rattle.dwarf_read_c.proofs.NumberLemmas.{number_rejected}
+use Rattle.dwarf_read_c.proofs.AbsentNumbers.{number_rejected}
 use Rattle.dwarf_read_c.proofs.numbers.dwarf_sleb128.Goals as goal
 
 pub returns-in-Err-clause-rejected : goal.returns-in-Err-clause-rejected

@@ -1,5 +1,5 @@
 use Rattle.dwarf_read_c.proofs.Common.{arith, refl}
-use Rattle.dwarf_read_c.proofs.TableLemmas.{rooms-enough}
+use Rattle.dwarf_read_c.proofs.WrittenTables.{rooms-enough}
 use Rattle.dwarf_read_c.proofs.tables.dwarf_table_read_0_3.Goals as goal
 
 pub returns-in-Ok-clause-room : goal.returns-in-Ok-clause-room

@@ -1,5 +1,5 @@
 use Rattle.dwarf_read_c.proofs.Common.{◌<◌, ap, arith, length, length-append, common_steps, Declaration}
-use Rattle.dwarf_read_c.proofs.TableLemmas.{laid_set, length-values}
+use Rattle.dwarf_read_c.proofs.WrittenTables.{laid_set, length-values}
 use Rattle.dwarf_read_c.proofs.tables.fill_abbreviations.Goals as goal
 
 pub bounds-places-index : goal.bounds-places-index

@@ -1,5 +1,5 @@
 use Rattle.dwarf_read_c.proofs.Common.{◌≡◌, ◌++◌, drop, length, map, take, values, laid_from}
-use Rattle.dwarf_read_c.proofs.TableLemmas.{attributes_count}
+use Rattle.dwarf_read_c.proofs.WrittenTables.{attributes_count}
 use Rattle.dwarf_read_c.proofs.tables.fill_abbreviations.Given as goal
 
 -- the abbreviations so far are at the front of the places, and the places after them are unchanged

@@ -1,4 +1,5 @@
--- A value that the type of its family can't hold has no name.
+-- A value that the type of its family can't hold has no name. tools/constants writes the imports of the families and
+-- what `names_are_below` unfolds.
 use Rattle.std.specs.List.{list_all}
 use Rattle.std.specs.Map.{lookup}
 use Rattle.std.proofs.lemmas.Bool.Decides.{nat_tests}
@@ -61,7 +62,7 @@ none_above (list ∷ lists) bound number value below above =
 
 -- each named value of a family is one that the type of the family has
 names_are_below : list_all (λ f. list_all (λ named. nat_lt named.0 (bound_of f.0)) f.1) families ≡ true
-unfolding families attribute_names form_names index_attribute_names language_names line_content_names tag_names
+unfolding families tag_names attribute_names form_names index_attribute_names language_names line_content_names
     accessibility_names address_class_names base_type_encoding_names calling_convention_names call_frame_names
     children_names defaulted_names decimal_sign_names discriminant_names pointer_encoding_names endianity_names
     identifier_case_names inlining_names location_list_entry_names line_extended_names line_standard_names
