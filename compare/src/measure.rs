@@ -361,7 +361,7 @@ fn units_sum(section: Bytes) -> gimli::Result<u64> {
     Ok(sum)
 }
 
-/// The library reads units as gimli 0.27 does, and is measured beside that.
+/// The library reads units as gimli 0.27 does, and is compared with that.
 #[cfg(gimli_0_34)]
 fn all_of_units(_all: &mut Vec<Workload>) {}
 

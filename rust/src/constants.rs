@@ -496,7 +496,7 @@ mod tests {
     use super::*;
     use std::string::ToString;
 
-    // The names that are declared here, beside those that the library has.
+    // The names that are declared here, compared with those that the library has.
     #[test]
     fn names_are_those_of_the_library() {
         for (number, family, rows) in FAMILIES {

@@ -101,8 +101,7 @@ pub fn uleb128(bytes: &[u8]) -> Result<(u64, usize)> {
 ///
 /// # Errors
 ///
-/// `UnexpectedEof` at the end if the bytes end before the number does, and `BadSignedLeb128` if it
-/// has more than ten bytes or doesn't fit `i64`.
+/// `UnexpectedEof` as from [`uleb128`], and `BadSignedLeb128` if it is too long or doesn't fit `i64`.
 ///
 /// ```
 /// assert_eq!(dwarf_read::sleb128(&[0x56]), Ok((-42, 1)));

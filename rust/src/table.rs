@@ -9,7 +9,7 @@ use core::fmt;
 use core::iter::FusedIterator;
 use core::slice;
 
-// An abbreviation has at least so many bytes, and so has an attribute.
+// The least size of an abbreviation and of an attribute, in bytes.
 const ROW_BYTES: usize = 5;
 const ATTRIBUTE_BYTES: usize = 2;
 
