@@ -1,18 +1,13 @@
 -- Some appended bytes change each result that depends on where the section ends.
-use Rattle.dwarf_read_core.proofs.Common.{◌≡◌, ◌≢◌, ◌⊎◌, inl, inr, ◌∙◌, ℕ, ◌-◌, ◌<◌, ◌≤◌, List, [], ◌∷◌, ◌++◌, length, Result, Ok, Err, refl, sym, subst, arith, append-nil, length-append, drop-append-le, eof, end_of, Input, Error, Table, closed, by_code_of, by_null, by_end, IsNumber, unsigned64, IsTableBefore, closed_by_null, closed_by_end, Answer, outside, table, first_error, StrictAnswer, IsStrictlyFinal, IsFinal, followed_by}
+use Rattle.dwarf_read_core.proofs.Common.{◌≡◌, ◌≢◌, ◌⊎◌, inl, inr, ℕ, ◌-◌, ◌<◌, ◌≤◌, List, [], ◌∷◌, ◌++◌, length, Result, Ok, Err, refl, subst, arith, append-nil, length-append, drop-append-le, eof, end_of, Input, Error, Table, closed, by_code_of, by_null, by_end, IsNumber, unsigned64, IsTableBefore, closed_by_null, closed_by_end, Answer, outside, table, first_error, StrictAnswer, IsStrictlyFinal, IsFinal, followed_by}
 use Rattle.std.proofs.Common.{replicate}
 use Rattle.std.proofs.lemmas.List.{length-replicate}
 use Rattle.dwarf_read_core.specs.Answer.{unterminated}
 use Rattle.dwarf_read_core.specs.Grammar.{Close}
+use Rattle.dwarf_read_core.proofs.contributions.ItemLists.{same_of_one}
 use Rattle.dwarf_read_core.proofs.tables.ExactlyOneAnswer.{answer_exactly_one}
 use Rattle.dwarf_read_core.proofs.tables.TableErrors.{table_error}
 use Rattle.dwarf_read_core.proofs.tables.EndFaults.{at_start, at_end, first_at_end, eof_ends, closed_or_other, unterminated_at_end}
-
--- two results of a section at an offset are equal
-answer-same : (section : Input) (offset : ℕ) (a b : Result Table Error) → Answer section offset a
-    → Answer section offset b → a ≡ b
-answer-same section offset a b is has =
-    let one = answer_exactly_one section offset in one.2 a is ∙ sym (one.2 b has)
 
 -- ---- tables that the end closes
 
@@ -37,7 +32,7 @@ null_changes section offset _ (table t le is) unsettled stays =
     let other : Answer (followed_by section (0 ∷ [])) offset (Ok (closed t.by_code by_null)) =
     table (closed t.by_code by_null) (omega (arith, le, longer))
     ([], rw (drop-append-le offset section.bytes (0 ∷ []) le) null) in
-    let same = answer-same (followed_by section (0 ∷ [])) offset _ _ stays other in
+    let same = same_of_one (answer_exactly_one (followed_by section (0 ∷ [])) offset) stays other in
     unsettled (grind arith)
 
 -- ---- errors
