@@ -7,8 +7,8 @@ ghost use Rattle.dwarf_read_core.specs.Cache.{IsFaithful, answer_of};
 ghost use Rattle.dwarf_read_core.specs.Grammar.{Table};
 ghost use Rattle.dwarf_read_core.specs.Input.{Input, section_of};
 ghost use Rattle.dwarf_read_core.specs.Leb128.{unsigned16, TakesNoEncoding, ReadsNumber, ReadsNoNumber, TakesEncoding};
-ghost use Rattle.dwarf_compare.specs.Fault.{Rejects};
 ghost use Rattle.dwarf_compare.specs.Sections.{tag_in};
+ghost use Rattle.dwarf_fault.specs.Fault.{Reports};
 
 use dwarf_fault::{DwarfFault, reject};
 use dwarf_read_core::{
@@ -33,7 +33,7 @@ pub extern "C" fn compare_short(
     ensures read { result ≡ 0 → (left : Input)
         × ReadsNumber unsigned16 (section_of bytes.now false) value.new left
         × (rest.new ≡ length left.bytes) }
-    ensures rejected { result ≢ 0 → Rejects (λ e. (left : Input)
+    ensures rejected { result ≢ 0 → Reports (λ e. (left : Input)
         × ReadsNoNumber unsigned16 (section_of bytes.now false) e left
         × (rest.new ≡ length left.bytes))
         result fault.new }
@@ -55,7 +55,7 @@ pub extern "C" fn compare_short(
 pub extern "C" fn compare_skipped(bytes: &[u8], rest: &mut usize, fault: &mut DwarfFault) -> u32
     ensures read { result ≡ 0 → (left : Input)
         × TakesEncoding (section_of bytes.now false) left × (rest.new ≡ length left.bytes) }
-    ensures rejected { result ≢ 0 → Rejects (λ e. (left : Input)
+    ensures rejected { result ≢ 0 → Reports (λ e. (left : Input)
         × TakesNoEncoding (section_of bytes.now false) e left × (rest.new ≡ length left.bytes))
         result fault.new }
 {
@@ -84,7 +84,7 @@ pub extern "C" fn compare_grown(
     ensures read { let s = section_of section.now false in result ≡ 0
         → (t : Table) × Answer s offset (Ok t) × (count.new ≡ finite.len t.by_code) }
     ensures rejected { let s = section_of section.now false in
-        result ≢ 0 → Rejects (λ e. Answers (Err e) s offset) result fault.new }
+        result ≢ 0 → Reports (λ e. Answers (Err e) s offset) result fault.new }
 {
     match grown_at(mem, section, before, offset) {
         Ok(table) => {
@@ -149,7 +149,7 @@ pub extern "C" fn compare_found(
     ensures found { let s = section_of section.now false in result ≡ 0
         → (t : Table) × Answer s offset (Ok t) × (tags.new ≡ map (tag_in t) codes.now) }
     ensures rejected { let s = section_of section.now false in result ≢ 0 → result ≢ NO_ROOM
-        → Rejects (λ e. Answers (Err e) s offset) result fault.new }
+        → Reports (λ e. Answers (Err e) s offset) result fault.new }
     ensures full { result ≡ NO_ROOM → length tags.old ≢ length codes.now }
 {
     if tags.len() != codes.len() {

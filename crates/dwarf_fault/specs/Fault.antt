@@ -55,3 +55,10 @@ pub record Tells (fault : DwarfFault) (error : Error) : Type 0 where
 abbrev pub Means : DwarfFault → Option Error → Type 0
 Means fault (Some error) = Tells fault error
 Means fault None = (error : Error) → Tells fault error → ⊥
+
+-- a call returns an error with the property: the status is its number, and `fault` has its number and value
+pub record Reports (Holds : Error → Type 0) (status : ℕ) (fault : DwarfFault) : Type 0 where
+  pub error : Error
+  pub holds : Holds error
+  pub numbered : status ≡ error_number error
+  pub reported : fault ≡ fault_of error

@@ -15,4 +15,4 @@ pub number_rejected : {k : Kind} {bytes : List ℕ} {e : Error} {new : Input} {s
     → Rejects (HasNoNumber k bytes) status fault
 number_rejected {e = e} rejects numbered reported =
     let absent = number_absent rejects in
-    record { error = e; holds = absent; known = known_number absent; numbered = numbered; reported = reported }
+    record { error = e; holds = (absent, known_number absent); numbered = numbered; reported = reported }

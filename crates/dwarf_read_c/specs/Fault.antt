@@ -1,14 +1,9 @@
 -- What a call reports of an error.
-use Rattle.std.specs.Prelude.{◌≡◌, ℕ}
+use Rattle.std.specs.Prelude.{ℕ}
 use Rattle.dwarf_read_core.specs.declared.Error.{Error}
-use Rattle.dwarf_fault.specs.Fault.{IsKnown, error_number, fault_of}
+use Rattle.dwarf_fault.specs.Fault.{IsKnown, Reports}
 use Rattle.dwarf_fault.specs.declared.DwarfFault.{DwarfFault}
 
--- a call returns an error with the property and a number of its own: the status is this number, and `fault` has it and
--- the error's value
-pub record Rejects (Holds : Error → Type 0) (status : ℕ) (fault : DwarfFault) : Type 0 where
-  pub error : Error
-  pub holds : Holds error
-  pub known : IsKnown error
-  pub numbered : status ≡ error_number error
-  pub reported : fault ≡ fault_of error
+-- a call returns an error with the property and a number of its own
+abbrev pub Rejects : (Error → Type 0) → ℕ → DwarfFault → Type 0
+Rejects Holds = Reports (λ error. Holds error × IsKnown error)
