@@ -17,6 +17,8 @@ from typing import Any, Optional, Union
 
 ROOT = os.path.dirname(os.path.dirname(os.path.realpath(__file__)))
 PARTS = ("src", "specs", "proofs")
+# The folders with tests of scripts: those of what lists ELF files, and those of the scripts here.
+SCRIPT_TESTS = ("elf/tests", "tools")
 # The kit that these scripts were written for.
 KIT = "rattle-kit-13f logic dac8208d650f15bf"
 # A command that has ended, with all that it wrote.
@@ -150,9 +152,10 @@ def worked_cases() -> int:
     return sum(len(re.findall(r"^\$ dwarf_list\b", it, re.M)) for it in texts)
 
 
-def script_tests() -> int:
-    """How many tests the scripts have."""
-    return sum(len(re.findall(r"^    def test_", text_of(it), re.M)) for it in glob.glob(f"{ROOT}/tools/test_*.py"))
+def script_tests(folder: str) -> int:
+    """How many tests of scripts a folder has."""
+    files = glob.glob(f"{ROOT}/{folder}/test_*.py")
+    return sum(len(re.findall(r"^    def test_", text_of(it), re.M)) for it in files)
 
 
 def lanes(memory: int) -> int:

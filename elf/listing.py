@@ -12,9 +12,9 @@ import subprocess
 import sys
 import typing
 
-from debug_elf import ERRORS, Body, Unlisted
-from debug_file import DebugFile, Section, Unit
-from debug_output import Report, put
+from headers import ERRORS, Body, Unlisted
+from output import Report, put
+from sections import DebugFile, Section, Unit
 
 ROOT = pathlib.Path(__file__).resolve().parent.parent
 PROGRAM = "dwarf_list_many"
@@ -54,7 +54,7 @@ def in_memory() -> typing.BinaryIO:
 
 @functools.lru_cache(maxsize=None)
 def program() -> str:
-    """Where the program is. Installed, it is in PREFIX/bin, and this file is PREFIX/share/dwarf-read/debug_listing.py.
+    """Where the program is. Installed, it is in PREFIX/bin, and this file is PREFIX/share/dwarf-read/listing.py.
     In the repository the launcher knows it, and may have to build it."""
     if not (ROOT / "dwarf_list").is_file():
         return str(ROOT.parent / "bin" / PROGRAM)

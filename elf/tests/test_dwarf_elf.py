@@ -1,5 +1,5 @@
 #!/usr/bin/env python3
-"""Tests what reads ELF files for `dwarf_elf`, on files that are made here: `python3 tools/test_debug_file.py`.
+"""Tests what reads ELF files for `dwarf_elf`, on files that are made here: `python3 elf/tests/test_dwarf_elf.py`.
 
 The whole tool is compared with other programs by `tools/compare-elf`.
 """
@@ -16,15 +16,13 @@ import zlib
 from unittest import mock
 
 sys.dont_write_bytecode = True
-sys.path.insert(0, os.path.dirname(os.path.realpath(__file__)))
+sys.path.insert(0, os.path.dirname(os.path.dirname(os.path.realpath(__file__))))
 
-from debug_elf import ERRORS, Body, Stream, Unlisted
-from debug_file import DebugFile
-import debug_inputs
-from debug_inputs import DebugLink, inputs, kind_of, link_of
-import debug_listing
-from debug_listing import Listing, Take, end_of_table, parts_between
-from debug_output import Report
+from headers import ERRORS, Body, Stream, Unlisted
+from inputs import DebugLink, inputs, kind_of, link_of
+from listing import Listing, Take, end_of_table, parts_between
+from output import Report
+from sections import DebugFile
 
 # Types of sections.
 PROGBITS, SYMTAB, STRTAB, RELA, NOTE = 1, 2, 3, 4, 7
@@ -468,7 +466,7 @@ class Inputs(unittest.TestCase):
         for data, said in ((elf([note]), 0), (elf([]), 1), (b"no ELF file", 1)):
             place = self.path(".build-id/ab/cd.debug", data)
             told: list[str] = []
-            with self.subTest(data=data), mock.patch.object(debug_inputs, "DEBUG_FOLDER", self.folder.name):
+            with self.subTest(data=data), mock.patch("inputs.DEBUG_FOLDER", self.folder.name):
                 found = DebugLink(build_id="abcd").find("/a", told.append)
                 self.assertEqual((found, told.count(NOT_BY_ID.format(place))), ("" if said else place, said))
 
@@ -551,8 +549,8 @@ class Sets(unittest.TestCase):
         file, told = read(elf(sections))
         report = Report()
         output = io.BytesIO()
-        with mock.patch.object(debug_listing, "run", run), mock.patch.object(debug_listing, "program", lambda: ""):
-            with mock.patch.object(sys, "stdout", mock.Mock(buffer=output)), mock.patch("debug_output.tell"):
+        with mock.patch("listing.run", run), mock.patch("listing.program", lambda: ""):
+            with mock.patch.object(sys, "stdout", mock.Mock(buffer=output)), mock.patch("output.tell"):
                 Listing(file, command, report).list_all(None, {*options})
         self.assertEqual(next(texts, None), None)
         return runs, output.getvalue(), [*told, *sorted(report.reported)]

@@ -12,7 +12,7 @@ import typing
 import zlib
 from dataclasses import dataclass
 
-from debug_elf import MAGIC, SHT_NOBITS, Body, ElfFile, Unlisted, Unopened
+from headers import MAGIC, SHT_NOBITS, Body, ElfFile, Unlisted, Unopened
 
 STANDARD_INPUT = "-"
 ARCHIVE, THIN_ARCHIVE = b"!<arch>\n", b"!<thin>\n"

@@ -20,9 +20,9 @@ import typing
 import zlib
 from dataclasses import dataclass
 
-from debug_elf import ET_REL, SHT_CREL, SHT_NOBITS, SHT_REL, SHT_RELA, SHT_SYMTAB
-from debug_elf import ERRORS, Body, ElfFile, Header, Say, Stream, Unlisted
-from debug_relocations import Relocations
+from headers import ET_REL, SHT_CREL, SHT_NOBITS, SHT_REL, SHT_RELA, SHT_SYMTAB
+from headers import ERRORS, Body, ElfFile, Header, Say, Stream, Unlisted
+from relocations import Relocations
 
 INFLATED_BYTES = 1 << 28
 INFLATED_TIMES = 64

@@ -12,7 +12,7 @@ import typing
 from dataclasses import dataclass
 
 if typing.TYPE_CHECKING:
-    from debug_relocations import Relocations
+    from relocations import Relocations
 
 MAGIC = b"\x7fELF"
 # What replaces the number of the section of the names if that is too large, and the flag of a compressed section.

@@ -6,7 +6,7 @@ import sys
 import typing
 
 if typing.TYPE_CHECKING:
-    from debug_elf import Unlisted
+    from headers import Unlisted
 
 
 def tell(text: str) -> None:

@@ -7,7 +7,7 @@ import functools
 import struct
 import typing
 
-from debug_elf import Body, ElfFile, OnError, Unlisted
+from headers import Body, ElfFile, OnError, Unlisted
 
 # The relocations that store a symbol's value plus an addend: the bytes of each type, by the machine's number. Those of
 # variables of threads are among them.
