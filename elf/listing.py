@@ -127,8 +127,8 @@ class Listing:
         if self.command == "sections":
             self.list_sizes(sections)
             return
-        if program().endswith(".unproved"):
-            self.report.note("the programs are unproved; ./dwarf_list --prove builds proved ones", "")
+        # If the program isn't there and can't be built, the run ends before anything is printed.
+        program()
         tables = self.file.tables() if self.command == "abbrev" and offset is None else {}
         for section in sections:
             with self.file.telling(section):

@@ -7,6 +7,9 @@
 
 The proved program is run if it is current, which its checksums say (tools/products.py). Else tools/unproved.py builds
 one, unless that is current. Without the kit, a program that is there is run, also if it was built from other sources.
+
+Where no proved program was ever built, no call says that it runs an unproved one: the build has said so, and --version
+does. Where one is there, each call that doesn't run it says why.
 """
 import signal
 import sys
@@ -59,6 +62,20 @@ def current(name: str) -> Optional[str]:
     return next((found for it in kit.programs(name) if (found := products.find(it, name))), None)
 
 
+def is_unproved(program: str) -> bool:
+    return ".unproved" in os.path.basename(program)
+
+
+def why_unproved(name: str, program: str) -> Optional[str]:
+    """Why this unproved program of a crate is run, and not the proved one that is there. None if that isn't so."""
+    proved = kit.programs(name)[0]
+    if not is_unproved(program) or not os.path.isfile(proved):
+        return None
+    if os.path.isfile(f"{proved}.sums"):
+        return "the proved one was built from other sources"
+    return "nothing says from which sources the proved one was built"
+
+
 def last_built(name: str) -> Optional[str]:
     """The program of a crate that was built last, or None."""
     there = [it for it in kit.programs(name) if os.path.isfile(it)]
@@ -85,11 +102,11 @@ def find(name: str) -> str:
 def run(name: str, words: list[str]) -> None:
     """Prints where the program of a crate is, or becomes that program."""
     program = find(name)
+    if why := why_unproved(name, program):
+        say(f"this program is unproved, since {why}; ./dwarf_list --prove builds a current one")
     if words == ["--path"]:
         put(program)
         return
-    if ".unproved" in os.path.basename(program):
-        say("this program is unproved; ./dwarf_list --prove builds a proved one")
     # Python ignores these, and the program would too.
     for it in (signal.SIGPIPE, signal.SIGXFSZ):
         signal.signal(it, signal.SIG_DFL)
@@ -130,8 +147,11 @@ def state(name: str) -> str:
     program = found or last_built(name)
     if not program:
         return "not built yet"
-    said = "unproved" if ".unproved" in os.path.basename(program) else "proved"
-    return said if found else f"{said}, and built from other sources"
+    said = "unproved" if is_unproved(program) else "proved"
+    if not found:
+        return f"{said}, and built from other sources"
+    why = why_unproved(name, program)
+    return f"{said}, since {why}" if why else said
 
 
 def tell_versions() -> None:
