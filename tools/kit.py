@@ -42,6 +42,11 @@ def put(path: str, content: Union[str, bytes]) -> None:
         file.write(content if isinstance(content, bytes) else content.encode())
 
 
+def files_below(folder: str) -> list[str]:
+    """Where the files below a folder are."""
+    return [f"{at}/{name}" for at, _, names in os.walk(folder) for name in names]
+
+
 def run(words: Sequence[str], each: Optional[Callable[[str], object]] = None, **how: Any) -> Finished:
     """Runs a command without input, in a session of its own, and returns the finished process with what it wrote to
     both outputs. `each` is called with each line as it is read. If this run ends early, so does the command."""
@@ -118,6 +123,8 @@ def version() -> str:
     return run([of_path("rt"), "version"], stderr=subprocess.DEVNULL).stdout.strip()
 
 
+# The version of what is here. That of the kit is `version`.
+VERSION = text_of(f"{ROOT}/VERSION").strip()
 # The lines of crates.txt: a crate, lowest first, and the libraries that it names.
 ROWS = re.findall(r"^(\w+)( staticlib)?:(.*?)(?:#.*)?$", text_of(f"{ROOT}/crates.txt"), re.M)
 CRATES = {name: libraries.split() for name, _, libraries in ROWS}

@@ -155,7 +155,7 @@ def state(name: str) -> str:
 
 
 def tell_versions() -> None:
-    put(f"dwarf_list {kit.text_of(f'{kit.ROOT}/VERSION').strip()}, a port of the lowest layer of gimli 0.34.0")
+    put(f"dwarf_list {kit.VERSION}, a port of the lowest layer of gimli 0.34.0")
     for it in PROGRAMS:
         put(f"{it}: {state(it)}")
     put(f"proofs are for {kit.KIT}")

@@ -38,9 +38,9 @@ def sums(crate: str) -> str:
     """The checksums of all that a product of a crate is made from: its sources, and those of the crates below it.
 
     They are those of the checkout: a copy in which `rt ci` proves has fewer lines of crates.txt."""
-    parts = [f"crates/{it}/{part}" for it in [*kit.below(crate), crate] for part in kit.PARTS]
-    walked = [(at, name) for part in parts for at, _, names in os.walk(f"{kit.ROOT}/{part}") for name in names]
-    paths = ["crates.txt", *sorted(os.path.relpath(f"{at}/{name}", kit.ROOT) for at, name in walked)]
+    folders = [f"{kit.ROOT}/crates/{it}/{part}" for it in [*kit.below(crate), crate] for part in kit.PARTS]
+    files = [path for it in folders for path in kit.files_below(it)]
+    paths = ["crates.txt", *sorted(os.path.relpath(it, kit.ROOT) for it in files)]
     return "".join(f"{sum_of(f'{kit.ROOT}/{it}')}  {it}\n" for it in paths)
 
 

@@ -178,7 +178,7 @@ class Help(unittest.TestCase):
         self.assertEqual(installed[2:last], here[2:last])
         self.assertEqual(len(installed), last + 1)
         self.assertIn("  sleb N ", "\n".join(installed))
-        self.assertTrue(version.startswith(f"dwarf_list {kit.text_of(f'{kit.ROOT}/VERSION').strip()}, proved, "))
+        self.assertTrue(version.startswith(f"dwarf_list {kit.VERSION}, proved, "))
 
 
 if __name__ == "__main__":

@@ -14,6 +14,7 @@ import tempfile
 from collections.abc import Sequence
 
 import checks
+import kit
 from common import CRATE, DEBIAN, OUT, PACKAGE, Failed, Missing, files_by_default, link_libraries, must, need, put
 from common import put_sections, run
 
@@ -140,16 +141,14 @@ def write(text: str, path: str) -> None:
 def copy(gimli: str, folder: str, is_patched: bool) -> None:
     """Makes a copy of gimli, with the program that dumps."""
     for part in ("src", "tests", "fixtures"):
-        for at, _, names in os.walk(f"{gimli}/{part}"):
-            for name in names:
-                path = os.path.relpath(f"{at}/{name}", gimli)
-                if path == "tests/convert_self.rs":
-                    continue
-                if is_patched and part == "src" and name.endswith(".rs"):
-                    with open(f"{at}/{name}", encoding="utf-8") as file:
-                        write(patched(path[len("src/") :], file.read()), f"{folder}/{path}")
-                else:
-                    put(f"{at}/{name}", f"{folder}/{path}")
+        for it in kit.files_below(f"{gimli}/{part}"):
+            path = os.path.relpath(it, gimli)
+            if path == "tests/convert_self.rs":
+                continue
+            if is_patched and part == "src" and it.endswith(".rs"):
+                write(patched(path[len("src/") :], kit.text_of(it)), f"{folder}/{path}")
+            else:
+                put(it, f"{folder}/{path}")
     text = MANIFEST.replace("FALLIBLE", source("fallible-iterator")).replace("STABLE", source("stable_deref_trait"))
     write(text, f"{folder}/Cargo.toml")
     put(f"{PACKAGE}/client/dump.rs", f"{folder}/examples/dump.rs")

@@ -137,9 +137,8 @@ def copy_package(folder: str, is_locked: bool) -> None:
     there = f"{folder}/Cargo.lock"
     if is_locked and (not os.path.isfile(there) or os.path.getmtime(there) < os.path.getmtime(own)):
         put(own, there)
-    for at, _, names in os.walk(f"{PACKAGE}/src"):
-        for name in names:
-            put(f"{at}/{name}", f"{folder}/{os.path.relpath(at, PACKAGE)}/{name}")
+    for it in kit.files_below(f"{PACKAGE}/src"):
+        put(it, f"{folder}/{os.path.relpath(it, PACKAGE)}")
 
 
 def why_not_fetched(folder: str) -> Optional[str]:
