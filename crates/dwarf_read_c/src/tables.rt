@@ -205,45 +205,37 @@ fn put_table(
     if abbreviations.len() < measure.abbreviations || attributes.len() < measure.attributes {
         return DWARF_NO_ROOM;
     }
-    fill_abbreviations(table, abbreviations);
-    fill_attributes(table, attributes);
+    fill(table, abbreviations, attributes);
     DWARF_OK
 }
 
-// Writes the abbreviations, in the order of their codes, to the front of the places.
+// Writes the abbreviations and the attributes of all of them, in the order of their codes, to the
+// front of the places.
 #[tactic(auto, using(crate::proofs::WrittenTables::table_steps))]
-fn fill_abbreviations(table: &Abbreviations, places: &mut [DwarfAbbreviation])
-    requires room { finite.len table.now.by_code ≤ length places.old }
-    requires counted { attribute_count table.now.by_code < 2 ^ 64 }
-    ensures { Fills (abbreviations_of table.now) places.old places.new }
+fn fill(
+    table: &Abbreviations,
+    abbreviations: &mut [DwarfAbbreviation],
+    attributes: &mut [DwarfAttributeSpec],
+)
+    requires room { finite.len table.now.by_code ≤ length abbreviations.old }
+    requires counted { attribute_count table.now.by_code ≤ length attributes.old }
+    ensures laid { Fills (abbreviations_of table.now) abbreviations.old abbreviations.new }
+    ensures filled { Fills (attributes_of table.now) attributes.old attributes.new }
 {
     let (mut index, mut first_attribute) = (0, 0);
     for abbreviation in table.iter() {
-        let attribute_count = abbreviation.attributes().len();
-        places[index] = DwarfAbbreviation {
+        let specifications = abbreviation.attributes();
+        abbreviations[index] = DwarfAbbreviation {
             code: abbreviation.code(),
             tag: abbreviation.tag().0,
             has_children: u8::from(abbreviation.has_children()),
             first_attribute,
-            attribute_count,
+            attribute_count: specifications.len(),
         };
         index += 1;
-        first_attribute += attribute_count;
-    }
-}
-
-// Writes the attributes of all abbreviations, in the order of their codes, to the front of the
-// places.
-fn fill_attributes(table: &Abbreviations, places: &mut [DwarfAttributeSpec])
-    requires { attribute_count table.now.by_code ≤ length places.old }
-    ensures { Fills (attributes_of table.now) places.old places.new }
-{
-    let mut first = 0;
-    for abbreviation in table.iter() {
-        let attributes = abbreviation.attributes();
-        let end = first + attributes.len();
-        fill_each(attributes, &mut places[first..end]);
-        first = end;
+        let end = first_attribute + specifications.len();
+        fill_each(specifications, &mut attributes[first_attribute..end]);
+        first_attribute = end;
     }
 }
 

@@ -1,9 +1,9 @@
 use Rattle.dwarf_read_c.proofs.Common.{◌<◌, ap, arith, length, length-append, common_steps, Declaration}
 use Rattle.dwarf_read_c.proofs.WrittenTables.{laid_set, length-values}
-use Rattle.dwarf_read_c.proofs.tables.fill_abbreviations.Goals as goal
+use Rattle.dwarf_read_c.proofs.tables.fill.Goals as goal
 
-pub bounds-places-index : goal.bounds-places-index
-bounds-places-index c =
+pub bounds-abbreviations-index : goal.bounds-abbreviations-index
+bounds-abbreviations-index c =
     let done = ap length c.loop-abbreviation.invariant.split in
     let left = ap length c.in-Some.ensures.steps in
     omega (arith, done, left, length-append {A = Declaration}, length-values c.args.table.now.by_code)
@@ -12,6 +12,6 @@ pub loop-abbreviation-preserved : goal.loop-abbreviation-preserved
 loop-abbreviation-preserved c =
     let done = ap length c.loop-abbreviation.invariant.split in
     let left = ap length c.in-Some.ensures.steps in
-    let within : c.loop-abbreviation.index < length c.loop-abbreviation.places =
+    let within : c.loop-abbreviation.index < length c.loop-abbreviation.abbreviations =
     omega (arith, done, left, length-append {A = Declaration}, length-values c.args.table.now.by_code) in
     grind (arith, common_steps, laid_set, within)
