@@ -120,7 +120,7 @@ class Body:
         return at < self.size
 
     def finish(self) -> None:
-        """Reads what is still to be read, so that all that is wrong with the bytes is told."""
+        """Reads what is still to be read, so that all that is wrong with the bytes is reported."""
 
     def part(self, at: int, size: int, tables: Tables = tuple) -> Body:
         """At most this many bytes from an offset on: those that are there."""
@@ -194,7 +194,7 @@ class Header:
 
 
 class ElfFile:
-    """An ELF file. What is wrong with a part of it is told by a function, and the rest is read."""
+    """An ELF file. A function is called with what is wrong with a part of it, and the rest is read."""
 
     def __init__(self, whole: Body, say: Say):
         self.whole = whole

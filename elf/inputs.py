@@ -1,5 +1,5 @@
-"""The files that a command line names: ELF files, standard input, and members of archives. Of a stripped file, the one
-with its debug information.
+"""The files that a command line names: ELF files, standard input, and members of archives. For a stripped file, that is
+the file with its debug information.
 """
 from __future__ import annotations
 

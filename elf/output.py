@@ -1,4 +1,4 @@
-"""What `dwarf_elf` prints beside the text of the programs, and how it reports errors."""
+"""What `dwarf_elf` prints itself, and how it reports errors. The other lines are those of the programs."""
 from __future__ import annotations
 
 import os

@@ -1,6 +1,6 @@
 """The debug sections of an ELF file, and the headers of its units.
 
-What can't be read is told by the function that the caller gives, and the rest is read too. An exception `Unlisted` is
+The function that the caller passes is called with what can't be read, and the rest is read. An exception `Unlisted` is
 raised for a file or a section of which nothing can be read, and for bytes with a relocation that isn't known.
 
 The bytes of a section are read when they are requested. If they are compressed, those of units are inflated as they are
@@ -181,20 +181,20 @@ class DebugFile(ElfFile):
 
     @contextlib.contextmanager
     def telling(self, what: Section | Unit) -> typing.Iterator[None]:
-        """Tells why this can't be read, if so, and goes on."""
+        """Reports why this can't be read, if so, and goes on."""
         try:
             yield
         except Unlisted as error:
             self.tell_of(what, error)
 
     def tell_of(self, what: Section | Unit, text: object) -> None:
-        """Tells what is wrong with a section or a unit."""
+        """Reports what is wrong with a section or a unit."""
         if isinstance(what, Unit):
             self.errors[what.section.number] += 1
         self.say(f"{what} {text}")
 
     def has_many_errors(self, section: Section) -> bool:
-        """Whether so many units of a section have errors that the rest isn't read, which is told then."""
+        """Whether too many units of a section have errors to read the rest, which is reported then."""
         if self.errors[section.number] < ERRORS:
             return False
         self.say(f"{section} has {ERRORS} errors, and the rest of its units isn't read")
@@ -310,7 +310,7 @@ class DebugFile(ElfFile):
         return tables
 
     def inflated(self, section: Section, packed: Packed) -> typing.Iterator[bytes]:
-        """The bytes of a compressed section, at most as many as there are to be. If there are others, that is told."""
+        """The bytes of a compressed section, at most as many as its header says. More are reported."""
         found = 0
         is_whole = True
         try:

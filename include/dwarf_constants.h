@@ -2,7 +2,7 @@
  * The numbers of DWARF by their names, as the published tables have them. tools/constants writes this file from
  * the declarations of the library.
  *
- * Another header that declares these names, as the dwarf.h of elfutils, can't be included together with this one.
+ * Another header that declares these names, such as the dwarf.h of elfutils, can't be included together with this one.
  */
 #ifndef DWARF_CONSTANTS_H
 #define DWARF_CONSTANTS_H

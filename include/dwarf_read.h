@@ -301,7 +301,7 @@ dwarf_table_find(const struct dwarf_abbreviation *abbreviations, size_t count, u
 
 /* Tells how many bytes a value of a form has in a unit of this version, with addresses of `address_size`
    bytes, and in the 64-bit format if `is_64` is set. Returns DWARF_NO_SIZE, and writes nothing, if the form
-   doesn't determine the size, as DW_FORM_string, or if no form has this number. */
+   doesn't determine the size, such as DW_FORM_string, or if no form has this number. */
 uint32_t dwarf_form_size(uint16_t form, uint16_t version, uint8_t address_size, bool is_64, size_t *size);
 
 /*

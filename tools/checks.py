@@ -12,7 +12,7 @@ import kit
 
 
 class Checks:
-    """A run of checks of a script, in a scratch folder. It tells of all checks, or of those that fail."""
+    """A run of checks of a script, in a scratch folder. It prints all checks, or those that fail."""
 
     def __init__(self, name: str, work: str, tells_all: bool = True) -> None:
         self.name = name
@@ -39,7 +39,7 @@ class Checks:
             print(f"{self.name}: {what}: skipped, since {why}", flush=True)
 
     def has(self, what: str, *tools: str) -> bool:
-        """Whether all these tools are there. The first that isn't is told."""
+        """Whether all these tools are there. The first that isn't is named."""
         lacking = [it for it in tools if not shutil.which(it)]
         if lacking:
             self.skip(what, f"there is no {lacking[0]}")
@@ -74,7 +74,7 @@ class Checks:
 
 
 def usage(text: Optional[str], words: Sequence[str], why: str = "") -> int:
-    """Prints what a script does, as was asked for or since its command line is wrong. Returns the exit status."""
+    """Prints what a script does, for `--help` or because its command line is wrong. Returns the exit status."""
     said = (text or "").strip()
     if words in (["-h"], ["--help"]):
         print(said)
@@ -84,7 +84,7 @@ def usage(text: Optional[str], words: Sequence[str], why: str = "") -> int:
 
 
 def end_by_pipe() -> None:
-    """Ends this run by SIGPIPE, as that of `cat` ends if whoever reads its output has enough of it."""
+    """Ends this run by SIGPIPE, as a run of `cat` ends if the reader of its output closes it."""
     signal.signal(signal.SIGPIPE, signal.SIG_DFL)
     os.kill(os.getpid(), signal.SIGPIPE)
 

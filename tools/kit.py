@@ -76,7 +76,7 @@ def end(child: subprocess.Popen[str]) -> None:
 
 
 def side_by_side(lanes: int, calls: Iterable[Sequence[Any]]) -> Iterator[Any]:
-    """Makes these calls, each a function and its arguments, so many at a time, and yields what each returns. If one
+    """Makes these calls, each a function and its arguments, `lanes` at a time, and yields what each returns. If one
     fails or this run is interrupted, what `run` has begun ends first, since the pool waits for it."""
     with ThreadPoolExecutor(lanes) as pool:
         begun = [pool.submit(*it) for it in calls]

@@ -2,7 +2,7 @@
 
 Each is kept outside the checkout, in ${XDG_CACHE_HOME:-~/.cache}, under a checksum of its sources and of the kit. So it
 is current as long as they are, whatever the times of files say, and another checkout finds it too. A copy is in the
-folder `out` of its crate. Beside that, a file whose name ends in `.sums` has the checksums of the copy and of its
+folder `out` of its crate. Next to it, a file whose name ends in `.sums` has the checksums of the copy and of its
 sources as `sha256sum` prints them, so that a shell can see at once whether the copy is current.
 """
 import contextlib
@@ -127,8 +127,8 @@ def in_turn(crate: str) -> Iterator[None]:
 
 
 def put_library(crate: str, root: str, of_sources: str, tell: Callable[[str], object]) -> Optional[str]:
-    """Proves, builds and keeps the static library of a crate, over the libraries that `rt ci` has left in a checkout or a
-    copy. Returns where it is, or None. What goes wrong is told."""
+    """Proves, builds and keeps the static library of a crate, over the libraries that `rt ci` has left in a checkout or
+    a copy. Returns where it is, or None if something goes wrong, which goes to `tell`."""
     path = static_library(crate)
     rt = kit.load_rt()
     folder = f"{root}/crates/{crate}"
@@ -172,16 +172,16 @@ def take_libraries(crates: Sequence[str], folder: str) -> bool:
         os.makedirs(f"{it.folder}/out", exist_ok=True)
         if not kept.give(it, False, kept.key(it)):
             return False
-        # The keys of those above are made from what stands there.
+        # The keys of those above are made from what is there.
         kept.is_built(it)
     return True
 
 
 @contextlib.contextmanager
 def libraries(crate: str, tell: Callable[[str], object]) -> Iterator[Optional[str]]:
-    """A copy of the sources of a crate and of those below it, with the proved libraries of these. If `rt ci` has kept all
-    of them on this machine, they are taken, and nothing is proved or run. Otherwise `rt ci` passes first, with their
-    tests. If one isn't proved, there is no copy, but None."""
+    """A copy of the sources of a crate and of those below it, with the proved libraries of these. If `rt ci` has kept
+    all of them on this machine, they are taken, and nothing is proved or run. Otherwise `rt ci` passes first, with
+    their tests. If one isn't proved, there is no copy, but None."""
     below = kit.below(crate)
     with tempfile.TemporaryDirectory(prefix="libraries-") as folder:
         copy_crates([*below, crate], folder)

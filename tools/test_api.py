@@ -16,7 +16,7 @@ api = kit.load("api", f"{kit.ROOT}/tools/api")
 
 
 class Pages(unittest.TestCase):
-    """Each test changes one place of a page, and looks for the one line that tells of it."""
+    """Each test changes one place of a page, and looks for the one line that reports it."""
 
     def put(self, name: str, value: object) -> None:
         """Gives a name of the script another value until the test ends."""

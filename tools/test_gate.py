@@ -107,7 +107,7 @@ class Judging(unittest.TestCase):
 
 
 class Refusals(unittest.TestCase):
-    """What a wrong body says of the function that refuses it, beside what `rt` prints."""
+    """What a wrong body says of the function that refuses it, and what `rt` prints."""
 
     SOURCE = """\
 // A comment about fn comment() { and a text "fn text() {".

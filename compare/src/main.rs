@@ -36,7 +36,7 @@ const PLANT_TIME: Duration = Duration::from_secs(10);
 /// What follows the kind of a section of a file with the highest byte first.
 const BIG: &str = ", big";
 
-/// What the words ask for.
+/// What the arguments request.
 #[derive(Default)]
 struct Wanted {
     seconds: f64,

@@ -1,10 +1,9 @@
 //! Measures the library and gimli on equal inputs: time by turns, one call of each side to be counted, or the memory
 //! that a call touches.
 //!
-//! The library's side is a call of `crates/dwarf_compare` that does the whole loop, or for tables a call for C, or of the
-//! crate for Rust.
-//! What fills a cache from units is left out, since units belong to gimli's upper layers, and so are written numbers,
-//! which another feature has.
+//! The library's side is a call of `crates/dwarf_compare` that does the whole loop, or for tables a call for C, or of
+//! the crate for Rust. What fills a cache from units is left out, since units belong to gimli's upper layers, and so are
+//! written numbers, which another feature has.
 
 use crate::cost::{hidden, nanos_of, touched_bytes};
 use crate::made::{made_sets, put_signed, put_unsigned, shaped_table, Random};
@@ -84,7 +83,7 @@ sum_of!(signed_sum, |it: &mut Input| gimli::leb128::read::signed(it).map(|it| it
 sum_of!(short_sum, |it: &mut Input| gimli::leb128::read::u16(it).map(u64::from));
 sum_of!(skipped_count, |it: &mut Input| gimli::leb128::read::skip(it).map(|()| 1));
 
-/// Reads all tables. How many declarations each has is not told by gimli.
+/// Reads all tables. gimli doesn't say how many declarations each has.
 #[inline(never)]
 fn tables(section: Bytes, offsets: Places) -> u64 {
     let section = DebugAbbrev::new(section, LittleEndian);
@@ -467,7 +466,7 @@ fn turns(workload: &Workload) -> String {
 }
 
 /// Prints a line of each workload: its name, its operations, and if it is timed the nanoseconds of an operation of
-/// either side, and the lower quarter, the middle and the upper quarter of the ratios of neighbouring turns.
+/// either side, and the lower quartile, the median and the upper quartile of the ratios of neighbouring turns.
 pub fn measure(all: &[Workload], what: Measured) -> Result<(), String> {
     for workload in all {
         let (name, operations) = (&workload.name, workload.operations);

@@ -183,7 +183,7 @@ fn found(bytes: &[u8], offset: usize, codes: &[u64]) -> Answer {
     }
 }
 
-/// The units that are asked for, and the error after them.
+/// The units that a question requests, and the error after them.
 fn units(question: &Question, bytes: &[u8]) -> Answer {
     let (asked, mut units, mut text) = (asked(0, question), vec![Unit::default(); 4], [0; 100]);
     loop {

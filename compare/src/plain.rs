@@ -76,7 +76,8 @@ plants! {
     Entries "entries",
     /// gimli's result of a number leaves one byte more. This one is planted where gimli is called.
     Gimli "gimli",
-    /// A gimli that takes any address size of a unit is held to the library's error. It is planted where that is decided.
+    /// A gimli that takes any address size of a unit is held to the library's error. This is planted where that is
+    /// decided.
     AnySize "any-size",
 }
 
@@ -421,7 +422,7 @@ fn addresses(bytes: &[u8]) -> Result<u64, Fault> {
     Ok(sum)
 }
 
-/// The units that are asked for, and the error after them. Their addresses have a size that is valid, or any.
+/// The units that a question requests, and the error after them. Their addresses have a valid size, or any.
 pub fn units(question: &Question, bytes: &[u8], takes_any_size: bool) -> Answer {
     let Question { what, is_big, at, .. } = *question;
     let (mut units, mut offset) = (vec![], at);

@@ -55,8 +55,8 @@ pub fn fault_of_text(text: &str, rest: Option<usize>) -> Answer {
 /// Declares what is asked, each with the word that asks it.
 macro_rules! whats {
     ($($(#[$doc:meta])* $what:ident $word:literal,)*) => {
-        /// What is asked. Those up to `Addresses` are numbered as in `crates/dwarf_compare/src/readers.rt`, and those of
-        /// units as in `units.rt` there.
+        /// What is asked. Those up to `Addresses` are numbered as in `crates/dwarf_compare/src/readers.rt`, and those
+        /// of units as in `units.rt` there.
         #[derive(Debug, Clone, Copy, PartialEq)]
         pub enum What { $($(#[$doc])* $what,)* }
 

@@ -217,7 +217,7 @@ fn shown_unit(unit: &UnitHeader<EndianSlice<RunTimeEndian>>, bytes: &[u8]) -> Un
         UnitSectionOffset::DebugInfoOffset(it) => it.0,
         UnitSectionOffset::DebugTypesOffset(it) => it.0,
     };
-    // Entries without bytes can't be asked for, so that their place is where the header ends.
+    // gimli returns no entries without bytes, whose place is where the header ends.
     let entries = unit.range_from(UnitOffset(header_size)..).map_or(&[][..], |it| it.slice());
     let first_entry = match entries {
         [] => offset + header_size,

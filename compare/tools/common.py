@@ -46,7 +46,7 @@ def run(words: Sequence[str], **how: Any) -> tuple[str, int]:
 
 
 def must(words: Sequence[str], what: str, **how: Any) -> str:
-    """Runs a command, and returns what it prints. If it fails, it is told what couldn't be done."""
+    """Runs a command, and returns what it prints. If it fails, the error says what couldn't be done."""
     said, status = run(words, **how)
     if status:
         raise Failed(f"{what}:\n{said[-2000:]}")
@@ -79,7 +79,7 @@ def put(source: str, target: str) -> None:
 
 
 def put_in_front(count: int) -> None:
-    """Makes the library that is linked in front of the others: so many bytes of code, which nothing calls."""
+    """Makes the library that is linked before the others: this many bytes of code, which nothing calls."""
     source = f"{OUT}/in_front_{count}.s"
     # The R keeps a linker from leaving the section out.
     text = f'.section .text.in_front, "axR", @progbits\n.balign 64\n.skip {64 + count}, 0x90\n'
@@ -167,7 +167,7 @@ def sources_of_gimli(is_debian: bool) -> tuple[str, list[str]]:
 
 
 def build(is_debian: bool, in_front: int = 0) -> str:
-    """Builds the program that compares, and returns where it is. So many bytes of code are in front of the library."""
+    """Builds the program that compares, and returns where it is. This many bytes of code come before the library."""
     need("cargo", "cargo")
     need(os.environ.get("CC", "cc"), "gcc")
     need("objcopy", "binutils")

@@ -1,4 +1,4 @@
-"""Measures calls of the library beside gimli's."""
+"""Measures calls of the library and of gimli."""
 import argparse
 import os
 import re

@@ -1,4 +1,4 @@
-"""Times `dwarf_list` beside a plain program over gimli and the readers of binutils and LLVM, on large sections."""
+"""Times `dwarf_list`, a plain program over gimli and the readers of binutils and LLVM, on large sections."""
 import argparse
 import filecmp
 import os
@@ -94,7 +94,7 @@ def time_all(listing: Listing, program: str, work: str) -> Found:
 
 
 def cell_of(side: str, found: Found) -> str:
-    """The middle time and memory of a side. The cell is empty if it wasn't run."""
+    """The median time and memory of a side. The cell is empty if it wasn't run."""
     if side not in found:
         return ""
     times, memory = zip(*found[side])

@@ -144,7 +144,7 @@ static void end(void) {
         const uint8_t *beside = it->given == it->pages ? it->given + it->len : it->given - SLACK;
         for (size_t i = 0; i < SLACK; i++) {
             if (beside[i] != FILLING) {
-                die("a byte beside an output was changed");
+                die("a byte next to an output was changed");
             }
         }
     }

@@ -1,7 +1,7 @@
 //! Lists a section of standard input by gimli as `dwarf_list` does, written the plain way.
 //!
-//! gimli's tables can't be walked, so `abbrev` is told how far apart the codes are, and asks for each until there is
-//! none. gimli 0.27 has no headers of sets either: they are read by its calls for words.
+//! gimli's tables can't be walked, so `abbrev` gets how far apart the codes are, and looks each up until there is none.
+//! gimli 0.27 has no headers of sets either: they are read by its calls for words.
 
 use gimli::{DebugAbbrev, DebugAbbrevOffset, DebugStr, DebugStrOffset, EndianSlice, LittleEndian, Reader, Result};
 use std::fmt::Write as _;
