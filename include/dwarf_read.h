@@ -161,7 +161,7 @@ uint32_t dwarf_address(const uint8_t *section, size_t len, bool is_big, uint8_t 
  *
  * DWARF 4 has no headers of sets. The split units of its GNU extension (-gsplit-dwarf) have their
  * addresses in .debug_addr, and their string offsets in .debug_str_offsets.dwo, in order. Don't
- * call dwarf_address_set or dwarf_str_offset_set there, since they take entries for a header.
+ * call dwarf_address_set or dwarf_str_offset_set there, since they would read entries as a header.
  *
  *  - Call dwarf_address with the unit's address size. Its `base` is the value of DW_AT_GNU_addr_base in the
  *    skeleton unit, or 0 if there is no such attribute.

@@ -47,7 +47,8 @@ pub fn str_offset_sets(section: &[u8], order: ByteOrder) -> Sets<'_> {
     Sets { section, order, kind: Kind::StrOffsets, offset: Some(0) }
 }
 
-/// An index, as the calls take it. An index that isn't an offset gives the error of a product that isn't one.
+/// An index, as the calls take it. An index that isn't an offset gives the error that a product
+/// which isn't one gives.
 pub(crate) fn place(index: u64) -> Result<usize> {
     usize::try_from(index).map_err(|_| Error::UNSUPPORTED_OFFSET)
 }
