@@ -1,4 +1,4 @@
-//! The lowest layer of DWARF reading, proved: abbreviation tables, strings, string offsets,
+//! This crate reads the lowest layer of DWARF: abbreviation tables, strings, string offsets,
 //! addresses and LEB128 numbers, the sizes of forms, the named constants, and the texts of errors.
 //!
 //! The library below is a port of that layer of gimli to Rattle, which is Rust with contracts: each
@@ -27,7 +27,7 @@
 //!
 //! `tools/install` of the repository installs the static library. `build.rs` finds it by
 //! `pkg-config`, or in the folder that the environment variable `DWARF_READ_LIB` names. It is for
-//! Linux on processors from x86-64-v2 on. `cargo check` and `cargo doc` need no library. A library
+//! Linux, on processors of level x86-64-v2 and above. `cargo check` and `cargo doc` need no library. A library
 //! whose structs differ from those of this crate isn't linked, since its symbols have other names.
 //!
 //! # Features
@@ -101,7 +101,8 @@ pub fn uleb128(bytes: &[u8]) -> Result<(u64, usize)> {
 ///
 /// # Errors
 ///
-/// `UnexpectedEof` as from [`uleb128`], and `BadSignedLeb128` if it is too long or doesn't fit `i64`.
+/// `UnexpectedEof` as from [`uleb128`], and `BadSignedLeb128` if the number is too long or doesn't
+/// fit `i64`.
 ///
 /// ```
 /// assert_eq!(dwarf_read::sleb128(&[0x56]), Ok((-42, 1)));
@@ -132,7 +133,7 @@ pub fn uleb128_write(value: u64, bytes: &mut [u8]) -> Option<usize> {
     (status == sys::OK).then_some(len)
 }
 
-/// Writes the shortest bytes of a signed LEB128 number, as [`uleb128_write`] those of an unsigned
+/// Writes the shortest bytes of a signed LEB128 number, as [`uleb128_write`] does for an unsigned
 /// one.
 ///
 /// ```
@@ -195,8 +196,13 @@ pub fn str_offset(
 ///
 /// # Errors
 ///
-/// Those of [`str_offset`], and before the last of them `UnsupportedAddressSize` for any other
-/// size.
+/// The first of these:
+///
+/// - `UnexpectedEof` at 0 if `base` is past the end;
+/// - `UnsupportedOffset` if the index times `size` is 2^64 or more;
+/// - `UnexpectedEof` at `base` if the address would begin past the end;
+/// - `UnsupportedAddressSize` if `size` isn't 1, 2, 4 or 8;
+/// - `UnexpectedEof` at the address if it ends past the end.
 pub fn address(section: &[u8], order: ByteOrder, size: u8, base: usize, index: u64) -> Result<u64> {
     let index = sets::place(index)?;
     let (bytes, len, is_big, mut address) = (section.as_ptr(), section.len(), order.is_big(), 0);
