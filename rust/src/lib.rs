@@ -25,9 +25,10 @@
 //!
 //! # Linking
 //!
-//! `tools/install` of the repository installs the static library. `build.rs` finds it by
-//! `pkg-config`, or in the folder that the environment variable `DWARF_READ_LIB` names. It is for
-//! Linux, on processors of level x86-64-v2 and above. `cargo check` and `cargo doc` need no library. A library
+//! `tools/install` of the repository installs the static library. `build.rs` looks for it in the
+//! folder that the environment variable `DWARF_READ_LIB` names, then by `pkg-config`, and then in
+//! the repository, if the crate is in a clone of it. The library is for Linux on x86-64, on
+//! processors of level x86-64-v2 and above. `cargo check` and `cargo doc` need no library. A library
 //! whose structs differ from those of this crate isn't linked, since its symbols have other names.
 //!
 //! # Features
