@@ -1,6 +1,6 @@
 """The headers of an ELF file, and the bytes of its sections as they are stored.
 
-An exception `Unlisted` says why a part of a file can't be read, also if the file names a place that it doesn't have.
+An exception `Unlisted` says why a part of a file can't be read, such as one at a place that the file doesn't have.
 """
 from __future__ import annotations
 

@@ -19,7 +19,7 @@ ARCHIVE, THIN_ARCHIVE = b"!<arch>\n", b"!<thin>\n"
 # The header of an archive's member: its name, and after fields that aren't needed here its size.
 MEMBER_BYTES = 60
 MEMBER = re.compile(rb"(.{16}).{32}([0-9]+) *`\n", re.S)
-# What is in place of a long name: where it is, and of a member of an archive in a thin one where it is there.
+# What is in place of a long name: where that name is, and for a member of an archive in a thin one, where it is there.
 LONG_NAME = re.compile(rb"/([0-9]+)(?::([0-9]+))?")
 # What a file is that isn't an ELF file, by its first bytes.
 KINDS = (

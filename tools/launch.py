@@ -6,7 +6,7 @@
     python3 launch.py --version       prints the versions, and whether the programs are proved
 
 The proved program is run if it is current, which its checksums say (tools/products.py). Else tools/unproved.py builds
-one, unless that is current. Without the kit, a program that is there is run, also if it was built from other sources.
+one, unless that is current. Without the kit, a program that is there is run, even if it was built from other sources.
 
 Where no proved program was ever built, no call says that it runs an unproved one: the build has said so, and --version
 does. Where one is there, each call that doesn't run it says why.
