@@ -62,8 +62,7 @@ entries_of ds es = numbered 1 ds ++ es
 abbrev pub abbreviations_view : abbreviations.Inside → Table
 abbreviations_view a = closed (from_entries (entries_of a.vec.items a.others)) (close_from a.closed_by_null)
 
--- the other codes are above those of the vector, and each declaration has the code by which it is found, which
--- isn't 0
+-- the other codes are above those of the vector, and each declaration has the code that finds it, which isn't 0
 pub record AreKeyed (ds : List Declaration) (es : List (ℕ × Declaration)) : Type 0 where
   pub apart : (code : ℕ) → code ≤ length ds → lookup (is_at (nat_cmp code)) es ≡ None
   pub keyed : (code : ℕ) (d : Declaration) → lookup (is_at (nat_cmp code)) (entries_of ds es) ≡ Some d

@@ -1,6 +1,6 @@
 //! Laws over the definitions: each function has one as its contract, and does nothing.
 
-ghost use Rattle.std.specs.Prelude.{◌≡◌, ◌≢◌, ◌↔◌, ◌+◌, ◌-◌, ◌*◌, ◌/◌, Bool, true, false, IsTrue, IsSome, Option, Some, None, ℕ, ◌<◌, ◌≤◌, List, [], ◌∷◌, ◌++◌, codes, map, length, slice_get, slice_index, count_by, All, IfErr, IfSome, Ok, Err, Result, is_ok};
+ghost use Rattle.std.specs.Prelude.{◌≡◌, ◌≢◌, ◌↔◌, ◌+◌, ◌-◌, ◌*◌, ◌/◌, Bool, true, false, IsTrue, IsSome, Option, Some, None, ℕ, ◌<◌, ◌≤◌, List, [], ◌∷◌, ◌++◌, codes, map, length, slice_get, slice_index, count_by, All, IfErr, IfSome, Ok, Err, Result, is_ok, replicate};
 ghost use Rattle.std.specs.FinMap as finite;
 ghost use Rattle.std.specs.Iterator.{YieldsFirst};
 ghost use Rattle.std.specs.List.{sum_by};
@@ -51,8 +51,8 @@ pub fn errors_of_tables()
         → IsTableError e }
 {}
 
-/// Every section has exactly one strict result at every offset. Some appended bytes change it
-/// exactly if it depends on where the section ends.
+/// Every section has exactly one strict result at every offset. Some appended bytes, all of them
+/// zero, change it exactly if it depends on where the section ends.
 pub fn exactly_one_strict_answer()
     ensures one { (section : Input) (offset : ℕ) → HasOne (StrictAnswer section offset) }
     ensures stable { (section : Input) (more : List ℕ) (offset : ℕ) (answer : Result Table Error)
@@ -60,17 +60,19 @@ pub fn exactly_one_strict_answer()
         → StrictAnswer (followed_by section more) offset answer }
     ensures changed { (section : Input) (offset : ℕ) (answer : Result Table Error)
         → StrictAnswer section offset answer → (IsStrictlyFinal answer → ⊥)
-        → (more : List ℕ) × (StrictAnswer (followed_by section more) offset answer → ⊥) }
+        → (count : ℕ)
+        × (StrictAnswer (followed_by section (replicate count 0)) offset answer → ⊥) }
 {}
 
-/// Some appended bytes change a result exactly if it depends on where the section ends.
+/// Some appended bytes, all of them zero, change a result exactly if it depends on where the section
+/// ends.
 pub fn appended_bytes_change_nothing()
     ensures stable { (section : Input) (more : List ℕ) (offset : ℕ) (answer : Result Table Error)
         → Answer section offset answer → IsFinal answer
         → Answer (followed_by section more) offset answer }
     ensures changed { (section : Input) (offset : ℕ) (answer : Result Table Error)
         → Answer section offset answer → (IsFinal answer → ⊥)
-        → (more : List ℕ) × (Answer (followed_by section more) offset answer → ⊥) }
+        → (count : ℕ) × (Answer (followed_by section (replicate count 0)) offset answer → ⊥) }
 {}
 
 /// Tables have no byte order: a section has the same result in either one.
@@ -240,17 +242,17 @@ pub fn slots_are_judged_before_their_bytes()
         → is_number_size s.width ≡ true }
 {}
 
-/// Appended bytes don't change the string at an offset, and some change each error there.
+/// Appended bytes don't change the string at an offset, and some zero bytes change each error there.
 pub fn appended_bytes_change_no_string()
     ensures stable { (section : Input) (offset : ℕ) (found : Input) (more : List ℕ)
         → StringAt section offset (Ok found)
         → StringAt (followed_by section more) offset (Ok found) }
     ensures changed { (section : Input) (offset : ℕ) (e : Error) → StringAt section offset (Err e)
-        → (more : List ℕ) × (StringAt (followed_by section more) offset (Err e) → ⊥) }
+        → (count : ℕ) × (StringAt (followed_by section (replicate count 0)) offset (Err e) → ⊥) }
 {}
 
 /// Appended bytes change neither the string offset at a slot nor its error, unless that is an
-/// `UnexpectedEof`. Some change each `UnexpectedEof`.
+/// `UnexpectedEof`. Some zero bytes change each `UnexpectedEof`.
 pub fn appended_bytes_change_no_word()
     ensures stable { (greatest : ℕ) (section : Input) (s : Slot) (answer : Result ℕ Error)
         (more : List ℕ)
@@ -258,11 +260,12 @@ pub fn appended_bytes_change_no_word()
         → WordAt greatest (followed_by section more) s answer }
     ensures changed { (greatest : ℕ) (section : Input) (s : Slot) (answer : Result ℕ Error)
         → WordAt greatest section s answer → (IfErr answer IsNotEof → ⊥)
-        → (more : List ℕ) × (WordAt greatest (followed_by section more) s answer → ⊥) }
+        → (count : ℕ)
+        × (WordAt greatest (followed_by section (replicate count 0)) s answer → ⊥) }
 {}
 
 /// Appended bytes change neither the address at a slot nor its error, unless that is an
-/// `UnexpectedEof`. Some change each `UnexpectedEof`.
+/// `UnexpectedEof`. Some zero bytes change each `UnexpectedEof`.
 pub fn appended_bytes_change_no_address()
     ensures stable { (greatest : ℕ) (section : Input) (s : Slot) (answer : Result ℕ Error)
         (more : List ℕ)
@@ -270,7 +273,8 @@ pub fn appended_bytes_change_no_address()
         → AddressAt greatest (followed_by section more) s answer }
     ensures changed { (greatest : ℕ) (section : Input) (s : Slot) (answer : Result ℕ Error)
         → AddressAt greatest section s answer → (IfErr answer IsNotEof → ⊥)
-        → (more : List ℕ) × (AddressAt greatest (followed_by section more) s answer → ⊥) }
+        → (count : ℕ)
+        × (AddressAt greatest (followed_by section (replicate count 0)) s answer → ⊥) }
 {}
 
 /// The bytes that remain of a section have exactly one list of contributions of each kind, and then

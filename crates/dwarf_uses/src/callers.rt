@@ -55,7 +55,7 @@ pub fn all_tables(mem: Global, bytes: &[u8]) -> Result<Vec<Abbreviations>>
 /// once.
 ///
 /// `Duplicates` keeps the tables that more than one unit uses, which is what a reader of all units
-/// wants. `All` keeps the others too, which pays if units are read again.
+/// needs. `All` keeps the others too, which pays if units are read again.
 ///
 /// # Errors
 ///

@@ -1,4 +1,4 @@
--- Some appended bytes change each `UnexpectedEof` of a lookup.
+-- Some appended zero bytes change each `UnexpectedEof` of a lookup.
 use Rattle.dwarf_read_core.proofs.Common.{◌≡◌, ◌≢◌, ℕ, ◌+◌, ◌-◌, ◌<◌, ◌≤◌, List, [], ◌∷◌, ◌++◌, length, drop, All, Result, Ok, Err, IfErr, refl, arith, length-append, drop-append-le, eof_here, Input, Error, IsNotEof, followed_by}
 use Rattle.std.proofs.Common.{replicate}
 use Rattle.std.proofs.Math.Seq.{get_or-append_seam}
@@ -27,32 +27,33 @@ zero_ends section offset (string_unended le none) within =
     All-get_or (λ b. b ≢ 0) (front ++ 0 ∷ []) (length front) 0 (omega (arith, length-append front (0 ∷ []))) ended
     (get_or-append_seam front 0 [] 0)
 
--- some appended bytes change the error in place of a string
+-- some appended zero bytes change the error in place of a string
 pub string_error_changes : (section : Input) (offset : ℕ) {e : Error} → HasNoString section offset e
-    → (more : List ℕ) × (HasNoString (followed_by section more) offset e → ⊥)
+    → (count : ℕ) × (HasNoString (followed_by section (replicate count 0)) offset e → ⊥)
 string_error_changes section offset (string_past_end past) =
     let more : List ℕ = replicate (offset - length section.bytes) 0 in
     let longer = length-append section.bytes more in
     let long : length more ≡ offset - length section.bytes = length-replicate (offset - length section.bytes) 0 in (
-      more,
+      offset - length section.bytes,
       λ stays. string-not_outside (followed_by section more) offset stays (omega (arith, past))
           (omega (arith, longer, long, past)) refl,
     )
 string_error_changes section offset (string_unended within none) =
-    (0 ∷ [], λ stays. zero_ends section offset stays within)
+    (1, λ stays. zero_ends section offset stays within)
 
 -- ---- words and addresses
 
 module _ (greatest : ℕ) (section : Input) (s : Slot) where
-  -- as many bytes as the slot needs
-  abbrev enough : List ℕ
-  enough = replicate (slot_offset s + s.width) 0
+  -- the section with as many zero bytes as the slot needs
+  abbrev long : Input
+  long = followed_by section (replicate (slot_offset s + s.width) 0)
 
-  -- with them the slot is in the section
-  reaches : slot_offset s + s.width ≤ length (followed_by section enough).bytes
+  -- there the slot is in the section
+  reaches : slot_offset s + s.width ≤ length long.bytes
   reaches =
-      let long : length enough ≡ slot_offset s + s.width = length-replicate (slot_offset s + s.width) 0 in
-      omega (arith, length-append section.bytes enough, long)
+      let zeros : List ℕ = replicate (slot_offset s + s.width) 0 in
+      let enough : length zeros ≡ slot_offset s + s.width = length-replicate (slot_offset s + s.width) 0 in
+      omega (arith, length-append section.bytes zeros, enough)
 
   -- a slot within the section has no `UnexpectedEof`
   place_has_no_end : {whole : Input} {e : Error} → HasNoPlace greatest whole s e
@@ -73,13 +74,14 @@ module _ (greatest : ℕ) (section : Input) (s : Slot) where
   address_has_no_end (address_unsized placed other) fits position same = grind arith
   address_has_no_end (address_cut placed sized cut) fits position same = omega (arith, cut, fits)
 
-  -- some appended bytes change a word or an address that isn't final
+  -- some appended zero bytes change a word or an address that isn't final
   pub word_changes : (answer : Result ℕ Error) → WordAt greatest section s answer → (IfErr answer IsNotEof → ⊥)
-      → (more : List ℕ) × (WordAt greatest (followed_by section more) s answer → ⊥)
+      → (count : ℕ) × (WordAt greatest (followed_by section (replicate count 0)) s answer → ⊥)
   word_changes (Ok x) is unsettled = absurd (unsettled tt)
-  word_changes (Err e) is unsettled = (enough, λ stays. unsettled (word_has_no_end stays reaches))
+  word_changes (Err e) is unsettled = (slot_offset s + s.width, λ stays. unsettled (word_has_no_end stays reaches))
 
   pub address_changes : (answer : Result ℕ Error) → AddressAt greatest section s answer → (IfErr answer IsNotEof → ⊥)
-      → (more : List ℕ) × (AddressAt greatest (followed_by section more) s answer → ⊥)
+      → (count : ℕ) × (AddressAt greatest (followed_by section (replicate count 0)) s answer → ⊥)
   address_changes (Ok x) is unsettled = absurd (unsettled tt)
-  address_changes (Err e) is unsettled = (enough, λ stays. unsettled (address_has_no_end stays reaches))
+  address_changes (Err e) is unsettled =
+      (slot_offset s + s.width, λ stays. unsettled (address_has_no_end stays reaches))

@@ -1,4 +1,4 @@
--- Some appended bytes change each result that depends on where the section ends.
+-- Some appended zero bytes change each result that depends on where the section ends.
 use Rattle.dwarf_read_core.proofs.Common.{◌≡◌, ◌≢◌, ◌⊎◌, inl, inr, ℕ, ◌-◌, ◌<◌, ◌≤◌, List, [], ◌∷◌, ◌++◌, length, Result, Ok, Err, refl, subst, arith, append-nil, length-append, drop-append-le, eof, end_of, Input, Error, Table, closed, by_code_of, by_null, by_end, IsNumber, unsigned64, IsTableBefore, closed_by_null, closed_by_end, Answer, outside, table, first_error, StrictAnswer, IsStrictlyFinal, IsFinal, followed_by}
 use Rattle.std.proofs.Common.{replicate}
 use Rattle.std.proofs.lemmas.List.{length-replicate}
@@ -59,15 +59,16 @@ offset_comes_inside section offset past stays =
       | at_end within there ↦ omega (arith, there, past, longer, long)
     ]
 
--- some appended bytes change a result that isn't final
+-- some appended zero bytes change a result that isn't final
 pub answer_changes : (section : Input) (offset : ℕ) (answer : Result Table Error) → Answer section offset answer
-    → (IsFinal answer → ⊥) → (more : List ℕ) × (Answer (followed_by section more) offset answer → ⊥)
+    → (IsFinal answer → ⊥)
+    → (count : ℕ) × (Answer (followed_by section (replicate count 0)) offset answer → ⊥)
 answer_changes section offset _ (outside past) unsettled =
-    (replicate (offset - length section.bytes) 0, offset_comes_inside section offset past)
-answer_changes section offset _ (table t le is) unsettled = (0 ∷ [], null_changes section offset t (table t le is) unsettled)
+    (offset - length section.bytes, offset_comes_inside section offset past)
+answer_changes section offset _ (table t le is) unsettled = (1, null_changes section offset t (table t le is) unsettled)
 answer_changes section offset _ (first_error e le is) unsettled =
     elim (first_at_end is) [
-      | inl end ↦ (0 ∷ [], λ stays. end_moves section offset le (rw end at stays))
+      | inl end ↦ (1, λ stays. end_moves section offset le (rw end at stays))
       | inr other ↦ absurd (unsettled other)
     ]
 
@@ -95,21 +96,21 @@ strict_error section offset e other (Ok t, is, same) =
     ]
 strict_error section offset e other (Err f, is, same) = let equal : f ≡ e = grind arith in rw (← equal) is
 
--- some appended bytes change a strict result that isn't final
+-- some appended zero bytes change a strict result that isn't final
 pub strict_answer_changes : (section : Input) (offset : ℕ) (strict : Result Table Error)
     → StrictAnswer section offset strict → (IsStrictlyFinal strict → ⊥)
-    → (more : List ℕ) × (StrictAnswer (followed_by section more) offset strict → ⊥)
+    → (count : ℕ) × (StrictAnswer (followed_by section (replicate count 0)) offset strict → ⊥)
 strict_answer_changes section offset (Ok t) is unsettled = absurd (unsettled tt)
 strict_answer_changes section offset (Err e) (Ok t, is, same) unsettled =
     elim (null_or_end t.close) [
       | inl null ↦ absurd (grind arith)
       | inr end ↦
           let unclosed : e ≡ unterminated (end_of section) = grind arith in
-          (0 ∷ [], λ stays. unclosed_moves section offset (rw unclosed at stays))
+          (1, λ stays. unclosed_moves section offset (rw unclosed at stays))
     ]
 strict_answer_changes section offset (Err e) (Err f, is, same) unsettled =
     let equal : f ≡ e = grind arith in
     let here : Answer section offset (Err e) = rw (← equal) is in
     let other = closed_or_other (table_error section offset e here) in
-    let (more, changes) = answer_changes section offset (Err e) here (λ final. unsettled (final, other)) in
-    (more, λ stays. changes (strict_error (followed_by section more) offset e other stays))
+    let (count, changes) = answer_changes section offset (Err e) here (λ final. unsettled (final, other)) in
+    (count, λ stays. changes (strict_error (followed_by section (replicate count 0)) offset e other stays))

@@ -95,8 +95,9 @@ impl<R: Reader> DebugAddr<R> {
 impl<T> DebugAddr<T> {
     ghost use Rattle.dwarf_read_core.specs.Sections.{debug_addr_reader};
 
-    /// Returns the section over the reader that `borrow` makes of a reference to the data of this
-    /// one.
+    /// Returns a section that borrows this one's data. Use it if this one owns its bytes, such as
+    /// `DebugAddr<Vec<u8>>`, which has no `Reader`: `borrow` makes one, such as an
+    /// `EndianSlice`, of a reference to them.
     ///
     /// `borrow` is called once. The caller makes sure that it may be called with that reference.
     pub fn borrow<'a, F, R>(&'a self, mut borrow: F) -> DebugAddr<R>

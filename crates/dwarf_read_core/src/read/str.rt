@@ -75,8 +75,9 @@ impl<R: Reader> DebugStr<R> {
 impl<T> DebugStr<T> {
     ghost use Rattle.dwarf_read_core.specs.Sections.{debug_str_reader};
 
-    /// Returns the section over the reader that `borrow` makes of a reference to the data of this
-    /// one.
+    /// Returns a section that borrows this one's data. Use it if this one owns its bytes, such as
+    /// `DebugStr<Vec<u8>>`, which has no `Reader`: `borrow` makes one, such as an
+    /// `EndianSlice`, of a reference to them.
     ///
     /// `borrow` is called once. The caller makes sure that it may be called with that reference.
     pub fn borrow<'a, F, R>(&'a self, mut borrow: F) -> DebugStr<R>
@@ -199,8 +200,9 @@ impl<R: Reader> DebugStrOffsets<R> {
 impl<T> DebugStrOffsets<T> {
     ghost use Rattle.dwarf_read_core.specs.Sections.{debug_str_offsets_reader};
 
-    /// Returns the section over the reader that `borrow` makes of a reference to the data of this
-    /// one.
+    /// Returns a section that borrows this one's data. Use it if this one owns its bytes, such as
+    /// `DebugStrOffsets<Vec<u8>>`, which has no `Reader`: `borrow` makes one, such as an
+    /// `EndianSlice`, of a reference to them.
     ///
     /// `borrow` is called once. The caller makes sure that it may be called with that reference.
     pub fn borrow<'a, F, R>(&'a self, mut borrow: F) -> DebugStrOffsets<R>
@@ -296,8 +298,9 @@ impl<R: Reader> DebugLineStr<R> {
 impl<T> DebugLineStr<T> {
     ghost use Rattle.dwarf_read_core.specs.Sections.{debug_line_str_reader};
 
-    /// Returns the section over the reader that `borrow` makes of a reference to the data of this
-    /// one.
+    /// Returns a section that borrows this one's data. Use it if this one owns its bytes, such as
+    /// `DebugLineStr<Vec<u8>>`, which has no `Reader`: `borrow` makes one, such as an
+    /// `EndianSlice`, of a reference to them.
     ///
     /// `borrow` is called once. The caller makes sure that it may be called with that reference.
     pub fn borrow<'a, F, R>(&'a self, mut borrow: F) -> DebugLineStr<R>

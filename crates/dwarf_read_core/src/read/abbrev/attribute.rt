@@ -248,8 +248,8 @@ impl Collector {
     }
 }
 
-// Copies attributes after those in `overflow`. It is a call out of line, since few declarations
-// have so many attributes that one is made.
+// Copies attributes after those in `overflow`. It is out of line, since few declarations have
+// enough attributes to need it.
 #[inline(never)]
 fn spill(
     overflow: &mut Vec<AttributeSpecification>,
