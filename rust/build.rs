@@ -4,13 +4,16 @@
 //! - where `pkg-config` says that `tools/install` has put it;
 //! - where `tools/static-library` puts it in the repository, if this crate is in a clone of it.
 //!
-//! An installed library contains its allocation functions. The other one doesn't, and then this
-//! crate has them. If there is none, `cargo check`, `clippy` and `doc` warn of it, and
-//! `cargo build` fails.
+//! An installed library contains its allocation functions. One of a clone doesn't, and then this
+//! crate has them. If only an unproved one is there, it is linked with a warning. If there is none,
+//! `cargo check`, `clippy` and `doc` warn of it, and `cargo build` fails.
 
 use std::env;
 use std::path::{Path, PathBuf};
 use std::process::{exit, Command};
+
+/// An installed library, that of a clone, and the one of a clone that isn't proved.
+const LIBRARIES: [&str; 3] = ["dwarf_read", "dwarf_read_c", "dwarf_read_unproved"];
 
 fn is_there(folder: &Path, library: &str) -> bool {
     folder.join(format!("lib{}.a", library)).is_file()
@@ -39,17 +42,24 @@ fn find() -> PathBuf {
 /// no library.
 fn link() {
     let folder = find();
-    let is_whole = is_there(&folder, "dwarf_read") || !is_there(&folder, "dwarf_read_c");
-    let library = if is_whole { "dwarf_read" } else { "dwarf_read_c" };
-    if !is_whole {
+    let found = LIBRARIES.into_iter().find(|it| is_there(&folder, it));
+    let library = found.unwrap_or("dwarf_read");
+    if library != "dwarf_read" {
         println!("cargo:rustc-cfg=has_heap");
     }
-    if !is_there(&folder, library) {
-        println!(
+    match found {
+        Some("dwarf_read_unproved") => {
+            println!("cargo:warning=the library in {} is unproved", folder.display());
+            // A proved one may come.
+            println!("cargo:rerun-if-changed={}", folder.display());
+        }
+        Some(_) => {}
+        None => println!(
             "cargo:warning=there is no libdwarf_read.a in {}: install it by `tools/install PREFIX` and \
-             let PKG_CONFIG_PATH name PREFIX/lib/pkgconfig, or let DWARF_READ_LIB name its folder",
+             let PKG_CONFIG_PATH name PREFIX/lib/pkgconfig, or let DWARF_READ_LIB name its folder; \
+             `tools/static-library --unproved` builds one to try",
             folder.display()
-        );
+        ),
     }
     println!("cargo:rustc-link-search=native={}", folder.display());
     println!("cargo:rustc-link-lib=static={}", library);
