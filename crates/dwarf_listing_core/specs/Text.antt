@@ -11,8 +11,8 @@ use Rattle.dwarf_listing_core.specs.declared.command.Command.{Command}
 use Rattle.dwarf_listing_core.specs.declared.command.Command.TheVariants.{Abbrev, Str, Addr, Uleb, Sleb, AbbrevStrict, StrOffsets}
 use Rattle.dwarf_listing_core.specs.declared.fault.Fault.{Fault}
 use Rattle.dwarf_listing_core.specs.declared.fault.Fault.TheVariants.{Section, Usage}
-use Rattle.dwarf_listing_core.specs.declared.text.Text.{Text}
-use Rattle.dwarf_listing_core.specs.declared.text.Text.TheVariants.{Table, Bytes}
+use Rattle.dwarf_listing_core.specs.declared.listing.Text.{Text}
+use Rattle.dwarf_listing_core.specs.declared.listing.Text.TheVariants.{Table, Bytes}
 
 -- the bytes of a text
 abbrev pub text_bytes : Text → List ℕ

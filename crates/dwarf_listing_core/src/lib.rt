@@ -27,9 +27,8 @@ pub mod quote;
 pub mod run;
 mod sets;
 mod tables;
-pub mod text;
 pub mod words;
 
 pub use lines::{hex_line, string, string_in_place};
+pub use listing::{abbreviations, abbreviations_strict};
 pub use sets::{addresses, string_offsets};
-pub use tables::{abbreviations, abbreviations_strict};

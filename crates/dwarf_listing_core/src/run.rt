@@ -10,9 +10,8 @@ ghost use Rattle.dwarf_listing_core.specs.Text.{IsText, text_bytes};
 use crate::command::{parse_command, reads_input};
 use crate::fault::Fault;
 use crate::input::read_input;
-use crate::listing::listing;
+use crate::listing::{Text, listing};
 use crate::output::{BUFFER_SIZE, Buffered};
-use crate::text::Text;
 use std::alloc::Global;
 use std::io::{Read, Write};
 

@@ -3,50 +3,14 @@
 ghost use Rattle.std.specs.Prelude.{◌≡◌, ◌++◌, IfSome, OnOk, codes, decimal};
 ghost use Rattle.std.specs.Io.KnownBytes.{Appends};
 ghost use Rattle.dwarf_read_core.specs.DwTag.{tag_text};
-ghost use Rattle.dwarf_read_core.specs.Lookups.{UnlessOutOfMemory};
 ghost use Rattle.dwarf_listing_core.specs.Lines.{line};
-ghost use Rattle.dwarf_listing_core.specs.Tables.{ListsStrictTable, ListsTable, attribute_line, declaration_lines, table_text, value_text, yes_or_no};
-ghost use Rattle.dwarf_listing_core.specs.Text.{text_bytes};
+ghost use Rattle.dwarf_listing_core.specs.Tables.{attribute_line, declaration_lines, table_text, value_text, yes_or_no};
 
-use crate::text::Text;
-use dwarf_read_core::{
-    Abbreviation, Abbreviations, AttributeSpecification, DebugAbbrev, DebugAbbrevOffset, Error,
-    LittleEndian,
-};
+use dwarf_read_core::{Abbreviation, Abbreviations, AttributeSpecification};
 use itoa::Buffer;
-use std::alloc::Global;
 use std::fmt::Display;
 use std::io;
 use std::io::Write;
-
-/// Returns the declarations of the table at an offset of `.debug_abbrev`, in the order of their
-/// codes: a line with the code, the tag and whether there are children, such as
-/// `1 DW_TAG_compile_unit yes`, and a line for each attribute, such as
-/// `  DW_AT_name DW_FORM_string`, with its value if the table has it.
-///
-/// # Errors
-///
-/// That of [`DebugAbbrev::abbreviations`].
-pub fn abbreviations(mem: Global, section: &[u8], offset: u64) -> Result<Text, Error>
-    ensures { UnlessOutOfMemory (ListsTable section.now offset) text_bytes result }
-{
-    let debug_abbrev = DebugAbbrev::new(section, LittleEndian);
-    let table = debug_abbrev.abbreviations(mem, DebugAbbrevOffset(offset as usize))?;
-    Ok(Text::Table(table))
-}
-
-/// Returns the lines of [`abbreviations`], if a code of value 0 closes the table.
-///
-/// # Errors
-///
-/// That of [`DebugAbbrev::abbreviations_strict`].
-pub fn abbreviations_strict(mem: Global, section: &[u8], offset: u64) -> Result<Text, Error>
-    ensures { UnlessOutOfMemory (ListsStrictTable section.now offset) text_bytes result }
-{
-    let debug_abbrev = DebugAbbrev::new(section, LittleEndian);
-    let table = debug_abbrev.abbreviations_strict(mem, DebugAbbrevOffset(offset as usize))?;
-    Ok(Text::Table(table))
-}
 
 // Writes the lines of a table, each as soon as it is made.
 pub(crate) fn write_table<O: Write>(output: &mut O, table: &Abbreviations) -> io::Result<()>

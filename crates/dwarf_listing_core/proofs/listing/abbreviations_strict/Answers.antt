@@ -1,5 +1,5 @@
 use Rattle.dwarf_listing_core.proofs.Common.{refl, err_from_is_err_and}
-use Rattle.dwarf_listing_core.proofs.tables.abbreviations_strict.Goals as goal
+use Rattle.dwarf_listing_core.proofs.listing.abbreviations_strict.Goals as goal
 
 pub returns-in_err-table : goal.returns-in_err-table
 returns-in_err-table c =
