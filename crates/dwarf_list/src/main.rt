@@ -1,6 +1,6 @@
 //! `dwarf_list` lists parts of DWARF sections: it reads a section from standard input and writes
-//! lines of text to standard output. If the reader of its output closes it, the program says nothing
-//! and ends with status 141, as `cat` does in a shell.
+//! lines of text to standard output. If the reader of its output closes it, the program says
+//! nothing and ends with status 141, as `cat` does in a shell.
 
 #![tactic(auto)]
 

@@ -12,8 +12,8 @@
 //!
 //! The first error ends the run. The lines before an error at an offset are written, and the error
 //! is printed to standard error with its offset. If a line isn't an offset, nothing is written, and
-//! the error quotes that line. The exit statuses are those of `dwarf_list`. The error of a file that
-//! can't be read begins with its name. If the reader of the output closes it, the program says
+//! the error quotes that line. The exit statuses are those of `dwarf_list`. The error of a file
+//! that can't be read begins with its name. If the reader of the output closes it, the program says
 //! nothing and ends with status 141, as `cat` does in a shell.
 //!
 //! With `--keep-going` before the arguments each error at an offset is a line of standard error,

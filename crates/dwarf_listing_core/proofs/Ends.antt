@@ -110,7 +110,7 @@ module _ {input new : Input} {format : Format} {n : ℕ} (measured : HasLength (
         within = omega (arith, enough, left, most);
       }
 
--- what begins at an offset ends behind it, if the section does
+-- what begins at an offset before the section's end ends after that offset
 pub end_later : (kind : Kind) (section : List ℕ)
     → ((offset end : ℕ) (t : Table) → offset < length section → TableEndsAt (section_of section false) offset t end
     → offset < end) → (offset end : ℕ) → offset < length section → HasEnd kind section offset end → offset < end
@@ -120,7 +120,7 @@ end_later RawStrings section tables offset end within h = omega (arith, h.is)
 end_later (Addresses endian) section tables offset end within h = omega (arith, h.2, size_least _ h.0 h.1)
 end_later (StringOffsets endian) section tables offset end within h = omega (arith, h.2, size_least _ h.0 h.1)
 
--- so does the next begin behind it
+-- so the next begins after it
 pub next_later : {IsEnd : ℕ → Type 0} {count offset : ℕ} → offset < count → ((end : ℕ) → IsEnd end → offset < end)
     → (next : ℕ) → Follows IsEnd count next → offset < next
 next_later within later next (at_end is) = later next is

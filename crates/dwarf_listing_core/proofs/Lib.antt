@@ -5,10 +5,10 @@ pub mod Ends
 pub mod Hexadecimal
 pub mod ItemLines
 pub mod Numbers
-pub mod OffsetLemmas
+pub mod OffsetLines
 pub mod OneOutcome
 pub mod OneText
-pub mod QuoteLemmas
+pub mod QuotedBytes
 pub mod SetTexts
 pub mod Shown
 pub mod StringLines

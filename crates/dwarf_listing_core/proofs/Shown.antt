@@ -3,7 +3,7 @@ use Rattle.dwarf_listing_core.proofs.Common.{arith, ◌≡◌, true, ℕ, List, 
 use Rattle.std.specs.List.{list_all}
 use Rattle.dwarf_listing_core.specs.Lines.{is_plain, shown_byte}
 
--- bytes that stand for themselves are their own text
+-- bytes that are shown as themselves are their own text
 pub shown-plain : (bytes : List ℕ) → list_all is_plain bytes ≡ true → flat_map shown_byte bytes ≡ bytes
 shown-plain [] all = refl
 shown-plain (byte ∷ bytes) all = grind (arith, common_steps, shown-plain bytes)

@@ -55,20 +55,20 @@ module _ (kind : Kind) (section : List ℕ) where
   walk-past past (walk_passes pads rest) = absurd (omega (arith, padding-within _ pads, past))
   walk-past past (walk_lists within none follows rest) = absurd (omega (arith, within, past))
 
-  -- a walk that passes over padding is that from behind it
+  -- a walk that passes over padding is the one from the padding's end on
   walk-padded : {offset : ℕ} {offsets : List ℕ} → IsTrue (is_padding kind section offset)
       → Walk kind section offset offsets → Walk kind section (offset + 4) offsets
   walk-padded pads (walk_ends end) = absurd (omega (arith, padding-within _ pads, end))
   walk-padded pads (walk_passes same rest) = rest
   walk-padded pads (walk_lists within none follows rest) = absurd (grind arith)
 
-  -- a walk that stands where something begins lists it
-  pub walk-stands : {offset : ℕ} {offsets : List ℕ} → offset < length section → is_padding kind section offset ≡ false
+  -- a walk that reaches what begins at an offset lists it
+  pub walk-lists : {offset : ℕ} {offsets : List ℕ} → offset < length section → is_padding kind section offset ≡ false
       → Walk kind section offset offsets
       → (next : ℕ) × (rest : List ℕ) × Next offset next × Walk kind section next rest × (offsets ≡ offset ∷ rest)
-  walk-stands within none (walk_ends end) = absurd (omega (arith, within, end))
-  walk-stands within none (walk_passes pads rest) = absurd (grind arith)
-  walk-stands within none (walk_lists {next = next} {offsets = offsets} here same follows rest) =
+  walk-lists within none (walk_ends end) = absurd (omega (arith, within, end))
+  walk-lists within none (walk_passes pads rest) = absurd (grind arith)
+  walk-lists within none (walk_lists {next = next} {offsets = offsets} here same follows rest) =
       (next, offsets, follows, rest, refl)
 
   module _ (one : (offset : ℕ) → HasOne (Next offset))
@@ -87,7 +87,7 @@ module _ (kind : Kind) (section : List ℕ) where
           offset ∷ rest.0,
           walk_lists within none next.1 rest.1,
           λ other walk.
-              let h = walk-stands within none walk in
+              let h = walk-lists within none walk in
               h.4 ∙ ap (λ offsets. offset ∷ offsets)
               (rest.2 h.1 (subst (λ at. Walk kind section at h.1) (next.2 h.0 h.2) h.3)),
         )

@@ -24,7 +24,7 @@ hex_text bytes = join_with_byte 32 (map hex_byte bytes)
 abbrev pub string_line : Input → List ℕ
 string_line string = line string.bytes
 
--- whether a byte stands for itself in a text: a printable character, other than a backslash
+-- whether a byte is shown as itself in a text: it is a printable character, other than a backslash
 abbrev pub is_plain : ℕ → Bool
 is_plain byte = nat_le 32 byte && nat_lt byte 127 && not (byte == 92)
 

@@ -42,8 +42,8 @@ pub fn exactly_one_text()
     laws::exactly_one_shortest();
 }
 
-/// Each offset of a section has exactly one listing of each kind, and the next begins at exactly one
-/// offset. So there is exactly one walk over the section from each offset on.
+/// Each offset of a section has exactly one listing of each kind, and the next begins at exactly
+/// one offset. So there is exactly one walk over the section from each offset on.
 pub fn exactly_one_walk()
     ensures listing { (kind : _) (section : List ℕ) (offset : ℕ)
         → HasOne (ListsOne kind section offset) }

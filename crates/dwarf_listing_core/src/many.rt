@@ -29,11 +29,11 @@ mod found;
 /// Writes what is listed at each offset of a section, after its title, and the errors there to a
 /// second output.
 ///
-/// Both inputs are read to their ends, and all offsets are parsed, in decimal or hexadecimal.
-/// Then what each offset names is read whole, and its lines are written through a buffer. The
-/// output is flushed at the end, and before an error at an offset is returned, also if memory ran
-/// out there. With `GoOn` an error at an offset is a line of the second output, and the run goes on.
-/// What is returned is whether there is such a line.
+/// Both inputs are read to their ends, and all offsets are parsed, in decimal or hexadecimal. Then
+/// what each offset names is read whole, and its lines are written through a buffer. The output is
+/// flushed at the end, and before an error at an offset is returned, also if memory ran out there.
+/// With `GoOn` an error at an offset is a line of the second output, and the run goes on. What is
+/// returned is whether there is such a line.
 ///
 /// # Errors
 ///
@@ -106,9 +106,9 @@ pub fn run_many<S: Read, I: Read, O: Write, E: Write>(
 /// Writes what is listed of a whole section, in turn, and the errors there to a second output.
 ///
 /// The section is walked from its start. What begins at an offset is read whole, and written as
-/// [`run_many`] writes it. The next begins where it ends, which the length of a set says even if the
-/// set is malformed. Before each table and each set the walk passes over as many fours of zero bytes
-/// as there are. After an error that leaves the end unknown nothing more is listed.
+/// [`run_many`] writes it. The next begins where it ends, which the length of a set says even if
+/// the set is malformed. Before each table and each set the walk passes over as many fours of zero
+/// bytes as there are. After an error that leaves the end unknown nothing more is listed.
 ///
 /// # Errors
 ///
@@ -150,8 +150,8 @@ pub fn run_whole<S: Read, O: Write, E: Write>(
     write_whole(mem, on_error, kind, &section, output, errors)
 }
 
-/// Writes what is listed at these offsets of a section, each after its title, through a buffer,
-/// and flushes the output. With `GoOn` an error at an offset is a line of the second output. Returns
+/// Writes what is listed at these offsets of a section, each after its title, through a buffer, and
+/// flushes the output. With `GoOn` an error at an offset is a line of the second output. Returns
 /// whether there is such a line.
 ///
 /// # Errors
@@ -225,6 +225,8 @@ pub fn write_whole<O: Write, E: Write>(
     listed
 }
 
+// Writes what is listed at these offsets, each with its title, into a buffered output. The first
+// error that ends the run is returned.
 fn write_each_at<O: Write, E: Write>(
     mem: Global,
     on_error: OnError,
@@ -246,6 +248,8 @@ fn write_each_at<O: Write, E: Write>(
     Ok(failed)
 }
 
+// Writes what is listed of a whole section, as `write_each_at` does. The offsets aren't kept: each
+// is where what was written last ends, so a walk takes no memory for them.
 fn write_walk<O: Write, E: Write>(
     mem: Global,
     on_error: OnError,
@@ -319,6 +323,7 @@ fn write_at<O: Write, E: Write>(
     Ok((false, next))
 }
 
+// Writes the title of an offset. The lines after it have no offset of their own.
 fn write_title<O: Write>(output: &mut O, kind: Kind, offset: u64) -> io::Result<()>
     ensures { OnOk result
         (Appends (O.contents output.old) (O.contents output.new) (title kind offset)) }
@@ -330,6 +335,7 @@ fn write_title<O: Write>(output: &mut O, kind: Kind, offset: u64) -> io::Result<
     }
 }
 
+// Writes the line of an error at an offset, whose text is that of the error that ends a run.
 fn write_error<E: Write>(errors: &mut E, offset: u64, error: Error) -> io::Result<()>
     ensures { OnOk result
         (Appends (E.contents errors.old) (E.contents errors.new) (error_line offset error)) }

@@ -48,7 +48,7 @@ fn parse_offset(line: &[u8]) -> Option<u64>
 }
 
 // Returns the first line, and the bytes after its newline.
-#[tactic(auto, using(crate::proofs::OffsetLemmas::first_lines))]
+#[tactic(auto, using(crate::proofs::OffsetLines::first_lines))]
 fn split_line(input: &[u8]) -> (&[u8], &[u8])
     requires { 0 < length input.now }
     ensures lines { lines_of input.now ≡ result.0.now ∷ lines_of result.1.now }

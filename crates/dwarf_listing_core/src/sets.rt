@@ -155,7 +155,8 @@ fn push_items<T: Listed, I: Iterator<Item = Result<T, Error>>>(
 ) -> Result<(), Error>
     requires can { I.can_next items }
     requires ends { IsFinite (I.remaining items) }
-    ensures { UnlessOutOfMemory (Joins (Ok text.old.items) (ListsRun I.next_gives (T.lists style) items))
+    ensures { UnlessOutOfMemory
+        (Joins (Ok text.old.items) (ListsRun I.next_gives (T.lists style) items))
         (λ _. text.new.items) result }
 {
     for item in items {
@@ -183,7 +184,8 @@ impl<R: Reader> Listed for StrOffsetsHeader<R> {
     ghost use Rattle.dwarf_read_core.specs.Contributions.{seen_by};
     ghost use Rattle.dwarf_listing_core.specs.Sets.{ListsSet, offset_listing};
 
-    ghost lists = { λ style header. ListsSet (offset_listing style R.Offset.GREATEST) (seen_by R.view header) };
+    ghost lists = { λ style header.
+        ListsSet (offset_listing style R.Offset.GREATEST) (seen_by R.view header) };
 
     fn push_lines(&self, style: Style, text: &mut Vec<u8>) -> Result<(), Error> {
         let (offset, length) = (self.offset().into_u64(), self.length().into_u64());

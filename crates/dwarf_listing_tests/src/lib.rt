@@ -1,4 +1,5 @@
-//! The tests of `dwarf_listing_core`: whole runs of the programs, and the arguments that a system gives.
+//! The tests of `dwarf_listing_core`: whole runs of the programs, and the arguments that a system
+//! gives.
 
 #![tactic(auto)]
 

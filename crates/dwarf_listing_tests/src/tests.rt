@@ -67,9 +67,9 @@ fn check_outcome(
     Ok(())
 }
 
-// A row for each command, and for both byte orders: arguments, an input, and the text. A command that takes a number
-// doesn't read the input, which is empty here. What the program prints of other inputs is in the worked cases of
-// `dwarf_list`, which are data.
+// A row for each command, and for both byte orders: arguments, an input, and the text. A command
+// that takes a number doesn't read the input, which is empty here. What the program prints of other
+// inputs is in the worked cases of `dwarf_list`, which are data.
 type Row = (&'static [&'static str], &'static [u8], &'static [u8]);
 
 #[rattlefmt::skip]
@@ -112,8 +112,8 @@ fn refused_memory_for_each_command(rt: HostRuntime) -> Result<(), Fail> {
     Ok(())
 }
 
-// Makes the last allocation of a test whose allocations `tools/fail-alloc` makes fail in turn. If it fails, each one
-// before it failed in an earlier run of the test.
+// Makes the last allocation of a test whose allocations `tools/fail-alloc` makes fail in turn. If
+// it fails, each one before it failed in an earlier run of the test.
 fn end_requests(rt: &impl Print, mem: Global) {
     if Vec::from_slice(mem, &[0u8]).is_err() {
         let _ = println!(rt; "every request was refused");

@@ -94,6 +94,8 @@ pub(crate) fn found_at(
     }
 }
 
+// Returns the table at an offset, and where it ends. After an error that is unknown, and nothing
+// follows but the section's end.
 fn table_at(mem: Global, section: &[u8], offset: u64) -> (Result<Found<'_>, Error>, u64)
     ensures found { UnlessOutOfMemory (ListsTable section.now offset) found_bytes result.0 }
     ensures next { result.0 ≢ Err OutOfMemory →
@@ -110,10 +112,13 @@ fn table_at(mem: Global, section: &[u8], offset: u64) -> (Result<Found<'_>, Erro
     }
 }
 
+// Returns the string at an offset, in place: it is a part of the section, so nothing is copied. The
+// next string begins after its zero byte.
 fn string_at(section: &[u8], offset: u64) -> (Result<&[u8], Error>, u64)
     ensures ok { IfOk result.0 (λ string. (found : Input)
         × StringAt (section_of section.now false) offset (Ok found) × (string.now ≡ found.bytes)) }
-    ensures err { IfErr result.0 (λ error. StringAt (section_of section.now false) offset (Err error)) }
+    ensures err { IfErr result.0
+        (λ error. StringAt (section_of section.now false) offset (Err error)) }
     ensures next { Follows (StringEndsAt section.now offset) (length section.now) result.1 }
     ensures later { offset < length section.now → offset < result.1 }
     ensures within { result.1 ≤ length section.now }
@@ -129,14 +134,16 @@ fn string_at(section: &[u8], offset: u64) -> (Result<&[u8], Error>, u64)
     }
 }
 
+// Returns the set of addresses at an offset. Its length alone says where the next set begins, so
+// that a set with a malformed header or entry hides none after it.
 fn addresses_at(
     mem: Global,
     section: &[u8],
     endian: RunTimeEndian,
     offset: u64,
 ) -> (Result<Found<'_>, Error>, u64)
-    ensures found { UnlessOutOfMemory (ListsSetAt (address_listing Titled) endian section.now offset)
-        found_bytes result.0 }
+    ensures found { UnlessOutOfMemory
+        (ListsSetAt (address_listing Titled) endian section.now offset) found_bytes result.0 }
     ensures next { let whole = section_of section.now (is_big_at_run_time endian) in
         Follows (SetEndsAt whole offset) (length section.now) result.1 }
     ensures later { offset < length section.now → offset < result.1 }
@@ -148,6 +155,8 @@ fn addresses_at(
     }
 }
 
+// Returns the lines of the set of addresses at the front of a reader. A function of its own keeps
+// what is known of the lines apart from where the next set begins.
 fn addresses_of(mem: Global, set: EndianSlice<'_, RunTimeEndian>) -> Result<Found<'static>, Error>
     ensures { UnlessOutOfMemory (ListsFirst (address_listing Titled)
         (record { offset = 0; rest = input_of set.entry })) found_bytes result }
@@ -158,13 +167,15 @@ fn addresses_of(mem: Global, set: EndianSlice<'_, RunTimeEndian>) -> Result<Foun
     }
 }
 
+// Returns the set of string offsets at an offset, as `addresses_at` does that of addresses.
 fn string_offsets_at(
     mem: Global,
     section: &[u8],
     endian: RunTimeEndian,
     offset: u64,
 ) -> (Result<Found<'_>, Error>, u64)
-    ensures found { UnlessOutOfMemory (ListsSetAt (offset_listing Titled (2 ^ 64 - 1)) endian section.now offset)
+    ensures found { UnlessOutOfMemory
+        (ListsSetAt (offset_listing Titled (2 ^ 64 - 1)) endian section.now offset)
         found_bytes result.0 }
     ensures next { let whole = section_of section.now (is_big_at_run_time endian) in
         Follows (SetEndsAt whole offset) (length section.now) result.1 }
@@ -177,6 +188,7 @@ fn string_offsets_at(
     }
 }
 
+// Returns the lines of the set of string offsets at the front of a reader, as `addresses_of` does.
 fn string_offsets_of(
     mem: Global,
     set: EndianSlice<'_, RunTimeEndian>,
@@ -261,6 +273,7 @@ fn write_shown<O: Write>(output: &mut O, string: &[u8]) -> io::Result<()>
     Ok(())
 }
 
+// Writes a byte of a string as text, so that no string can forge a line or drive a terminal.
 fn write_byte<O: Write>(output: &mut O, byte: u8) -> io::Result<()>
     ensures { OnOk result
         (Appends (O.contents output.old) (O.contents output.new) (shown_byte byte)) }
@@ -275,13 +288,15 @@ fn write_byte<O: Write>(output: &mut O, byte: u8) -> io::Result<()>
     Ok(())
 }
 
-// Returns whether each byte stands for itself in a text.
+// Returns whether each byte is shown as itself in a text.
 fn is_all_plain(string: &[u8]) -> bool
     ensures { result ≡ list_all is_plain string.now }
 {
     string.iter().all(|byte| is_plain(*byte))
 }
 
+// Returns whether a byte is shown as itself in a text. A backslash isn't, since it begins an
+// escape.
 fn is_plain(byte: u8) -> bool
     ensures { result ≡ is_plain byte }
 {

@@ -12,7 +12,8 @@ use std::test::Fail;
 // A call may fail with any kind of error, also with one for memory.
 static KINDS: &[ErrorKind] = &[Other, OutOfMemory, TimedOut, UnexpectedEof, WouldBlock];
 
-// A reader or writer of one byte a call, which fails after a number of calls. Each of these is interrupted first.
+// A reader or writer of one byte a call, which fails after a number of calls. Each of these is
+// interrupted first.
 #[derive(Drop)]
 pub(super) struct Failing<T> {
     pub(super) inner: T,
@@ -68,7 +69,8 @@ impl Write for Failing<Vec<u8>> {
     }
 }
 
-// The call after the last byte, which finds the end, is one of those that fail. A number is listed without a call.
+// The call after the last byte, which finds the end, is one of those that fail. A number is listed
+// without a call.
 #[test]
 fn inputs_fail_at_each_call(rt: HostRuntime) -> Result<(), Fail> {
     for (texts, bytes, text) in TEXTS {
@@ -87,8 +89,8 @@ fn inputs_fail_at_each_call(rt: HostRuntime) -> Result<(), Fail> {
     Ok(())
 }
 
-// Each byte of the text is written by a call of its own, and then the output is flushed. After the call that fails
-// there is none.
+// Each byte of the text is written by a call of its own, and then the output is flushed. After the
+// call that fails there is none.
 fn check_failing(
     rt: &impl Abort,
     mem: Global,

@@ -1,5 +1,5 @@
-//! Whole runs over tables and strings, with enough memory and with failed allocations, and inputs and outputs that
-//! fail.
+//! Whole runs over tables and strings, with enough memory and with failed allocations, and inputs
+//! and outputs that fail.
 
 use super::arguments::Given;
 use super::ends::Failing;
@@ -20,7 +20,8 @@ use std::test::Fail;
 
 type Bytes = &'static [u8];
 
-// A section and its offsets, if there are any, what is written to each output, and how the run ends.
+// A section and its offsets, if there are any, what is written to each output, and how the run
+// ends.
 type Run = (
     OnError,
     Kind,
@@ -60,7 +61,8 @@ const TWO_TABLES: Run = (
     Ok(false),
 );
 
-// Four bytes of padding are between the tables, and three zero bytes, each of which is a table, after them.
+// Four bytes of padding are between the tables, and three zero bytes, each of which is a table,
+// after them.
 #[rattlefmt::skip]
 const ALL_TABLES: Run = (
     Stop, Tables, b"\x01\x11\0\0\0\0\0\0\0\0\x01\x2e\0\0\0\0\0\0\0", None,
@@ -89,7 +91,8 @@ const RAW_STRINGS: Run = (
     Stop, RawStrings, b"\\\x1b[\n\xc3\xa9\0\0", None, b"0x0: \\\x1b[\n\xc3\xa9\n0x7: \n", b"", Ok(false),
 );
 
-// The second set has an unknown version, and the third one an address that is cut. Padding is before the last.
+// The second set has an unknown version, and the third one an address that is cut. Padding is
+// before the last.
 #[rattlefmt::skip]
 const ALL_SETS: Run = (
     GoOn, Addresses(Little),
@@ -328,8 +331,8 @@ fn inputs_fail_at_each_call(rt: HostRuntime) -> Result<(), Fail> {
     Ok(())
 }
 
-// Each byte of the text is written by a call of its own, also before an error at an offset, and then the output is
-// flushed. No call follows the one that fails.
+// Each byte of the text is written by a call of its own, also before an error at an offset, and
+// then the output is flushed. No call follows the one that fails.
 #[test]
 fn outputs_fail_at_each_call(rt: HostRuntime) -> Result<(), Fail> {
     let mem = rt.alloc();
@@ -356,7 +359,8 @@ fn outputs_fail_at_each_call(rt: HostRuntime) -> Result<(), Fail> {
     Ok(())
 }
 
-// So may each call of the second output, which isn't flushed. After one that fails nothing is written.
+// So may each call of the second output, which isn't flushed. After one that fails nothing is
+// written.
 #[test]
 fn errors_fail_at_each_call(rt: HostRuntime) -> Result<(), Fail> {
     let mem = rt.alloc();
@@ -409,8 +413,8 @@ fn no_write_follows_one_that_fails(rt: HostRuntime) -> Result<(), Fail> {
     Ok(())
 }
 
-// A run writes the whole text, or it returns that memory ran out and has written the text of the offsets before. How
-// many bytes these are is printed, for `tools/fail-alloc`.
+// A run writes the whole text, or it returns that memory ran out and has written the text of the
+// offsets before. How many bytes these are is printed, for `tools/fail-alloc`.
 fn check_refused<R: Abort + Print>(rt: &R, mem: Global, run: &Run) -> Result<(), Fail> {
     let Ok(mut output) = Vec::with_capacity(mem, 256) else {
         return Ok(());
@@ -431,8 +435,9 @@ fn check_refused<R: Abort + Print>(rt: &R, mem: Global, run: &Run) -> Result<(),
     Ok(())
 }
 
-// `tools/fail-alloc` makes each allocation fail, and looks for each line that begins with `wanted: ` among those that
-// begin with `reached: `. So memory runs out before the first table, and before the second.
+// `tools/fail-alloc` makes each allocation fail, and looks for each line that begins with
+// `wanted: ` among those that begin with `reached: `. So memory runs out before the first table, and
+// before the second.
 #[test]
 fn refused_memory_for_many_offsets(rt: HostRuntime) -> Result<(), Fail> {
     let mem = rt.alloc();

@@ -3,7 +3,7 @@ use Rattle.std.proofs.Common.{subst}
 use Rattle.std.proofs.KnownBytes.{Appends-nil, Appends-trans}
 use Rattle.dwarf_listing_core.specs.Many.{WroteBoth, no_texts, nothing}
 use Rattle.dwarf_listing_core.specs.Walk.{Walk, is_padding, walk_ends, walk_lists, walk_passes}
-use Rattle.dwarf_listing_core.proofs.Walks.{padding-within, walk-stands}
+use Rattle.dwarf_listing_core.proofs.Walks.{padding-within, walk-lists}
 use Rattle.dwarf_listing_core.proofs.Written.{ended_at}
 use Rattle.dwarf_listing_core.proofs.many.write_walk.Goals as goal
 
@@ -46,11 +46,11 @@ returns-in_err-fails g c =
     let write_at = c.in_err-fails.ensures in
     let none : is_padding c.args.kind c.args.section.now c.loop-offset.offset ≡ false = grind arith in
     let one = c.exactly_one_walk.ensures.walk c.args.kind c.args.section.now c.loop-offset.offset in
-    let stands = walk-stands c.args.kind c.args.section.now c.loop-offset-test.true none one.1 in
+    let listed = walk-lists c.args.kind c.args.section.now c.loop-offset-test.true none one.1 in
     rw (p.1, p.2) (
-      before.1 ++ offset ∷ stands.1,
-      before.5 (offset ∷ stands.1) (subst (Walk c.args.kind c.args.section.now c.loop-offset.offset) stands.4 one.1),
-      ended_at offset stands.1 before.3
+      before.1 ++ offset ∷ listed.1,
+      before.5 (offset ∷ listed.1) (subst (Walk c.args.kind c.args.section.now c.loop-offset.offset) listed.4 one.1),
+      ended_at offset listed.1 before.3
           (WroteBoth (Appends (g.O.Write.contents c.args.output.now) (g.O.Write.contents c.write_at.new.output))
           (Appends (g.E.Write.contents c.args.errors.now) (g.E.Write.contents c.write_at.new.errors))) _
           (λ same silent. (rw same before.4.0, rw silent before.4.1)) write_at.at

@@ -1,5 +1,5 @@
 use Rattle.dwarf_listing_core.proofs.Common.{[], ◌∷◌, ◌++◌, sym, ap, ◌∙◌, append_assoc, lines_of}
-use Rattle.dwarf_listing_core.proofs.OffsetLemmas.{offsets_more}
+use Rattle.dwarf_listing_core.proofs.OffsetLines.{offsets_more}
 use Rattle.dwarf_listing_core.proofs.offsets.parse_offsets.Goals as goal
 
 pub loop-rest-preserved : goal.loop-rest-preserved

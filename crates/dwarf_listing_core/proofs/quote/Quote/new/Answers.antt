@@ -1,6 +1,6 @@
 use Rattle.dwarf_listing_core.specs.Quote.{quoted_bytes}
 use Rattle.dwarf_listing_core.proofs.Common.{arith, ℕ, List, length, ap}
-use Rattle.dwarf_listing_core.proofs.QuoteLemmas.{kept_long, kept_short}
+use Rattle.dwarf_listing_core.proofs.QuotedBytes.{kept_long, kept_short}
 use Rattle.dwarf_listing_core.proofs.quote.Quote.new.Goals as goal
 
 pub returns-then-line_len-lt-QUOTED_BYTES : goal.returns-then-line_len-lt-QUOTED_BYTES
