@@ -13,30 +13,6 @@ other_of_reading : (error fault : Fault) (named given : ManyFault) → IsReadFau
     → ◌≡◌ {A = Result Bool ManyFault} (Err given) (Err (Other fault)) → (fault ≡ Write) ⊎ IsMemoryFault fault
 other_of_reading error fault named given read if_read if_other differs same = grind arith
 
-pub returns-in-Err-clause-first : goal.returns-in-Err-clause-first
-returns-in-Err-clause-first g c = grind arith
-
-pub returns-in-Err-clause-line : goal.returns-in-Err-clause-line
-returns-in-Err-clause-line g c = grind arith
-
-pub returns-in-Err-clause-lines_last : goal.returns-in-Err-clause-lines_last
-returns-in-Err-clause-lines_last g c = grind arith
-
-pub returns-in-Err-clause-offsets_second : goal.returns-in-Err-clause-offsets_second
-returns-in-Err-clause-offsets_second g c = grind arith
-
-pub returns-in-Err-read_input-clause-first : goal.returns-in-Err-read_input-clause-first
-returns-in-Err-read_input-clause-first g c = grind arith
-
-pub returns-in-Err-read_input-clause-line : goal.returns-in-Err-read_input-clause-line
-returns-in-Err-read_input-clause-line g c = grind arith
-
-pub returns-in-Err-read_input-clause-section_first : goal.returns-in-Err-read_input-clause-section_first
-returns-in-Err-read_input-clause-section_first g c = grind arith
-
-pub returns-in-Err-read_input-clause-lines_last : goal.returns-in-Err-read_input-clause-lines_last
-returns-in-Err-read_input-clause-lines_last g c = grind arith
-
 pub returns-in-Err-clause-other : goal.returns-in-Err-clause-other
 returns-in-Err-clause-other g c fault =
     other_of_reading _ fault ReadSection _ c.in-Err.ensures.faults c.of_reading.ensures.read

@@ -54,18 +54,3 @@ returns-clause-write g c failed =
     of_given (given words remaining) bytes (λ left. (text : List ℕ) × IsText words left (Ok text))
     (given_bytes words remaining command bytes named read none)
     (text_bytes c.in_ok-text.text, rw named c.in_ok-text.ensures)
-
-pub returns-clause-end : goal.returns-clause-end
-returns-clause-end g c = grind arith
-
-pub returns-clause-memory : goal.returns-clause-memory
-returns-clause-memory g c = grind arith
-
-pub returns-clause-unread : goal.returns-clause-unread
-returns-clause-unread g c = grind arith
-
-pub returns-clause-usage : goal.returns-clause-usage
-returns-clause-usage g c = grind arith
-
-pub returns-clause-read : goal.returns-clause-read
-returns-clause-read g c = grind arith
