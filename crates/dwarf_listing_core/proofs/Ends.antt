@@ -1,10 +1,9 @@
 -- What begins at an offset of a section has exactly one end, or none is known.
-use Rattle.dwarf_listing_core.proofs.Common.{arith, ◌≡◌, ◌∙◌, ◌^◌, ◌-◌, ◌+◌, ◌<◌, ◌≤◌, ℕ, Bool, false, List, length, Result, Ok, Err, refl, ap, sym, inl, inr, length-drop, common_steps, Error, HasOne, Input, section_of}
+use Rattle.dwarf_listing_core.proofs.Common.{arith, ◌≡◌, ◌∙◌, ◌^◌, ◌-◌, ◌+◌, ◌<◌, ◌≤◌, ℕ, false, List, length, Result, Ok, Err, refl, ap, sym, inl, inr, length-drop, Error, HasOne, Input, section_of}
 use Rattle.std.proofs.Common.{subst}
 use Rattle.std.proofs.lemmas.Bool.{cases_lt}
 use Rattle.dwarf_read_core.specs.declared.Format.{Format}
 use Rattle.dwarf_read_core.specs.Answer.{Answer, TableEndsAt}
-use Rattle.dwarf_read_core.specs.Endian.{is_big_at_run_time}
 use Rattle.dwarf_read_core.specs.Format.{initial_length_size}
 use Rattle.dwarf_read_core.specs.Grammar.{Table}
 use Rattle.dwarf_read_core.specs.InitialLength.{HasLength, HasNoLength, LengthAt}

@@ -1,5 +1,5 @@
 -- A section has exactly one walk of each kind from each offset on.
-use Rattle.dwarf_listing_core.proofs.Common.{arith, ◌≡◌, ◌∙◌, ◌-◌, ◌+◌, ◌<◌, ◌≤◌, zero, suc, ℕ, Bool, true, false, IsTrue, List, [], ◌∷◌, length, drop, nat_eq, refl, ap, sym, inl, inr, length-drop, common_steps, HasOne}
+use Rattle.dwarf_listing_core.proofs.Common.{arith, ◌≡◌, ◌∙◌, ◌+◌, ◌<◌, ◌≤◌, zero, suc, ℕ, Bool, true, false, IsTrue, List, [], ◌∷◌, length, drop, nat_eq, refl, ap, inl, inr, length-drop, HasOne}
 use Rattle.std.proofs.Common.{subst}
 use Rattle.std.proofs.lemmas.Bool.{cases_lt}
 use Rattle.std.specs.Prelude.{◌⊎◌, ◌&&◌}

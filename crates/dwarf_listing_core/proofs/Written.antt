@@ -3,13 +3,15 @@ use Rattle.dwarf_listing_core.proofs.Common.{◌≡◌, ◌≢◌, ℕ, Bool, tr
 use Rattle.std.proofs.Common.{subst}
 use Rattle.std.proofs.KnownBytes.{Appends-trans}
 use Rattle.std.proofs.lemmas.List.{flat_map_more}
-use Rattle.dwarf_listing_core.specs.Many.{ListsAt, ListsFront, Texts, WritesEach, error_line, nothing}
+use Rattle.dwarf_listing_core.specs.Many.{ListsAt, Texts, WritesEach, WritesListed, error_line, nothing}
 use Rattle.dwarf_listing_core.specs.ManyFault.{IsListingFault}
 use Rattle.dwarf_listing_core.specs.declared.arguments.Kind.{Kind}
 use Rattle.dwarf_listing_core.specs.declared.arguments.OnError.{OnError}
 use Rattle.dwarf_listing_core.specs.declared.arguments.OnError.TheVariants.{Stop, GoOn}
 use Rattle.dwarf_listing_core.specs.declared.fault.Fault.{Fault}
 use Rattle.dwarf_listing_core.specs.declared.fault.Fault.TheVariants.{Write}
+use Rattle.dwarf_listing_core.specs.declared.many.Places.{Places}
+use Rattle.dwarf_listing_core.specs.declared.many.Places.TheVariants.{Walked, Given}
 use Rattle.dwarf_listing_core.specs.declared.many.fault.ManyFault.{ManyFault}
 use Rattle.dwarf_listing_core.specs.declared.many.fault.ManyFault.TheVariants.{At, Line, ReadSection, ReadOffsets, Other}
 
@@ -37,12 +39,39 @@ ListsAll-stop (one_more offsets texts more offset failed fails before one) =
     rw (ListsAll-stop before) (ListsAt-stop _ _ _ _ fails one)
 
 -- a run that stops at an error doesn't return that there was one
-pub stop_without_error : (on_error : OnError) (kind : Kind) (section offsets : List ℕ) (Wrote : Texts → Type 0)
+stop_without_error : (on_error : OnError) (kind : Kind) (section offsets : List ℕ) (Wrote : Texts → Type 0)
     (r : Result Bool ManyFault) → WritesEach on_error kind section offsets Wrote r → on_error ≡ Stop → r ≢ Ok true
 stop_without_error on_error kind section offsets Wrote r writes stops same =
     let listed = rw (same, stops) at writes in
     let none : true ≡ false = ListsAll-stop listed.1 in
     absurd cc
+
+-- nor does one over any places
+pub stop_at_places : (on_error : OnError) (kind : Kind) (section : List ℕ) (places : Places) (Wrote : Texts → Type 0)
+    (r : Result Bool ManyFault) → WritesListed on_error kind section places Wrote r → on_error ≡ Stop → r ≢ Ok true
+stop_at_places on_error kind section Walked Wrote r writes = stop_without_error on_error kind section _ Wrote r writes.2
+stop_at_places on_error kind section (Given offsets) Wrote r writes =
+    stop_without_error on_error kind section _ Wrote r writes
+
+module _ (on_error : OnError) (kind : Kind) (section : List ℕ) {One Others : Texts → Type 0}
+    (to : (texts : Texts) → One texts → Others texts) where
+  -- what a run returned and wrote, where each text that was written so was also written otherwise
+  written_otherwise : (offsets : List ℕ) (r : Result Bool ManyFault)
+      → WritesEach on_error kind section offsets One r → WritesEach on_error kind section offsets Others r
+  written_otherwise offsets (Ok failed) writes = (writes.0, writes.1, to writes.0 writes.2)
+  written_otherwise offsets (Err (At offset error)) writes =
+      (writes.0, writes.1, writes.2, to writes.1 writes.3)
+  written_otherwise offsets (Err (Other fault)) (inl failed) = inl failed
+  written_otherwise offsets (Err (Other fault)) (inr ran) = inr (ran.0, ran.1, ran.2, to ran.1 ran.3)
+  written_otherwise offsets (Err (Line number quote)) writes = absurd writes
+  written_otherwise offsets (Err ReadSection) writes = absurd writes
+  written_otherwise offsets (Err ReadOffsets) writes = absurd writes
+
+  -- the same of a run over any places
+  pub places_otherwise : (places : Places) (r : Result Bool ManyFault)
+      → WritesListed on_error kind section places One r → WritesListed on_error kind section places Others r
+  places_otherwise Walked r writes = (writes.0, writes.1, written_otherwise writes.0 r writes.2)
+  places_otherwise (Given offsets) r writes = written_otherwise offsets.now r writes
 
 -- the line of an error is what is written of its offset, unless the run stops there
 pub error_listed : (on_error : OnError) (kind : Kind) (section : List ℕ) (offset : ℕ) (error : Error) → on_error ≢ Stop

@@ -1,5 +1,5 @@
 -- The lines of what a run holds of an offset. No public clause about a result cites this file.
-use Rattle.std.specs.Prelude.{ℕ, List, [], ◌∷◌, ◌++◌}
+use Rattle.std.specs.Prelude.{ℕ, List}
 use Rattle.std.specs.List.{flat_map}
 use Rattle.dwarf_listing_core.specs.Lines.{line, shown_byte}
 use Rattle.dwarf_listing_core.specs.Tables.{table_text}

@@ -11,6 +11,8 @@ use Rattle.dwarf_listing_core.specs.declared.arguments.Kind.TheVariants.{Tables,
 use Rattle.dwarf_listing_core.specs.declared.arguments.OnError.{OnError}
 use Rattle.dwarf_listing_core.specs.declared.arguments.OnError.TheVariants.{Stop, GoOn}
 use Rattle.dwarf_listing_core.specs.declared.fault.Fault.TheVariants.{Write}
+use Rattle.dwarf_listing_core.specs.declared.many.Places.{Places}
+use Rattle.dwarf_listing_core.specs.declared.many.Places.TheVariants.{Walked, Given}
 use Rattle.dwarf_listing_core.specs.declared.many.fault.ManyFault.{ManyFault}
 use Rattle.dwarf_listing_core.specs.declared.many.fault.ManyFault.TheVariants.{At, Other}
 
@@ -98,6 +100,11 @@ WritesEach _ _ _ _ _ (Err _) = ⊥
 abbrev pub WritesWalk : OnError → Kind → List ℕ → (Texts → Type 0) → Result Bool ManyFault → Type 0
 WritesWalk on_error kind section Wrote result =
     (offsets : List ℕ) × Walk kind section 0 offsets × WritesEach on_error kind section offsets Wrote result
+
+-- the same of the places that are listed: the walk over the whole section, or these offsets
+abbrev pub WritesListed : OnError → Kind → List ℕ → Places → (Texts → Type 0) → Result Bool ManyFault → Type 0
+WritesListed on_error kind section Walked Wrote result = WritesWalk on_error kind section Wrote result
+WritesListed on_error kind section (Given offsets) Wrote result = WritesEach on_error kind section offsets.now Wrote result
 
 -- the bytes of a section and of its offsets have this property, if both are known
 abbrev pub IfKnown : Option (List ℕ) → Option (List ℕ) → (List ℕ → List ℕ → Type 0) → Type 0

@@ -5,7 +5,7 @@ ghost use Rattle.std.specs.Prelude.{◌≡◌, ◌≢◌, ◌⊎◌, ◌<◌, �
 ghost use Rattle.std.specs.Io.KnownBytes.{Appends, IsAtEnd};
 ghost use Rattle.dwarf_read_core.specs.declared.Error.TheVariants.{OutOfMemory};
 ghost use Rattle.dwarf_listing_core.specs.Fault.{IsMemoryFault, WasRead};
-ghost use Rattle.dwarf_listing_core.specs.Many.{IfKnown, ListsAt, Texts, WritesEach, WritesWalk, WroteBoth, error_line, title};
+ghost use Rattle.dwarf_listing_core.specs.Many.{IfKnown, ListsAt, Texts, WritesEach, WritesListed, WritesWalk, WroteBoth, error_line, title};
 ghost use Rattle.dwarf_listing_core.specs.ManyFault.{IsListingFault};
 ghost use Rattle.dwarf_listing_core.specs.Offsets.{AreOffsets, IsBadLine, lines_of};
 ghost use Rattle.dwarf_listing_core.specs.Walk.{Follows, HasEnd, ListsOne};
@@ -100,7 +100,8 @@ pub fn run_many<S: Read, I: Read, O: Write, E: Write>(
         Err(error) => return Err(ManyFault::of_reading(error, ManyFault::ReadOffsets)),
     };
     let offsets = parse_offsets(mem, &input)?;
-    write_all_at(mem, on_error, kind, &section, &offsets, output, errors)
+    let places = Places::Given(&offsets);
+    write_listed(mem, on_error, kind, &section, places, output, errors)
 }
 
 /// Writes what is listed of a whole section, in turn, and the errors there to a second output.
@@ -147,82 +148,87 @@ pub fn run_whole<S: Read, O: Write, E: Write>(
         Ok(section) => section,
         Err(error) => return Err(ManyFault::of_reading(error, ManyFault::ReadSection)),
     };
-    write_whole(mem, on_error, kind, &section, output, errors)
+    write_listed(
+        mem,
+        on_error,
+        kind,
+        &section,
+        Places::Walked,
+        output,
+        errors,
+    )
 }
 
-/// Writes what is listed at these offsets of a section, each after its title, through a buffer, and
+/// Which offsets of a section are listed.
+#[derive(Clone, Copy, Debug)]
+pub enum Places<'a> {
+    /// Those of a walk from the section's start to its end.
+    Walked,
+    /// These, in this order.
+    Given(&'a [u64]),
+}
+
+/// Writes what is listed of a section at these places, each after its title, through a buffer, and
 /// flushes the output. With `GoOn` an error at an offset is a line of the second output. Returns
 /// whether there is such a line.
 ///
 /// # Errors
 ///
 /// The first other error. Unless it is one of an output, the lines before it are written.
-#[tactic(auto, using(crate::proofs::Written::stop_without_error))]
-pub fn write_all_at<O: Write, E: Write>(
+#[tactic(auto, using(crate::proofs::Written::stop_at_places))]
+pub fn write_listed<O: Write, E: Write>(
     mem: Global,
     on_error: OnError,
     kind: Kind,
     section: &[u8],
-    offsets: &[u64],
+    places: Places<'_>,
     output: &mut O,
     errors: &mut E,
 ) -> Result<bool, ManyFault>
     // The buffer needs memory before anything is written.
-    ensures listed { WritesEach on_error kind section.now offsets.now
+    ensures listed { WritesListed on_error kind section.now places.entry
         (WroteBoth (Appends (O.contents output.old) (O.contents output.new))
         (Appends (E.contents errors.old) (E.contents errors.new))) result
         ⊎ ((result ≡ Err (ManyFault.Other (Fault.Section OutOfMemory)))
         × (output.new ≡ output.old) × (errors.new ≡ errors.old)) }
     ensures stops { on_error ≡ OnError.Stop → result ≢ Ok true }
 {
-    let buffer = Vec::with_capacity(mem, BUFFER_SIZE)?;
+    let Ok(buffer) = Vec::with_capacity(mem, BUFFER_SIZE) else {
+        return Err(ManyFault::Other(Fault::out_of_memory()));
+    };
     let mut buffered = Buffered::new(output, buffer);
-    let listed = write_each_at(mem, on_error, kind, section, offsets, &mut buffered, errors);
-    let write_failed = listed == Err(ManyFault::Other(Fault::Write));
-    // The text before any other error is written too.
-    if write_failed || buffered.flush().is_err() {
-        return Err(ManyFault::Other(Fault::Write));
+    let listed = write_places(mem, on_error, kind, section, places, &mut buffered, errors);
+    if listed == Err(ManyFault::Other(Fault::Write)) {
+        return listed;
     }
-    // This does nothing when it runs. The proof reads from it what the output holds.
-    let output = buffered.into_inner();
+    // The text before any other error is written too.
+    let Ok(output) = buffered.finish() else {
+        return Err(ManyFault::Other(Fault::Write));
+    };
     let _ = &*output;
     listed
 }
 
-/// Writes what is listed of a whole section, in turn, as [`write_all_at`] writes it.
-///
-/// # Errors
-///
-/// As [`write_all_at`] returns them.
-#[tactic(auto, using(crate::proofs::Written::stop_without_error))]
-pub fn write_whole<O: Write, E: Write>(
+// Writes what is listed at these places into a buffered output.
+fn write_places<O: Write, E: Write>(
     mem: Global,
     on_error: OnError,
     kind: Kind,
     section: &[u8],
+    places: Places<'_>,
     output: &mut O,
     errors: &mut E,
 ) -> Result<bool, ManyFault>
-    // The buffer needs memory before anything is written.
-    ensures listed { WritesWalk on_error kind section.now
+    ensures { WritesListed on_error kind section.now places.entry
         (WroteBoth (Appends (O.contents output.old) (O.contents output.new))
-        (Appends (E.contents errors.old) (E.contents errors.new))) result
-        ⊎ ((result ≡ Err (ManyFault.Other (Fault.Section OutOfMemory)))
-        × (output.new ≡ output.old) × (errors.new ≡ errors.old)) }
-    ensures stops { on_error ≡ OnError.Stop → result ≢ Ok true }
+        (Appends (E.contents errors.old) (E.contents errors.new))) result }
 {
-    let buffer = Vec::with_capacity(mem, BUFFER_SIZE)?;
-    let mut buffered = Buffered::new(output, buffer);
-    let listed = write_walk(mem, on_error, kind, section, &mut buffered, errors);
-    let write_failed = listed == Err(ManyFault::Other(Fault::Write));
-    // The text before any other error is written too.
-    if write_failed || buffered.flush().is_err() {
-        return Err(ManyFault::Other(Fault::Write));
+    match places {
+        Places::Walked => write_walk(mem, on_error, kind, section, output, errors),
+        Places::Given(offsets) => {
+            write_each_at(mem, on_error, kind, section, offsets, output, errors)
+        }
     }
-    // This does nothing when it runs. The proof reads from it what the output holds.
-    let output = buffered.into_inner();
-    let _ = &*output;
-    listed
 }
 
 // Writes what is listed at these offsets, each with its title, into a buffered output. The first

@@ -3,8 +3,8 @@
 //! It takes the place of the `BufWriter` of `std`. The clauses of that type don't say that it keeps
 //! the reference it was given, nor that it writes nothing if an allocation fails.
 
-ghost use Rattle.std.specs.Prelude.{◌≡◌, ◌+◌, ◌-◌, ◌≤◌, [], ◌++◌, OnOk, drop, length, take, vec_capacity, vec_len};
-ghost use Rattle.std.specs.Io.KnownBytes.{Appends, Keeps};
+ghost use Rattle.std.specs.Prelude.{◌≡◌, ◌+◌, ◌-◌, ◌≤◌, [], ◌∷◌, ◌++◌, IfOk, OnOk, drop, length, take, vec_capacity, vec_len};
+ghost use Rattle.std.specs.Io.KnownBytes.{Appends, Keeps, prepend_known};
 ghost use Rattle.dwarf_listing_core.specs.Output.{buffered_contents};
 
 use std::io;
@@ -31,12 +31,21 @@ impl<'a, O: Write> Buffered<'a, O> {
         Buffered { output, buffer }
     }
 
-    /// Returns the output.
-    pub(crate) fn into_inner(self) -> &'a mut O
-        ensures same_reference { result.ghost_name ≡ self.entry.output.ghost_name }
-        ensures output { result.now ≡ self.entry.output.now }
+    /// Writes what is in the buffer, flushes the output, and returns it. A caller reads the output
+    /// once more, by which its proof learns what that holds.
+    ///
+    /// # Errors
+    ///
+    /// That of the output.
+    pub(crate) fn finish(mut self) -> io::Result<&'a mut O>
+        ensures same_reference { IfOk result
+            (λ output. output.ghost_name ≡ self.entry.output.ghost_name) }
+        ensures bytes { IfOk result
+            (λ output. Keeps (buffered_contents O.contents self.entry)
+            (prepend_known (output.ghost_name ∷ []) (O.contents output.now))) }
     {
-        self.output
+        self.flush()?;
+        Ok(self.output)
     }
 
     // Writes what is in the buffer. If that fails, the bytes that weren't written stay in it.
@@ -84,6 +93,7 @@ impl<O: Write> Write for Buffered<'_, O> {
     }
 
     fn flush(&mut self) -> io::Result<()>
+        ensures same_reference { self.new.output.ghost_name ≡ self.old.output.ghost_name }
         ensures bytes { Keeps (buffered_contents O.contents self.old)
             (buffered_contents O.contents self.new) }
         ensures empty { OnOk result (self.new.buffer.items ≡ []) }

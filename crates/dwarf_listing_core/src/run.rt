@@ -76,11 +76,12 @@ fn write_output<O: Write>(mem: Global, output: &mut O, text: &Text) -> Result<()
 {
     let buffer = Vec::with_capacity(mem, BUFFER_SIZE)?;
     let mut buffered = Buffered::new(output, buffer);
-    if text.write_to(&mut buffered).is_err() || buffered.flush().is_err() {
+    if text.write_to(&mut buffered).is_err() {
         return Err(Fault::Write);
     }
-    // This does nothing when it runs. The proof reads from it what the output holds.
-    let output = buffered.into_inner();
+    let Ok(output) = buffered.finish() else {
+        return Err(Fault::Write);
+    };
     let _ = &*output;
     Ok(())
 }

@@ -8,7 +8,7 @@ ghost use Rattle.dwarf_listing_core.specs.ManyFault.{many_fault_status};
 use crate::fault::Fault;
 use crate::quote::Quote;
 use dwarf_read_core::Error;
-use std::alloc::{AllocError, AllocFailed};
+use std::alloc::AllocFailed;
 use std::io::ErrorKind;
 use std::process::ExitCode;
 use std::{fmt, io};
@@ -116,19 +116,6 @@ impl From<Fault> for ManyFault {
 
     fn from(other: Fault) -> ManyFault {
         ManyFault::Other(other)
-    }
-}
-
-impl From<AllocError> for ManyFault {
-    ghost use Rattle.dwarf_listing_core.specs.declared.fault.Fault.TheVariants.{Section};
-    ghost use Rattle.dwarf_listing_core.specs.declared.many.fault.ManyFault.TheVariants.{Other};
-    ghost use Rattle.dwarf_read_core.specs.declared.Error.TheVariants.{OutOfMemory};
-    ghost use Rattle.std.specs.Prelude.{◌≡◌};
-
-    ghost from_gives = { λ _ fault. fault ≡ Other (Section OutOfMemory) };
-
-    fn from(_error: AllocError) -> ManyFault {
-        ManyFault::Other(Fault::out_of_memory())
     }
 }
 

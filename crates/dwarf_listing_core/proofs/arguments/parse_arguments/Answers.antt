@@ -1,7 +1,7 @@
-use Rattle.dwarf_listing_core.proofs.Common.{arith, ◌≡◌, ◌∷◌, ◌∙◌, ℕ, List, Bool, false, Option, Some, None, ap, drop, map, option_map, sym, ◌-◌, length, take, take_all, length-drop, common_steps, drop-cons, string_bytes}
+use Rattle.dwarf_listing_core.proofs.Common.{arith, ◌≡◌, ◌∷◌, ◌∙◌, ℕ, List, false, Option, Some, None, ap, drop, map, option_map, sym, ◌-◌, length, take, take_all, length-drop, common_steps, drop-cons, string_bytes}
 use Rattle.std.proofs.Common.{codes, subst, MatchOption, bytes_eq}
 use Rattle.std.proofs.lemmas.Slice.Eq.{bytes_eq-Decides}
-use Rattle.dwarf_listing_core.specs.Arguments.{Named, arguments_of, named_after, named_by}
+use Rattle.dwarf_listing_core.specs.Arguments.{Named, named_after, named_by}
 use Rattle.dwarf_listing_core.specs.declared.arguments.Options.{Options}
 use Rattle.dwarf_listing_core.proofs.arguments.parse_arguments.Goals as goal
 

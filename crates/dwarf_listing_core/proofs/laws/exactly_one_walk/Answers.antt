@@ -1,10 +1,9 @@
-use Rattle.dwarf_listing_core.proofs.Common.{◌-◌, ◌^◌, ℕ, List, false, HasOne, section_of, string_line, address_listing, offset_listing, addresses_of, string_offsets_of}
+use Rattle.dwarf_listing_core.proofs.Common.{◌-◌, ◌^◌, ℕ, List, false, HasOne, section_of, address_listing, offset_listing, addresses_of, string_offsets_of}
 use Rattle.std.specs.Prelude.{length}
 use Rattle.dwarf_read_core.specs.Endian.{is_big_at_run_time}
-use Rattle.dwarf_read_core.specs.Input.{after}
 use Rattle.dwarf_read_core.proofs.public.Entries.{word_size-positive}
 use Rattle.dwarf_listing_core.specs.Lines.{shown_line}
-use Rattle.dwarf_listing_core.specs.Walk.{Follows, HasEnd, ListsOne, Walk}
+use Rattle.dwarf_listing_core.specs.Walk.{Follows, HasEnd, ListsOne}
 use Rattle.dwarf_listing_core.specs.declared.arguments.Kind.{Kind}
 use Rattle.dwarf_listing_core.specs.declared.arguments.Kind.TheVariants.{Tables, Strings, RawStrings, Addresses, StringOffsets}
 use Rattle.dwarf_listing_core.specs.declared.sets.Style.TheVariants.{Titled}

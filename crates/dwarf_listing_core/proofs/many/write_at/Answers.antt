@@ -1,4 +1,4 @@
-use Rattle.dwarf_listing_core.proofs.Common.{refl, arith, common_steps, ◌≢◌, ◌++◌, [], Err, Error, OutOfMemory}
+use Rattle.dwarf_listing_core.proofs.Common.{refl, arith, common_steps, ◌≢◌, ◌++◌, [], OutOfMemory}
 use Rattle.std.proofs.KnownBytes.{Appends-nil, Appends-trans}
 use Rattle.dwarf_listing_core.specs.Found.{found_bytes}
 use Rattle.dwarf_listing_core.specs.Many.{error_line, title}

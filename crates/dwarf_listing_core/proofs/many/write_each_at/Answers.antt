@@ -1,4 +1,4 @@
-use Rattle.dwarf_listing_core.proofs.Common.{arith, ◌≡◌, ℕ, suc, ◌∷◌, ◌++◌, length, take, drop, get_or, drop-cons, take-append-drop, take_more, err_from_is_err_and, one_more, Appends}
+use Rattle.dwarf_listing_core.proofs.Common.{arith, ◌≡◌, suc, ◌∷◌, ◌++◌, take, drop, get_or, drop-cons, take-append-drop, take_more, err_from_is_err_and, one_more, Appends}
 use Rattle.std.proofs.KnownBytes.{Appends-nil, Appends-trans}
 use Rattle.dwarf_listing_core.specs.Many.{WroteBoth, no_texts, nothing}
 use Rattle.dwarf_listing_core.proofs.Written.{ended_at}

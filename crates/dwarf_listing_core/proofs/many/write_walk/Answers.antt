@@ -1,4 +1,4 @@
-use Rattle.dwarf_listing_core.proofs.Common.{arith, ◌≡◌, ◌≤◌, ◌∷◌, ◌++◌, ℕ, List, [], false, IsTrue, length, sym, append_assoc, append-nil, err_from_is_err_and, one_more, Appends}
+use Rattle.dwarf_listing_core.proofs.Common.{arith, ◌≡◌, ◌≤◌, ◌∷◌, ◌++◌, [], false, IsTrue, length, sym, append_assoc, append-nil, err_from_is_err_and, one_more, Appends}
 use Rattle.std.proofs.Common.{subst}
 use Rattle.std.proofs.KnownBytes.{Appends-nil, Appends-trans}
 use Rattle.dwarf_listing_core.specs.Many.{WroteBoth, no_texts, nothing}

@@ -1,8 +1,6 @@
-use Rattle.dwarf_listing_core.proofs.Common.{◌≡◌, ◌∙◌, ℕ, ap, sym, refl, Input, section_of}
+use Rattle.dwarf_listing_core.proofs.Common.{◌∙◌, ℕ, ap, refl, Input}
 use Rattle.std.proofs.Common.{subst}
-use Rattle.dwarf_read_core.specs.Endian.{is_big_at_run_time}
 use Rattle.dwarf_read_core.specs.Input.{after}
-use Rattle.dwarf_read_core.specs.Slice.{input_of}
 use Rattle.dwarf_listing_core.specs.Walk.{HasSetSize, at_end, none_known}
 use Rattle.dwarf_listing_core.proofs.many.found.set_at.Goals as goal
 

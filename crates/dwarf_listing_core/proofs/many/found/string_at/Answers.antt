@@ -1,4 +1,4 @@
-use Rattle.dwarf_listing_core.proofs.Common.{◌≡◌, false, Ok, Err, inl, inr, refl, Input, section_of, arith, common_steps}
+use Rattle.dwarf_listing_core.proofs.Common.{false, Ok, Err, inl, inr, Input, section_of, arith, common_steps}
 use Rattle.std.proofs.Common.{subst}
 use Rattle.dwarf_read_core.specs.Strings.{StringAt}
 use Rattle.dwarf_listing_core.specs.Walk.{at_end, none_known}

@@ -1,4 +1,4 @@
-use Rattle.dwarf_listing_core.proofs.Common.{◌-◌, ◌^◌, ℕ, List, Err, sym, Input, section_of, address_listing, offset_listing}
+use Rattle.dwarf_listing_core.proofs.Common.{◌-◌, ◌^◌, Err, sym, Input, section_of, offset_listing}
 use Rattle.std.proofs.Common.{subst}
 use Rattle.dwarf_read_core.specs.Endian.{is_big_at_run_time}
 use Rattle.dwarf_listing_core.specs.Found.{found_bytes}

@@ -1,4 +1,4 @@
-use Rattle.dwarf_listing_core.proofs.Common.{◌≡◌, false, Ok, Err, refl, Input, section_of}
+use Rattle.dwarf_listing_core.proofs.Common.{false, Ok, Err, refl, Input, section_of}
 use Rattle.std.proofs.Common.{subst}
 use Rattle.dwarf_read_core.specs.Answer.{TableEndsAt}
 use Rattle.dwarf_listing_core.specs.Walk.{at_end, none_known}
