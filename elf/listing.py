@@ -45,6 +45,8 @@ NULL = re.compile(rb"\x80*(?:\0|\Z)")
 # What takes the output of the program.
 Take = typing.Callable[[typing.IO[bytes]], object]
 Data = typing.Union[bytes, mmap.mmap]
+# Where a part of a section begins and ends.
+Part = tuple[int, int]
 
 
 def in_memory() -> typing.BinaryIO:
@@ -65,16 +67,16 @@ def program() -> str:
 
 
 def run(
-    kind: list[str], section: typing.BinaryIO, offsets: typing.Iterable[bytes] | None, take: Take
+    kind: list[str], section: typing.BinaryIO, numbers: typing.Iterable[bytes] | None, take: Take
 ) -> tuple[int, list[str]]:
-    """Lists what is at these offsets of a section, or all of it, and goes on after errors. A function takes the output.
-    Returns the exit status, and the lines of errors."""
+    """Lists what these numbers name of a section, or all of it, and goes on after errors. Options before the kind may
+    say what the numbers are. A function takes the output. Returns the exit status, and the lines of errors."""
     section.flush()
     os.lseek(section.fileno(), 0, os.SEEK_SET)
     with in_memory() as errors, in_memory() as places:
         where = ["--all", *kind, "-"]
-        if offsets is not None:
-            places.writelines(b"%b\n" % it for it in offsets)
+        if numbers is not None:
+            places.writelines(b"%b\n" % it for it in numbers)
             places.flush()
             where = [*kind, "-", f"/dev/fd/{places.fileno()}"]
         words = [program(), "--keep-going", *where]
@@ -162,10 +164,6 @@ class Listing:
         file = file or self.kept
         file.seek(0)
         file.truncate()
-        self.write(section, body, 0, len(body), file)
-
-    def write(self, section: Section, body: Body, start: int, end: int, file: typing.BinaryIO) -> None:
-        """Writes a part of a section so."""
         numbers = itertools.count()
 
         def on_error(_: int, error: Unlisted) -> None:
@@ -174,7 +172,7 @@ class Listing:
             else:
                 self.report.say(f"{section} has more such relocations, which aren't named")
 
-        body.write_to(file, start, end, on_error)
+        body.write_to(file, 0, len(body), on_error)
         file.flush()
 
     def mapped(self) -> Data:
@@ -191,11 +189,19 @@ class Listing:
 
     def show(self, section: Section, offsets: typing.Iterable[int] | None, file: typing.BinaryIO | None = None) -> None:
         """Lists what is at these offsets of the section that is kept, or all of it, on standard output or in a file."""
-        output = file or sys.stdout.buffer
-        places = None if offsets is None else (b"%d" % it for it in offsets)
-        self.tell(section, *run(self.kind, self.kept, places, lambda text: copy(text, output)))
+        self.show_as(self.kind, section, offsets, file or sys.stdout.buffer)
 
-    def parts(self, section: Section, body: Body) -> list[tuple[int, int]]:
+    def show_parts(self, kind: list[str], section: Section, parts: list[Part], output: typing.BinaryIO) -> None:
+        """Lists these parts of the section that is kept, as a kind that may be another one."""
+        self.show_as(["--parts", *kind], section, itertools.chain.from_iterable(parts), output)
+
+    def show_as(
+        self, kind: list[str], section: Section, numbers: typing.Iterable[int] | None, output: typing.BinaryIO
+    ) -> None:
+        lines = None if numbers is None else (b"%d" % it for it in numbers)
+        self.tell(section, *run(kind, self.kept, lines, lambda text: copy(text, output)))
+
+    def parts(self, section: Section, body: Body) -> list[Part]:
         """The contributions that a package's index has to a section, and the parts between them, which are reported. Of
         a file that is no package it is the whole section."""
         package = self.file.package_of(section)
@@ -282,19 +288,23 @@ class Listing:
         if not is_old and self.are_shown(output):
             return
         starts = []
+        without_header: dict[tuple[str, ...], list[Part]] = {}
         for start, end in self.parts(section, body):
             own = self.file.users(section, start, units)
             own_old = [it for it in own if it.version < 5]
             if own_old and len(own_old) == len(own):
-                self.list_without_header(section, body, start, end, own, output)
+                kind = self.kind_of_entries(section, own)
+                if kind:
+                    without_header.setdefault(kind, []).append((start, end))
             elif own_old:
                 why = "since a unit of DWARF 4 may have them, as a set without a header"
                 self.report.say(f"{section}: the bytes from 0x{start:x} to 0x{end:x} aren't listed, {why}")
             elif start < end and (own or not old):
                 starts.append(start)
+        for kind, parts in without_header.items():
+            self.show_parts([*kind], section, parts, output)
         if starts:
             self.report.note(f"{section}: only the first set of each contribution is listed")
-            self.keep(section, body)
             self.show(section, starts, output)
 
     def are_shown(self, output: typing.BinaryIO) -> bool:
@@ -335,49 +345,20 @@ class Listing:
         offsets = (it.strip() for it in text if it.startswith(b" "))
         self.tell(section, *run(["str"], strings, offsets, put_lines))
 
-    def list_without_header(
-        self, section: Section, body: Body, start: int, end: int, units: list[Unit], output: typing.BinaryIO
-    ) -> None:
-        """Lists a set of DWARF 4, which has no header. It is a whole section, or in a package a contribution."""
+    def kind_of_entries(self, section: Section, units: list[Unit]) -> tuple[str, ...] | None:
+        """What the program calls the entries of these units, which are of DWARF 4 and have no header. None, and a
+        report, if the units differ about them."""
         is_addr = self.command == "addr"
         sizes = sorted({it.address_size if is_addr else it.word for it in units})
         what = "address size" if is_addr else "format"
         names = " and ".join(str(it) if is_addr else f"{8 * it}-bit" for it in sizes)
         if len(sizes) > 1 or sizes[0] not in ADDRESS_SIZES:
             self.report.say(f"{section} has no headers, and isn't listed: the units' {what} is {names}")
-            return
+            return None
         self.report.note(f"{section} has no headers, as in DWARF 4, and is listed by the units' {what}, {names}")
-        self.list_entries(section, body, start, end, sizes[0], output)
-
-    def list_entries(
-        self, section: Section, body: Body, start: int, end: int, size: int, output: typing.BinaryIO
-    ) -> None:
-        """Lists entries without a header. The program gets one before them, and its line is replaced."""
-        rest = max(0, end - start) % size
-        many = max(0, end - start) - rest
-        if rest:
-            self.report.say(f"{section}: the last {rest} bytes of the set at 0x{start:x} are no whole entry")
-        is_addr = self.command == "addr"
-        fields = (5).to_bytes(2, self.file.order) + (bytes([size, 0]) if is_addr else b"\0\0")
-        # The format of a set of addresses says nothing of its entries.
-        width = 8 if is_addr else size
-        if width == 4 and many >= 0xFFFFFF00:
-            self.report.say(f"{section}: the set at 0x{start:x} is too long for the 32-bit format, and isn't listed")
-            return
-        mark = b"\xff\xff\xff\xff" if width == 8 else b""
-        length = (len(fields) + many).to_bytes(width, self.file.order)
-        self.kept.seek(0)
-        self.kept.truncate()
-        self.kept.write(mark + length + fields)
-        self.write(section, body, start, start + many, self.kept)
-        last = f"address size {size}" if is_addr else f"{8 * size}-bit"
-
-        def put_entries(text: typing.IO[bytes]) -> None:
-            text.readline()
-            output.write(f"set 0x{start:x}: no header, {many} bytes, {last}\n".encode())
-            copy(text, output)
-
-        self.tell(section, *run(self.kind, self.kept, None, put_entries))
+        if is_addr:
+            return "addr-entries", self.kind[-1], str(sizes[0])
+        return "str-offset-entries", self.kind[-1], str(8 * sizes[0])
 
 
 # Where tables are. The program doesn't say where one ends.

@@ -515,8 +515,8 @@ class Places(unittest.TestCase):
                 self.assertEqual(list(parts_between(data, offsets)), wanted)
 
 
-# A run of the program: the section, and the offsets or None for all of it.
-Run = tuple[bytes, typing.Optional[list[bytes]]]
+# A run of the program: the kind, the section, and the numbers or None for all of it.
+Run = tuple[str, bytes, typing.Optional[list[bytes]]]
 # What it prints, and its errors.
 Said = tuple[bytes, list[str]]
 # Units of version 4 and 5, and addresses with and without a header.
@@ -524,7 +524,6 @@ UNIT_4 = struct.pack("<IHIB", 7, 4, 0, 8)
 UNIT_5 = struct.pack("<IHBBI", 8, 5, 1, 8, 0)
 ENTRY = struct.pack("<Q", 0x1234)
 HEADER = struct.pack("<IHBB", 12, 5, 8, 0)
-MADE = b"\xff\xff\xff\xff" + struct.pack("<QHBB", 12, 5, 8, 0)
 
 
 class Sets(unittest.TestCase):
@@ -538,10 +537,10 @@ class Sets(unittest.TestCase):
         texts = iter(said)
 
         def run(
-            kind: list[str], section: typing.BinaryIO, offsets: typing.Iterable[bytes] | None, take: Take
+            kind: list[str], section: typing.BinaryIO, numbers: typing.Iterable[bytes] | None, take: Take
         ) -> tuple[int, list[str]]:
             section.seek(0)
-            runs.append((section.read(), None if offsets is None else list(offsets)))
+            runs.append((" ".join(kind), section.read(), None if numbers is None else list(numbers)))
             text, errors = next(texts)
             take(io.BytesIO(text))
             return int(bool(errors)), errors
@@ -560,15 +559,16 @@ class Sets(unittest.TestCase):
         no_headers = "section 2 .debug_addr has no headers, as in DWARF 4, and is listed by the units' address size, 8"
         why = "since a unit of DWARF 4 may have them, as a set without a header"
         error = "error at 0x0: unknown version: 6"
+        all_sets = "addr le"
         rows: tuple[tuple[str, bytes, bytes, list[str], list[Run], bytes, list[str]], ...] = (
-            ("of version 5", UNIT_5, good, [], [(good, None)], b"set 0x0: x\n  0x1\n", []),
-            ("without units", b"", good, [], [(good, None)], b"set 0x0: x\n  0x1\n", []),
+            ("of version 5", UNIT_5, good, [], [(all_sets, good, None)], b"set 0x0: x\n  0x1\n", []),
+            ("without units", b"", good, [], [(all_sets, good, None)], b"set 0x0: x\n  0x1\n", []),
             (
                 "malformed",
                 UNIT_5,
                 bad + good,
                 [error],
-                [(bad + good, None)],
+                [(all_sets, bad + good, None)],
                 b"set 0x0: x\n  0x1\n",
                 [f"section 2 .debug_addr: {error}"],
             ),
@@ -577,17 +577,17 @@ class Sets(unittest.TestCase):
                 UNIT_4,
                 ENTRY,
                 [],
-                [(MADE + ENTRY, None)],
-                b"set 0x0: no header, 8 bytes, address size 8\n  0x1\n",
+                [("--parts addr-entries le 8", ENTRY, [b"0", b"8"])],
+                b"set 0x0: x\n  0x1\n",
                 [no_headers],
             ),
-            ("of both", UNIT_4 + UNIT_5, good, [], [(good, None)], b"set 0x0: x\n  0x1\n", []),
+            ("of both", UNIT_4 + UNIT_5, good, [], [(all_sets, good, None)], b"set 0x0: x\n  0x1\n", []),
             (
                 "of both, malformed",
                 UNIT_4 + UNIT_5,
                 ENTRY + good,
                 [error],
-                [(ENTRY + good, None)],
+                [(all_sets, ENTRY + good, None)],
                 b"",
                 [f"section 2 .debug_addr: the bytes from 0x0 to 0x18 aren't listed, {why}"],
             ),
@@ -604,9 +604,14 @@ class Sets(unittest.TestCase):
         units = struct.pack("<IHBBI", 8, 5, 1, 8, 0) * 2
         rows = [((0, 12), (0, 12)), ((12, 12), (12, 12))]
         errors = ["error at 0x0: reserved"]
+        kind = "str-offsets le"
         cases: tuple[tuple[bytes, list[Said], list[Run]], ...] = (
-            (good + good, [(b"set 0x0: x\n", [])], [(good + good, None)]),
-            (bad + good, [(b"", errors), (b"x", errors)], [(bad + good, None), (bad + good, [b"0", b"12"])]),
+            (good + good, [(b"set 0x0: x\n", [])], [(kind, good + good, None)]),
+            (
+                bad + good,
+                [(b"", errors), (b"x", errors)],
+                [(kind, bad + good, None), (kind, bad + good, [b"0", b"12"])],
+            ),
         )
         for data, said, runs in cases:
             sections = [
@@ -631,7 +636,7 @@ class Sets(unittest.TestCase):
         text = b"set 0x0: length 24, 32-bit\n  0x4\n  0x9\n  0x5\n  0x5\nset 0x1c: length 4, 32-bit\n  0x4\n"
         said: list[Said] = [(text, []), (b"0x4: 0x9: a\n0x5: b\n0x5: b\n0x4: 0x9: a\n", [error])]
         lines = text.replace(b"0x4\n", b"0x4: 0x9: a\n").replace(b"0x5\n", b"0x5: b\n")
-        runs = [(b"sets", None), (b"strings", [b"0x4", b"0x9", b"0x5", b"0x5", b"0x4"])]
+        runs = [("str-offsets le", b"sets", None), ("str", b"strings", [b"0x4", b"0x9", b"0x5", b"0x5", b"0x4"])]
         wanted = (runs, lines, [f"section 3 .debug_str: {error}"])
         self.assertEqual(self.listed("str-offsets", sections, said, "--strings"), wanted)
 

@@ -1,12 +1,14 @@
 //! `dwarf_list_many` lists many parts of one section, or all of it, from one process:
 //! `KIND SECTION [OFFSETS]`, where the kind is `abbrev` for abbreviation tables, `str` for strings,
-//! `addr le|be` for sets of addresses, or `str-offsets le|be` for sets of string offsets.
+//! `addr le|be` for sets of addresses, or `str-offsets le|be` for sets of string offsets. Those of
+//! split DWARF 4 have no header: `addr-entries le|be 1|2|4|8` and `str-offset-entries le|be 32|64`.
 //!
 //! `SECTION` and `OFFSETS` name files, or standard input by `-`, and without `OFFSETS` these come
 //! from standard input. The offsets are decimal, or hexadecimal after `0x`, one a line. With
-//! `--all` there are none, and the section is listed from its start to its end. For each offset in
-//! turn the program writes a title, `table 0xOFFSET:` on a line of its own, `0xOFFSET: ` before a
-//! string, or `set 0xOFFSET: ` before the header of a set, and then the lines that `dwarf_list`
+//! `--all` there are none, and the section is listed from its start to its end; with `--parts` the
+//! numbers are, in turn, where a part begins and ends, and each part is listed so. For each offset
+//! in turn the program writes a title, `table 0xOFFSET:` on a line of its own, `0xOFFSET: ` before
+//! a string, or `set 0xOFFSET: ` before the header of a set, and then the lines that `dwarf_list`
 //! writes of it, except that string offsets are hexadecimal, and that each byte of a string that
 //! isn't printable is an escape, unless `--raw` is given.
 //!
@@ -66,7 +68,7 @@ fn list_named(
     let (mem, on_error, kind) = (rt.alloc(), named.on_error, named.kind);
     let mut errors = rt.stderr();
     let mut section = open(rt, named.section, ManyFault::ReadSection)?;
-    let Some(offsets) = named.offsets else {
+    let Some((lines, offsets)) = named.offsets else {
         return run_whole(mem, on_error, kind, &mut section, output, &mut errors);
     };
     let mut offsets = open(rt, offsets, ManyFault::ReadOffsets)?;
@@ -75,6 +77,7 @@ fn list_named(
         on_error,
         kind,
         &mut section,
+        lines,
         &mut offsets,
         output,
         &mut errors,
@@ -87,7 +90,10 @@ fn list(rt: &HostRuntime, output: &mut Piped<Stdout>) -> Result<bool, ManyFault>
     let outcome = list_named(rt, &named, output);
     let unread = match outcome {
         Err(ManyFault::ReadSection) => named.section,
-        Err(ManyFault::ReadOffsets) => named.offsets.unwrap_or(STANDARD_INPUT),
+        Err(ManyFault::ReadOffsets) => match named.offsets {
+            Some((_, offsets)) => offsets,
+            None => STANDARD_INPUT,
+        },
         _ => return outcome,
     };
     // The line begins with the name of the input, and `main` prints the rest of it.

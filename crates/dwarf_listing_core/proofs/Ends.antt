@@ -11,8 +11,8 @@ use Rattle.dwarf_read_core.specs.Input.{after}
 use Rattle.dwarf_read_core.specs.Strings.{StringAt}
 use Rattle.dwarf_read_core.proofs.public.InitialLengths.{length_taken}
 use Rattle.dwarf_listing_core.specs.Walk.{Follows, HasEnd, HasSetSize, SetEndsAt, StringEndsAt, at_end, none_known}
-use Rattle.dwarf_listing_core.specs.declared.arguments.Kind.{Kind}
-use Rattle.dwarf_listing_core.specs.declared.arguments.Kind.TheVariants.{Tables, Strings, RawStrings, Addresses, StringOffsets}
+use Rattle.dwarf_listing_core.specs.declared.kind.Kind.{Kind}
+use Rattle.dwarf_listing_core.specs.declared.kind.Kind.TheVariants.{Tables, Strings, RawStrings, Addresses, StringOffsets, WithoutHeader}
 use Rattle.dwarf_listing_core.proofs.Walks.{EndOrNone}
 
 -- a table has exactly one end, and an error has none
@@ -118,6 +118,7 @@ end_later Strings section tables offset end within h = omega (arith, h.is)
 end_later RawStrings section tables offset end within h = omega (arith, h.is)
 end_later (Addresses endian) section tables offset end within h = omega (arith, h.2, size_least _ h.0 h.1)
 end_later (StringOffsets endian) section tables offset end within h = omega (arith, h.2, size_least _ h.0 h.1)
+end_later (WithoutHeader entry) section tables offset end within h = omega (arith, h.0, h.1)
 
 -- so the next begins after it
 pub next_later : {IsEnd : ℕ → Type 0} {count offset : ℕ} → offset < count → ((end : ℕ) → IsEnd end → offset < end)

@@ -11,7 +11,7 @@ use Rattle.dwarf_read_core.specs.Contributions.{Remaining, RemainingOf, remainin
 -- ---- the loop over an iterator
 
 -- a text before one that is before a listing is both texts, joined, before it
-in_front-append : (a b : List ℕ) (listed : Result (List ℕ) Error)
+pub in_front-append : (a b : List ℕ) (listed : Result (List ℕ) Error)
     → in_front a (in_front b listed) ≡ in_front (a ++ b) listed
 in_front-append a b (Ok text) = grind (arith, append_assoc)
 in_front-append a b (Err e) = refl

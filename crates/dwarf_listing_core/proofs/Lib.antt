@@ -2,6 +2,7 @@ mod Common
 pub mod Commands
 pub mod Digits
 pub mod Ends
+pub mod EntryLines
 pub mod Hexadecimal
 pub mod ItemLines
 pub mod Numbers

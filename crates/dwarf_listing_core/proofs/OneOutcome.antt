@@ -2,7 +2,7 @@
 use Rattle.dwarf_listing_core.proofs.Common.{◌≡◌, ◌∙◌, ℕ, Bool, true, false, List, [], ◌∷◌, ◌++◌, Result, Ok, Err, refl, sym, ap, Error, HasOne, ListsAll, ListsOne, one_more}
 use Rattle.std.proofs.Common.{append-nil, append_assoc, subst, ◌||◌}
 use Rattle.dwarf_listing_core.specs.Many.{IsRun, ListsAt, Texts, error_line, no_texts, nothing, then_texts, title}
-use Rattle.dwarf_listing_core.specs.declared.arguments.Kind.{Kind}
+use Rattle.dwarf_listing_core.specs.declared.kind.Kind.{Kind}
 use Rattle.dwarf_listing_core.specs.declared.arguments.OnError.{OnError}
 use Rattle.dwarf_listing_core.specs.declared.arguments.OnError.TheVariants.{Stop, GoOn}
 use Rattle.dwarf_listing_core.proofs.Written.{ListsAll-stop}

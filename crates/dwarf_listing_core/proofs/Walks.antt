@@ -5,7 +5,7 @@ use Rattle.std.proofs.lemmas.Bool.{cases_lt}
 use Rattle.std.specs.Prelude.{◌⊎◌, ◌&&◌}
 use Rattle.std.specs.List.{starts_with}
 use Rattle.dwarf_listing_core.specs.Walk.{Follows, HasEnd, Walk, at_end, none_known, has_padding, is_padding, walk_ends, walk_passes, walk_lists}
-use Rattle.dwarf_listing_core.specs.declared.arguments.Kind.{Kind}
+use Rattle.dwarf_listing_core.specs.declared.kind.Kind.{Kind}
 
 -- there is exactly one end, or there is none
 abbrev pub EndOrNone : (ℕ → Type 0) → Type 0

@@ -1,11 +1,15 @@
 -- What consecutive writes leave.
-use Rattle.dwarf_listing_core.proofs.Common.{◌≡◌, ◌≢◌, ℕ, Bool, true, false, Option, Result, Ok, Err, refl, inl, inr, one_more, List, [], ◌∷◌, ◌++◌, flat_map, common_steps, Appends, Error, EndsAt, ListsAll, ListsOne}
+use Rattle.dwarf_listing_core.proofs.Common.{◌≡◌, ◌≢◌, ℕ, Bool, true, false, Option, Result, Ok, Err, refl, inl, inr, one_more, List, length, take, [], ◌∷◌, ◌++◌, flat_map, common_steps, Appends, Error, EndsAt, ListsAll, ListsOne}
 use Rattle.std.proofs.Common.{subst}
+use Rattle.std.specs.Prelude.{◌⊎◌}
 use Rattle.std.proofs.KnownBytes.{Appends-trans}
 use Rattle.std.proofs.lemmas.List.{flat_map_more}
-use Rattle.dwarf_listing_core.specs.Many.{ListsAt, Texts, WritesEach, WritesListed, error_line, nothing}
+use Rattle.dwarf_listing_core.specs.Many.{ListsAt, ListsParts, Part, Texts, WritesEach, WritesListed, WritesNumbers, WritesParts, error_line, no_part, nothing, part_more, parts_of, then_texts}
+use Rattle.dwarf_listing_core.specs.Fault.{IsMemoryFault}
 use Rattle.dwarf_listing_core.specs.ManyFault.{IsListingFault}
-use Rattle.dwarf_listing_core.specs.declared.arguments.Kind.{Kind}
+use Rattle.dwarf_listing_core.specs.declared.arguments.Lines.{Lines}
+use Rattle.dwarf_listing_core.specs.declared.kind.Kind.{Kind}
+use Rattle.dwarf_listing_core.specs.declared.arguments.Lines.TheVariants.{Offsets, Parts}
 use Rattle.dwarf_listing_core.specs.declared.arguments.OnError.{OnError}
 use Rattle.dwarf_listing_core.specs.declared.arguments.OnError.TheVariants.{Stop, GoOn}
 use Rattle.dwarf_listing_core.specs.declared.fault.Fault.{Fault}
@@ -46,17 +50,34 @@ stop_without_error on_error kind section offsets Wrote r writes stops same =
     let none : true ≡ false = ListsAll-stop listed.1 in
     absurd cc
 
--- nor does one over any places
+-- with `Stop` no part that is listed has an error
+ListsParts-stop : {kind : Kind} {section : List ℕ} {parts : List Part} {texts : Texts} {failed : Bool}
+    → ListsParts Stop kind section parts texts failed → failed ≡ false
+ListsParts-stop no_part = refl
+ListsParts-stop (part_more parts part texts more failed fails offsets before walk one) =
+    rw (ListsParts-stop before) (ListsAll-stop one)
+
+-- nor does such a run over parts
+stop_in_parts : (on_error : OnError) (kind : Kind) (section : List ℕ) (parts : List Part) (Wrote : Texts → Type 0)
+    (r : Result Bool ManyFault) → WritesParts on_error kind section parts Wrote r → on_error ≡ Stop → r ≢ Ok true
+stop_in_parts on_error kind section parts Wrote r writes stops same =
+    let listed = rw (same, stops) at writes in
+    let none : true ≡ false = ListsParts-stop listed.1 in
+    absurd cc
+
+-- nor over any places
 pub stop_at_places : (on_error : OnError) (kind : Kind) (section : List ℕ) (places : Places) (Wrote : Texts → Type 0)
     (r : Result Bool ManyFault) → WritesListed on_error kind section places Wrote r → on_error ≡ Stop → r ≢ Ok true
 stop_at_places on_error kind section Walked Wrote r writes = stop_without_error on_error kind section _ Wrote r writes.2
-stop_at_places on_error kind section (Given offsets) Wrote r writes =
+stop_at_places on_error kind section (Given Offsets numbers) Wrote r writes =
     stop_without_error on_error kind section _ Wrote r writes
+stop_at_places on_error kind section (Given Parts numbers) Wrote r writes =
+    stop_in_parts on_error kind section _ Wrote r writes
 
 module _ (on_error : OnError) (kind : Kind) (section : List ℕ) {One Others : Texts → Type 0}
     (to : (texts : Texts) → One texts → Others texts) where
   -- what a run returned and wrote, where each text that was written so was also written otherwise
-  written_otherwise : (offsets : List ℕ) (r : Result Bool ManyFault)
+  pub written_otherwise : (offsets : List ℕ) (r : Result Bool ManyFault)
       → WritesEach on_error kind section offsets One r → WritesEach on_error kind section offsets Others r
   written_otherwise offsets (Ok failed) writes = (writes.0, writes.1, to writes.0 writes.2)
   written_otherwise offsets (Err (At offset error)) writes =
@@ -67,11 +88,59 @@ module _ (on_error : OnError) (kind : Kind) (section : List ℕ) {One Others : T
   written_otherwise offsets (Err ReadSection) writes = absurd writes
   written_otherwise offsets (Err ReadOffsets) writes = absurd writes
 
-  -- the same of a run over any places
+module _ (on_error : OnError) (kind : Kind) (section : List ℕ) {One Others : Texts → Type 0}
+    (to : (texts : Texts) → One texts → Others texts) where
+  -- the same of a run over parts
+  parts_otherwise : (parts : List Part) (r : Result Bool ManyFault)
+      → WritesParts on_error kind section parts One r → WritesParts on_error kind section parts Others r
+  parts_otherwise parts (Ok failed) writes = (writes.0, writes.1, to writes.0 writes.2)
+  parts_otherwise parts (Err fault) (inl failed) = inl failed
+  parts_otherwise parts (Err fault) (inr writes) =
+      inr (record {
+        before = writes.before;
+        part = writes.part;
+        after = writes.after;
+        is = writes.is;
+        texts = writes.texts;
+        failed = writes.failed;
+        listed = writes.listed;
+        ends = (
+          writes.ends.0,
+          writes.ends.1,
+          written_otherwise on_error kind (take writes.part.1 section)
+              {One = λ more. One (then_texts writes.texts more)} {Others = λ more. Others (then_texts writes.texts more)}
+              (λ more. to (then_texts writes.texts more)) writes.ends.0 (Err fault) writes.ends.2,
+        );
+      })
+
+  -- and of one over any places
   pub places_otherwise : (places : Places) (r : Result Bool ManyFault)
       → WritesListed on_error kind section places One r → WritesListed on_error kind section places Others r
-  places_otherwise Walked r writes = (writes.0, writes.1, written_otherwise writes.0 r writes.2)
-  places_otherwise (Given offsets) r writes = written_otherwise offsets.now r writes
+  places_otherwise Walked r writes =
+      (writes.0, writes.1, written_otherwise on_error kind section to writes.0 r writes.2)
+  places_otherwise (Given Offsets numbers) r writes = written_otherwise on_error kind section to numbers.now r writes
+  places_otherwise (Given Parts numbers) r writes = parts_otherwise (parts_of (length section) numbers.now) r writes
+
+-- where a run over places wrote something, an output may fail after it
+pub places_failed : (on_error : OnError) (kind : Kind) (section : List ℕ) (One Others : Texts → Type 0) (places : Places)
+    (r : Result Bool ManyFault) → WritesListed on_error kind section places One r
+    → WritesListed on_error kind section places Others (Err (Other Write))
+places_failed on_error kind section One Others Walked r writes = (writes.0, writes.1, inl refl)
+places_failed on_error kind section One Others (Given Offsets numbers) r writes = inl refl
+places_failed on_error kind section One Others (Given Parts numbers) r writes = inl refl
+
+-- an error of a run over numbers that isn't one of an offset is that of an output, or of memory
+pub other_of_numbers : (lines : Lines) (on_error : OnError) (kind : Kind) (section numbers : List ℕ)
+    (Wrote : Texts → Type 0) (fault : Fault)
+    → WritesNumbers lines on_error kind section numbers Wrote (Err (Other fault)) → (fault ≡ Write) ⊎ IsMemoryFault fault
+other_of_numbers Offsets on_error kind section numbers Wrote fault (inl failed) = inl failed
+other_of_numbers Offsets on_error kind section numbers Wrote fault (inr ran) = inr ran.0
+other_of_numbers Parts on_error kind section numbers Wrote fault (inl failed) = inl cc
+other_of_numbers Parts on_error kind section numbers Wrote fault (inr ends) =
+    elim ends.ends.2 [
+      | inl failed ↦ inl failed
+      | inr ran ↦ inr ran.0
+    ]
 
 -- the line of an error is what is written of its offset, unless the run stops there
 pub error_listed : (on_error : OnError) (kind : Kind) (section : List ℕ) (offset : ℕ) (error : Error) → on_error ≢ Stop

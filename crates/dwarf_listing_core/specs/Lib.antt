@@ -1,5 +1,6 @@
 pub mod Arguments
 pub mod Command
+pub mod Entries
 pub mod Fault
 pub mod Found
 pub mod Items

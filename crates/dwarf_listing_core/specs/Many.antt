@@ -1,13 +1,15 @@
 -- What the program writes that lists a section at many offsets, or whole.
-use Rattle.std.specs.Prelude.{◌≡◌, ◌||◌, ◌⊎◌, ℕ, Bool, true, false, List, [], ◌∷◌, ◌++◌, Option, IfSome, Result, Ok, Err, codes}
+use Rattle.std.specs.Prelude.{◌≡◌, ◌||◌, ◌⊎◌, ℕ, Bool, true, false, List, [], ◌∷◌, ◌++◌, Option, IfSome, Result, Ok, Err, codes, length, take}
 use Rattle.dwarf_read_core.specs.declared.Error.{Error}
 use Rattle.dwarf_read_core.specs.ErrorText.{hexadecimal}
 use Rattle.dwarf_listing_core.specs.Fault.{IsMemoryFault}
 use Rattle.dwarf_listing_core.specs.Lines.{line}
 use Rattle.dwarf_listing_core.specs.ManyFault.{many_fault_text}
 use Rattle.dwarf_listing_core.specs.Walk.{ListsOne, Walk}
-use Rattle.dwarf_listing_core.specs.declared.arguments.Kind.{Kind}
-use Rattle.dwarf_listing_core.specs.declared.arguments.Kind.TheVariants.{Tables, Strings, RawStrings, Addresses, StringOffsets}
+use Rattle.dwarf_listing_core.specs.declared.kind.Kind.{Kind}
+use Rattle.dwarf_listing_core.specs.declared.kind.Kind.TheVariants.{Tables, Strings, RawStrings, Addresses, StringOffsets, WithoutHeader}
+use Rattle.dwarf_listing_core.specs.declared.arguments.Lines.{Lines}
+use Rattle.dwarf_listing_core.specs.declared.arguments.Lines.TheVariants.{Offsets, Parts}
 use Rattle.dwarf_listing_core.specs.declared.arguments.OnError.{OnError}
 use Rattle.dwarf_listing_core.specs.declared.arguments.OnError.TheVariants.{Stop, GoOn}
 use Rattle.dwarf_listing_core.specs.declared.fault.Fault.TheVariants.{Write}
@@ -39,6 +41,7 @@ title Strings offset = codes "0x" ++ hexadecimal offset ++ codes ": "
 title RawStrings offset = codes "0x" ++ hexadecimal offset ++ codes ": "
 title (Addresses _) offset = codes "set 0x" ++ hexadecimal offset ++ codes ": "
 title (StringOffsets _) offset = codes "set 0x" ++ hexadecimal offset ++ codes ": "
+title (WithoutHeader _) offset = codes "set 0x" ++ hexadecimal offset ++ codes ": "
 
 -- the line of an error at an offset
 abbrev pub error_line : ℕ → Error → List ℕ
@@ -96,15 +99,70 @@ WritesEach on_error kind section offsets Wrote (Err (Other fault)) =
     ⊎ (IsMemoryFault fault × (texts : Texts) × ListsFront on_error kind section offsets texts × Wrote texts)
 WritesEach _ _ _ _ _ (Err _) = ⊥
 
--- what a run over the whole section returns, and what it wrote: that of the offsets of its walk
-abbrev pub WritesWalk : OnError → Kind → List ℕ → (Texts → Type 0) → Result Bool ManyFault → Type 0
-WritesWalk on_error kind section Wrote result =
-    (offsets : List ℕ) × Walk kind section 0 offsets × WritesEach on_error kind section offsets Wrote result
+-- what a run over a section from an offset on returns, and what it wrote: that of the offsets of its walk
+abbrev pub WritesWalk : OnError → Kind → List ℕ → ℕ → (Texts → Type 0) → Result Bool ManyFault → Type 0
+WritesWalk on_error kind section start Wrote result =
+    (offsets : List ℕ) × Walk kind section start offsets × WritesEach on_error kind section offsets Wrote result
 
--- the same of the places that are listed: the walk over the whole section, or these offsets
+-- ---- parts of a section
+
+-- a part of a section: where it begins, and where it ends
+abbrev pub Part : Type 0
+Part = ℕ × ℕ
+
+-- where a part ends: at the first of these numbers, or without one at the section's end
+abbrev pub end_of_part : ℕ → List ℕ → ℕ
+end_of_part count [] = count
+end_of_part count (end ∷ numbers) = end
+
+-- the parts that numbers name in turn by their starts and ends, of a section of this length
+abbrev pub parts_of : ℕ → List ℕ → List Part
+parts_of count [] = []
+parts_of count (start ∷ []) = (start, count) ∷ []
+parts_of count (start ∷ end ∷ numbers) = (start, end) ∷ parts_of count numbers
+
+-- what is written of these parts in order, and whether an offset has an error: each part is walked as if the section
+-- ended where the part does
+pub data ListsParts (on_error : OnError) (kind : Kind) (section : List ℕ) : List Part → Texts → Bool → Type 0 where
+  no_part : ListsParts on_error kind section [] no_texts false
+  part_more : (parts : List Part) (part : Part) (texts more : Texts) (failed fails : Bool) (offsets : List ℕ)
+      → ListsParts on_error kind section parts texts failed → Walk kind (take part.1 section) part.0 offsets
+      → ListsAll on_error kind (take part.1 section) offsets more fails
+      → ListsParts on_error kind section (parts ++ part ∷ []) (then_texts texts more) (failed || fails)
+
+-- a run over parts ends with an error in one of them: what was written is that of the parts before it, and then of it
+pub record EndsInPart (on_error : OnError) (kind : Kind) (section : List ℕ) (parts : List Part) (Wrote : Texts → Type 0)
+    (fault : ManyFault) : Type 0 where
+  pub before : List Part
+  pub part : Part
+  pub after : List Part
+  pub is : parts ≡ before ++ part ∷ after
+  pub texts : Texts
+  pub failed : Bool
+  pub listed : ListsParts on_error kind section before texts failed
+  pub ends : WritesWalk on_error kind (take part.1 section) part.0 (λ more. Wrote (then_texts texts more)) (Err fault)
+
+-- what a run over parts returns, and what it wrote; or an output failed
+abbrev pub WritesParts : OnError → Kind → List ℕ → List Part → (Texts → Type 0) → Result Bool ManyFault → Type 0
+WritesParts on_error kind section parts Wrote (Ok failed) =
+    (texts : Texts) × ListsParts on_error kind section parts texts failed × Wrote texts
+WritesParts on_error kind section parts Wrote (Err fault) =
+    (fault ≡ Other Write) ⊎ EndsInPart on_error kind section parts Wrote fault
+
+-- ---- what is requested
+
+-- what a run returns, and what it wrote, if its numbers are offsets, or starts and ends of parts
+abbrev pub WritesNumbers : Lines → OnError → Kind → List ℕ → List ℕ → (Texts → Type 0) → Result Bool ManyFault → Type 0
+WritesNumbers Offsets on_error kind section numbers Wrote result =
+    WritesEach on_error kind section numbers Wrote result
+WritesNumbers Parts on_error kind section numbers Wrote result =
+    WritesParts on_error kind section (parts_of (length section) numbers) Wrote result
+
+-- the same of the places that are listed: the walk over the whole section, or what these numbers name
 abbrev pub WritesListed : OnError → Kind → List ℕ → Places → (Texts → Type 0) → Result Bool ManyFault → Type 0
-WritesListed on_error kind section Walked Wrote result = WritesWalk on_error kind section Wrote result
-WritesListed on_error kind section (Given offsets) Wrote result = WritesEach on_error kind section offsets.now Wrote result
+WritesListed on_error kind section Walked Wrote result = WritesWalk on_error kind section 0 Wrote result
+WritesListed on_error kind section (Given lines numbers) Wrote result =
+    WritesNumbers lines on_error kind section numbers.now Wrote result
 
 -- the bytes of a section and of its offsets have this property, if both are known
 abbrev pub IfKnown : Option (List ℕ) → Option (List ℕ) → (List ℕ → List ℕ → Type 0) → Type 0

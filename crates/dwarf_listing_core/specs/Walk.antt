@@ -10,11 +10,12 @@ use Rattle.dwarf_read_core.specs.Grammar.{Table}
 use Rattle.dwarf_read_core.specs.InitialLength.{HasLength}
 use Rattle.dwarf_read_core.specs.Input.{Input, after, section_of}
 use Rattle.dwarf_read_core.specs.Strings.{StringAt}
+use Rattle.dwarf_listing_core.specs.Entries.{EntriesEndAt, ListsEntries}
 use Rattle.dwarf_listing_core.specs.Lines.{ListsString, ShowsString}
 use Rattle.dwarf_listing_core.specs.Sets.{ListsSetAt, address_listing, offset_listing}
 use Rattle.dwarf_listing_core.specs.Tables.{ListsTable}
-use Rattle.dwarf_listing_core.specs.declared.arguments.Kind.{Kind}
-use Rattle.dwarf_listing_core.specs.declared.arguments.Kind.TheVariants.{Tables, Strings, RawStrings, Addresses, StringOffsets}
+use Rattle.dwarf_listing_core.specs.declared.kind.Kind.{Kind}
+use Rattle.dwarf_listing_core.specs.declared.kind.Kind.TheVariants.{Tables, Strings, RawStrings, Addresses, StringOffsets, WithoutHeader}
 use Rattle.dwarf_listing_core.specs.declared.sets.Style.TheVariants.{Titled}
 
 -- the lines at an offset of a section, or the error there
@@ -24,6 +25,7 @@ ListsOne Strings = ShowsString
 ListsOne RawStrings = ListsString
 ListsOne (Addresses endian) = ListsSetAt (address_listing Titled) endian
 ListsOne (StringOffsets endian) = ListsSetAt (offset_listing Titled (2 ^ 64 - 1)) endian
+ListsOne (WithoutHeader entry) = ListsEntries entry
 
 -- where the string at an offset ends: after its zero byte
 pub record StringEndsAt (section : List ℕ) (offset end : ℕ) : Type 0 where
@@ -43,7 +45,8 @@ pub record HasSetSize (input : Input) (size : ℕ) : Type 0 where
 abbrev pub SetEndsAt : Input → ℕ → ℕ → Type 0
 SetEndsAt section offset end = (size : ℕ) × HasSetSize (after offset section) size × (end ≡ offset + size)
 
--- where what begins at an offset ends, if that is known: of a set from its length alone, else from all of it
+-- where what begins at an offset ends, if that is known: of a set from its length alone, of entries without a header
+-- from how many are there, else from all of it
 abbrev pub HasEnd : Kind → List ℕ → ℕ → ℕ → Type 0
 HasEnd Tables section offset end =
     (t : Table) × Answer (section_of section false) offset (Ok t) × TableEndsAt (section_of section false) offset t end
@@ -52,6 +55,7 @@ HasEnd RawStrings section offset end = StringEndsAt section offset end
 HasEnd (Addresses endian) section offset end = SetEndsAt (section_of section (is_big_at_run_time endian)) offset end
 HasEnd (StringOffsets endian) section offset end =
     SetEndsAt (section_of section (is_big_at_run_time endian)) offset end
+HasEnd (WithoutHeader entry) section offset end = EntriesEndAt entry section offset end
 
 -- where the next begins in as many bytes: where this one ends, or where the bytes end if that isn't known
 pub data Follows (IsEnd : ℕ → Type 0) (count : ℕ) : ℕ → Type 0 where
@@ -62,6 +66,7 @@ pub data Follows (IsEnd : ℕ → Type 0) (count : ℕ) : ℕ → Type 0 where
 abbrev pub has_padding : Kind → Bool
 has_padding Strings = false
 has_padding RawStrings = false
+has_padding (WithoutHeader _) = false
 has_padding _ = true
 
 -- whether a walk passes over the four bytes at an offset, which are zero

@@ -15,6 +15,7 @@ pub mod arguments;
 pub mod command;
 pub mod fault;
 pub mod input;
+pub mod kind;
 pub mod laws;
 mod lines;
 pub mod listing;

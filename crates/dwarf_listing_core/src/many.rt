@@ -1,18 +1,19 @@
 //! A run over one section: what is listed at many offsets, or of the whole section, each after its
 //! title, and the errors there.
 
-ghost use Rattle.std.specs.Prelude.{◌≡◌, ◌≢◌, ◌⊎◌, ◌<◌, ◌≤◌, ℕ, true, List, Ok, Err, IfErr, IfOk, IfSome, OnOk, length};
+ghost use Rattle.std.specs.Prelude.{◌≡◌, ◌≢◌, ◌⊎◌, ◌<◌, ◌≤◌, ◌∷◌, ℕ, true, List, Ok, Err, IfErr, IfOk, IfSome, OnOk, length, take};
 ghost use Rattle.std.specs.Io.KnownBytes.{Appends, IsAtEnd};
 ghost use Rattle.dwarf_read_core.specs.declared.Error.TheVariants.{OutOfMemory};
 ghost use Rattle.dwarf_listing_core.specs.Fault.{IsMemoryFault, WasRead};
-ghost use Rattle.dwarf_listing_core.specs.Many.{IfKnown, ListsAt, Texts, WritesEach, WritesListed, WritesWalk, WroteBoth, error_line, title};
+ghost use Rattle.dwarf_listing_core.specs.Many.{IfKnown, ListsAt, Texts, WritesEach, WritesListed, WritesNumbers, WritesParts, WritesWalk, WroteBoth, end_of_part, error_line, parts_of, title};
 ghost use Rattle.dwarf_listing_core.specs.ManyFault.{IsListingFault};
 ghost use Rattle.dwarf_listing_core.specs.Offsets.{AreOffsets, IsBadLine, lines_of};
 ghost use Rattle.dwarf_listing_core.specs.Walk.{Follows, HasEnd, ListsOne};
 
-use crate::arguments::{Kind, OnError};
+use crate::arguments::{Lines, OnError};
 use crate::fault::Fault;
 use crate::input::read_input;
+use crate::kind::Kind;
 use crate::laws;
 use crate::offsets::parse_offsets;
 use crate::output::{BUFFER_SIZE, Buffered};
@@ -23,11 +24,12 @@ use std::alloc::Global;
 use std::io;
 use std::io::{Read, Write};
 
+mod entries;
 pub mod fault;
 mod found;
 
-/// Writes what is listed at each offset of a section, after its title, and the errors there to a
-/// second output.
+/// Writes what is listed at each offset of a section, or of each of its parts, after its title, and
+/// the errors there to a second output.
 ///
 /// Both inputs are read to their ends, and all offsets are parsed, in decimal or hexadecimal. Then
 /// what each offset names is read whole, and its lines are written through a buffer. The output is
@@ -50,6 +52,7 @@ pub fn run_many<S: Read, I: Read, O: Write, E: Write>(
     on_error: OnError,
     kind: Kind,
     section: &mut S,
+    lines: Lines,
     offsets: &mut I,
     output: &mut O,
     errors: &mut E,
@@ -58,7 +61,7 @@ pub fn run_many<S: Read, I: Read, O: Write, E: Write>(
     ensures listed { IfErr result IsListingFault
         → IfKnown (S.remaining section.old) (I.remaining offsets.old) (λ bytes input.
         (numbers : List ℕ) × AreOffsets (lines_of input) numbers
-        × WritesEach on_error kind bytes numbers
+        × WritesNumbers lines on_error kind bytes numbers
         (WroteBoth (Appends (O.contents output.old) (O.contents output.new))
         (Appends (E.contents errors.old) (E.contents errors.new))) result)
         ⊎ ((result ≡ Err (ManyFault.Other (Fault.Section OutOfMemory)))
@@ -100,7 +103,7 @@ pub fn run_many<S: Read, I: Read, O: Write, E: Write>(
         Err(error) => return Err(ManyFault::of_reading(error, ManyFault::ReadOffsets)),
     };
     let offsets = parse_offsets(mem, &input)?;
-    let places = Places::Given(&offsets);
+    let places = Places::Given(lines, &offsets);
     write_listed(mem, on_error, kind, &section, places, output, errors)
 }
 
@@ -125,7 +128,7 @@ pub fn run_whole<S: Read, O: Write, E: Write>(
 ) -> Result<bool, ManyFault>
     // What was written to each output, and nothing else, once the section is known.
     ensures listed { IfErr result IsListingFault → IfSome (S.remaining section.old) (λ bytes.
-        WritesWalk on_error kind bytes
+        WritesWalk on_error kind bytes 0
         (WroteBoth (Appends (O.contents output.old) (O.contents output.new))
         (Appends (E.contents errors.old) (E.contents errors.new))) result)
         ⊎ ((result ≡ Err (ManyFault.Other (Fault.Section OutOfMemory)))
@@ -164,8 +167,8 @@ pub fn run_whole<S: Read, O: Write, E: Write>(
 pub enum Places<'a> {
     /// Those of a walk from the section's start to its end.
     Walked,
-    /// These, in this order.
-    Given(&'a [u64]),
+    /// What these numbers name, in this order.
+    Given(Lines, &'a [u64]),
 }
 
 /// Writes what is listed of a section at these places, each after its title, through a buffer, and
@@ -224,9 +227,12 @@ fn write_places<O: Write, E: Write>(
         (Appends (E.contents errors.old) (E.contents errors.new))) result }
 {
     match places {
-        Places::Walked => write_walk(mem, on_error, kind, section, output, errors),
-        Places::Given(offsets) => {
+        Places::Walked => write_walk(mem, on_error, kind, section, 0, output, errors),
+        Places::Given(Lines::Offsets, offsets) => {
             write_each_at(mem, on_error, kind, section, offsets, output, errors)
+        }
+        Places::Given(Lines::Parts, bounds) => {
+            write_parts(mem, on_error, kind, section, bounds, output, errors)
         }
     }
 }
@@ -254,23 +260,73 @@ fn write_each_at<O: Write, E: Write>(
     Ok(failed)
 }
 
-// Writes what is listed of a whole section, as `write_each_at` does. The offsets aren't kept: each
-// is where what was written last ends, so a walk takes no memory for them.
+// Writes what is listed of the parts with these starts and ends, in turn. Each is walked as if the
+// section ended where the part does, so nothing that is listed reaches into the bytes after it.
+fn write_parts<O: Write, E: Write>(
+    mem: Global,
+    on_error: OnError,
+    kind: Kind,
+    section: &[u8],
+    bounds: &[u64],
+    output: &mut O,
+    errors: &mut E,
+) -> Result<bool, ManyFault>
+    ensures { WritesParts on_error kind section.now
+        (parts_of (length section.now) bounds.now)
+        (WroteBoth (Appends (O.contents output.old) (O.contents output.new))
+        (Appends (E.contents errors.old) (E.contents errors.new))) result }
+{
+    let mut failed = false;
+    let mut rest = bounds;
+    while let [start, others @ ..] = rest {
+        let (front, following) = front_of_part(section, others);
+        let start = *start as usize;
+        failed |= write_walk(mem, on_error, kind, front, start, output, errors)?;
+        rest = following;
+    }
+    Ok(failed)
+}
+
+// Returns the section up to the end of a part, which is the first of these numbers, and the others.
+// Without a number that is the section's end.
+fn front_of_part<'s, 'b>(section: &'s [u8], bounds: &'b [u64]) -> (&'s [u8], &'b [u64])
+    ensures parts { (start : ℕ) → parts_of (length section.now) (start ∷ bounds.now)
+        ≡ (start, end_of_part (length section.now) bounds.now)
+        ∷ parts_of (length section.now) result.1.now }
+    ensures front { result.0.now ≡ take (end_of_part (length section.now) bounds.now) section.now }
+    ensures shorter { length result.1.now ≤ length bounds.now }
+{
+    match bounds {
+        [] => (section, bounds),
+        [end, following @ ..] => {
+            let end = *end as usize;
+            if end < section.len() {
+                (&section[..end], following)
+            } else {
+                (section, following)
+            }
+        }
+    }
+}
+
+// Writes what is listed of a section from an offset on, as `write_each_at` does. The offsets aren't
+// kept: each is where what was written last ends, so a walk takes no memory for them.
 fn write_walk<O: Write, E: Write>(
     mem: Global,
     on_error: OnError,
     kind: Kind,
     section: &[u8],
+    start: usize,
     output: &mut O,
     errors: &mut E,
 ) -> Result<bool, ManyFault>
-    ensures { WritesWalk on_error kind section.now
+    ensures { WritesWalk on_error kind section.now start
         (WroteBoth (Appends (O.contents output.old) (O.contents output.new))
         (Appends (E.contents errors.old) (E.contents errors.new))) result }
 {
     laws::exactly_one_walk();
     let mut failed = false;
-    let mut offset = 0;
+    let mut offset = start;
     while offset < section.len() {
         if is_padding(kind, section, offset) {
             offset += 4;
@@ -337,7 +393,9 @@ fn write_title<O: Write>(output: &mut O, kind: Kind, offset: u64) -> io::Result<
     match kind {
         Kind::Tables => writeln!(output, "table 0x{offset:x}:"),
         Kind::Strings | Kind::RawStrings => write!(output, "0x{offset:x}: "),
-        Kind::Addresses(_) | Kind::StringOffsets(_) => write!(output, "set 0x{offset:x}: "),
+        Kind::Addresses(_) | Kind::StringOffsets(_) | Kind::WithoutHeader(_) => {
+            write!(output, "set 0x{offset:x}: ")
+        }
     }
 }
 

@@ -255,8 +255,8 @@ impl<O: ReaderOffset> Listed for DebugStrOffset<O> {
     }
 }
 
-// Appends the line of an address.
-fn push_address(text: &mut Vec<u8>, address: u64) -> Result<(), AllocError>
+/// Appends the line of an address.
+pub(crate) fn push_address(text: &mut Vec<u8>, address: u64) -> Result<(), AllocError>
     ensures { OnOk result (text.new.items ≡ text.old.items ++ address_line address) }
 {
     let mut line = [b'\n'; 17];

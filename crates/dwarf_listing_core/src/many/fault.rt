@@ -99,8 +99,9 @@ impl fmt::Display for ManyFault {
             ManyFault::Other(Fault::Usage) => {
                 write!(
                     f,
-                    "usage: dwarf_list_many [--keep-going] [--raw] [--all] KIND SECTION [OFFSETS], \
-                     where KIND is abbrev, str, addr le|be or str-offsets le|be"
+                    "usage: dwarf_list_many [--keep-going] [--raw] [--all] [--parts] KIND SECTION \
+                     [OFFSETS], where KIND is abbrev, str, addr le|be, str-offsets le|be, \
+                     addr-entries le|be 1|2|4|8 or str-offset-entries le|be 32|64"
                 )
             }
             ManyFault::Other(fault) => write!(f, "{fault}"),

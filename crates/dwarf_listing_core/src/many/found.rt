@@ -17,7 +17,8 @@ ghost use Rattle.dwarf_listing_core.specs.Tables.{ListsTable};
 ghost use Rattle.dwarf_listing_core.specs.Walk.{Follows, HasEnd, HasSetSize, ListsOne, SetEndsAt, StringEndsAt, is_padding};
 ghost use Rattle.dwarf_listing_core.specs.declared.sets.Style.TheVariants.{Titled};
 
-use crate::arguments::Kind;
+use super::entries::entries_at;
+use crate::kind::Kind;
 use crate::sets::{first_addresses, first_string_offsets};
 use crate::tables::write_table;
 use dwarf_read_core::{
@@ -37,7 +38,7 @@ pub(crate) enum Found<'a> {
     Shown(&'a [u8]),
     /// A string, byte for byte.
     Raw(&'a [u8]),
-    /// The lines of a set.
+    /// The lines of a set, or of entries without a header.
     Set(Vec<u8>),
 }
 
@@ -91,6 +92,13 @@ pub(crate) fn found_at(
         }
         Kind::Addresses(endian) => addresses_at(mem, section, endian, offset),
         Kind::StringOffsets(endian) => string_offsets_at(mem, section, endian, offset),
+        Kind::WithoutHeader(entry) => {
+            let (lines, next) = entries_at(mem, section, entry, offset);
+            match lines {
+                Ok(lines) => (Ok(Found::Set(lines)), next),
+                Err(error) => (Err(error), next),
+            }
+        }
     }
 }
 
@@ -253,7 +261,7 @@ pub(crate) fn is_padding(kind: Kind, section: &[u8], offset: usize) -> bool
     ensures { result ≡ is_padding kind section.now offset }
 {
     match kind {
-        Kind::Strings | Kind::RawStrings => false,
+        Kind::Strings | Kind::RawStrings | Kind::WithoutHeader(_) => false,
         _ => section[offset..].starts_with(&[0; 4]),
     }
 }

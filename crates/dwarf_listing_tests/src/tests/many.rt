@@ -4,13 +4,20 @@
 use super::arguments::Given;
 use super::ends::Failing;
 use super::{STRINGS, end_requests};
-use dwarf_listing_core::arguments::Kind::{Addresses, RawStrings, StringOffsets, Strings, Tables};
+use dwarf_listing_core::arguments::Lines::{Offsets, Parts};
 use dwarf_listing_core::arguments::OnError::{GoOn, Stop};
-use dwarf_listing_core::arguments::{Kind, OnError, parse_arguments};
+use dwarf_listing_core::arguments::{Lines, OnError, parse_arguments};
 use dwarf_listing_core::fault::Fault;
+use dwarf_listing_core::kind::AddressWidth::{Eight, Four, One, Two};
+use dwarf_listing_core::kind::Entry::{Address, StringOffset};
+use dwarf_listing_core::kind::Kind;
+use dwarf_listing_core::kind::Kind::{
+    Addresses, RawStrings, StringOffsets, Strings, Tables, WithoutHeader,
+};
 use dwarf_listing_core::many::fault::ManyFault;
 use dwarf_listing_core::many::{run_many, run_whole};
 use dwarf_listing_core::words::command_line;
+use dwarf_read_core::Format::{Dwarf32, Dwarf64};
 use dwarf_read_core::RunTimeEndian::{Big, Little};
 use dwarf_read_core::{Error, ReaderOffsetId};
 use std::alloc::Global;
@@ -26,7 +33,7 @@ type Run = (
     OnError,
     Kind,
     Bytes,
-    Option<Bytes>,
+    Option<(Lines, Bytes)>,
     Bytes,
     Bytes,
     Result<bool, ManyFault>,
@@ -34,29 +41,37 @@ type Run = (
 
 #[rattlefmt::skip]
 const THREE_STRINGS: Run = (
-    Stop, Strings, STRINGS, Some(b"4\n0x0\n0008"), b"0x4: two\n0x0: one\n0x8: \n", b"", Ok(false),
+    Stop, Strings, STRINGS, Some((Offsets, b"4\n0x0\n0008")), b"0x4: two\n0x0: one\n0x8: \n", b"", Ok(false),
 );
 
 #[rattlefmt::skip]
 const TABLES: Run = (
-    Stop, Tables, b"\x01\x11\0\0\0", Some(b"0\n5\n6\n"), b"table 0x0:\n1 DW_TAG_compile_unit no\ntable 0x5:\n", b"",
+    Stop, Tables, b"\x01\x11\0\0\0", Some((Offsets, b"0\n5\n6\n")), b"table 0x0:\n1 DW_TAG_compile_unit no\ntable 0x5:\n", b"",
     Err(ManyFault::At(6, Error::UnexpectedEof(ReaderOffsetId(0)))),
 );
 
 // The table in the middle is malformed.
 #[rattlefmt::skip]
 const GOES_ON: Run = (
-    GoOn, Tables, b"\x01\x11\0\0\0\0\x01\0", Some(b"0\n6\n5\n"),
+    GoOn, Tables, b"\x01\x11\0\0\0\0\x01\0", Some((Offsets, b"0\n6\n5\n")),
     b"table 0x0:\n1 DW_TAG_compile_unit no\ntable 0x5:\n", b"error at 0x6: invalid abbreviation tag: zero\n",
     Ok(true),
 );
 
-const NO_OFFSETS: Run = (Stop, Strings, STRINGS, Some(b""), b"", b"", Ok(false));
+const NO_OFFSETS: Run = (
+    Stop,
+    Strings,
+    STRINGS,
+    Some((Offsets, b"")),
+    b"",
+    b"",
+    Ok(false),
+);
 
 // Each of the tables needs memory.
 #[rattlefmt::skip]
 const TWO_TABLES: Run = (
-    Stop, Tables, b"\x01\x11\0\0\0\0\x01\x11\0\0\0\0", Some(b"0\n6\n"),
+    Stop, Tables, b"\x01\x11\0\0\0\0\x01\x11\0\0\0\0", Some((Offsets, b"0\n6\n")),
     b"table 0x0:\n1 DW_TAG_compile_unit no\ntable 0x6:\n1 DW_TAG_compile_unit no\n", b"",
     Ok(false),
 );
@@ -108,7 +123,7 @@ const ALL_SETS: Run = (
 const SETS: Run = (
     GoOn, StringOffsets(Big),
     b"\0\0\0\x08\0\x05\0\0\0\0\0\x2a\xff\xff\xff\xff\0\0\0\0\0\0\0\x0c\0\x05\0\0\x01\0\0\0\0\0\0\0",
-    Some(b"12\n0\n36\n37\n4\n"),
+    Some((Offsets, b"12\n0\n36\n37\n4\n")),
     b"set 0xc: length 12, 64-bit\n  0x100000000000000\nset 0x0: length 8, 32-bit\n  0x2a\n",
     b"error at 0x24: unexpected end of input\nerror at 0x25: unexpected end of input\n\
         error at 0x4: unexpected end of input\n",
@@ -122,7 +137,50 @@ const LONG_SET: Run = (
     b"set 0x0: length 4, 32-bit\n", b"", Err(ManyFault::At(8, Error::UnexpectedEof(ReaderOffsetId(12)))),
 );
 
-const RUNS: [Run; 12] = [
+// The last two bytes are no whole address. Zero bytes are no padding between entries.
+#[rattlefmt::skip]
+const ENTRIES: Run = (
+    GoOn, WithoutHeader(Address(Little, Four)), b"\0\0\0\0\x78\x56\x34\x12\x01\x02", None,
+    b"set 0x0: no header, 8 bytes, address size 4\n  0x0\n  0x12345678\n",
+    b"error at 0x8: unexpected end of input\n", Ok(true),
+);
+
+// Entries are listed from an offset to the section's end. At the end there is none.
+#[rattlefmt::skip]
+const ENTRIES_AT_OFFSETS: Run = (
+    Stop, WithoutHeader(Address(Big, Two)), b"\xff\x01\x02\x03\x04", Some((Offsets, b"3\n1\n5\n0\n")),
+    b"set 0x3: no header, 2 bytes, address size 2\n  0x304\n\
+        set 0x1: no header, 4 bytes, address size 2\n  0x102\n  0x304\n", b"",
+    Err(ManyFault::At(5, Error::UnexpectedEof(ReaderOffsetId(5)))),
+);
+
+// Each part has entries of its own, and the last ends with the section.
+#[rattlefmt::skip]
+const ENTRIES_OF_PARTS: Run = (
+    Stop, WithoutHeader(StringOffset(Big, Dwarf32)),
+    b"\xff\xff\xff\xff\0\0\0\x01\0\0\x01\0\0\0\0\x02", Some((Parts, b"4\n0xc\n12\n")),
+    b"set 0x4: no header, 8 bytes, 32-bit\n  0x1\n  0x100\n\
+        set 0xc: no header, 4 bytes, 32-bit\n  0x2\n", b"", Ok(false),
+);
+
+// A table ends with its part, a part that begins past its end has none, and one ends past the
+// section's end. Between two tables of a part there is padding.
+#[rattlefmt::skip]
+const PARTS: Run = (
+    GoOn, Tables, b"\x01\x11\0\0\0\0\x01\x2e\0\0\0\0\0\0\0\0\x01\x34\0\0\0\0",
+    Some((Parts, b"0\n3\n30\n3\n6\n100\n")),
+    b"table 0x6:\n1 DW_TAG_subprogram no\ntable 0x10:\n1 DW_TAG_variable no\n",
+    b"error at 0x0: unexpected end of input\n", Ok(true),
+);
+
+// The first error ends the run, and the parts after it aren't listed.
+#[rattlefmt::skip]
+const BAD_PART: Run = (
+    Stop, Strings, b"one\0two\0three", Some((Parts, b"0\n8\n8\n13\n0\n4\n")),
+    b"0x0: one\n0x4: two\n", b"", Err(ManyFault::At(8, Error::UnexpectedEof(ReaderOffsetId(8)))),
+);
+
+const RUNS: [Run; 17] = [
     THREE_STRINGS,
     TABLES,
     GOES_ON,
@@ -135,6 +193,11 @@ const RUNS: [Run; 12] = [
     ALL_SETS,
     SETS,
     LONG_SET,
+    ENTRIES,
+    ENTRIES_AT_OFFSETS,
+    ENTRIES_OF_PARTS,
+    PARTS,
+    BAD_PART,
 ];
 
 // Offsets, and the number and the quote of the first line that isn't one.
@@ -163,7 +226,7 @@ fn write_run<O: Write, E: Write>(
     errors: &mut E,
 ) -> Result<bool, ManyFault> {
     let (on_error, kind, mut section, offsets, _, _, _) = *run;
-    let Some(mut offsets) = offsets else {
+    let Some((lines, mut offsets)) = offsets else {
         return run_whole(mem, on_error, kind, &mut section, output, errors);
     };
     run_many(
@@ -171,6 +234,7 @@ fn write_run<O: Write, E: Write>(
         on_error,
         kind,
         &mut section,
+        lines,
         &mut offsets,
         output,
         errors,
@@ -201,7 +265,7 @@ fn a_bad_line_ends_the_run(rt: HostRuntime) -> Result<(), Fail> {
                 on_error,
                 Strings,
                 *offsets,
-                Some(*offsets),
+                Some((Offsets, *offsets)),
                 b"".as_slice(),
                 b"".as_slice(),
                 Ok(false),
@@ -222,22 +286,39 @@ fn a_bad_line_ends_the_run(rt: HostRuntime) -> Result<(), Fail> {
 // Arguments, and what they name.
 type Named = (
     &'static [Bytes],
-    Option<(OnError, Kind, &'static str, Option<&'static str>)>,
+    Option<(OnError, Kind, &'static str, Option<(Lines, &'static str)>)>,
 );
 
 #[rattlefmt::skip]
 static NAMED: &[Named] = &[
-    (&[b"abbrev", b"x"], Some((Stop, Tables, "x", Some("-")))),
-    (&[b"str", b"x", b"-"], Some((Stop, Strings, "x", Some("-")))),
-    (&[b"str", b"-", b"x"], Some((Stop, Strings, "-", Some("x")))),
-    (&[b"str", b"x", b"x"], Some((Stop, Strings, "x", Some("x")))),
-    (&[b"--keep-going", b"str", b"x"], Some((GoOn, Strings, "x", Some("-")))),
-    (&[b"--raw", b"str", b"x"], Some((Stop, RawStrings, "x", Some("-")))),
-    (&[b"addr", b"le", b"x"], Some((Stop, Addresses(Little), "x", Some("-")))),
-    (&[b"str-offsets", b"be", b"x", b"y"], Some((Stop, StringOffsets(Big), "x", Some("y")))),
+    (&[b"abbrev", b"x"], Some((Stop, Tables, "x", Some((Offsets, "-"))))),
+    (&[b"str", b"x", b"-"], Some((Stop, Strings, "x", Some((Offsets, "-"))))),
+    (&[b"str", b"-", b"x"], Some((Stop, Strings, "-", Some((Offsets, "x"))))),
+    (&[b"str", b"x", b"x"], Some((Stop, Strings, "x", Some((Offsets, "x"))))),
+    (&[b"--keep-going", b"str", b"x"], Some((GoOn, Strings, "x", Some((Offsets, "-"))))),
+    (&[b"--raw", b"str", b"x"], Some((Stop, RawStrings, "x", Some((Offsets, "-"))))),
+    (&[b"addr", b"le", b"x"], Some((Stop, Addresses(Little), "x", Some((Offsets, "-"))))),
+    (&[b"str-offsets", b"be", b"x", b"y"], Some((Stop, StringOffsets(Big), "x", Some((Offsets, "y"))))),
     (&[b"--all", b"abbrev", b"-"], Some((Stop, Tables, "-", None))),
     (&[b"--all", b"--raw", b"--keep-going", b"--all", b"str", b"x"], Some((GoOn, RawStrings, "x", None))),
     (&[b"--all", b"addr", b"be", b"x"], Some((Stop, Addresses(Big), "x", None))),
+    (&[b"--parts", b"abbrev", b"x", b"y"], Some((Stop, Tables, "x", Some((Parts, "y"))))),
+    (&[b"addr-entries", b"le", b"1", b"x"], Some((Stop, WithoutHeader(Address(Little, One)), "x", Some((Offsets, "-"))))),
+    (&[b"addr-entries", b"be", b"2", b"x"], Some((Stop, WithoutHeader(Address(Big, Two)), "x", Some((Offsets, "-"))))),
+    (&[b"addr-entries", b"le", b"4", b"x"], Some((Stop, WithoutHeader(Address(Little, Four)), "x", Some((Offsets, "-"))))),
+    (&[b"--all", b"addr-entries", b"le", b"8", b"x"], Some((Stop, WithoutHeader(Address(Little, Eight)), "x", None))),
+    (&[b"--parts", b"str-offset-entries", b"le", b"32", b"-", b"y"],
+        Some((Stop, WithoutHeader(StringOffset(Little, Dwarf32)), "-", Some((Parts, "y"))))),
+    (&[b"--all", b"str-offset-entries", b"be", b"64", b"x"],
+        Some((Stop, WithoutHeader(StringOffset(Big, Dwarf64)), "x", None))),
+    (&[b"--all", b"--parts", b"abbrev", b"x"], None),
+    (&[b"--parts", b"--all", b"abbrev", b"x", b"y"], None),
+    (&[b"addr-entries", b"le", b"x"], None),
+    (&[b"addr-entries", b"8", b"x"], None),
+    (&[b"addr-entries", b"le", b"3", b"x"], None),
+    (&[b"str-offset-entries", b"le", b"4", b"x"], None),
+    (&[b"str-offset-entries", b"le", b"32"], None),
+    (&[b"--raw", b"addr-entries", b"le", b"8", b"x"], None),
     (&[], None),
     (&[b"--keep-going"], None),
     (&[b"abbrev"], None),
@@ -282,13 +363,14 @@ fn check_ends(
     let mut section = Failing::new(section, section_calls, ErrorKind::OutOfMemory);
     let (mut output, mut errors) = (Vec::new(mem), Vec::new(mem));
     let outcome = match offsets {
-        Some(offsets) => {
+        Some((lines, offsets)) => {
             let mut offsets = Failing::new(offsets, calls, ErrorKind::OutOfMemory);
             run_many(
                 mem,
                 on_error,
                 kind,
                 &mut section,
+                lines,
                 &mut offsets,
                 &mut output,
                 &mut errors,
@@ -308,7 +390,7 @@ fn inputs_fail_at_each_call(rt: HostRuntime) -> Result<(), Fail> {
     for run in RUNS {
         let (_, _, section, offsets, text, told, outcome) = run;
         let section_calls = section.len().saturating_add(1);
-        let calls = offsets.map_or(0, |it| it.len().saturating_add(1));
+        let calls = offsets.map_or(0, |it| it.1.len().saturating_add(1));
         for good_calls in 0..section_calls {
             let end = (none, none, Err(ManyFault::ReadSection));
             check_ends(&rt, mem, &run, (good_calls, calls), end)?;
@@ -404,6 +486,7 @@ fn no_write_follows_one_that_fails(rt: HostRuntime) -> Result<(), Fail> {
         Stop,
         Strings,
         &mut section,
+        Offsets,
         &mut offsets,
         &mut output,
         &mut errors,
@@ -450,8 +533,9 @@ fn refused_memory_for_many_offsets(rt: HostRuntime) -> Result<(), Fail> {
     Ok(())
 }
 
-const USAGE: &str = "usage: dwarf_list_many [--keep-going] [--raw] [--all] KIND SECTION [OFFSETS], \
-    where KIND is abbrev, str, addr le|be or str-offsets le|be";
+const USAGE: &str = "usage: dwarf_list_many [--keep-going] [--raw] [--all] [--parts] KIND SECTION \
+    [OFFSETS], where KIND is abbrev, str, addr le|be, str-offsets le|be, addr-entries le|be 1|2|4|8 \
+    or str-offset-entries le|be 32|64";
 
 // Errors, each with its line and its status.
 #[rattlefmt::skip]

@@ -12,8 +12,9 @@ not_text xs ys differ = grind (arith, bytes_eq-Decides xs ys)
 -- a word that names no option is the name of a kind
 named_after-other : (options : Options) (word : List ℕ) (words : List (List ℕ))
     → bytes_eq word (codes "--keep-going") ≡ false → bytes_eq word (codes "--raw") ≡ false
-    → bytes_eq word (codes "--all") ≡ false → named_after options (word ∷ words) ≡ named_by options word words
-named_after-other options word words one two three = rw (one, two, three) refl
+    → bytes_eq word (codes "--all") ≡ false → bytes_eq word (codes "--parts") ≡ false
+    → named_after options (word ∷ words) ≡ named_by options word words
+named_after-other options word words one two three four = rw (one, two, three, four) refl
   where
     refl : named_by options word words ≡ named_by options word words
     refl i = named_by options word words
@@ -27,7 +28,8 @@ returns-in_default-as_str c =
     let one : bytes_eq word (codes "--keep-going") ≡ false = not_text word _ c.in_default-as_str.not-text in
     let two : bytes_eq word (codes "--raw") ≡ false = not_text word _ c.in_default-as_str.not-text-2 in
     let three : bytes_eq word (codes "--all") ≡ false = not_text word _ c.in_default-as_str.not-text-3 in
+    let four : bytes_eq word (codes "--parts") ≡ false = not_text word _ c.in_default-as_str.not-text-4 in
     subst (λ (o : Option Named). MatchOption c.parse_kind.result (o ≡ None) (λ named.
-    o ≡ Some (named.on_error, named.kind, named.section.now, option_map (λ name. name.now) named.offsets)))
-    (sym (named_after-other c.loop-rest.options word words one two three)
+    o ≡ Some (named.on_error, named.kind, named.section.now, option_map (λ it. (it.0, it.1.now)) named.offsets)))
+    (sym (named_after-other c.loop-rest.options word words one two three four)
     ∙ ap (named_after c.loop-rest.options) (sym parts) ∙ c.loop-rest.invariant) c.parse_kind.ensures

@@ -2,18 +2,26 @@ use Rattle.dwarf_listing_core.proofs.Common.{◌-◌, ◌^◌, ℕ, List, false,
 use Rattle.std.specs.Prelude.{length}
 use Rattle.dwarf_read_core.specs.Endian.{is_big_at_run_time}
 use Rattle.dwarf_read_core.proofs.public.Entries.{word_size-positive}
+use Rattle.dwarf_listing_core.specs.Entries.{EntryAt}
 use Rattle.dwarf_listing_core.specs.Lines.{shown_line}
 use Rattle.dwarf_listing_core.specs.Walk.{Follows, HasEnd, ListsOne}
-use Rattle.dwarf_listing_core.specs.declared.arguments.Kind.{Kind}
-use Rattle.dwarf_listing_core.specs.declared.arguments.Kind.TheVariants.{Tables, Strings, RawStrings, Addresses, StringOffsets}
+use Rattle.dwarf_listing_core.specs.declared.kind.Entry.{Entry}
+use Rattle.dwarf_listing_core.specs.declared.kind.Entry.TheVariants.{Address, StringOffset}
+use Rattle.dwarf_listing_core.specs.declared.kind.Kind.{Kind}
+use Rattle.dwarf_listing_core.specs.declared.kind.Kind.TheVariants.{Tables, Strings, RawStrings, Addresses, StringOffsets, WithoutHeader}
 use Rattle.dwarf_listing_core.specs.declared.sets.Style.TheVariants.{Titled}
 use Rattle.dwarf_listing_core.proofs.Ends.{end_later, next_later, set_end, string_end, table_end}
+use Rattle.dwarf_listing_core.proofs.EntryLines.{entries_end, one_entries}
 use Rattle.dwarf_listing_core.proofs.OneText.{one_text_by}
 use Rattle.dwarf_listing_core.proofs.SetTexts.{address_size, one_at}
 use Rattle.dwarf_listing_core.proofs.Walks.{EndOrNone, one_following, one_walk}
 use Rattle.dwarf_listing_core.proofs.laws.exactly_one_walk.Goals as goal
 
 module _ (c : goal.After-exactly_one_list_of_string_offsets) where
+  entry : (kind : Entry) (section : List ℕ) (offset index : ℕ) → HasOne (EntryAt kind section offset index)
+  entry (Address endian width) section offset index = c.exactly_one_lookup.ensures.address (2 ^ 64 - 1) _ _
+  entry (StringOffset endian format) section offset index = c.exactly_one_lookup.ensures.word (2 ^ 64 - 1) _ _
+
   listing : (kind : Kind) (section : List ℕ) (offset : ℕ) → HasOne (ListsOne kind section offset)
   listing Tables section offset = c.exactly_one_listing.ensures.table section offset
   listing Strings section offset =
@@ -27,6 +35,7 @@ module _ (c : goal.After-exactly_one_list_of_string_offsets) where
       one_at (offset_listing Titled (2 ^ 64 - 1)) endian section offset
       (λ old s has. c.exactly_one_list_of_string_offsets.ensures.one (2 ^ 64 - 1) (string_offsets_of s)
       (word_size-positive s.format)) (c.exactly_one_list_of_contributions-2.ensures.one (2 ^ 64 - 1))
+  listing (WithoutHeader kind) section offset = one_entries kind section offset (entry kind section offset)
 
   end : (kind : Kind) (section : List ℕ) (offset : ℕ) → EndOrNone (HasEnd kind section offset)
   end Tables section offset =
@@ -40,6 +49,7 @@ module _ (c : goal.After-exactly_one_list_of_string_offsets) where
       set_end (section_of section (is_big_at_run_time endian)) offset (c.exactly_one_initial_length.ensures (2 ^ 64 - 1) _)
   end (StringOffsets endian) section offset =
       set_end (section_of section (is_big_at_run_time endian)) offset (c.exactly_one_initial_length.ensures (2 ^ 64 - 1) _)
+  end (WithoutHeader kind) section offset = entries_end kind section offset
 
   next : (kind : Kind) (section : List ℕ) (offset : ℕ)
       → HasOne (Follows (HasEnd kind section offset) (length section))

@@ -34,3 +34,13 @@ pub returns-in-StringOffsets-clause-next : goal.returns-in-StringOffsets-clause-
 returns-in-StringOffsets-clause-next c = λ memory.
     subst (λ kind. Follows (HasEnd kind c.args.section.now c.args.offset) (length c.args.section.now) c.string_offsets_at.result.1)
     (sym c.in-StringOffsets.is) c.string_offsets_at.ensures.next
+
+pub returns-in-Ok-clause-next : goal.returns-in-Ok-clause-next
+returns-in-Ok-clause-next c = λ memory.
+    subst (λ kind. Follows (HasEnd kind c.args.section.now c.args.offset) (length c.args.section.now) c.entries_at-lines.result.1)
+    (sym c.in-WithoutHeader.is) c.entries_at-lines.ensures.next
+
+pub returns-in-Err-clause-next : goal.returns-in-Err-clause-next
+returns-in-Err-clause-next c = λ memory.
+    subst (λ kind. Follows (HasEnd kind c.args.section.now c.args.offset) (length c.args.section.now) c.entries_at-lines.result.1)
+    (sym c.in-WithoutHeader.is) c.entries_at-lines.ensures.next
