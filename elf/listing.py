@@ -3,10 +3,8 @@ from __future__ import annotations
 
 import functools
 import itertools
-import mmap
 import os
 import pathlib
-import re
 import shutil
 import subprocess
 import sys
@@ -29,22 +27,8 @@ SECTIONS = {
 }
 # The sizes that an address may have.
 ADDRESS_SIZES = (1, 2, 4, 8)
-# The numbers of a table, whose encodings may be longer than they need to be. The section's end may cut the last. The
-# form DW_FORM_implicit_const, 0x21, has its value in the table.
-ZERO = rb"\x80*\0"
-NUMBER = rb"[\x80-\xff]*(?:[\0-\x7f]|\Z)"
-NOT_ZERO = rb"(?!%b)%b" % (ZERO, NUMBER)
-WITH_VALUE = rb"(?:\x21|\xa1\x80*\0)"
-# A declaration with its attributes, more of these, and what ends a table. The last group is what ends a declaration. A
-# match takes memory for each attribute, so it has some of them.
-ATTRIBUTE = rb"(?:%b(?:%b%b|(?!%b)%b))" % (NOT_ZERO, WITH_VALUE, NUMBER, WITH_VALUE, NOT_ZERO)
-ATTRIBUTES = rb"%b{0,200}(%b(?:%b|[\x80-\xff]*\Z)|\Z)?" % (ATTRIBUTE, ZERO, ZERO)
-DECLARATION = re.compile(rb"%b%b(?:[\0\1]|\Z)%b" % (NOT_ZERO, NOT_ZERO, ATTRIBUTES))
-MORE = re.compile(ATTRIBUTES)
-NULL = re.compile(rb"\x80*(?:\0|\Z)")
 # What takes the output of the program.
 Take = typing.Callable[[typing.IO[bytes]], object]
-Data = typing.Union[bytes, mmap.mmap]
 # Where a part of a section begins and ends.
 Part = tuple[int, int]
 
@@ -175,11 +159,6 @@ class Listing:
         body.write_to(file, 0, len(body), on_error)
         file.flush()
 
-    def mapped(self) -> Data:
-        """The bytes that are kept."""
-        number = self.kept.fileno()
-        return mmap.mmap(number, 0, access=mmap.ACCESS_READ) if os.fstat(number).st_size else b""
-
     def tell(self, section: Section, status: int, lines: list[str]) -> None:
         """Reports what the program says of a section."""
         for line in lines[:ERRORS]:
@@ -234,33 +213,26 @@ class Listing:
             return
         self.parts(section, body)
         offsets = sorted(it for it in units if it <= len(body))
-        self.show(section, offsets + self.unnamed(section, body, offsets, has_all))
-
-    def unnamed(self, section: Section, body: Body, offsets: list[int], is_listed: bool) -> list[int]:
-        """Reports the parts of a section that no unit names, if units name the tables at these offsets. Returns where
-        the tables there begin if they are listed."""
-        found = []
-        how = "" if is_listed else ", and --all lists the tables there"
-        for start, end in parts_between(self.mapped(), offsets):
+        self.show(section, offsets)
+        parts = [*parts_between(self.ends(offsets), offsets, len(body))]
+        how = "" if has_all else ", and --all lists the tables there"
+        for start, end in parts:
             self.report.note(f"no unit names the bytes from 0x{start:x} to 0x{end:x} of {section}{how}")
-            if is_listed:
-                found += self.walk(section, body, start, end)
-        return found
+        if has_all and parts:
+            self.show_parts(self.kind, section, parts, sys.stdout.buffer)
 
-    def walk(self, section: Section, body: Body, at: int, end: int) -> list[int]:
-        """Where the tables in a part of a section begin, if each begins where the one before ends."""
-        data = self.mapped()
-        found = []
-        try:
-            while at < end:
-                padding = self.file.padding(body, at)
-                if padding:
-                    at += padding
-                else:
-                    found.append(at)
-                    at = end_of_table(data, at)
-        except Unlisted as error:
-            self.report.say(f"the table at 0x{at:x} of {section} {error}, and what follows isn't listed")
+    def ends(self, offsets: list[int]) -> dict[int, int]:
+        """Where the tables at these offsets end, as the program says. Those that are malformed are told of otherwise,
+        and where they end isn't known."""
+        found: dict[int, int] = {}
+
+        def take(text: typing.IO[bytes]) -> None:
+            # Each line is `0xOFFSET: 0xEND`.
+            for line in text:
+                at, _, end = line.partition(b":")
+                found[int(at, 16)] = int(end, 16)
+
+        run(["abbrev-ends"], self.kept, (b"%d" % it for it in offsets), take)
         return found
 
     # Sets.
@@ -361,31 +333,11 @@ class Listing:
         return "str-offset-entries", self.kind[-1], str(8 * sizes[0])
 
 
-# Where tables are. The program doesn't say where one ends.
-
-
-def end_of_table(data: Data, at: int) -> int:
-    """Where the table ends that begins at an offset: after the code 0, or at the section's end."""
-    pattern = DECLARATION
-    while at < len(data) and (found := pattern.match(data, at)):
-        if found.end() == at:
-            break
-        at = found.end()
-        pattern = MORE if found[1] is None else DECLARATION
-    last = NULL.match(data, at) if pattern is DECLARATION else None
-    if not last:
-        raise Unlisted("is malformed")
-    return last.end()
-
-
-def parts_between(data: Data, offsets: list[int]) -> typing.Iterator[tuple[int, int]]:
-    """The parts of a section that are in no table at these offsets, which rise. Where a malformed table ends isn't
-    known, so it counts up to the next one."""
+def parts_between(ends: dict[int, int], offsets: list[int], size: int) -> typing.Iterator[Part]:
+    """The parts of a section of this size that are in no table at these offsets, which rise. Where a malformed table
+    ends isn't known, so it counts up to the next one."""
     end = 0
-    for at, following in zip([*offsets, len(data)], [*offsets[1:], len(data), len(data)]):
+    for at, following in zip([*offsets, size], [*offsets[1:], size, size]):
         if at > end:
             yield end, at
-        try:
-            end = max(end, end_of_table(data, at))
-        except Unlisted:
-            end = max(end, following)
+        end = max(end, ends.get(at, following))

@@ -20,7 +20,7 @@ sys.path.insert(0, os.path.dirname(os.path.dirname(os.path.realpath(__file__))))
 
 from headers import ERRORS, Body, Stream, Unlisted
 from inputs import DebugLink, inputs, kind_of, link_of
-from listing import Listing, Take, end_of_table, parts_between
+from listing import Listing, Take, parts_between
 from output import Report
 from sections import DebugFile
 
@@ -472,47 +472,25 @@ class Inputs(unittest.TestCase):
 
 
 class Places(unittest.TestCase):
-    def test_the_end_of_a_table(self) -> None:
-        one = bytes.fromhex("01 11 01 03 08 13 21 ff 7f 00 00")
-        # A zero and a form may be longer than they need to be.
-        long = bytes.fromhex("81 80 00 11 00 03 a1 80 00 ff 7f 80 00 80 80 00 80 00 01")
-        many = b"\1\x11\0" + 500 * b"\3\x08"
-        rows = (
-            (one + b"\0\1", 12),
-            (b"\0\0", 1),
-            (b"\x81\1" + one[1:] + b"\0", 13),
-            (b"\1\x18\0\0\0\0\1", 6),
-            (b"\1\x18\0\0\xff", 5),
-            (long, 18),
-            (many + b"\0\0\0\1", 1006),
-            (many, 1003),
-            *((one[:it], it) for it in range(12)),
-            *((long[:it], it) for it in range(18)),
-        )
-        for data, wanted in rows:
-            with self.subTest(data=data):
-                self.assertEqual(end_of_table(data, 0), wanted)
-        for data in (b"\1\0\0\0\0", b"\1\x11\2\0\0", b"\1\x11\0\0\1", b"\1\x11\0\1\0", many + b"\1\0"):
-            with self.subTest(data=data), self.assertRaises(Unlisted):
-                end_of_table(data, 0)
-
     def test_parts_between_tables(self) -> None:
-        one = bytes.fromhex("01 11 00 00 00 00")
-        bad = bytes.fromhex("01 00 00 00 00 00")
-        rows: tuple[tuple[bytes, list[int], list[tuple[int, int]]], ...] = (
-            (one * 3, [0, 6, 12], []),
-            (one * 3, [0], [(6, 18)]),
-            (one * 3, [12], [(0, 12)]),
-            (one * 3, [0, 12], [(6, 12)]),
-            (one * 3, [], [(0, 18)]),
-            (one * 3, [0, 2, 18], [(6, 18)]),
-            (one + bad + one * 2, [0, 6, 18], []),
-            (one + bad + one * 2, [6, 12], [(0, 6), (18, 24)]),
-            (b"", [0], []),
+        ends = {0: 6, 2: 6, 6: 12, 12: 18, 18: 24}
+        without = {0: 6, 12: 18, 18: 24}
+        rows: tuple[tuple[dict[int, int], list[int], int, list[tuple[int, int]]], ...] = (
+            (ends, [0, 6, 12], 18, []),
+            (ends, [0], 18, [(6, 18)]),
+            (ends, [12], 18, [(0, 12)]),
+            (ends, [0, 12], 18, [(6, 12)]),
+            (ends, [], 18, [(0, 18)]),
+            (ends, [0, 2], 18, [(6, 18)]),
+            ({**ends, 18: 18}, [0, 18], 18, [(6, 18)]),
+            (without, [0, 6, 18], 24, []),
+            (without, [6, 12], 24, [(0, 6), (18, 24)]),
+            ({0: 0}, [0], 0, []),
+            ({}, [0], 0, []),
         )
-        for data, offsets, wanted in rows:
-            with self.subTest(data=data, offsets=offsets):
-                self.assertEqual(list(parts_between(data, offsets)), wanted)
+        for known, offsets, size, wanted in rows:
+            with self.subTest(known=known, offsets=offsets):
+                self.assertEqual(list(parts_between(known, offsets, size)), wanted)
 
 
 # A run of the program: the kind, the section, and the numbers or None for all of it.

@@ -1,7 +1,8 @@
-//! `dwarf_list_many` lists many parts of one section, or all of it, from one process:
-//! `KIND SECTION [OFFSETS]`, where the kind is `abbrev` for abbreviation tables, `str` for strings,
-//! `addr le|be` for sets of addresses, or `str-offsets le|be` for sets of string offsets. Those of
-//! split DWARF 4 have no header: `addr-entries le|be 1|2|4|8` and `str-offset-entries le|be 32|64`.
+//! `dwarf_list_many` lists many parts of one section, or all of it, from one process. Its arguments
+//! are `KIND SECTION [OFFSETS]`. The kind is `abbrev` for abbreviation tables, `abbrev-ends` for
+//! where these end, `str` for strings, `addr le|be` for sets of addresses, or `str-offsets le|be`
+//! for sets of string offsets. Those of split DWARF 4 have no header:
+//! `addr-entries le|be 1|2|4|8` and `str-offset-entries le|be 32|64`.
 //!
 //! `SECTION` and `OFFSETS` name files, or standard input by `-`, and without `OFFSETS` these come
 //! from standard input. The offsets are decimal, or hexadecimal after `0x`, one a line. With

@@ -10,9 +10,9 @@ use Rattle.dwarf_read_core.specs.InitialLength.{HasLength, HasNoLength, LengthAt
 use Rattle.dwarf_read_core.specs.Input.{after}
 use Rattle.dwarf_read_core.specs.Strings.{StringAt}
 use Rattle.dwarf_read_core.proofs.public.InitialLengths.{length_taken}
-use Rattle.dwarf_listing_core.specs.Walk.{Follows, HasEnd, HasSetSize, SetEndsAt, StringEndsAt, at_end, none_known}
+use Rattle.dwarf_listing_core.specs.Walk.{Follows, HasEnd, HasSetSize, SetEndsAt, StringEndsAt, TableEndAt, at_end, none_known}
 use Rattle.dwarf_listing_core.specs.declared.kind.Kind.{Kind}
-use Rattle.dwarf_listing_core.specs.declared.kind.Kind.TheVariants.{Tables, Strings, RawStrings, Addresses, StringOffsets, WithoutHeader}
+use Rattle.dwarf_listing_core.specs.declared.kind.Kind.TheVariants.{Tables, TableEnds, Strings, RawStrings, Addresses, StringOffsets, WithoutHeader}
 use Rattle.dwarf_listing_core.proofs.Walks.{EndOrNone}
 
 -- a table has exactly one end, and an error has none
@@ -30,6 +30,25 @@ table_end section offset (Ok t, is, only) ends =
     ))
 table_end section offset (Err e, is, only) ends =
     inr (λ end h. absurd (let both = only (Ok h.0) h.1 in cc))
+
+-- where a table ends is exactly one offset, or there is exactly one error
+pub table_end_or_error : (section : List ℕ) (offset : ℕ) → HasOne (Answer (section_of section false) offset)
+    → ((t : Table) → Answer (section_of section false) offset (Ok t)
+    → HasOne (TableEndsAt (section_of section false) offset t)) → HasOne (TableEndAt section offset)
+table_end_or_error section offset (Ok t, is, only) ends = (Ok (ends t is).0, (t, is, (ends t is).1), same)
+  where
+    same : (other : Result ℕ Error) → TableEndAt section offset other → other ≡ Ok (ends t is).0
+    same (Ok end) h =
+        let table : h.0 ≡ t = (let both = only (Ok h.0) h.1 in cc) in
+        ap Ok ((ends t is).2 end (rw table at h.2))
+    same (Err e) h = absurd (let both = only (Err e) h in cc)
+table_end_or_error section offset (Err e, is, only) ends = (Err e, is, same)
+  where
+    same : (other : Result ℕ Error) → TableEndAt section offset other → other ≡ Err e
+    same (Ok end) h = absurd (let both = only (Ok h.0) h.1 in cc)
+    same (Err other) h =
+        let error : other ≡ e = (let both = only (Err other) h in cc) in
+        ap Err error
 
 -- a string has exactly one end, and an error has none
 pub string_end : (section : List ℕ) (offset : ℕ) → HasOne (StringAt (section_of section false) offset)
@@ -114,6 +133,7 @@ pub end_later : (kind : Kind) (section : List ℕ)
     → ((offset end : ℕ) (t : Table) → offset < length section → TableEndsAt (section_of section false) offset t end
     → offset < end) → (offset end : ℕ) → offset < length section → HasEnd kind section offset end → offset < end
 end_later Tables section tables offset end within h = tables offset end h.0 within h.2
+end_later TableEnds section tables offset end within h = tables offset end h.0 within h.2
 end_later Strings section tables offset end within h = omega (arith, h.is)
 end_later RawStrings section tables offset end within h = omega (arith, h.is)
 end_later (Addresses endian) section tables offset end within h = omega (arith, h.2, size_least _ h.0 h.1)

@@ -12,7 +12,7 @@ use Rattle.dwarf_listing_core.specs.declared.kind.AddressWidth.{AddressWidth}
 use Rattle.dwarf_listing_core.specs.declared.kind.AddressWidth.TheVariants.{One, Two, Four, Eight}
 use Rattle.dwarf_listing_core.specs.declared.kind.Entry.TheVariants.{Address, StringOffset}
 use Rattle.dwarf_listing_core.specs.declared.kind.Kind.{Kind}
-use Rattle.dwarf_listing_core.specs.declared.kind.Kind.TheVariants.{Tables, Strings, RawStrings, Addresses, StringOffsets, WithoutHeader}
+use Rattle.dwarf_listing_core.specs.declared.kind.Kind.TheVariants.{Tables, TableEnds, Strings, RawStrings, Addresses, StringOffsets, WithoutHeader}
 use Rattle.dwarf_listing_core.specs.declared.arguments.OnError.{OnError}
 use Rattle.dwarf_listing_core.specs.declared.arguments.OnError.TheVariants.{Stop, GoOn}
 use Rattle.dwarf_listing_core.specs.declared.arguments.Options.{Options}
@@ -80,13 +80,14 @@ named_by options name words =
     if bytes_eq name (codes "str") then inputs_of options (if options.is_raw then RawStrings else Strings) words else (
     if options.is_raw then None else (
     if bytes_eq name (codes "abbrev") then inputs_of options Tables words else (
+    if bytes_eq name (codes "abbrev-ends") then inputs_of options TableEnds words else (
     if bytes_eq name (codes "addr") then
     option_and_then (λ sets. inputs_of options (Addresses sets.0) sets.1) (order_of words) else (
     if bytes_eq name (codes "str-offsets") then
     option_and_then (λ sets. inputs_of options (StringOffsets sets.0) sets.1) (order_of words) else (
     if bytes_eq name (codes "addr-entries") then option_and_then (addresses_by options) (order_of words) else (
     if bytes_eq name (codes "str-offset-entries") then
-    option_and_then (string_offsets_by options) (order_of words) else None))))))
+    option_and_then (string_offsets_by options) (order_of words) else None)))))))
 
 -- what these words mean after some options: each of the words at their front that names an option sets it
 abbrev pub named_after : Options → List (List ℕ) → Option Named

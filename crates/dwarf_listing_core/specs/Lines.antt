@@ -1,9 +1,10 @@
 -- Single lines: a string, and bytes in hexadecimal.
-use Rattle.std.specs.Prelude.{ℕ, ◌/◌, ◌%◌, ◌&&◌, ◌==◌, not, nat_le, nat_lt, Bool, false, List, [], ◌∷◌, ◌++◌, map, Result, if◌then◌else◌}
+use Rattle.std.specs.Prelude.{ℕ, ◌/◌, ◌%◌, ◌&&◌, ◌==◌, not, nat_le, nat_lt, Bool, false, List, [], ◌∷◌, ◌++◌, codes, map, Result, if◌then◌else◌}
 use Rattle.std.specs.Fmt.{digit_glyph}
 use Rattle.std.specs.Char.Escape.{escape_ascii}
 use Rattle.std.specs.List.{flat_map, join_with_byte}
 use Rattle.dwarf_read_core.specs.declared.Error.{Error}
+use Rattle.dwarf_read_core.specs.ErrorText.{hexadecimal}
 use Rattle.dwarf_read_core.specs.Input.{Input, section_of}
 use Rattle.dwarf_read_core.specs.Strings.{StringAt}
 use Rattle.dwarf_listing_core.specs.Listing.{ListsBy}
@@ -11,6 +12,10 @@ use Rattle.dwarf_listing_core.specs.Listing.{ListsBy}
 -- bytes and a line end
 abbrev pub line : List ℕ → List ℕ
 line bytes = bytes ++ 10 ∷ []
+
+-- the line of an offset of a section
+abbrev pub place_line : ℕ → List ℕ
+place_line offset = line (codes "0x" ++ hexadecimal offset)
 
 -- the two hexadecimal digits of a byte
 abbrev pub hex_byte : ℕ → List ℕ

@@ -7,7 +7,7 @@ use Rattle.dwarf_listing_core.specs.Lines.{line}
 use Rattle.dwarf_listing_core.specs.ManyFault.{many_fault_text}
 use Rattle.dwarf_listing_core.specs.Walk.{ListsOne, Walk}
 use Rattle.dwarf_listing_core.specs.declared.kind.Kind.{Kind}
-use Rattle.dwarf_listing_core.specs.declared.kind.Kind.TheVariants.{Tables, Strings, RawStrings, Addresses, StringOffsets, WithoutHeader}
+use Rattle.dwarf_listing_core.specs.declared.kind.Kind.TheVariants.{Tables, TableEnds, Strings, RawStrings, Addresses, StringOffsets, WithoutHeader}
 use Rattle.dwarf_listing_core.specs.declared.arguments.Lines.{Lines}
 use Rattle.dwarf_listing_core.specs.declared.arguments.Lines.TheVariants.{Offsets, Parts}
 use Rattle.dwarf_listing_core.specs.declared.arguments.OnError.{OnError}
@@ -37,6 +37,7 @@ WroteBoth Wrote Told texts = Wrote texts.0 × Told texts.1
 -- the title of an offset, before its lines
 abbrev pub title : Kind → ℕ → List ℕ
 title Tables offset = line (codes "table 0x" ++ hexadecimal offset ++ codes ":")
+title TableEnds offset = codes "0x" ++ hexadecimal offset ++ codes ": "
 title Strings offset = codes "0x" ++ hexadecimal offset ++ codes ": "
 title RawStrings offset = codes "0x" ++ hexadecimal offset ++ codes ": "
 title (Addresses _) offset = codes "set 0x" ++ hexadecimal offset ++ codes ": "

@@ -15,7 +15,7 @@ many_fault_text (Line number quote) =
 many_fault_text ReadSection = codes "error: cannot read the section"
 many_fault_text ReadOffsets = codes "error: cannot read the offsets"
 many_fault_text (Other Usage) =
-    codes "usage: dwarf_list_many [--keep-going] [--raw] [--all] [--parts] KIND SECTION [OFFSETS], where KIND is abbrev, str, addr le|be, str-offsets le|be, addr-entries le|be 1|2|4|8 or str-offset-entries le|be 32|64"
+    codes "usage: dwarf_list_many [--keep-going] [--raw] [--all] [--parts] KIND SECTION [OFFSETS], where KIND is abbrev, abbrev-ends, str, addr le|be, str-offsets le|be, addr-entries le|be 1|2|4|8 or str-offset-entries le|be 32|64"
 many_fault_text (Other fault) = fault_text fault
 
 -- the exit status: 1 for malformed input, 3 for an input that can't be read

@@ -1,5 +1,5 @@
 -- What begins at an offset of a section, and where the next begins.
-use Rattle.std.specs.Prelude.{◌≡◌, ℕ, ◌+◌, ◌-◌, ◌^◌, ◌<◌, ◌≤◌, Bool, true, false, IsTrue, ◌&&◌, List, [], ◌∷◌, length, drop, Result, Ok, nat_eq}
+use Rattle.std.specs.Prelude.{◌≡◌, ℕ, ◌+◌, ◌-◌, ◌^◌, ◌<◌, ◌≤◌, Bool, true, false, IsTrue, ◌&&◌, List, [], ◌∷◌, length, drop, Result, Ok, Err, nat_eq}
 use Rattle.std.specs.List.{starts_with}
 use Rattle.dwarf_read_core.specs.declared.Error.{Error}
 use Rattle.dwarf_read_core.specs.declared.Format.{Format}
@@ -11,16 +11,28 @@ use Rattle.dwarf_read_core.specs.InitialLength.{HasLength}
 use Rattle.dwarf_read_core.specs.Input.{Input, after, section_of}
 use Rattle.dwarf_read_core.specs.Strings.{StringAt}
 use Rattle.dwarf_listing_core.specs.Entries.{EntriesEndAt, ListsEntries}
-use Rattle.dwarf_listing_core.specs.Lines.{ListsString, ShowsString}
+use Rattle.dwarf_listing_core.specs.Lines.{ListsString, ShowsString, place_line}
+use Rattle.dwarf_listing_core.specs.Listing.{ListsBy}
 use Rattle.dwarf_listing_core.specs.Sets.{ListsSetAt, address_listing, offset_listing}
 use Rattle.dwarf_listing_core.specs.Tables.{ListsTable}
 use Rattle.dwarf_listing_core.specs.declared.kind.Kind.{Kind}
-use Rattle.dwarf_listing_core.specs.declared.kind.Kind.TheVariants.{Tables, Strings, RawStrings, Addresses, StringOffsets, WithoutHeader}
+use Rattle.dwarf_listing_core.specs.declared.kind.Kind.TheVariants.{Tables, TableEnds, Strings, RawStrings, Addresses, StringOffsets, WithoutHeader}
 use Rattle.dwarf_listing_core.specs.declared.sets.Style.TheVariants.{Titled}
+
+-- where the table at an offset ends, or the error in its place
+abbrev pub TableEndAt : List ℕ → ℕ → Result ℕ Error → Type 0
+TableEndAt section offset (Ok end) =
+    (t : Table) × Answer (section_of section false) offset (Ok t) × TableEndsAt (section_of section false) offset t end
+TableEndAt section offset (Err error) = Answer (section_of section false) offset (Err error)
+
+-- the line of that end
+abbrev pub ListsTableEnd : List ℕ → ℕ → Result (List ℕ) Error → Type 0
+ListsTableEnd section offset answer = ListsBy place_line (TableEndAt section offset) answer
 
 -- the lines at an offset of a section, or the error there
 abbrev pub ListsOne : Kind → List ℕ → ℕ → Result (List ℕ) Error → Type 0
 ListsOne Tables = ListsTable
+ListsOne TableEnds = ListsTableEnd
 ListsOne Strings = ShowsString
 ListsOne RawStrings = ListsString
 ListsOne (Addresses endian) = ListsSetAt (address_listing Titled) endian
@@ -48,8 +60,8 @@ SetEndsAt section offset end = (size : ℕ) × HasSetSize (after offset section)
 -- where what begins at an offset ends, if that is known: of a set from its length alone, of entries without a header
 -- from how many are there, else from all of it
 abbrev pub HasEnd : Kind → List ℕ → ℕ → ℕ → Type 0
-HasEnd Tables section offset end =
-    (t : Table) × Answer (section_of section false) offset (Ok t) × TableEndsAt (section_of section false) offset t end
+HasEnd Tables section offset end = TableEndAt section offset (Ok end)
+HasEnd TableEnds section offset end = TableEndAt section offset (Ok end)
 HasEnd Strings section offset end = StringEndsAt section offset end
 HasEnd RawStrings section offset end = StringEndsAt section offset end
 HasEnd (Addresses endian) section offset end = SetEndsAt (section_of section (is_big_at_run_time endian)) offset end

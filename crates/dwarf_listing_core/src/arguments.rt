@@ -115,6 +115,7 @@ fn parse_kind<'a>(options: Options, name: &str, words: &'a [String]) -> Option<A
     }
     match name {
         "abbrev" => parse_inputs(options, Kind::Tables, words),
+        "abbrev-ends" => parse_inputs(options, Kind::TableEnds, words),
         "addr" => {
             let (endian, inputs) = split_order(words)?;
             parse_inputs(options, Kind::Addresses(endian), inputs)

@@ -10,6 +10,8 @@ use dwarf_read_core::{Format, RunTimeEndian};
 pub enum Kind {
     /// Abbreviation tables of `.debug_abbrev`.
     Tables,
+    /// Where each of these tables ends.
+    TableEnds,
     /// Strings of `.debug_str` or `.debug_line_str`, with an escape for each byte that isn't
     /// printable.
     Strings,

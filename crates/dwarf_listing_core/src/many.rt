@@ -392,7 +392,7 @@ fn write_title<O: Write>(output: &mut O, kind: Kind, offset: u64) -> io::Result<
 {
     match kind {
         Kind::Tables => writeln!(output, "table 0x{offset:x}:"),
-        Kind::Strings | Kind::RawStrings => write!(output, "0x{offset:x}: "),
+        Kind::TableEnds | Kind::Strings | Kind::RawStrings => write!(output, "0x{offset:x}: "),
         Kind::Addresses(_) | Kind::StringOffsets(_) | Kind::WithoutHeader(_) => {
             write!(output, "set 0x{offset:x}: ")
         }

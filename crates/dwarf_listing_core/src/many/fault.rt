@@ -100,7 +100,7 @@ impl fmt::Display for ManyFault {
                 write!(
                     f,
                     "usage: dwarf_list_many [--keep-going] [--raw] [--all] [--parts] KIND SECTION \
-                     [OFFSETS], where KIND is abbrev, str, addr le|be, str-offsets le|be, \
+                     [OFFSETS], where KIND is abbrev, abbrev-ends, str, addr le|be, str-offsets le|be, \
                      addr-entries le|be 1|2|4|8 or str-offset-entries le|be 32|64"
                 )
             }

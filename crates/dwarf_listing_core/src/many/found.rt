@@ -14,7 +14,7 @@ ghost use Rattle.dwarf_listing_core.specs.Found.{found_bytes};
 ghost use Rattle.dwarf_listing_core.specs.Lines.{is_plain, shown_byte};
 ghost use Rattle.dwarf_listing_core.specs.Sets.{ListsFirst, ListsSetAt, address_listing, offset_listing};
 ghost use Rattle.dwarf_listing_core.specs.Tables.{ListsTable};
-ghost use Rattle.dwarf_listing_core.specs.Walk.{Follows, HasEnd, HasSetSize, ListsOne, SetEndsAt, StringEndsAt, is_padding};
+ghost use Rattle.dwarf_listing_core.specs.Walk.{Follows, HasEnd, HasSetSize, ListsOne, ListsTableEnd, SetEndsAt, StringEndsAt, TableEndAt, is_padding};
 ghost use Rattle.dwarf_listing_core.specs.declared.sets.Style.TheVariants.{Titled};
 
 use super::entries::entries_at;
@@ -34,6 +34,8 @@ use std::io::Write;
 pub(crate) enum Found<'a> {
     /// A table, whose lines are made as they are written.
     Table(Abbreviations),
+    /// Where a table ends.
+    End(u64),
     /// A string, with an escape for each byte that isn't printable.
     Shown(&'a [u8]),
     /// A string, byte for byte.
@@ -54,6 +56,7 @@ impl Found<'_> {
     {
         match self {
             Found::Table(table) => write_table(output, table),
+            Found::End(end) => writeln!(output, "0x{end:x}"),
             Found::Shown(string) => {
                 write_shown(output, string)?;
                 output.write_all(b"\n")
@@ -82,6 +85,7 @@ pub(crate) fn found_at(
 {
     match kind {
         Kind::Tables => table_at(mem, section, offset),
+        Kind::TableEnds => table_end_at(mem, section, offset),
         Kind::Strings => {
             let (string, next) = string_at(section, offset);
             (string.map(Found::Shown), next)
@@ -108,6 +112,7 @@ fn table_at(mem: Global, section: &[u8], offset: u64) -> (Result<Found<'_>, Erro
     ensures found { UnlessOutOfMemory (ListsTable section.now offset) found_bytes result.0 }
     ensures next { result.0 ≢ Err OutOfMemory →
         Follows (HasEnd Kind.Tables section.now offset) (length section.now) result.1 }
+    ensures end { IfOk result.0 (λ _. TableEndAt section.now offset (Ok result.1)) }
     ensures later { offset < length section.now → offset < result.1 }
     ensures within { result.1 ≤ length section.now }
 {
@@ -117,6 +122,21 @@ fn table_at(mem: Global, section: &[u8], offset: u64) -> (Result<Found<'_>, Erro
     match debug_abbrev.abbreviations_and_end(mem, DebugAbbrevOffset(offset as usize)) {
         Ok((table, end)) => (Ok(Found::Table(table)), end.0 as u64),
         Err(error) => (Err(error), section.len() as u64),
+    }
+}
+
+// Returns where the table at an offset ends. Bytes that are in no table can be found by it.
+fn table_end_at(mem: Global, section: &[u8], offset: u64) -> (Result<Found<'_>, Error>, u64)
+    ensures found { UnlessOutOfMemory (ListsTableEnd section.now offset) found_bytes result.0 }
+    ensures next { result.0 ≢ Err OutOfMemory →
+        Follows (HasEnd Kind.TableEnds section.now offset) (length section.now) result.1 }
+    ensures later { offset < length section.now → offset < result.1 }
+    ensures within { result.1 ≤ length section.now }
+{
+    let (table, next) = table_at(mem, section, offset);
+    match table {
+        Ok(_) => (Ok(Found::End(next)), next),
+        Err(error) => (Err(error), next),
     }
 }
 

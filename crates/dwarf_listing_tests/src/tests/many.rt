@@ -12,7 +12,7 @@ use dwarf_listing_core::kind::AddressWidth::{Eight, Four, One, Two};
 use dwarf_listing_core::kind::Entry::{Address, StringOffset};
 use dwarf_listing_core::kind::Kind;
 use dwarf_listing_core::kind::Kind::{
-    Addresses, RawStrings, StringOffsets, Strings, Tables, WithoutHeader,
+    Addresses, RawStrings, StringOffsets, Strings, TableEnds, Tables, WithoutHeader,
 };
 use dwarf_listing_core::many::fault::ManyFault;
 use dwarf_listing_core::many::{run_many, run_whole};
@@ -180,7 +180,15 @@ const BAD_PART: Run = (
     b"0x0: one\n0x4: two\n", b"", Err(ManyFault::At(8, Error::UnexpectedEof(ReaderOffsetId(8)))),
 );
 
-const RUNS: [Run; 17] = [
+// A table ends after its code 0, or with the section.
+#[rattlefmt::skip]
+const TABLE_ENDS: Run = (
+    GoOn, TableEnds, b"\x01\x11\0\0\0\0\x01\0\0\0\0\x02\x2e\x01\0\0",
+    Some((Offsets, b"0\n6\n11\n5\n16\n")), b"0x0: 0x6\n0xb: 0x10\n0x5: 0x6\n0x10: 0x10\n",
+    b"error at 0x6: invalid abbreviation tag: zero\n", Ok(true),
+);
+
+const RUNS: [Run; 18] = [
     THREE_STRINGS,
     TABLES,
     GOES_ON,
@@ -198,6 +206,7 @@ const RUNS: [Run; 17] = [
     ENTRIES_OF_PARTS,
     PARTS,
     BAD_PART,
+    TABLE_ENDS,
 ];
 
 // Offsets, and the number and the quote of the first line that isn't one.
@@ -302,6 +311,7 @@ static NAMED: &[Named] = &[
     (&[b"--all", b"abbrev", b"-"], Some((Stop, Tables, "-", None))),
     (&[b"--all", b"--raw", b"--keep-going", b"--all", b"str", b"x"], Some((GoOn, RawStrings, "x", None))),
     (&[b"--all", b"addr", b"be", b"x"], Some((Stop, Addresses(Big), "x", None))),
+    (&[b"abbrev-ends", b"x"], Some((Stop, TableEnds, "x", Some((Offsets, "-"))))),
     (&[b"--parts", b"abbrev", b"x", b"y"], Some((Stop, Tables, "x", Some((Parts, "y"))))),
     (&[b"addr-entries", b"le", b"1", b"x"], Some((Stop, WithoutHeader(Address(Little, One)), "x", Some((Offsets, "-"))))),
     (&[b"addr-entries", b"be", b"2", b"x"], Some((Stop, WithoutHeader(Address(Big, Two)), "x", Some((Offsets, "-"))))),
@@ -534,8 +544,8 @@ fn refused_memory_for_many_offsets(rt: HostRuntime) -> Result<(), Fail> {
 }
 
 const USAGE: &str = "usage: dwarf_list_many [--keep-going] [--raw] [--all] [--parts] KIND SECTION \
-    [OFFSETS], where KIND is abbrev, str, addr le|be, str-offsets le|be, addr-entries le|be 1|2|4|8 \
-    or str-offset-entries le|be 32|64";
+    [OFFSETS], where KIND is abbrev, abbrev-ends, str, addr le|be, str-offsets le|be, \
+    addr-entries le|be 1|2|4|8 or str-offset-entries le|be 32|64";
 
 // Errors, each with its line and its status.
 #[rattlefmt::skip]

@@ -3,14 +3,14 @@ use Rattle.std.specs.Prelude.{length}
 use Rattle.dwarf_read_core.specs.Endian.{is_big_at_run_time}
 use Rattle.dwarf_read_core.proofs.public.Entries.{word_size-positive}
 use Rattle.dwarf_listing_core.specs.Entries.{EntryAt}
-use Rattle.dwarf_listing_core.specs.Lines.{shown_line}
+use Rattle.dwarf_listing_core.specs.Lines.{place_line, shown_line}
 use Rattle.dwarf_listing_core.specs.Walk.{Follows, HasEnd, ListsOne}
 use Rattle.dwarf_listing_core.specs.declared.kind.Entry.{Entry}
 use Rattle.dwarf_listing_core.specs.declared.kind.Entry.TheVariants.{Address, StringOffset}
 use Rattle.dwarf_listing_core.specs.declared.kind.Kind.{Kind}
-use Rattle.dwarf_listing_core.specs.declared.kind.Kind.TheVariants.{Tables, Strings, RawStrings, Addresses, StringOffsets, WithoutHeader}
+use Rattle.dwarf_listing_core.specs.declared.kind.Kind.TheVariants.{Tables, TableEnds, Strings, RawStrings, Addresses, StringOffsets, WithoutHeader}
 use Rattle.dwarf_listing_core.specs.declared.sets.Style.TheVariants.{Titled}
-use Rattle.dwarf_listing_core.proofs.Ends.{end_later, next_later, set_end, string_end, table_end}
+use Rattle.dwarf_listing_core.proofs.Ends.{end_later, next_later, set_end, string_end, table_end, table_end_or_error}
 use Rattle.dwarf_listing_core.proofs.EntryLines.{entries_end, one_entries}
 use Rattle.dwarf_listing_core.proofs.OneText.{one_text_by}
 use Rattle.dwarf_listing_core.proofs.SetTexts.{address_size, one_at}
@@ -24,6 +24,10 @@ module _ (c : goal.After-exactly_one_list_of_string_offsets) where
 
   listing : (kind : Kind) (section : List ℕ) (offset : ℕ) → HasOne (ListsOne kind section offset)
   listing Tables section offset = c.exactly_one_listing.ensures.table section offset
+  listing TableEnds section offset =
+      one_text_by place_line _
+      (table_end_or_error section offset (c.exactly_one_answer.ensures (section_of section false) offset)
+      (c.exactly_one_end.ensures.one (section_of section false) offset))
   listing Strings section offset =
       one_text_by shown_line _ (c.exactly_one_lookup.ensures.string (section_of section false) offset)
   listing RawStrings section offset = c.exactly_one_listing.ensures.string section offset
@@ -39,6 +43,9 @@ module _ (c : goal.After-exactly_one_list_of_string_offsets) where
 
   end : (kind : Kind) (section : List ℕ) (offset : ℕ) → EndOrNone (HasEnd kind section offset)
   end Tables section offset =
+      table_end section offset (c.exactly_one_answer.ensures (section_of section false) offset)
+      (c.exactly_one_end.ensures.one (section_of section false) offset)
+  end TableEnds section offset =
       table_end section offset (c.exactly_one_answer.ensures (section_of section false) offset)
       (c.exactly_one_end.ensures.one (section_of section false) offset)
   end Strings section offset =

@@ -22,6 +22,9 @@ returns-in-Ok-clause-next c = λ memory.
       ends c,
     )
 
+pub returns-in-Ok-clause-end : goal.returns-in-Ok-clause-end
+returns-in-Ok-clause-end c = (c.in-Ok.table, rw c.new-debug_abbrev.ensures.view at c.in-Ok.ensures.answer, ends c)
+
 pub returns-in-Ok-clause-later : goal.returns-in-Ok-clause-later
 returns-in-Ok-clause-later c = λ within.
     c.exactly_one_end.ensures.after (section_of c.args.section.now false) c.args.offset c.in-Ok.end.0 c.in-Ok.table within
