@@ -32,10 +32,11 @@ EntryAt (Address endian width) section offset index found =
 EntryAt (StringOffset endian format) section offset index found =
     WordAt (2 ^ 64 - 1) (section_of section (is_big_at_run_time endian)) (slot offset index (word_size format)) found
 
--- how many whole entries a section has from an offset on, and how many bytes these have
+-- how many whole entries a section has from an offset on
 abbrev pub entry_count : Entry → List ℕ → ℕ → ℕ
 entry_count entry section offset = (length section - offset) / entry_width entry
 
+-- how many bytes these have
 abbrev pub entries_size : Entry → List ℕ → ℕ → ℕ
 entries_size entry section offset = length section - offset - (length section - offset) % entry_width entry
 
@@ -57,7 +58,8 @@ addresses_line size width =
 
 -- the line before string offsets: how many bytes they have, and the bits of their format
 abbrev pub string_offsets_line : ℕ → ℕ → List ℕ
-string_offsets_line size bits = line (codes "no header, " ++ decimal size ++ codes " bytes, " ++ decimal bits ++ codes "-bit")
+string_offsets_line size bits =
+    line (codes "no header, " ++ decimal size ++ codes " bytes, " ++ decimal bits ++ codes "-bit")
 
 -- the line before entries
 abbrev pub entries_line : Entry → ℕ → List ℕ

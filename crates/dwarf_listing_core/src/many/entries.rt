@@ -67,6 +67,7 @@ fn entry_lines(mem: Global, section: &[u8], entry: Entry, offset: u64) -> Result
     Ok(text)
 }
 
+// Appends the line before entries, which has in it what a header would have said.
 fn push_entries_line(text: &mut Vec<u8>, entry: Entry, size: u64) -> Result<(), AllocError>
     ensures { OnOk result (text.new.items ≡ text.old.items ++ entries_line entry size) }
 {
@@ -78,12 +79,14 @@ fn push_entries_line(text: &mut Vec<u8>, entry: Entry, size: u64) -> Result<(), 
     }
 }
 
+// Appends that line before addresses.
 fn push_addresses_line(text: &mut Vec<u8>, size: u64, width: u8) -> Result<(), AllocError>
     ensures { OnOk result (text.new.items ≡ text.old.items ++ addresses_line size width) }
 {
     writeln!(text, "no header, {size} bytes, address size {width}").map_err(|_| AllocError)
 }
 
+// Appends that line before string offsets.
 fn push_string_offsets_line(text: &mut Vec<u8>, size: u64, bits: u8) -> Result<(), AllocError>
     ensures { OnOk result (text.new.items ≡ text.old.items ++ string_offsets_line size bits) }
 {
