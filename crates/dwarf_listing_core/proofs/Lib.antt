@@ -8,6 +8,7 @@ pub mod ItemLines
 pub mod Numbers
 pub mod OffsetLines
 pub mod OneOutcome
+pub mod OnePartsOutcome
 pub mod OneText
 pub mod QuotedBytes
 pub mod SetTexts

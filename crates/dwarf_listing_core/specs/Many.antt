@@ -131,6 +131,32 @@ pub data ListsParts (on_error : OnError) (kind : Kind) (section : List ℕ) : Li
       → ListsAll on_error kind (take part.1 section) offsets more fails
       → ListsParts on_error kind section (parts ++ part ∷ []) (then_texts texts more) (failed || fails)
 
+-- the outcome of a run over a part, and what is written
+abbrev pub IsRunOfPart : OnError → Kind → List ℕ → Part → Result Bool (ℕ × Error) × Texts → Type 0
+IsRunOfPart on_error kind section part outcome =
+    (offsets : List ℕ) × Walk kind (take part.1 section) part.0 offsets
+    × IsRun on_error kind (take part.1 section) offsets outcome
+
+-- the first error that ends a run is in one of these parts, and what is written is that of the parts before it, and then
+-- of it
+pub record FailsInPart (on_error : OnError) (kind : Kind) (section : List ℕ) (parts : List Part) (at : ℕ × Error)
+    (texts : Texts) : Type 0 where
+  pub before : List Part
+  pub part : Part
+  pub after : List Part
+  pub is : parts ≡ before ++ part ∷ after
+  pub earlier : Texts
+  pub failed : Bool
+  pub listed : ListsParts on_error kind section before earlier failed
+  pub own : Texts
+  pub ends : IsRunOfPart on_error kind section part (Err at, own)
+  pub whole : texts ≡ then_texts earlier own
+
+-- the outcome of a run over these parts, if memory suffices and no output fails
+abbrev pub IsRunOfParts : OnError → Kind → List ℕ → List Part → Result Bool (ℕ × Error) × Texts → Type 0
+IsRunOfParts on_error kind section parts (Ok failed, texts) = ListsParts on_error kind section parts texts failed
+IsRunOfParts on_error kind section parts (Err at, texts) = FailsInPart on_error kind section parts at texts
+
 -- a run over parts ends with an error in one of them: what was written is that of the parts before it, and then of it
 pub record EndsInPart (on_error : OnError) (kind : Kind) (section : List ℕ) (parts : List Part) (Wrote : Texts → Type 0)
     (fault : ManyFault) : Type 0 where

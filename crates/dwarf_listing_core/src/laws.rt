@@ -4,7 +4,7 @@ ghost use Rattle.std.specs.Prelude.{◌≡◌, ℕ, List, Result, length};
 ghost use Rattle.dwarf_read_core.specs.Once.{HasOne};
 ghost use Rattle.dwarf_read_core.specs.declared.Error.{Error};
 ghost use Rattle.dwarf_listing_core.specs.Lines.{ListsString};
-ghost use Rattle.dwarf_listing_core.specs.Many.{IsRun};
+ghost use Rattle.dwarf_listing_core.specs.Many.{IsRun, IsRunOfParts, Part};
 ghost use Rattle.dwarf_listing_core.specs.Sets.{ListsAddresses, ListsStringOffsets};
 ghost use Rattle.dwarf_listing_core.specs.Tables.{ListsStrictTable, ListsTable};
 ghost use Rattle.dwarf_listing_core.specs.Text.{IsText, Lists};
@@ -65,10 +65,12 @@ pub fn exactly_one_walk()
 
 /// Offsets have exactly one outcome: what is written of all, and whether one of them has an error;
 /// or, for a run that stops at an error, the first error and what is written of the offsets before
-/// it.
+/// it. So have the parts of a section, of which each is walked.
 pub fn exactly_one_run()
-    ensures { (on_error : _) (kind : _) (section offsets : List ℕ)
+    ensures offsets { (on_error : _) (kind : _) (section offsets : List ℕ)
         → HasOne (IsRun on_error kind section offsets) }
+    ensures parts { (on_error : _) (kind : _) (section : List ℕ) (parts : List Part)
+        → HasOne (IsRunOfParts on_error kind section parts) }
 {
     exactly_one_walk();
 }
