@@ -423,6 +423,11 @@ fn inputs_fail_at_each_call(rt: HostRuntime) -> Result<(), Fail> {
     Ok(())
 }
 
+// Returns what a number of calls write of a text, a byte each. Among all rows its bound isn't proved.
+fn front_of(text: &[u8], calls: usize) -> &[u8] {
+    &text[..calls.min(text.len())]
+}
+
 // Each byte of the text is written by a call of its own, also before an error at an offset, and
 // then the output is flushed. No call follows the one that fails.
 #[test]
@@ -442,7 +447,7 @@ fn outputs_fail_at_each_call(rt: HostRuntime) -> Result<(), Fail> {
             assert_eq!(rt; ended, wanted, "{good_calls}");
             // The text is in a buffer while errors are written.
             assert_eq!(rt; errors.as_slice(), told, "{good_calls}");
-            let written = &text[..good_calls.min(text.len())];
+            let written = front_of(text, good_calls);
             assert_eq!(rt; output.inner.as_slice(), written, "{good_calls}");
             let calls = text.len().min(good_calls).saturating_add(1);
             assert_eq!(rt; output.calls, calls, "{good_calls}");
@@ -472,7 +477,7 @@ fn errors_fail_at_each_call(rt: HostRuntime) -> Result<(), Fail> {
                 (wanted, written),
                 "{good_calls}"
             );
-            let told = &told[..good_calls.min(told.len())];
+            let told = front_of(told, good_calls);
             assert_eq!(rt; errors.inner.as_slice(), told, "{good_calls}");
         }
     }
