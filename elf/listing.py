@@ -164,7 +164,7 @@ class Listing:
         for line in lines[:ERRORS]:
             self.report.say(f"{section}: {line}", status)
         if len(lines) > ERRORS:
-            self.report.say(f"{section} has {len(lines)} errors, and the first {ERRORS} are told")
+            self.report.say(f"{section} has {len(lines)} errors, and the first {ERRORS} are reported")
 
     def show(self, section: Section, offsets: typing.Iterable[int] | None, file: typing.BinaryIO | None = None) -> None:
         """Lists what is at these offsets of the section that is kept, or all of it, on standard output or in a file."""
@@ -222,7 +222,7 @@ class Listing:
             self.show_parts(self.kind, section, parts, sys.stdout.buffer)
 
     def ends(self, offsets: list[int]) -> dict[int, int]:
-        """Where the tables at these offsets end, as the program says. Those that are malformed are told of otherwise,
+        """Where the tables at these offsets end, as the program says. Those that are malformed are reported elsewhere,
         and where they end isn't known."""
         found: dict[int, int] = {}
 
@@ -293,7 +293,7 @@ class Listing:
         found = [it for it in self.file.named("debug_str") if it.family == section.family]
         try:
             if not found:
-                raise Unlisted(f"has no section .debug_str{section.family[1]} beside it with its strings")
+                raise Unlisted(f"has no section .debug_str{section.family[1]} with its strings")
             return found[0], self.file.body(found[0])
         except Unlisted as error:
             self.report.say(f"{found[0] if found else section} {error}")
