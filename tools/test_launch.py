@@ -163,8 +163,13 @@ class Help(unittest.TestCase):
         arguments, _, kinds = self.usage("ManyFault", f"{NAME}_many").partition(", where KIND is ")
         told = re.findall(r"^  --many (.*)\n((?:   .*\n)+)", self.printed(LAUNCHER, "--help"), re.M)
         self.assertEqual([it for it, _ in told], [arguments])
-        for it in re.findall(r"[a-z-]+(?: le\|be)?", kinds.replace(" or ", ", ")):
+        named = re.findall(r"[a-z-]+(?: le\|be)?", kinds.replace(" or ", ", "))
+        for it in named:
             self.assertIn(it, " ".join(told[0][1].split()))
+        # The launcher passes each of them on.
+        passed = re.findall(r"dwarf_list_many/([a-z-]+)", kit.text_of(LAUNCHER))
+        options = re.findall(r"\[(--[a-z-]+)\]", arguments)
+        self.assertEqual(sorted(passed), sorted([*options, *(it.split()[0] for it in named)]))
 
     def test_installed(self) -> None:
         with tempfile.TemporaryDirectory() as folder:
