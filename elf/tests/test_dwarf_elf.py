@@ -61,7 +61,7 @@ def elf(
 
 
 def read(data: bytes) -> tuple[DebugFile, list[str]]:
-    """A file, and what is told of it."""
+    """A file, and what is reported of it."""
     told: list[str] = []
     return DebugFile(body(data), told.append), told
 
@@ -141,7 +141,7 @@ class Relocations(unittest.TestCase):
     )
 
     def written(self, data: bytes) -> tuple[bytes, list[tuple[int, str]]]:
-        """The bytes of .debug_addr that are listed, and what is told of places in it."""
+        """The bytes of .debug_addr that are listed, and what is reported of places in it."""
         file, _ = read(data)
         body = file.body(file.named("debug_addr")[0])
         told: list[tuple[int, str]] = []
