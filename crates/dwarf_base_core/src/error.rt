@@ -78,11 +78,11 @@ pub enum Error {
     OpcodeBaseZero,
     /// A string isn't UTF-8.
     BadUtf8,
-    /// The entry of the frame section at this offset, in bytes, ought to be common information and
-    /// is something else.
+    /// The entry of the frame section at this offset, in bytes, ought to be a common information
+    /// entry (CIE) and isn't.
     NotCieId(u64),
-    /// The entry of the frame section at this offset, in bytes, ought to describe a function and is
-    /// common information.
+    /// The entry of the frame section at this offset, in bytes, ought to be a frame description
+    /// entry (FDE) and is a CIE.
     NotCiePointer(u64),
     /// A branch leads out of its expression.
     BadBranchTarget(u64),

@@ -9,8 +9,8 @@ use dwarf_const_core::names;
 use dwarf_const_core::names::{Names, pad_name};
 use std::fmt;
 
-/// How a pointer is to be followed. Each machine defines its own classes beside the one here (DWARF
-/// 5, section 7.13).
+/// How a pointer is to be followed. Each machine defines classes of its own, too (DWARF 5, section
+/// 7.13).
 ///
 /// `Display` writes the name, or `Unknown DwAddr: 99` for a value without one, and honours width,
 /// precision, fill and alignment.

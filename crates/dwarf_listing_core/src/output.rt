@@ -32,7 +32,7 @@ impl<'a, O: Write> Buffered<'a, O> {
     }
 
     /// Writes what is in the buffer, flushes the output, and returns it. A caller reads the output
-    /// once more, by which its proof learns what that holds.
+    /// once more: from that its proof learns what the output holds.
     ///
     /// # Errors
     ///

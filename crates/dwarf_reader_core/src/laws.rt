@@ -1,6 +1,6 @@
 //! Laws of the definitions that the contracts cite.
 
-ghost use Rattle.std.specs.Prelude.{◌≡◌, ◌<◌, ◌≤◌, ◌⊎◌, ◌↔◌, ◌++◌, ℕ, All, List, [], ◌∷◌, Ok, Err, length, IsTrue};
+ghost use Rattle.std.specs.Prelude.{◌≡◌, ◌≤◌, ◌⊎◌, ◌↔◌, ◌++◌, ℕ, List, [], ◌∷◌, Err, length, IsTrue};
 ghost use Rattle.dwarf_base_core.specs.declared.error.Error.{Error};
 ghost use Rattle.dwarf_reader_core.specs.Input.{Input, TakesString};
 ghost use Rattle.dwarf_reader_core.specs.Faults.{HasNoByte, IsCutIn, eof};
@@ -13,14 +13,14 @@ ghost use Rattle.dwarf_reader_core.specs.Shortest.{Encodes, IsShortest};
 use dwarf_base_core::laws::numbers_of_bytes;
 
 /// Bytes have exactly one outcome for each kind of number: they begin with a number, end before it
-/// does, or are bad.
+/// does, or are malformed.
 pub fn exactly_one_outcome()
     ensures unsigned { (bytes : List ℕ) → HasOne (HasOutcome unsigned64 bytes) }
     ensures short { (bytes : List ℕ) → HasOne (HasOutcome unsigned16 bytes) }
     ensures signed { (bytes : List ℕ) → HasOne (HasOutcome signed64 bytes) }
 {}
 
-/// Bytes are bad exactly if no bytes after them make them begin with a number.
+/// Bytes are malformed exactly if no bytes after them make them begin with a number.
 #[tactic(auto, using(crate::proofs::leb::Malformed::bad_bytes))]
 pub fn bad_bytes_stay_bad()
     ensures { (k : Kind) (bytes : List ℕ) → IsMalformed k bytes

@@ -28,8 +28,10 @@ use std::fmt::Debug;
 ///
 /// A call that consumes bytes consumes them from the front, and the position grows by as many. No
 /// call changes the byte order, and each reader that a call returns has it too. Positions are below
-/// 2^64, and the number of remaining bytes is an offset. [`Error::UnexpectedEof`] has the position
-/// at which bytes are missing.
+/// 2^64, and the number of remaining bytes is an offset.
+///
+/// [`Error::UnexpectedEof`] has the position at which bytes are missing. The reads from
+/// [`read_u8`](Reader::read_u8) to [`read_uint`](Reader::read_uint) consume nothing if they fail.
 ///
 /// An implementation writes the calls up to [`read_slice`](Reader::read_slice). The others have
 /// bodies, and an implementation that overrides one has to meet the same contract.
@@ -219,8 +221,7 @@ pub trait Reader: Debug + Drop + Sized {
     ///
     /// # Errors
     ///
-    /// [`Error::UnexpectedEof`] if no byte remains. The reads from this one to
-    /// [`read_uint`](Reader::read_uint) consume nothing if they fail.
+    /// [`Error::UnexpectedEof`] if no byte remains.
     #[inline]
     fn read_u8(&mut self) -> Result<u8>
         ensures ok { IfOk result (λ byte. TakesByte (view self.old) byte (view self.new)) }

@@ -30,11 +30,11 @@ pub const DW_AT_call_file: DwAt = DwAt(0x58);
 pub const DW_AT_call_line: DwAt = DwAt(0x59);
 /// A description in words.
 pub const DW_AT_description: DwAt = DwAt(0x5a);
-/// The power of two by which a fixed-point value is scaled.
+/// The power of two that scales a fixed-point value.
 pub const DW_AT_binary_scale: DwAt = DwAt(0x5b);
-/// The power of ten by which a fixed-point value is scaled.
+/// The power of ten that scales a fixed-point value.
 pub const DW_AT_decimal_scale: DwAt = DwAt(0x5c);
-/// The constant by which a fixed-point value is scaled.
+/// The constant that scales a fixed-point value.
 pub const DW_AT_small: DwAt = DwAt(0x5d);
 /// How a decimal number has its sign: a `DwDs`.
 pub const DW_AT_decimal_sign: DwAt = DwAt(0x5e);

@@ -157,7 +157,7 @@ fn bytes_are_cut(rt: HostRuntime) {
     check_calls(&rt, CUTS);
 }
 
-// Positions beside and in one byte at position 100, which begins a number that doesn't end.
+// Positions next to and in one byte at position 100, which begins a number that doesn't end.
 static POSITIONS: &[Step] = &[
     (Call::Lookup(99), Ok(-1), 100),
     (Call::Lookup(100), Ok(0), 100),
