@@ -361,6 +361,68 @@ static void check_tables(void) {
     }
 }
 
+/*
+ * The codes of a table, a byte each, in their order; what reading it returns, and the code that is declared again; and
+ * the codes that are read. Each declaration has its own code as the tag, and as many attributes.
+ */
+static const struct order_row {
+    const char *codes;
+    uint32_t status;
+    uint64_t error;
+    const char *in_order;
+} orders[] = {
+    {"\1\2\3", DWARF_OK, 0, "\1\2\3"},
+    {"\2\5\6", DWARF_OK, 0, "\2\5\6"},
+    {"\3\2\1", DWARF_OK, 0, "\1\2\3"},
+    {"\1\3\2", DWARF_OK, 0, "\1\2\3"},
+    {"\2\5\1\6\3", DWARF_OK, 0, "\1\2\3\5\6"},
+    {"\1\1", DWARF_DUPLICATE_ABBREVIATION_CODE, 1, ""},
+    {"\2\4\4", DWARF_DUPLICATE_ABBREVIATION_CODE, 4, ""},
+    {"\2\4\2\4", DWARF_DUPLICATE_ABBREVIATION_CODE, 2, ""},
+    {"\2\4\3\4\2", DWARF_DUPLICATE_ABBREVIATION_CODE, 4, ""},
+};
+
+/* Writes the table with these codes, and returns its end. */
+static uint8_t *put_table(const char *codes, uint8_t *at) {
+    for (; *codes; codes++) {
+        *at++ = (uint8_t)*codes;
+        *at++ = (uint8_t)*codes;
+        *at++ = 1;
+        for (char i = 0; i < *codes; i++) {
+            *at++ = (uint8_t)(0x10 + *codes);
+            *at++ = 8;
+        }
+        *at++ = 0;
+        *at++ = 0;
+    }
+    *at++ = 0;
+    return at;
+}
+
+static void check_orders(void) {
+    for (size_t i = 0; i < sizeof orders / sizeof *orders; i++) {
+        uint8_t section[100];
+        struct dwarf_abbreviation ours[5];
+        struct dwarf_attribute_spec its[20];
+        struct dwarf_measure measure = {7, 7, 7, 7};
+        struct dwarf_fault fault = {7, 7};
+        size_t len = (size_t)(put_table(orders[i].codes, section) - section), first = 0;
+        uint32_t status = dwarf_table_read(section, len, 0, ours, 5, its, 20, &measure, &fault);
+        check(status == orders[i].status && is_reported(fault, status, orders[i].error), "codes in some order");
+        for (size_t k = 0; orders[i].in_order[k]; k++) {
+            uint8_t code = (uint8_t)orders[i].in_order[k];
+            struct dwarf_abbreviation wanted = {code, code, 1, first, code};
+            check(is_abbreviation(ours[k], wanted), "an abbreviation in order");
+            for (size_t last = first + code; first < last; first++) {
+                struct dwarf_attribute_spec wanted_attribute = {(uint16_t)(0x10 + code), 8, 0};
+                check(is_attribute(its[first], wanted_attribute), "an attribute in order");
+            }
+        }
+        struct dwarf_measure whole = {strlen(orders[i].in_order), first, len, 1};
+        check(status != DWARF_OK || is_measure(measure, whole), "a table in some order");
+    }
+}
+
 /* An empty section is a table that nothing closes. */
 static void check_empty_tables(void) {
     static const struct dwarf_measure empty = {0, 0, 0, 0};
@@ -423,6 +485,7 @@ int main(void) {
     check_version();
     check_measures();
     check_tables();
+    check_orders();
     check_empty_tables();
     check_lookups();
     check_offsets();

@@ -1,12 +1,13 @@
 -- The attributes of an abbreviation are those of the table from its index on.
-use Rattle.dwarf_read_c.proofs.Common.{◌≡◌, ◌∙◌, ℕ, suc, ◌+◌, List, [], ◌∷◌, ◌++◌, length, take, drop, map, refl, sym, ap, subst, arith, length-append, length-drop, values, Declaration}
+use Rattle.dwarf_read_c.proofs.Common.{◌≡◌, ℕ, suc, ◌+◌, List, [], ◌∷◌, ◌++◌, length, take, drop, map, refl, sym, subst, arith, length-append, values, Declaration}
 use Rattle.std.proofs.Common.{zero, Some, append_assoc}
 use Rattle.std.specs.Prelude.{slice_get}
-use Rattle.std.proofs.lemmas.List.{length-map, drop-append-le, take-append-le, take_all, nil_from_length}
+use Rattle.std.proofs.lemmas.List.{length-map}
 use Rattle.dwarf_read_core.specs.Grammar.{Table}
 use Rattle.dwarf_read_c.specs.Tables.{abbreviation_of, abbreviations_of, attribute_of, attributes_in, attributes_of, laid_from}
 use Rattle.dwarf_read_c.specs.declared.tables.DwarfAbbreviation.{DwarfAbbreviation}
 use Rattle.dwarf_read_c.specs.declared.tables.DwarfAttributeSpec.{DwarfAttributeSpec}
+use Rattle.dwarf_read_c.proofs.LaidOut.{part_after}
 
 -- the attributes of a declaration, as C sees them
 abbrev own : Declaration → List DwarfAttributeSpec
@@ -17,17 +18,6 @@ abbrev IsLaid : List DwarfAttributeSpec → List Declaration → ℕ → DwarfAb
 IsLaid all ds i a =
     (d : Declaration) × (slice_get ds i ≡ Some d) × (a ≡ abbreviation_of a.first_attribute d)
     × (take a.attribute_count (drop a.first_attribute all) ≡ own d)
-
--- the part of a list after others
-part_after : {X : Type 0} (before part after : List X) (n : ℕ) → n ≡ length part
-    → take n (drop (length before) (before ++ (part ++ after))) ≡ part
-part_after before part after n counted =
-    let none : drop (length before) before ≡ [] =
-    nil_from_length _ (omega (arith, length-drop (length before) before)) in
-    let rest : drop (length before) (before ++ (part ++ after)) ≡ part ++ after =
-    drop-append-le (length before) before (part ++ after) (omega arith) ∙ ap (λ front. front ++ (part ++ after)) none in
-    ap (take n) rest ∙ ap (λ k. take k (part ++ after)) counted ∙ take-append-le (length part) part after (omega arith)
-    ∙ take_all (length part) part (omega arith)
 
 -- each abbreviation after some attributes is laid out
 laid : (before : List DwarfAttributeSpec) (ds : List Declaration) (i : ℕ) (a : DwarfAbbreviation)

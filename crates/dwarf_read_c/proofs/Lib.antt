@@ -6,3 +6,5 @@ pub mod WrittenTables
 pub mod FoundSets
 pub mod KnownErrors
 pub mod FamilyBounds
+pub mod RisingCodes
+pub mod LaidOut

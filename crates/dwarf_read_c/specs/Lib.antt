@@ -3,6 +3,8 @@ pub mod Numbers
 pub mod Room
 pub mod Sections
 pub mod Tables
+pub mod Laid
+pub mod Kept
 pub mod Names
 pub mod Families
 pub mod Forms

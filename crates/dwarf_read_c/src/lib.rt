@@ -14,6 +14,7 @@
 
 mod families;
 pub mod forms;
+mod kept;
 pub mod laws;
 pub mod names;
 pub mod numbers;

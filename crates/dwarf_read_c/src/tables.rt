@@ -6,15 +6,15 @@ ghost use Rattle.dwarf_read_core.specs.Answer.{Answer, Answers, FitsIn, TableEnd
 ghost use Rattle.dwarf_fault.specs.Fault.{error_number};
 ghost use Rattle.dwarf_read_core.specs.Grammar.{Table, attribute_count};
 ghost use Rattle.dwarf_read_c.specs.Fault.{Rejects};
+ghost use Rattle.dwarf_read_c.specs.Kept.{kept_table};
 ghost use Rattle.dwarf_read_c.specs.Room.{Fills};
 ghost use Rattle.dwarf_read_c.specs.Sections.{section_of};
-ghost use Rattle.dwarf_read_c.specs.Tables.{LacksRoom, Measures, abbreviations_of, attribute_of, attributes_of, measure_of};
+ghost use Rattle.dwarf_read_c.specs.Tables.{LacksRoom, Measures, abbreviations_of, attributes_of, measure_of};
 
+use crate::kept::Kept;
 use crate::status::{DWARF_NO_ROOM, DWARF_OK};
 use dwarf_fault::{DwarfFault, reject};
-use dwarf_read_core::{
-    Abbreviations, AttributeSpecification, DebugAbbrev, DebugAbbrevOffset, Error, LittleEndian,
-};
+use dwarf_read_core::{DebugAbbrev, DebugAbbrevOffset, Error, LittleEndian};
 use std::alloc::Global;
 
 /// How large an abbreviation table is, where it ends, and what closes it.
@@ -96,7 +96,7 @@ pub extern "C" fn dwarf_table_measure_0_3(
 {
     match table_at(mem, section, offset) {
         Ok((table, end)) => {
-            *measure = measure_of(&table, end);
+            *measure = table.measure(end);
             DWARF_OK
         }
         Err(error) => reject(error, fault),
@@ -152,109 +152,48 @@ pub extern "C" fn dwarf_table_read_0_3(
 }
 
 // Returns the table at an offset, and where it ends. Its attributes can be counted in a `usize`.
-fn table_at(mem: Global, section: &[u8], offset: usize) -> Result<(Abbreviations, usize), Error>
+fn table_at(mem: Global, section: &[u8], offset: usize) -> Result<(Kept, usize), Error>
     ensures answer { let s = section_of section.now false in
-        IfOk result (λ r. Answer s offset (Ok r.0) × TableEndsAt s offset r.0 r.1) }
+        IfOk result (λ r. Answer s offset (Ok (kept_table r.0))
+        × TableEndsAt s offset (kept_table r.0) r.1) }
     ensures err { IfErr result (λ e. Answers (Err e) (section_of section.now false) offset) }
-    ensures bound { IfOk result (λ r. FitsIn (section_of section.now false) offset r.0) }
+    ensures bound { IfOk result
+        (λ r. FitsIn (section_of section.now false) offset (kept_table r.0)) }
     ensures memory { TakesNoMemory (section_of section.now false) offset
         → IsErrOf result Error.OutOfMemory → ⊥ }
-    ensures counted { IfOk result (λ r. attribute_count r.0.by_code < 2 ^ 64) }
+    ensures counted { IfOk result (λ r. attribute_count (kept_table r.0).by_code < 2 ^ 64) }
 {
     let section = DebugAbbrev::new(section, LittleEndian);
-    let (table, end) = section.abbreviations_and_end(mem, DebugAbbrevOffset(offset))?;
+    let (table, end) = section.abbreviations_into(
+        mem,
+        DebugAbbrevOffset(offset),
+        Kept::empty(mem),
+    )?;
     Ok((table, end.0))
-}
-
-// Returns how large the table is, and that it ends there.
-fn measure_of(table: &Abbreviations, end: usize) -> DwarfMeasure
-    requires { attribute_count table.now.by_code < 2 ^ 64 }
-    ensures { result ≡ measure_of table.now end }
-{
-    let mut attributes = 0;
-    for abbreviation in table.iter() {
-        attributes += abbreviation.attributes().len();
-    }
-    DwarfMeasure {
-        abbreviations: table.len(),
-        attributes,
-        end,
-        closed_by_null: u8::from(table.closed_by_null()),
-    }
 }
 
 // Writes the measure of a table that ends there, and its abbreviations and attributes to the front
 // of the places. If there are fewer places for either, only the measure is written.
 fn put_table(
-    table: &Abbreviations,
+    table: &Kept,
     end: usize,
     abbreviations: &mut [DwarfAbbreviation],
     attributes: &mut [DwarfAttributeSpec],
     measure: &mut DwarfMeasure,
 ) -> u32
-    requires { attribute_count table.now.by_code < 2 ^ 64 }
-    ensures measured { measure.new ≡ measure_of table.now end }
+    requires { attribute_count (kept_table table.now).by_code < 2 ^ 64 }
+    ensures measured { measure.new ≡ measure_of (kept_table table.now) end }
     ensures filled { result ≡ DWARF_OK
-        → Fills (abbreviations_of table.now) abbreviations.old abbreviations.new
-        × Fills (attributes_of table.now) attributes.old attributes.new }
+        → Fills (abbreviations_of (kept_table table.now)) abbreviations.old abbreviations.new
+        × Fills (attributes_of (kept_table table.now)) attributes.old attributes.new }
     ensures full { result ≢ DWARF_OK → (result ≡ DWARF_NO_ROOM)
         × LacksRoom measure.new (length abbreviations.old) (length attributes.old)
         × (abbreviations.new ≡ abbreviations.old) × (attributes.new ≡ attributes.old) }
 {
-    *measure = measure_of(table, end);
+    *measure = table.measure(end);
     if abbreviations.len() < measure.abbreviations || attributes.len() < measure.attributes {
         return DWARF_NO_ROOM;
     }
-    fill(table, abbreviations, attributes);
+    table.fill(abbreviations, attributes);
     DWARF_OK
-}
-
-// Writes the abbreviations and the attributes of all of them, in the order of their codes, to the
-// front of the places.
-#[tactic(auto, using(crate::proofs::WrittenTables::table_steps))]
-fn fill(
-    table: &Abbreviations,
-    abbreviations: &mut [DwarfAbbreviation],
-    attributes: &mut [DwarfAttributeSpec],
-)
-    requires room { finite.len table.now.by_code ≤ length abbreviations.old }
-    requires counted { attribute_count table.now.by_code ≤ length attributes.old }
-    ensures laid { Fills (abbreviations_of table.now) abbreviations.old abbreviations.new }
-    ensures filled { Fills (attributes_of table.now) attributes.old attributes.new }
-{
-    let (mut index, mut first_attribute) = (0, 0);
-    for abbreviation in table.iter() {
-        let specifications = abbreviation.attributes();
-        abbreviations[index] = DwarfAbbreviation {
-            code: abbreviation.code(),
-            tag: abbreviation.tag().0,
-            has_children: u8::from(abbreviation.has_children()),
-            first_attribute,
-            attribute_count: specifications.len(),
-        };
-        index += 1;
-        let end = first_attribute + specifications.len();
-        fill_each(specifications, &mut attributes[first_attribute..end]);
-        first_attribute = end;
-    }
-}
-
-// Writes the attributes of one abbreviation, each to the place of its index.
-fn fill_each(attributes: &[AttributeSpecification], places: &mut [DwarfAttributeSpec])
-    requires { length attributes.now ≡ length places.old }
-    ensures { places.new ≡ map attribute_of attributes.now }
-{
-    for (i, attribute) in attributes.iter().enumerate() {
-        places[i] = attribute_of(attribute);
-    }
-}
-
-fn attribute_of(attribute: &AttributeSpecification) -> DwarfAttributeSpec
-    ensures { result ≡ attribute_of attribute.now }
-{
-    DwarfAttributeSpec {
-        name: attribute.name().0,
-        form: attribute.form().0,
-        implicit_const: attribute.implicit_const_value().unwrap_or(0),
-    }
 }

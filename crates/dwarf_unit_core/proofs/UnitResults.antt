@@ -1,5 +1,5 @@
 -- What holds of a contribution that was returned holds of the unit that is made of it.
-use Rattle.std.proofs.Common.{◌≡◌, Bool, List, Result, Ok, Err, sym, subst}
+use Rattle.std.proofs.Common.{◌≡◌, Bool, Result, Ok, Err, sym, subst}
 use Rattle.dwarf_read_core.specs.declared.Error.{Error}
 use Rattle.dwarf_read_core.specs.Input.{Input}
 use Rattle.dwarf_read_core.specs.Lookups.{Stays, UnlessCloneRanOut}

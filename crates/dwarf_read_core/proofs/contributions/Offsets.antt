@@ -1,5 +1,5 @@
 -- A section has exactly one result for the contribution at an offset, which stays with more bytes appended.
-use Rattle.dwarf_read_core.proofs.Common.{common_steps, ◌≡◌, ℕ, ◌<◌, ◌≤◌, List, length, Result, Ok, Err, refl, subst, sym, arith, Bool, IfOk, IfErr, ◌⊎◌, inl, inr, length-append, length-drop, drop-append-le, Error, CloneRanOutOfMemory, eof_here, IsTooShort, Input, after, Takes, HasOne, IsNotEof, followed_by, Contribution, followed_remaining}
+use Rattle.dwarf_read_core.proofs.Common.{◌≡◌, ℕ, ◌<◌, ◌≤◌, List, length, Result, Ok, Err, refl, subst, arith, Bool, IfOk, IfErr, ◌⊎◌, inl, inr, length-append, length-drop, drop-append-le, Error, CloneRanOutOfMemory, eof_here, IsTooShort, Input, after, Takes, HasOne, IsNotEof, followed_by, Contribution}
 use Rattle.dwarf_base_core.specs.declared.common.Format.{Format}
 use Rattle.dwarf_reader_core.proofs.public.Once.{one_unless}
 use Rattle.dwarf_reader_core.specs.Headers.{Header, IsHeader}

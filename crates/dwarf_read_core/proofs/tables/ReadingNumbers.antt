@@ -1,5 +1,5 @@
 -- The function that reads a LEB128 number returns what the definition says, and nothing else.
-use Rattle.dwarf_read_core.proofs.Common.{common_steps, ◌≡◌, ℕ, zero, suc, ◌<◌, ◌≤◌, false, eqb, ltb, List, [], ◌∷◌, ◌++◌, length, drop, Option, Some, None, Result, Ok, Err, refl, sym, ap, ◌∙◌, arith, ◌⊎◌, inl, inr, length-append, take-append-drop, take, ne_eqb, ltb-true, lt-ltb, le-ltb, Error, Kind, Number, limit, value, is_in_range, overflow_error, IsEncoding, NoneIsLast, IsNumber, HasNumber, IsTruncated, IsMalformed, ReadsNumber, ReadsNoNumber, Input, end_of, after, eof, encoding_at, number_from, number_at, HasOutcome, returned, failed, outcome-cond, IfOk, MatchOption, nat_tests}
+use Rattle.dwarf_read_core.proofs.Common.{common_steps, ◌≡◌, ℕ, zero, suc, ◌<◌, ◌≤◌, false, eqb, ltb, List, [], ◌∷◌, ◌++◌, length, drop, Option, Some, None, Result, Ok, Err, refl, sym, ap, ◌∙◌, arith, ◌⊎◌, inl, inr, length-append, take-append-drop, take, ne_eqb, ltb-true, lt-ltb, le-ltb, Error, Kind, Number, limit, value, is_in_range, overflow_error, IsEncoding, NoneIsLast, IsNumber, HasNumber, IsTruncated, IsMalformed, ReadsNumber, ReadsNoNumber, Input, end_of, eof, encoding_at, number_from, number_at, HasOutcome, returned, failed, outcome-cond, IfOk, MatchOption, nat_tests}
 use Rattle.std.proofs.Math.Seq.{take-append_seam}
 use Rattle.dwarf_reader_core.proofs.public.Consuming.{end_of-after}
 

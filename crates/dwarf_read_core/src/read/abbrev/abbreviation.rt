@@ -1,10 +1,11 @@
 //! Abbreviations, and how a declaration of one is read.
 
-ghost use Rattle.std.specs.Prelude.{◌≡◌, ◌==◌, ◌≤◌, ◌<◌, ℕ, List, length, All, IsOk, IfOk, IfErr, IfSome, OnOk, Ok, None};
+ghost use Rattle.std.specs.Prelude.{◌≡◌, ◌==◌, ◌≤◌, ◌<◌, ℕ, List, length, All, IsOk, IfOk, IfErr, IfSome, OnOk, Ok, None, option_map};
 ghost use Rattle.std.specs.Cmp.{partial_equiv_from_equiv};
 ghost use Rattle.dwarf_reader_core.specs.Input.{end_of};
 ghost use Rattle.dwarf_read_core.specs.Equality.{HasValueByForm, same_declaration, same_declaration_equiv};
 ghost use Rattle.dwarf_read_core.specs.Reading.{ReturnsUnlessOutOfMemory, tag_at, children_at, attributes_in, declared_at, coded_at};
+ghost use Rattle.dwarf_read_core.specs.Heads.{with_attributes};
 
 use super::attribute::{AttributeSpecification, Attributes, Collector};
 use dwarf_base_core::{Error, Result};
@@ -184,40 +185,54 @@ impl Abbreviation {
         }
         Ok(())
     }
+}
 
+// A declaration without its attributes, which are in a collector.
+#[derive(Clone, Copy)]
+pub(super) struct Head {
+    pub(super) code: u64,
+    pub(super) tag: DwTag,
+    pub(super) has_children: DwChildren,
+}
+
+impl Head {
     // Reads what follows the code of a declaration.
     #[tactic(auto, unfolding(crate::specs::Reading::declared_at))]
     fn parse_declared<R: Reader>(
-        mem: Global,
         code: u64,
         input: &mut R,
         collector: &mut Collector,
-    ) -> Result<Abbreviation>
-        ensures coded { IfOk result (λ abbreviation. abbreviation.code ≡ code) }
+    ) -> Result<Head>
+        ensures coded { IfOk result (λ head. head.code ≡ code) }
+        ensures valued { OnOk result (All HasValueByForm collector.new) }
         ensures read { ReturnsUnlessOutOfMemory
-            (λ abbreviation. (abbreviation, (R.view input.new).bytes)) result
+            (λ head. (with_attributes head collector.new, (R.view input.new).bytes)) result
             (declared_at (end_of (R.view input.old)) code (R.view input.old).bytes) }
         ensures same_end { OnOk result (end_of (R.view input.new) ≡ end_of (R.view input.old)) }
     {
-        let tag = Self::parse_tag(input)?;
-        let has_children = Self::parse_has_children(input)?;
-        Self::parse_attributes(input, collector)?;
-        let attributes = Attributes::from_slice(mem, collector.as_slice()?)?;
-        Ok(Abbreviation::new(code, tag, has_children, attributes))
+        let tag = Abbreviation::parse_tag(input)?;
+        let has_children = Abbreviation::parse_has_children(input)?;
+        Abbreviation::parse_attributes(input, collector)?;
+        Ok(Head {
+            code,
+            tag,
+            has_children,
+        })
     }
 
     // Reads a declaration, or `None` if a code of value 0 is in its place.
-    pub(super) fn parse<R: Reader>(
-        mem: Global,
-        input: &mut R,
-        collector: &mut Collector,
-    ) -> Result<Option<Abbreviation>>
-        ensures coded { IfOk result (λ found. IfSome found (λ d. 0 < d.code)) }
+    pub(super) fn parse<R: Reader>(input: &mut R, collector: &mut Collector) -> Result<Option<Head>>
+        ensures coded { IfOk result (λ found. IfSome found (λ head. 0 < head.code)) }
+        ensures valued { IfOk result
+            (λ found. IfSome found (λ head. All HasValueByForm collector.new)) }
         ensures ends { (rest : List ℕ)
             → coded_at (end_of (R.view input.old)) (R.view input.old).bytes ≡ Ok (None, rest)
             → IsOk result }
         ensures read { ReturnsUnlessOutOfMemory
-            (λ found. (found, (R.view input.new).bytes)) result
+            (λ found. (
+              option_map (λ head. with_attributes head collector.new) found,
+              (R.view input.new).bytes,
+            )) result
             (coded_at (end_of (R.view input.old)) (R.view input.old).bytes) }
         ensures same_end { OnOk result (end_of (R.view input.new) ≡ end_of (R.view input.old)) }
     {
@@ -225,6 +240,6 @@ impl Abbreviation {
         if code == 0 {
             return Ok(None);
         }
-        Ok(Some(Self::parse_declared(mem, code, input, collector)?))
+        Ok(Some(Self::parse_declared(code, input, collector)?))
     }
 }

@@ -8,10 +8,12 @@ ghost use Rattle.dwarf_read_core.specs.Grammar.{IsTableBefore, by_end, is_by_nul
 ghost use Rattle.dwarf_read_core.specs.Reading.{ReturnsUnlessOutOfMemory, declaration_at, table_in};
 
 use super::abbreviation::Abbreviation;
-use super::attribute::Collector;
+use super::attribute::{AttributeSpecification, Attributes};
 use super::others::{Others, OthersIter};
+use super::sink::AbbreviationSink;
 use dwarf_base_core::{Error, Result};
-use dwarf_reader_core::Reader;
+use dwarf_code_core::children::DwChildren;
+use dwarf_const_core::tag::DwTag;
 use std::alloc::{AllocError, Global};
 use std::marker::Model;
 use std::slice;
@@ -167,29 +169,26 @@ impl Abbreviations {
             self.vec.shrink_to_fit();
         }
     }
+}
 
-    // Reads a table, and the code of value 0 that closes it, if there is one.
-    pub(super) fn parse<R: Reader>(mem: Global, input: &mut R) -> Result<Abbreviations>
-        ensures ends { (rest : List ℕ)
-            → declaration_at (end_of (R.view input.old)) (R.view input.old).bytes ≡ Ok (None, rest)
-            → IsOk result }
-        ensures read { ReturnsUnlessOutOfMemory (λ t. t) result
-            (table_in (end_of (R.view input.old)) finite.empty (R.view input.old).bytes) }
-        ensures after { IfOk result
-            (λ t. IsTableBefore (R.view input.old).bytes t (R.view input.new).bytes) }
-    {
-        let mut abbreviations = Abbreviations::empty(mem);
-        // One serves the whole table; each declaration's attributes are collected in it.
-        let mut collector = Collector::new(mem);
-        // The label names the loop in its proof.
-        'declarations: while !input.is_empty() {
-            let Some(abbreviation) = Abbreviation::parse(mem, input, &mut collector)? else {
-                abbreviations.closed_by_null = true;
-                return Ok(abbreviations);
-            };
-            abbreviations.insert(abbreviation)?;
-        }
-        Ok(abbreviations)
+impl AbbreviationSink for Abbreviations {
+    ghost table = { λ t. t };
+
+    // It is inlined, so that the parser keeps the parts of an abbreviation in registers.
+    #[inline(always)]
+    fn declare(
+        &mut self,
+        code: u64,
+        tag: DwTag,
+        has_children: DwChildren,
+        attributes: &[AttributeSpecification],
+    ) -> Result<()> {
+        let attributes = Attributes::from_slice(*self.vec.allocator(), attributes)?;
+        self.insert(Abbreviation::new(code, tag, has_children, attributes))
+    }
+
+    fn close(&mut self) {
+        self.closed_by_null = true;
     }
 }
 

@@ -5,8 +5,9 @@ ghost use Rattle.std.specs.Prelude.{◌≡◌, All, IfOk};
 ghost use Rattle.dwarf_read_core.specs.Equality.{HasValueByForm};
 
 use super::DebugAbbrev;
-use super::abbreviation::Abbreviation;
+use super::abbreviation::{Abbreviation, Head};
 use super::attribute::{AttributeSpecification, Attributes, Collector};
+use super::sink::parse;
 use super::table::Abbreviations;
 use dwarf_base_core::{DebugAbbrevOffset, Error, LittleEndian, Result};
 use dwarf_code_core::children::{DW_CHILDREN_no, DW_CHILDREN_yes, DwChildren};
@@ -184,8 +185,8 @@ fn entries_of_a_table_are_parsed(rt: HostRuntime) -> std::result::Result<(), Fai
     let mut collector = Collector::new(mem);
     for (bytes, attribute, left) in rows {
         let input = &mut slice(bytes);
-        let found = Abbreviation::parse(mem, input, &mut collector)?;
-        check_entry(&rt, found.as_ref(), attribute, bytes);
+        let found = Head::parse(input, &mut collector)?;
+        check_entry(&rt, found, collector.as_slice()?, attribute, bytes);
         assert_eq!(rt; input.slice(), left, "{bytes:?}");
     }
     Ok(())
@@ -194,15 +195,16 @@ fn entries_of_a_table_are_parsed(rt: HostRuntime) -> std::result::Result<(), Fai
 // Ends the test unless an entry with only this attribute was found, or none where `None` is wanted.
 fn check_entry(
     rt: &impl Abort,
-    found: Option<&Abbreviation>,
+    found: Option<Head>,
+    attributes: &[AttributeSpecification],
     attribute: Option<AttributeSpecification>,
     bytes: &[u8],
 ) {
     assert_eq!(rt; found.is_some(), attribute.is_some(), "{bytes:?}");
     if let (Some(found), Some(attribute)) = (found, attribute) {
-        let head = (found.code(), found.tag(), found.has_children());
-        assert!(rt; head == (1, DW_TAG_subprogram, false), "{bytes:?}");
-        assert!(rt; found.attributes() == [attribute].as_slice(), "{bytes:?}");
+        let head = (found.code, found.tag, found.has_children);
+        assert!(rt; head == (1, DW_TAG_subprogram, DW_CHILDREN_no), "{bytes:?}");
+        assert!(rt; attributes == [attribute].as_slice(), "{bytes:?}");
     }
 }
 
@@ -211,7 +213,7 @@ fn tables_are_parsed_up_to_code_0(rt: HostRuntime) -> std::result::Result<(), Fa
     let bytes =
         b"\x01\x02\x03\x04\x02\x2e\0\x03\x08\0\0\x01\x11\x01\x25\x0e\x13\x05\0\0\0\x05\x06\x07\x08";
     let input = &mut slice(&bytes[4..]);
-    let table = Abbreviations::parse(rt.alloc(), input)?;
+    let table = parse(rt.alloc(), input, Abbreviations::empty(rt.alloc()))?;
     assert_eq!(rt;
         (table.len(), input.slice()),
         (2, b"\x05\x06\x07\x08".as_slice())
@@ -229,7 +231,11 @@ static PLACES: &[(&[u8], usize)] = &[
 #[test]
 fn five_attributes_stay_in_place(rt: HostRuntime) -> std::result::Result<(), Fail> {
     for (bytes, count) in PLACES {
-        let table = Abbreviations::parse(rt.alloc(), &mut slice(bytes))?;
+        let table = parse(
+            rt.alloc(),
+            &mut slice(bytes),
+            Abbreviations::empty(rt.alloc()),
+        )?;
         let found = table.get(1).ok_or("no declaration")?;
         let place = (found.attributes.len(), found.attributes.spilled());
         assert_eq!(rt; place, (*count, *count > 5));

@@ -1,6 +1,6 @@
 use Rattle.dwarf_read_c.proofs.Common.{◌<◌, ap, arith, length, length-append, common_steps, Declaration}
 use Rattle.dwarf_read_c.proofs.WrittenTables.{laid_set, length-values}
-use Rattle.dwarf_read_c.proofs.tables.fill.Goals as goal
+use Rattle.dwarf_read_c.proofs.kept.fill.Goals as goal
 
 pub bounds-abbreviations-index : goal.bounds-abbreviations-index
 bounds-abbreviations-index c =

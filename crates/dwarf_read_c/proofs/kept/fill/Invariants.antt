@@ -1,6 +1,6 @@
 use Rattle.dwarf_read_c.proofs.Common.{◌≡◌, ◌++◌, drop, length, map, take, values, attributes_in, laid_from}
 use Rattle.dwarf_read_c.proofs.WrittenTables.{attributes_count}
-use Rattle.dwarf_read_c.proofs.tables.fill.Given as goal
+use Rattle.dwarf_read_c.proofs.kept.fill.Given as goal
 
 -- the abbreviations so far and their attributes are at the front of the places, and the places after them are unchanged
 abbrev pub invariant-loop-abbreviation : goal.invariant-loop-abbreviation

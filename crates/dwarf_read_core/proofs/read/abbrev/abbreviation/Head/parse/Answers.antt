@@ -1,6 +1,6 @@
 use Rattle.dwarf_read_core.proofs.Common.{◌∙◌, arith, ne_eqb, gives_err, Err-no_Ok, coded_at, refl}
 use Rattle.dwarf_read_core.proofs.tables.ReadingNumbers.{number_steps, number_read, number_not_read, end_stays}
-use Rattle.dwarf_read_core.proofs.read.abbrev.abbreviation.Abbreviation.parse.Goals as goal
+use Rattle.dwarf_read_core.proofs.read.abbrev.abbreviation.Head.parse.Goals as goal
 
 pub returns-in_err-code-clause-ends : goal.returns-in_err-code-clause-ends
 unfolding coded_at

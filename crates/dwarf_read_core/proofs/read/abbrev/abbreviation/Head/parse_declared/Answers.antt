@@ -1,9 +1,6 @@
 use Rattle.dwarf_read_core.proofs.tables.AttributeValues.{attributes_valued}
-use Rattle.dwarf_read_core.proofs.read.abbrev.abbreviation.Abbreviation.parse_declared.Goals as goal
+use Rattle.dwarf_read_core.proofs.read.abbrev.abbreviation.Head.parse_declared.Goals as goal
 use Rattle.dwarf_read_core.proofs.Common.{arith, gives_err, declared_at}
-
-pub new-requires : goal.new-requires
-new-requires g c = grind (arith, attributes_valued)
 
 pub returns-in_err-tag-clause-read : goal.returns-in_err-tag-clause-read
 unfolding declared_at
@@ -23,3 +20,6 @@ returns-in_err-parse_attributes-clause-read g c =
 pub returns-clause-read : goal.returns-clause-read
 unfolding declared_at
 returns-clause-read g c = grind arith
+
+pub returns-clause-valued : goal.returns-clause-valued
+returns-clause-valued g c = grind (arith, attributes_valued)

@@ -1,5 +1,5 @@
 use Rattle.dwarf_read_c.proofs.Common.{◌≡◌, ◌++◌, length, map, sum_by, values}
-use Rattle.dwarf_read_c.proofs.tables.measure_of.Given as goal
+use Rattle.dwarf_read_c.proofs.kept.attribute_count.Given as goal
 
 -- the attributes of the abbreviations so far are counted
 abbrev pub invariant-loop-abbreviation : goal.invariant-loop-abbreviation
