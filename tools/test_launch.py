@@ -168,7 +168,7 @@ class Help(unittest.TestCase):
             self.assertIn(it, " ".join(told[0][1].split()))
         # The launcher passes each of them on.
         passed = re.findall(r"dwarf_list_many/([a-z-]+)", kit.text_of(LAUNCHER))
-        options = re.findall(r"\[(--[a-z-]+)\]", arguments)
+        options = re.findall(r"\[(--[a-z-]+)[^]]*\]", arguments)
         self.assertEqual(sorted(passed), sorted([*options, *(it.split()[0] for it in named)]))
 
     def test_installed(self) -> None:

@@ -13,6 +13,9 @@
 //! writes of it, except that string offsets are hexadecimal, and that each byte of a string that
 //! isn't printable is an escape, unless `--raw` is given.
 //!
+//! With `--strings FILE` each string offset is listed with its string, `  0xOFFSET: STRING`, from a
+//! file with the bytes of `.debug_str`. That may be standard input, too, if nothing else is.
+//!
 //! The first error ends the run. The lines before an error at an offset are written, and the error
 //! is printed to standard error with its offset. If a line isn't an offset, nothing is written, and
 //! the error quotes that line. The exit statuses are those of `dwarf_list`. The error of a file
@@ -20,14 +23,17 @@
 //! nothing and ends with status 141, as `cat` does in a shell.
 //!
 //! With `--keep-going` before the arguments each error at an offset is a line of standard error,
-//! `error at 0xOFFSET: TEXT`, and the run goes on. The exit status is 1 if there is such a line.
+//! `error at 0xOFFSET: TEXT`, and the run goes on. The exit status is 1 if there is such a line. A
+//! string offset without a string is such an error: its line is the offset alone, and the error is
+//! `error at 0xOFFSET of the strings: TEXT`. Without `--keep-going` its set isn't listed.
 
 #![tactic(auto)]
 
 use dwarf_listing_core::arguments::{Arguments, STANDARD_INPUT, parse_arguments};
 use dwarf_listing_core::fault::Fault;
+use dwarf_listing_core::kind::{Names, Wanted};
 use dwarf_listing_core::many::fault::{ManyFault, many_exit_code};
-use dwarf_listing_core::many::{run_many, run_whole};
+use dwarf_listing_core::many::{read_strings, run_many, run_whole};
 use dwarf_listing_core::piped::{CLOSED_STATUS, Piped};
 use dwarf_listing_core::words::command_line;
 use std::fs::File;
@@ -35,7 +41,7 @@ use std::io;
 use std::io::{Read, Stdin, Stdout};
 use std::process::ExitCode;
 
-// Where the section or the offsets are read from.
+// Where the section, the strings or the offsets are read from.
 #[derive(Drop)]
 enum Input {
     Standard(Stdin),
@@ -61,22 +67,41 @@ fn open(rt: &HostRuntime, name: &str, fault: ManyFault) -> Result<Input, ManyFau
     }
 }
 
+// Lists what the arguments name. The strings are read before the section.
 fn list_named(
     rt: &HostRuntime,
     named: &Arguments<'_>,
     output: &mut Piped<Stdout>,
 ) -> Result<bool, ManyFault> {
-    let (mem, on_error, kind) = (rt.alloc(), named.on_error, named.kind);
+    let Some((strings, is_raw)) = named.strings else {
+        return list_wanted(rt, named, Wanted::Alone(named.kind), output);
+    };
+    let mut strings = open(rt, strings, ManyFault::ReadStrings)?;
+    let bytes = read_strings(rt.alloc(), &mut strings)?;
+    let names = Names {
+        bytes: &bytes,
+        is_raw,
+    };
+    list_wanted(rt, named, Wanted::with_names(named.kind, names), output)
+}
+
+fn list_wanted(
+    rt: &HostRuntime,
+    named: &Arguments<'_>,
+    wanted: Wanted<'_>,
+    output: &mut Piped<Stdout>,
+) -> Result<bool, ManyFault> {
+    let (mem, on_error) = (rt.alloc(), named.on_error);
     let mut errors = rt.stderr();
     let mut section = open(rt, named.section, ManyFault::ReadSection)?;
     let Some((lines, offsets)) = named.offsets else {
-        return run_whole(mem, on_error, kind, &mut section, output, &mut errors);
+        return run_whole(mem, on_error, wanted, &mut section, output, &mut errors);
     };
     let mut offsets = open(rt, offsets, ManyFault::ReadOffsets)?;
     run_many(
         mem,
         on_error,
-        kind,
+        wanted,
         &mut section,
         lines,
         &mut offsets,
@@ -91,10 +116,8 @@ fn list(rt: &HostRuntime, output: &mut Piped<Stdout>) -> Result<bool, ManyFault>
     let outcome = list_named(rt, &named, output);
     let unread = match outcome {
         Err(ManyFault::ReadSection) => named.section,
-        Err(ManyFault::ReadOffsets) => match named.offsets {
-            Some((_, offsets)) => offsets,
-            None => STANDARD_INPUT,
-        },
+        Err(ManyFault::ReadStrings) => named.strings.map_or(STANDARD_INPUT, |it| it.0),
+        Err(ManyFault::ReadOffsets) => named.offsets.map_or(STANDARD_INPUT, |it| it.1),
         _ => return outcome,
     };
     // The line begins with the name of the input, and `main` prints the rest of it.

@@ -31,5 +31,5 @@ pub use Rattle.dwarf_read_core.specs.Leb128.{Kind, Number, unsigned64, signed64}
 pub use Rattle.dwarf_listing_core.specs.Text.{IsTextOf, Lists, ListsNumber}
 pub use Rattle.dwarf_listing_core.specs.declared.command.Command.{Command}
 pub use Rattle.std.specs.Io.KnownBytes.{Consumes, Appends}
-pub use Rattle.dwarf_listing_core.specs.Many.{ListsAll, EndsAt, one_more}
+pub use Rattle.dwarf_listing_core.specs.Many.{ListsAll, one_more}
 pub use Rattle.dwarf_listing_core.specs.Walk.{ListsOne}

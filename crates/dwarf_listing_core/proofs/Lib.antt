@@ -5,6 +5,7 @@ pub mod Ends
 pub mod EntryLines
 pub mod Hexadecimal
 pub mod ItemLines
+pub mod Names
 pub mod Numbers
 pub mod OffsetLines
 pub mod OneOutcome

@@ -19,22 +19,27 @@ pub one_joined : {Lists : Result (List ℕ) Error → Type 0} (own : Result (Lis
 one_joined (Ok text) has = one_image (in_front text) has (λ rest lists. (rest, lists, refl)) (λ listed h. h)
 one_joined (Err e) has = (Err e, refl, λ other h. h)
 
--- the text of a value, or the error
-text_of_result : {A : Type 0} → (A → List ℕ) → Result A Error → Result (List ℕ) Error
-text_of_result text_of (Ok value) = Ok (text_of value)
-text_of_result text_of (Err e) = Err e
+-- what is the same as what is exactly one is exactly one
+pub one_same : {A : Type 0} {Is Of : A → Type 0} → ((a : A) → Is a → Of a) → ((a : A) → Of a → Is a) → HasOne Is
+    → HasOne Of
+one_same to from has = (has.0, to has.0 has.1, λ other of. has.2 other (from other of))
 
--- a section that has exactly one value or error has exactly one text or error
-pub one_text_by : {A : Type 0} (text_of : A → List ℕ) (Is : Result A Error → Type 0) → HasOne Is
-    → HasOne (ListsBy text_of Is)
-unfolding text_of_result
-one_text_by {A} text_of Is has = one_image (text_of_result text_of) has to from
+-- what is listed of a value, or the error
+listed_of_result : {A B : Type 0} → (A → B) → Result A Error → Result B Error
+listed_of_result listed_of (Ok value) = Ok (listed_of value)
+listed_of_result listed_of (Err e) = Err e
+
+-- of a section that has exactly one value or error exactly one thing is listed, or one error
+pub one_text_by : {A B : Type 0} (listed_of : A → B) (Is : Result A Error → Type 0) → HasOne Is
+    → HasOne (ListsBy listed_of Is)
+unfolding listed_of_result
+one_text_by {A} {B} listed_of Is has = one_image (listed_of_result listed_of) has to from
   where
-    to : (answer : Result A Error) → Is answer → ListsBy text_of Is (text_of_result text_of answer)
+    to : (answer : Result A Error) → Is answer → ListsBy listed_of Is (listed_of_result listed_of answer)
     to (Ok value) answers = (value, answers, refl)
     to (Err e) answers = answers
 
-    from : (listed : Result (List ℕ) Error) → ListsBy text_of Is listed
-        → (answer : Result A Error) × Is answer × (listed ≡ text_of_result text_of answer)
-    from (Ok text) h = (Ok h.0, h.1, λ i. Ok (h.2 i))
+    from : (listed : Result B Error) → ListsBy listed_of Is listed
+        → (answer : Result A Error) × Is answer × (listed ≡ listed_of_result listed_of answer)
+    from (Ok found) h = (Ok h.0, h.1, λ i. Ok (h.2 i))
     from (Err e) h = (Err e, h, refl)

@@ -7,7 +7,8 @@ use Rattle.dwarf_read_core.specs.Input.{section_of}
 use Rattle.dwarf_read_core.specs.Words.{AddressAt, WordAt, slot}
 use Rattle.dwarf_listing_core.specs.Items.{Joins}
 use Rattle.dwarf_listing_core.specs.Lines.{line}
-use Rattle.dwarf_listing_core.specs.Sets.{address_line}
+use Rattle.dwarf_listing_core.specs.Listing.{ListsBy}
+use Rattle.dwarf_listing_core.specs.Sets.{address_line, one_number}
 use Rattle.dwarf_listing_core.specs.declared.kind.AddressWidth.{AddressWidth}
 use Rattle.dwarf_listing_core.specs.declared.kind.AddressWidth.TheVariants.{One, Two, Four, Eight}
 use Rattle.dwarf_listing_core.specs.declared.kind.Entry.{Entry}
@@ -41,15 +42,16 @@ abbrev pub entries_size : Entry → List ℕ → ℕ → ℕ
 entries_size entry section offset = length section - offset - (length section - offset) % entry_width entry
 
 -- the line of an entry, or its error
-abbrev pub entry_listed : Result ℕ Error → Result (List ℕ) Error
-entry_listed (Ok number) = Ok (address_line number)
-entry_listed (Err error) = Err error
+abbrev pub entry_listed : (ℕ → List ℕ) → Result ℕ Error → Result (List ℕ) Error
+entry_listed line_of (Ok number) = Ok (line_of number)
+entry_listed line_of (Err error) = Err error
 
 -- the lines of this many entries, the first of which has this index, or the first error
-abbrev pub ListsFrom : (ℕ → Result ℕ Error → Type 0) → ℕ → ℕ → Result (List ℕ) Error → Type 0
-ListsFrom At index zero listed = listed ≡ Ok []
-ListsFrom At index (suc count) listed =
-    (found : Result ℕ Error) × At index found × Joins (entry_listed found) (ListsFrom At (index + 1) count) listed
+abbrev pub ListsFrom : (ℕ → List ℕ) → (ℕ → Result ℕ Error → Type 0) → ℕ → ℕ → Result (List ℕ) Error → Type 0
+ListsFrom line_of At index zero listed = listed ≡ Ok []
+ListsFrom line_of At index (suc count) listed =
+    (found : Result ℕ Error) × At index found
+    × Joins (entry_listed line_of found) (ListsFrom line_of At (index + 1) count) listed
 
 -- the line before addresses: how many bytes they have, and each of them
 abbrev pub addresses_line : ℕ → ℕ → List ℕ
@@ -71,11 +73,24 @@ entries_line (StringOffset _ format) size = string_offsets_line size (word_size 
 abbrev pub listed_count : ℕ → ℕ
 listed_count count = if nat_lt 0 count then count else 1
 
+-- the line before the entries from an offset on
+abbrev pub front_line : Entry → List ℕ → ℕ → List ℕ
+front_line entry section offset = entries_line entry (entries_size entry section offset)
+
 -- the lines of the entries from an offset on, or the first error
+abbrev pub ListsWhole : (ℕ → List ℕ) → Entry → List ℕ → ℕ → Result (List ℕ) Error → Type 0
+ListsWhole line_of entry section offset listed =
+    ListsFrom line_of (EntryAt entry section offset) 0 (listed_count (entry_count entry section offset)) listed
+
+-- the same with the line before them
 abbrev pub ListsEntries : Entry → List ℕ → ℕ → Result (List ℕ) Error → Type 0
 ListsEntries entry section offset listed =
-    Joins (Ok (entries_line entry (entries_size entry section offset)))
-    (ListsFrom (EntryAt entry section offset) 0 (listed_count (entry_count entry section offset))) listed
+    Joins (Ok (front_line entry section offset)) (ListsWhole address_line entry section offset) listed
+
+-- the line before the entries from an offset on, and these as numbers, or the first error
+abbrev pub NamesEntries : Entry → List ℕ → ℕ → Result (List ℕ × List ℕ) Error → Type 0
+NamesEntries entry section offset listed =
+    ListsBy (λ numbers. (front_line entry section offset, numbers)) (ListsWhole one_number entry section offset) listed
 
 -- where the whole entries from an offset on end, if there are any
 abbrev pub EntriesEndAt : Entry → List ℕ → ℕ → ℕ → Type 0

@@ -16,3 +16,4 @@ pub mod Sets
 pub mod Tables
 pub mod Text
 pub mod Walk
+pub mod Wanted

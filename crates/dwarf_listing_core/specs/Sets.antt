@@ -12,6 +12,7 @@ use Rattle.dwarf_read_core.specs.Input.{Input, after, section_of}
 use Rattle.dwarf_read_core.specs.Contributions.{Remaining, Contribution as Set, RepresentsContributions, addresses_of, string_offsets_of}
 use Rattle.dwarf_listing_core.specs.Items.{Joins, ListsItemsOf}
 use Rattle.dwarf_listing_core.specs.Lines.{line}
+use Rattle.dwarf_listing_core.specs.Listing.{ListsBy}
 use Rattle.dwarf_listing_core.specs.declared.sets.Style.{Style}
 use Rattle.dwarf_listing_core.specs.declared.sets.Style.TheVariants.{Whole, Titled}
 
@@ -84,6 +85,16 @@ ListsSet listing s listed =
     Joins (Ok (listing.header_line s))
     (ListsItemsOf listing.represents (ListsLine listing.entry_line) (listing.entries s)) listed
 
+-- a number in place of its line
+abbrev pub one_number : ℕ → List ℕ
+one_number number = number ∷ []
+
+-- the line of a set, and its entries as numbers, or the first error of these
+abbrev pub NamesSet : {H : Type 0} → SetListing H → Set H → Result (List ℕ × List ℕ) Error → Type 0
+NamesSet listing s listed =
+    ListsBy (λ numbers. (listing.header_line s, numbers))
+    (ListsItemsOf listing.represents (ListsLine one_number) (listing.entries s)) listed
+
 -- the sets of a whole section: the first one is at its start
 abbrev pub sets_section : RunTimeEndian → List ℕ → Remaining
 sets_section endian section =
@@ -109,25 +120,29 @@ ListsStringOffsets endian section listed =
 
 -- ---- one set
 
--- the lines of the first of these sets, or its error: that of its header, or that of its entries; or that bytes are
--- missing where there is none
-abbrev pub ListsFirstOf : {H : Type 0} → SetListing H → Input → List (Result (Set H) Error) → Result (List ℕ) Error
-    → Type 0
-ListsFirstOf listing input [] listed = listed ≡ Err (eof_here input)
-ListsFirstOf listing input (Err e ∷ _) listed = listed ≡ Err e
-ListsFirstOf listing input (Ok s ∷ _) listed = ListsSet listing s listed
+-- how a set is listed: as a text, or otherwise
+abbrev pub ListsSetAs : Type 0 → Type 0 → Type 1
+ListsSetAs H X = SetListing H → Set H → Result X Error → Type 0
 
--- the lines of the first of the sets that remain, or the error there
-abbrev pub ListsFirst : {H : Type 0} → SetListing H → Remaining → Result (List ℕ) Error → Type 0
-ListsFirst {H} listing sets listed =
-    (items : List (Result (Set H) Error)) × HasSets listing sets items × ListsFirstOf listing sets.rest items listed
+-- what is listed of the first of these sets, or its error: that of its header, or that of its entries; or that bytes
+-- are missing where there is none
+abbrev pub ListsFirstOf : {H X : Type 0} → SetListing H → ListsSetAs H X → Input → List (Result (Set H) Error)
+    → Result X Error → Type 0
+ListsFirstOf listing Lists input [] listed = listed ≡ Err (eof_here input)
+ListsFirstOf listing Lists input (Err e ∷ _) listed = listed ≡ Err e
+ListsFirstOf listing Lists input (Ok s ∷ _) listed = Lists listing s listed
 
--- the lines of the set at an offset of a section, or the error there
-pub data ListsSetAt {H : Type 0} (listing : SetListing H) (endian : RunTimeEndian) (section : List ℕ) (offset : ℕ)
-    : Result (List ℕ) Error → Type 0 where
-  past_end : length section < offset
-      → ListsSetAt listing endian section offset (Err (eof_here (section_of section (is_big_at_run_time endian))))
-  set_there : {listed : Result (List ℕ) Error} → offset ≤ length section
-      → ListsFirst listing (record { offset = 0; rest = after offset (section_of section (is_big_at_run_time endian)) })
-      listed
-      → ListsSetAt listing endian section offset listed
+-- what is listed of the first of the sets that remain, or the error there
+abbrev pub ListsFirst : {H X : Type 0} → SetListing H → ListsSetAs H X → Remaining → Result X Error → Type 0
+ListsFirst {H} listing Lists sets listed =
+    (items : List (Result (Set H) Error)) × HasSets listing sets items
+    × ListsFirstOf listing Lists sets.rest items listed
+
+-- what is listed of the set at an offset of a section, or the error there
+pub data ListsSetAt {H X : Type 0} (listing : SetListing H) (Lists : ListsSetAs H X) (endian : RunTimeEndian)
+    (section : List ℕ) (offset : ℕ) : Result X Error → Type 0 where
+  past_end : length section < offset → ListsSetAt listing Lists endian section offset
+      (Err (eof_here (section_of section (is_big_at_run_time endian))))
+  set_there : {listed : Result X Error} → offset ≤ length section → ListsFirst listing Lists
+      (record { offset = 0; rest = after offset (section_of section (is_big_at_run_time endian)) }) listed
+      → ListsSetAt listing Lists endian section offset listed

@@ -13,7 +13,7 @@ use Rattle.dwarf_read_core.specs.Strings.{StringAt}
 use Rattle.dwarf_listing_core.specs.Entries.{EntriesEndAt, ListsEntries}
 use Rattle.dwarf_listing_core.specs.Lines.{ListsString, ShowsString, place_line}
 use Rattle.dwarf_listing_core.specs.Listing.{ListsBy}
-use Rattle.dwarf_listing_core.specs.Sets.{ListsSetAt, address_listing, offset_listing}
+use Rattle.dwarf_listing_core.specs.Sets.{ListsSet, ListsSetAt, address_listing, offset_listing}
 use Rattle.dwarf_listing_core.specs.Tables.{ListsTable}
 use Rattle.dwarf_listing_core.specs.declared.kind.Kind.{Kind}
 use Rattle.dwarf_listing_core.specs.declared.kind.Kind.TheVariants.{Tables, TableEnds, Strings, RawStrings, Addresses, StringOffsets, WithoutHeader}
@@ -35,8 +35,8 @@ ListsOne Tables = ListsTable
 ListsOne TableEnds = ListsTableEnd
 ListsOne Strings = ShowsString
 ListsOne RawStrings = ListsString
-ListsOne (Addresses endian) = ListsSetAt (address_listing Titled) endian
-ListsOne (StringOffsets endian) = ListsSetAt (offset_listing Titled (2 ^ 64 - 1)) endian
+ListsOne (Addresses endian) = ListsSetAt (address_listing Titled) ListsSet endian
+ListsOne (StringOffsets endian) = ListsSetAt (offset_listing Titled (2 ^ 64 - 1)) ListsSet endian
 ListsOne (WithoutHeader entry) = ListsEntries entry
 
 -- where the string at an offset ends: after its zero byte

@@ -9,6 +9,7 @@ ghost use Rattle.dwarf_listing_core.specs.Sets.{ListsAddresses, ListsStringOffse
 ghost use Rattle.dwarf_listing_core.specs.Tables.{ListsStrictTable, ListsTable};
 ghost use Rattle.dwarf_listing_core.specs.Text.{IsText, Lists};
 ghost use Rattle.dwarf_listing_core.specs.Walk.{Follows, HasEnd, ListsOne, Walk};
+ghost use Rattle.dwarf_listing_core.specs.Wanted.{ListedAt};
 
 use dwarf_read_core::{AddressSize, EndianSlice, RunTimeEndian, laws};
 
@@ -42,11 +43,14 @@ pub fn exactly_one_text()
     laws::exactly_one_shortest();
 }
 
-/// Each offset of a section has exactly one listing of each kind, and the next begins at exactly
-/// one offset. So there is exactly one walk over the section from each offset on.
+/// Each offset of a section has exactly one listing of each kind, also of string offsets that are
+/// listed with their strings, and the next begins at exactly one offset. So there is exactly one
+/// walk over the section from each offset on.
 pub fn exactly_one_walk()
     ensures listing { (kind : _) (section : List ℕ) (offset : ℕ)
         → HasOne (ListsOne kind section offset) }
+    ensures listed { (wanted : _) (section : List ℕ) (offset : ℕ)
+        → HasOne (ListedAt wanted section offset) }
     ensures next { (kind : _) (section : List ℕ) (offset : ℕ)
         → HasOne (Follows (HasEnd kind section offset) (length section)) }
     ensures walk { (kind : _) (section : List ℕ) (offset : ℕ)
@@ -67,10 +71,10 @@ pub fn exactly_one_walk()
 /// or, for a run that stops at an error, the first error and what is written of the offsets before
 /// it. So have the parts of a section, of which each is walked.
 pub fn exactly_one_run()
-    ensures offsets { (on_error : _) (kind : _) (section offsets : List ℕ)
-        → HasOne (IsRun on_error kind section offsets) }
-    ensures parts { (on_error : _) (kind : _) (section : List ℕ) (parts : List Part)
-        → HasOne (IsRunOfParts on_error kind section parts) }
+    ensures offsets { (on_error : _) (wanted : _) (section offsets : List ℕ)
+        → HasOne (IsRun on_error wanted section offsets) }
+    ensures parts { (on_error : _) (wanted : _) (section : List ℕ) (parts : List Part)
+        → HasOne (IsRunOfParts on_error wanted section parts) }
 {
     exactly_one_walk();
 }

@@ -1,25 +1,28 @@
 //! A run over one section: what is listed at many offsets, or of the whole section, each after its
 //! title, and the errors there.
 
-ghost use Rattle.std.specs.Prelude.{◌≡◌, ◌≢◌, ◌⊎◌, ◌<◌, ◌≤◌, ◌∷◌, ℕ, true, List, Ok, Err, IfErr, IfOk, IfSome, OnOk, length, take};
+ghost use Rattle.std.specs.Prelude.{◌≡◌, ◌≢◌, ◌⊎◌, ◌<◌, ◌≤◌, [], ◌∷◌, ◌++◌, ℕ, true, List, Ok, Err, IfErr, IfOk, IfSome, OnOk, length, take};
 ghost use Rattle.std.specs.Io.KnownBytes.{Appends, IsAtEnd};
 ghost use Rattle.dwarf_read_core.specs.declared.Error.TheVariants.{OutOfMemory};
 ghost use Rattle.dwarf_listing_core.specs.Fault.{IsMemoryFault, WasRead};
-ghost use Rattle.dwarf_listing_core.specs.Many.{IfKnown, ListsAt, Texts, WritesEach, WritesListed, WritesNumbers, WritesParts, WritesWalk, WroteBoth, end_of_part, error_line, parts_of, title};
+ghost use Rattle.dwarf_listing_core.specs.Many.{FailsAt, IfKnown, ListsAt, ListsEach, ListsName, Texts, WritesEach, WritesListed, WritesNumbers, WritesParts, WritesWalk, WroteBoth, end_of_part, error_line, parts_of, then_texts, title};
 ghost use Rattle.dwarf_listing_core.specs.ManyFault.{IsListingFault};
 ghost use Rattle.dwarf_listing_core.specs.Offsets.{AreOffsets, IsBadLine, lines_of};
-ghost use Rattle.dwarf_listing_core.specs.Walk.{Follows, HasEnd, ListsOne};
+ghost use Rattle.dwarf_listing_core.specs.Found.{found_bytes};
+ghost use Rattle.dwarf_listing_core.specs.Walk.{Follows, HasEnd};
+ghost use Rattle.dwarf_listing_core.specs.Wanted.{kind_of};
 
 use crate::arguments::{Lines, OnError};
 use crate::fault::Fault;
 use crate::input::read_input;
-use crate::kind::Kind;
+use crate::kind::{Kind, Wanted};
 use crate::laws;
 use crate::offsets::parse_offsets;
 use crate::output::{BUFFER_SIZE, Buffered};
 use dwarf_read_core::Error;
 use fault::ManyFault;
-use found::{found_at, is_padding};
+use found::{Found, is_padding, listed_at};
+use names::{check_names, write_names};
 use std::alloc::Global;
 use std::io;
 use std::io::{Read, Write};
@@ -27,6 +30,7 @@ use std::io::{Read, Write};
 mod entries;
 pub mod fault;
 mod found;
+mod names;
 
 /// Writes what is listed at each offset of a section, or of each of its parts, after its title, and
 /// the errors there to a second output.
@@ -35,7 +39,8 @@ mod found;
 /// what each offset names is read whole, and its lines are written through a buffer. The output is
 /// flushed at the end, and before an error at an offset is returned, also if memory ran out there.
 /// With `GoOn` an error at an offset is a line of the second output, and the run goes on. What is
-/// returned is whether there is such a line.
+/// returned is whether there is such a line. If string offsets are listed with their strings, the
+/// line of one without a string is the offset alone, and its error is such a line, too.
 ///
 /// # Errors
 ///
@@ -44,13 +49,15 @@ mod found;
 ///   error is `ReadSection`, and of the offsets nothing is read.
 /// - `At` with `Stop` if the section is malformed at an offset, with the first error. The lines
 ///   before it are written.
+/// - `NoString` with `Stop` if a string offset below an offset has no string, with the first of
+///   them and its error. The lines before that offset are written.
 /// - `Other` with `OutOfMemory` if memory runs out. The lines before the offset where that happens
 ///   are written, or nothing if it happens earlier.
 /// - `Other` with `Write` if an output can't be written. A part of the text may be written then.
 pub fn run_many<S: Read, I: Read, O: Write, E: Write>(
     mem: Global,
     on_error: OnError,
-    kind: Kind,
+    wanted: Wanted<'_>,
     section: &mut S,
     lines: Lines,
     offsets: &mut I,
@@ -61,7 +68,7 @@ pub fn run_many<S: Read, I: Read, O: Write, E: Write>(
     ensures listed { IfErr result IsListingFault
         → IfKnown (S.remaining section.old) (I.remaining offsets.old) (λ bytes input.
         (numbers : List ℕ) × AreOffsets (lines_of input) numbers
-        × WritesNumbers lines on_error kind bytes numbers
+        × WritesNumbers lines on_error wanted.entry bytes numbers
         (WroteBoth (Appends (O.contents output.old) (O.contents output.new))
         (Appends (E.contents errors.old) (E.contents errors.new))) result)
         ⊎ ((result ≡ Err (ManyFault.Other (Fault.Section OutOfMemory)))
@@ -72,6 +79,8 @@ pub fn run_many<S: Read, I: Read, O: Write, E: Write>(
 
     // When each error is returned.
     ensures first { (offset : ℕ) (error : _) → result ≡ Err (ManyFault.At offset error)
+        → on_error ≡ OnError.Stop }
+    ensures string { (offset : ℕ) (error : _) → result ≡ Err (ManyFault.NoString offset error)
         → on_error ≡ OnError.Stop }
     ensures line { (number : ℕ) (quote : _) → result ≡ Err (ManyFault.Line number quote)
         → IfSome (I.remaining offsets.old) (λ input. IsBadLine (lines_of input) number quote)
@@ -104,7 +113,7 @@ pub fn run_many<S: Read, I: Read, O: Write, E: Write>(
     };
     let offsets = parse_offsets(mem, &input)?;
     let places = Places::Given(lines, &offsets);
-    write_listed(mem, on_error, kind, &section, places, output, errors)
+    write_listed(mem, on_error, wanted, &section, places, output, errors)
 }
 
 /// Writes what is listed of a whole section, in turn, and the errors there to a second output.
@@ -117,18 +126,18 @@ pub fn run_many<S: Read, I: Read, O: Write, E: Write>(
 /// # Errors
 ///
 /// - `ReadSection` if the section can't be read. Nothing is written then.
-/// - `At` and `Other` as [`run_many`] returns them.
+/// - `At`, `NoString` and `Other` as [`run_many`] returns them.
 pub fn run_whole<S: Read, O: Write, E: Write>(
     mem: Global,
     on_error: OnError,
-    kind: Kind,
+    wanted: Wanted<'_>,
     section: &mut S,
     output: &mut O,
     errors: &mut E,
 ) -> Result<bool, ManyFault>
     // What was written to each output, and nothing else, once the section is known.
     ensures listed { IfErr result IsListingFault → IfSome (S.remaining section.old) (λ bytes.
-        WritesWalk on_error kind bytes 0
+        WritesWalk on_error wanted.entry bytes 0
         (WroteBoth (Appends (O.contents output.old) (O.contents output.new))
         (Appends (E.contents errors.old) (E.contents errors.new))) result)
         ⊎ ((result ≡ Err (ManyFault.Other (Fault.Section OutOfMemory)))
@@ -140,6 +149,8 @@ pub fn run_whole<S: Read, O: Write, E: Write>(
     ensures kinds { IfErr result
         (λ fault. (fault ≡ ManyFault.ReadSection) ⊎ IsListingFault fault) }
     ensures first { (offset : ℕ) (error : _) → result ≡ Err (ManyFault.At offset error)
+        → on_error ≡ OnError.Stop }
+    ensures string { (offset : ℕ) (error : _) → result ≡ Err (ManyFault.NoString offset error)
         → on_error ≡ OnError.Stop }
     ensures read_section { result ≡ Err ManyFault.ReadSection
         → (output.new ≡ output.old) × (errors.new ≡ errors.old) }
@@ -154,12 +165,33 @@ pub fn run_whole<S: Read, O: Write, E: Write>(
     write_listed(
         mem,
         on_error,
-        kind,
+        wanted,
         &section,
         Places::Walked,
         output,
         errors,
     )
+}
+
+/// Returns the bytes of the strings that string offsets name.
+///
+/// # Errors
+///
+/// `ReadStrings` if they can't be read, and `Other` with `OutOfMemory` if memory runs out.
+pub fn read_strings<I: Read>(mem: Global, strings: &mut I) -> Result<Vec<u8>, ManyFault>
+    ensures whole { IfOk result
+        (λ bytes. IfSome (I.remaining strings.old) (λ left. bytes.items ≡ left)) }
+    ensures end { OnOk result (IsAtEnd (I.remaining strings.new)) }
+    ensures faults { IfErr result (λ fault. (fault ≡ ManyFault.ReadStrings)
+        ⊎ (fault ≡ ManyFault.Other (Fault.Section OutOfMemory))) }
+    // Strings of which nothing can be read aren't `OutOfMemory`.
+    ensures memory { result ≡ Err (ManyFault.Other (Fault.Section OutOfMemory))
+        → WasRead (I.remaining strings.old) (I.remaining strings.new) }
+{
+    match read_input(mem, strings) {
+        Ok(bytes) => Ok(bytes),
+        Err(error) => Err(ManyFault::of_reading(error, ManyFault::ReadStrings)),
+    }
 }
 
 /// Which offsets of a section are listed.
@@ -182,14 +214,14 @@ pub enum Places<'a> {
 pub fn write_listed<O: Write, E: Write>(
     mem: Global,
     on_error: OnError,
-    kind: Kind,
+    wanted: Wanted<'_>,
     section: &[u8],
     places: Places<'_>,
     output: &mut O,
     errors: &mut E,
 ) -> Result<bool, ManyFault>
     // The buffer needs memory before anything is written.
-    ensures listed { WritesListed on_error kind section.now places.entry
+    ensures listed { WritesListed on_error wanted.entry section.now places.entry
         (WroteBoth (Appends (O.contents output.old) (O.contents output.new))
         (Appends (E.contents errors.old) (E.contents errors.new))) result
         ⊎ ((result ≡ Err (ManyFault.Other (Fault.Section OutOfMemory)))
@@ -200,7 +232,15 @@ pub fn write_listed<O: Write, E: Write>(
         return Err(ManyFault::Other(Fault::out_of_memory()));
     };
     let mut buffered = Buffered::new(output, buffer);
-    let listed = write_places(mem, on_error, kind, section, places, &mut buffered, errors);
+    let listed = write_places(
+        mem,
+        on_error,
+        wanted,
+        section,
+        places,
+        &mut buffered,
+        errors,
+    );
     if listed == Err(ManyFault::Other(Fault::Write)) {
         return listed;
     }
@@ -216,23 +256,23 @@ pub fn write_listed<O: Write, E: Write>(
 fn write_places<O: Write, E: Write>(
     mem: Global,
     on_error: OnError,
-    kind: Kind,
+    wanted: Wanted<'_>,
     section: &[u8],
     places: Places<'_>,
     output: &mut O,
     errors: &mut E,
 ) -> Result<bool, ManyFault>
-    ensures { WritesListed on_error kind section.now places.entry
+    ensures { WritesListed on_error wanted.entry section.now places.entry
         (WroteBoth (Appends (O.contents output.old) (O.contents output.new))
         (Appends (E.contents errors.old) (E.contents errors.new))) result }
 {
     match places {
-        Places::Walked => write_walk(mem, on_error, kind, section, 0, output, errors),
+        Places::Walked => write_walk(mem, on_error, wanted, section, 0, output, errors),
         Places::Given(Lines::Offsets, offsets) => {
-            write_each_at(mem, on_error, kind, section, offsets, output, errors)
+            write_each_at(mem, on_error, wanted, section, offsets, output, errors)
         }
         Places::Given(Lines::Parts, bounds) => {
-            write_parts(mem, on_error, kind, section, bounds, output, errors)
+            write_parts(mem, on_error, wanted, section, bounds, output, errors)
         }
     }
 }
@@ -242,19 +282,19 @@ fn write_places<O: Write, E: Write>(
 fn write_each_at<O: Write, E: Write>(
     mem: Global,
     on_error: OnError,
-    kind: Kind,
+    wanted: Wanted<'_>,
     section: &[u8],
     offsets: &[u64],
     output: &mut O,
     errors: &mut E,
 ) -> Result<bool, ManyFault>
-    ensures { WritesEach on_error kind section.now offsets.now
+    ensures { WritesEach on_error wanted.entry section.now offsets.now
         (WroteBoth (Appends (O.contents output.old) (O.contents output.new))
         (Appends (E.contents errors.old) (E.contents errors.new))) result }
 {
     let mut failed = false;
     for offset in offsets {
-        let (fails, _) = write_at(mem, on_error, kind, section, *offset, output, errors)?;
+        let (fails, _) = write_at(mem, on_error, wanted, section, *offset, output, errors)?;
         failed |= fails;
     }
     Ok(failed)
@@ -265,13 +305,13 @@ fn write_each_at<O: Write, E: Write>(
 fn write_parts<O: Write, E: Write>(
     mem: Global,
     on_error: OnError,
-    kind: Kind,
+    wanted: Wanted<'_>,
     section: &[u8],
     bounds: &[u64],
     output: &mut O,
     errors: &mut E,
 ) -> Result<bool, ManyFault>
-    ensures { WritesParts on_error kind section.now
+    ensures { WritesParts on_error wanted.entry section.now
         (parts_of (length section.now) bounds.now)
         (WroteBoth (Appends (O.contents output.old) (O.contents output.new))
         (Appends (E.contents errors.old) (E.contents errors.new))) result }
@@ -281,7 +321,7 @@ fn write_parts<O: Write, E: Write>(
     while let [start, others @ ..] = rest {
         let (front, following) = front_of_part(section, others);
         let start = *start as usize;
-        failed |= write_walk(mem, on_error, kind, front, start, output, errors)?;
+        failed |= write_walk(mem, on_error, wanted, front, start, output, errors)?;
         rest = following;
     }
     Ok(failed)
@@ -314,13 +354,13 @@ fn front_of_part<'s, 'b>(section: &'s [u8], bounds: &'b [u64]) -> (&'s [u8], &'b
 fn write_walk<O: Write, E: Write>(
     mem: Global,
     on_error: OnError,
-    kind: Kind,
+    wanted: Wanted<'_>,
     section: &[u8],
     start: usize,
     output: &mut O,
     errors: &mut E,
 ) -> Result<bool, ManyFault>
-    ensures { WritesWalk on_error kind section.now start
+    ensures { WritesWalk on_error wanted.entry section.now start
         (WroteBoth (Appends (O.contents output.old) (O.contents output.new))
         (Appends (E.contents errors.old) (E.contents errors.new))) result }
 {
@@ -328,46 +368,52 @@ fn write_walk<O: Write, E: Write>(
     let mut failed = false;
     let mut offset = start;
     while offset < section.len() {
-        if is_padding(kind, section, offset) {
+        if is_padding(wanted.kind(), section, offset) {
             offset += 4;
             continue;
         }
-        let (fails, next) = write_at(mem, on_error, kind, section, offset as u64, output, errors)?;
+        let (fails, next) = write_at(
+            mem,
+            on_error,
+            wanted,
+            section,
+            offset as u64,
+            output,
+            errors,
+        )?;
         failed |= fails;
         offset = next as usize;
     }
     Ok(failed)
 }
 
-// Writes what is listed at an offset. Returns whether that is the line of an error, and where the
+// Writes what is listed at an offset. Returns whether a line of an error is among it, and where the
 // next begins.
 fn write_at<O: Write, E: Write>(
     mem: Global,
     on_error: OnError,
-    kind: Kind,
+    wanted: Wanted<'_>,
     section: &[u8],
     offset: u64,
     output: &mut O,
     errors: &mut E,
 ) -> Result<(bool, u64), ManyFault>
     ensures ok { IfOk result (λ found. (texts : Texts)
-        × ListsAt on_error kind section.now offset texts found.0
+        × ListsAt on_error wanted.entry section.now offset texts found.0
         × WroteBoth (Appends (O.contents output.old) (O.contents output.new))
         (Appends (E.contents errors.old) (E.contents errors.new)) texts) }
-    ensures next { IfOk result
+    ensures next { let kind = kind_of wanted.entry in IfOk result
         (λ found. Follows (HasEnd kind section.now offset) (length section.now) found.1) }
     ensures later { IfOk result (λ found. offset < length section.now → offset < found.1) }
     ensures within { IfOk result (λ found. found.1 ≤ length section.now) }
-    ensures at { (place : ℕ) (error : _) → result ≡ Err (ManyFault.At place error)
-        → (on_error ≡ OnError.Stop) × (place ≡ offset) × (output.new ≡ output.old)
-        × (errors.new ≡ errors.old) × ListsOne kind section.now offset (Err error) }
-    ensures stopped { (fault : _) → result ≡ Err (ManyFault.Other fault) → fault ≢ Fault.Write
-        → (output.new ≡ output.old) × (errors.new ≡ errors.old) }
-    ensures err { IfErr result IsListingFault }
+    ensures err { IfErr result (λ fault. (fault ≡ ManyFault.Other Fault.Write)
+        ⊎ (((fault ≡ ManyFault.Other (Fault.Section OutOfMemory))
+        ⊎ FailsAt on_error wanted.entry section.now offset fault)
+        × (output.new ≡ output.old) × (errors.new ≡ errors.old))) }
 {
-    let (found, next) = found_at(mem, kind, section, offset);
-    let text = match found {
-        Ok(text) => text,
+    let (found, next) = listed_at(mem, wanted, section, offset);
+    let (lines, names) = match found {
+        Ok(found) => found,
         Err(Error::OutOfMemory) => return Err(ManyFault::Other(Fault::out_of_memory())),
         Err(error) => {
             if on_error == OnError::Stop {
@@ -379,10 +425,33 @@ fn write_at<O: Write, E: Write>(
             return Ok((true, next));
         }
     };
-    if write_title(output, kind, offset).is_err() || text.write_to(output).is_err() {
-        return Err(ManyFault::Other(Fault::Write));
+    // With `Stop` nothing of an offset is written before it is known that it has no error.
+    check_names(on_error, wanted, &names)?;
+    match write_found(wanted, offset, &lines, &names, output, errors) {
+        Ok(failed) => Ok((failed, next)),
+        Err(_) => Err(ManyFault::Other(Fault::Write)),
     }
-    Ok((false, next))
+}
+
+// Writes the title of an offset, its lines, and those of the string offsets below it. Returns
+// whether one of these has no string.
+fn write_found<O: Write, E: Write>(
+    wanted: Wanted<'_>,
+    offset: u64,
+    lines: &Found<'_>,
+    names: &[u64],
+    output: &mut O,
+    errors: &mut E,
+) -> io::Result<bool>
+    ensures { IfOk result (λ failed. (own : Texts)
+        × ListsEach (ListsName OnError.GoOn wanted.entry) names.now own failed
+        × WroteBoth (Appends (O.contents output.old) (O.contents output.new))
+        (Appends (E.contents errors.old) (E.contents errors.new))
+        (then_texts (title (kind_of wanted.entry) offset ++ found_bytes lines.now, []) own)) }
+{
+    write_title(output, wanted.kind(), offset)?;
+    lines.write_to(output)?;
+    write_names(wanted, names, output, errors)
 }
 
 // Writes the title of an offset. The lines after it have no offset of their own.

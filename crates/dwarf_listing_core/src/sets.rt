@@ -5,9 +5,9 @@ ghost use Rattle.std.specs.Fmt.{digit_glyph};
 ghost use Rattle.std.specs.Iterator.{IsFinite};
 ghost use Rattle.dwarf_read_core.specs.ErrorText.{hexadecimal};
 ghost use Rattle.dwarf_read_core.specs.Lookups.{UnlessOutOfMemory};
-ghost use Rattle.dwarf_read_core.specs.Contributions.{Remaining};
+ghost use Rattle.dwarf_read_core.specs.Contributions.{Remaining, seen_by};
 ghost use Rattle.dwarf_listing_core.specs.Items.{Joins, ListsRun};
-ghost use Rattle.dwarf_listing_core.specs.Sets.{ListsAddresses, ListsFirst, ListsSection, ListsStringOffsets, address_header_line, address_line, address_listing, offset_header_line, offset_line, offset_listing, set_title};
+ghost use Rattle.dwarf_listing_core.specs.Sets.{ListsAddresses, ListsFirst, ListsLine, ListsSection, ListsSet, ListsStringOffsets, NamesSet, address_header_line, address_line, address_listing, offset_header_line, offset_line, offset_listing, one_number, set_title};
 ghost use Rattle.dwarf_listing_core.specs.declared.sets.Style.TheVariants.{Whole, Titled};
 
 use dwarf_read_core::{
@@ -70,7 +70,7 @@ pub(crate) fn first_addresses<R: Reader<Offset = usize>>(
     set: R,
 ) -> Result<Vec<u8>, Error>
     ensures { let sets : Remaining = record { offset = 0; rest = R.view set } in
-        UnlessOutOfMemory (ListsFirst (address_listing Titled) sets) vec_items result }
+        UnlessOutOfMemory (ListsFirst (address_listing Titled) ListsSet sets) vec_items result }
 {
     let end = set.offset_id();
     let mut headers = DebugAddr::from(set).headers()?;
@@ -90,7 +90,8 @@ pub(crate) fn first_string_offsets<R: Reader<Offset = usize>>(
     set: R,
 ) -> Result<Vec<u8>, Error>
     ensures { let sets : Remaining = record { offset = 0; rest = R.view set } in
-        UnlessOutOfMemory (ListsFirst (offset_listing Titled (2 ^ 64 - 1)) sets) vec_items result }
+        UnlessOutOfMemory (ListsFirst (offset_listing Titled (2 ^ 64 - 1)) ListsSet sets) vec_items
+        result }
 {
     let end = set.offset_id();
     let mut headers = DebugStrOffsets::from(set).headers()?;
@@ -98,6 +99,63 @@ pub(crate) fn first_string_offsets<R: Reader<Offset = usize>>(
         Some(header) => text_alone(mem, &header),
         None => Err(Error::UnexpectedEof(end)),
     }
+}
+
+/// Returns the line of the set of string offsets at the front of a reader, without its title, and
+/// its string offsets.
+///
+/// # Errors
+///
+/// As [`first_addresses`] returns them.
+pub(crate) fn first_names<R: Reader<Offset = usize>>(
+    mem: Global,
+    set: R,
+) -> Result<(Vec<u8>, Vec<u64>), Error>
+    ensures { let sets : Remaining = record { offset = 0; rest = R.view set } in
+        UnlessOutOfMemory (ListsFirst (offset_listing Titled (2 ^ 64 - 1)) NamesSet sets)
+        (λ it. (it.0.items, it.1.items)) result }
+{
+    let end = set.offset_id();
+    let mut headers = DebugStrOffsets::from(set).headers()?;
+    match headers.next()? {
+        Some(header) => names_of(mem, &header),
+        None => Err(Error::UnexpectedEof(end)),
+    }
+}
+
+// Returns the line of a set of string offsets, and these.
+fn names_of<R: Reader>(
+    mem: Global,
+    header: &StrOffsetsHeader<R>,
+) -> Result<(Vec<u8>, Vec<u64>), Error>
+    ensures { UnlessOutOfMemory
+        (NamesSet (offset_listing Titled R.Offset.GREATEST) (seen_by R.view header.now))
+        (λ it. (it.0.items, it.1.items)) result }
+{
+    let (offset, length) = (header.offset().into_u64(), header.length().into_u64());
+    let bits = header.format().word_size() * 8;
+    let mut line = Vec::new(mem);
+    push_offset_header(&mut line, Style::Titled, offset, length, bits)?;
+    let mut names = Vec::new(mem);
+    push_numbers(&mut names, header.entries()?)?;
+    Ok((line, names))
+}
+
+// Appends string offsets, in order.
+fn push_numbers<O: ReaderOffset, I: Iterator<Item = Result<DebugStrOffset<O>, Error>>>(
+    numbers: &mut Vec<u64>,
+    items: I,
+) -> Result<(), Error>
+    requires can { I.can_next items }
+    requires ends { IsFinite (I.remaining items) }
+    ensures { UnlessOutOfMemory (Joins (Ok numbers.old.items)
+        (ListsRun I.next_gives (λ offset. ListsLine one_number (O.value offset.0)) items))
+        (λ _. numbers.new.items) result }
+{
+    for item in items {
+        numbers.push(item?.0.into_u64())?;
+    }
+    Ok(())
 }
 
 // How a set is listed.
@@ -286,9 +344,9 @@ fn push_decimal(text: &mut Vec<u8>, offset: u64) -> Result<(), AllocError>
     text.extend_from_slice(&line[start..])
 }
 
-// Puts the hexadecimal digits of a number before the last byte, and returns where they begin.
-// A section has many addresses, and formatting each by `{:x}` takes twice as long.
-fn put_hexadecimal(line: &mut [u8; 17], number: u64) -> usize
+/// Puts the hexadecimal digits of a number before the last byte, and returns where they begin.
+/// A section has many addresses, and formatting each by `{:x}` takes twice as long.
+pub(crate) fn put_hexadecimal(line: &mut [u8; 17], number: u64) -> usize
     ensures bound { result ≤ 17 }
     ensures digits { drop result line.new ≡ hexadecimal number ++ drop 16 line.old }
 {

@@ -2,8 +2,9 @@
 
 ghost use Rattle.std.specs.Prelude.{◌≡◌, ◌<◌, ◌≤◌, ◌-◌, ◌++◌, Ok, Err, IfErr, IfOk, OnOk, length, vec_items};
 ghost use Rattle.dwarf_read_core.specs.Lookups.{UnlessOutOfMemory};
-ghost use Rattle.dwarf_listing_core.specs.Entries.{EntriesEndAt, EntryAt, ListsEntries, ListsFrom, addresses_line, entries_line, entries_size, entry_count, listed_count, string_offsets_line};
+ghost use Rattle.dwarf_listing_core.specs.Entries.{EntriesEndAt, EntryAt, ListsEntries, ListsFrom, NamesEntries, addresses_line, entries_line, entries_size, entry_count, listed_count, string_offsets_line};
 ghost use Rattle.dwarf_listing_core.specs.Items.{Joins};
+ghost use Rattle.dwarf_listing_core.specs.Sets.{address_line, one_number};
 ghost use Rattle.dwarf_listing_core.specs.Walk.{Follows};
 
 use crate::kind::Entry;
@@ -17,7 +18,6 @@ use std::io::Write;
 
 /// Returns the lines of the entries from an offset on, as many as the section has whole, and where
 /// they end. Bytes after them that are too few for an entry begin what is next, which is an error.
-#[tactic(auto, using(crate::proofs::EntryLines::rest_within))]
 pub(crate) fn entries_at(
     mem: Global,
     section: &[u8],
@@ -29,12 +29,44 @@ pub(crate) fn entries_at(
     ensures later { offset < length section.now → offset < result.1 }
     ensures within { result.1 ≤ length section.now }
 {
-    let lines = entry_lines(mem, section, entry, offset);
+    (
+        entry_lines(mem, section, entry, offset),
+        entries_end(section, entry, offset),
+    )
+}
+
+/// Returns the line before the entries from an offset on, and these as numbers, and where they end,
+/// as `entries_at` does.
+pub(crate) fn entry_names_at(
+    mem: Global,
+    section: &[u8],
+    entry: Entry,
+    offset: u64,
+) -> (Result<(Vec<u8>, Vec<u64>), Error>, u64)
+    ensures found { UnlessOutOfMemory (NamesEntries entry section.now offset)
+        (λ it. (it.0.items, it.1.items)) result.0 }
+    ensures next { Follows (EntriesEndAt entry section.now offset) (length section.now) result.1 }
+    ensures later { offset < length section.now → offset < result.1 }
+    ensures within { result.1 ≤ length section.now }
+{
+    (
+        entry_names(mem, section, entry, offset),
+        entries_end(section, entry, offset),
+    )
+}
+
+// Returns where the whole entries from an offset on end, or the section's end if there are none.
+#[tactic(auto, using(crate::proofs::EntryLines::rest_within))]
+fn entries_end(section: &[u8], entry: Entry, offset: u64) -> u64
+    ensures next { Follows (EntriesEndAt entry section.now offset) (length section.now) result }
+    ensures later { offset < length section.now → offset < result }
+    ensures within { result ≤ length section.now }
+{
     let size = entries_size(section, entry, offset);
     if size == 0 {
-        return (lines, section.len() as u64);
+        return section.len() as u64;
     }
-    (lines, offset + size)
+    offset + size
 }
 
 // Returns how many bytes the whole entries from an offset on have.
@@ -65,6 +97,24 @@ fn entry_lines(mem: Global, section: &[u8], entry: Entry, offset: u64) -> Result
     let count = listed_count(section, entry, offset);
     push_entries(&mut text, section, entry, offset, count)?;
     Ok(text)
+}
+
+// Returns the line before the entries, and these as numbers, or the first error.
+fn entry_names(
+    mem: Global,
+    section: &[u8],
+    entry: Entry,
+    offset: u64,
+) -> Result<(Vec<u8>, Vec<u64>), Error>
+    ensures { UnlessOutOfMemory (NamesEntries entry section.now offset)
+        (λ it. (it.0.items, it.1.items)) result }
+{
+    let mut line = Vec::new(mem);
+    push_entries_line(&mut line, entry, entries_size(section, entry, offset))?;
+    let mut names = Vec::new(mem);
+    let count = listed_count(section, entry, offset);
+    push_entry_numbers(&mut names, section, entry, offset, count)?;
+    Ok((line, names))
 }
 
 // Appends the line before entries, which has in it what a header would have said.
@@ -102,13 +152,36 @@ fn push_entries(
     count: u64,
 ) -> Result<(), Error>
     ensures { UnlessOutOfMemory
-        (Joins (Ok text.old.items) (ListsFrom (EntryAt entry section.now offset) 0 count))
+        (Joins (Ok text.old.items)
+        (ListsFrom address_line (EntryAt entry section.now offset) 0 count))
         (λ _. text.new.items) result }
 {
     let mut index = 0;
     while index < count {
         let number = entry_at(section, entry, offset, index)?;
         push_address(text, number)?;
+        index += 1;
+    }
+    Ok(())
+}
+
+// Appends this many entries as numbers, or returns the first error.
+fn push_entry_numbers(
+    numbers: &mut Vec<u64>,
+    section: &[u8],
+    entry: Entry,
+    offset: u64,
+    count: u64,
+) -> Result<(), Error>
+    ensures { UnlessOutOfMemory
+        (Joins (Ok numbers.old.items)
+        (ListsFrom one_number (EntryAt entry section.now offset) 0 count))
+        (λ _. numbers.new.items) result }
+{
+    let mut index = 0;
+    while index < count {
+        let number = entry_at(section, entry, offset, index)?;
+        numbers.push(number)?;
         index += 1;
     }
     Ok(())

@@ -18,12 +18,16 @@ use std::{fmt, io};
 pub enum ManyFault {
     /// The section has this error at this offset.
     At(u64, Error),
+    /// The strings have this error at this string offset.
+    NoString(u64, Error),
     /// The line of the offsets that isn't one, counted from 1, and how it begins.
     Line(u64, Quote),
     /// The section can't be opened or read.
     ReadSection,
     /// The offsets can't be opened or read.
     ReadOffsets,
+    /// The strings can't be opened or read.
+    ReadStrings,
     /// Any other error.
     Other(Fault),
 }
@@ -72,8 +76,8 @@ impl ManyFault {
         ensures { result ≡ many_fault_status self.now }
     {
         match self {
-            ManyFault::At(..) | ManyFault::Line(..) => 1,
-            ManyFault::ReadSection | ManyFault::ReadOffsets => 3,
+            ManyFault::At(..) | ManyFault::NoString(..) | ManyFault::Line(..) => 1,
+            ManyFault::ReadSection | ManyFault::ReadOffsets | ManyFault::ReadStrings => 3,
             ManyFault::Other(fault) => fault.status(),
         }
     }
@@ -90,18 +94,22 @@ impl fmt::Display for ManyFault {
     fn fmt<W: fmt::Write>(&self, f: &mut fmt::Formatter<W>) -> fmt::Result {
         match self {
             ManyFault::At(offset, error) => write!(f, "error at 0x{offset:x}: {error}"),
+            ManyFault::NoString(offset, error) => {
+                write!(f, "error at 0x{offset:x} of the strings: {error}")
+            }
             ManyFault::Line(number, quote) => {
                 write!(f, "error: line {number} of the offsets is no offset: ")?;
                 fmt::Display::fmt(quote, f)
             }
             ManyFault::ReadSection => write!(f, "error: cannot read the section"),
             ManyFault::ReadOffsets => write!(f, "error: cannot read the offsets"),
+            ManyFault::ReadStrings => write!(f, "error: cannot read the strings"),
             ManyFault::Other(Fault::Usage) => {
                 write!(
                     f,
-                    "usage: dwarf_list_many [--keep-going] [--raw] [--all] [--parts] KIND SECTION \
-                     [OFFSETS], where KIND is abbrev, abbrev-ends, str, addr le|be, str-offsets le|be, \
-                     addr-entries le|be 1|2|4|8 or str-offset-entries le|be 32|64"
+                    "usage: dwarf_list_many [--keep-going] [--raw] [--all] [--parts] [--strings FILE] \
+                     KIND SECTION [OFFSETS], where KIND is abbrev, abbrev-ends, str, addr le|be, \
+                     str-offsets le|be, addr-entries le|be 1|2|4|8 or str-offset-entries le|be 32|64"
                 )
             }
             ManyFault::Other(fault) => write!(f, "{fault}"),

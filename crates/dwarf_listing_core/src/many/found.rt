@@ -12,14 +12,15 @@ ghost use Rattle.dwarf_read_core.specs.Strings.{StringAt};
 ghost use Rattle.dwarf_read_core.specs.declared.Error.TheVariants.{OutOfMemory};
 ghost use Rattle.dwarf_listing_core.specs.Found.{found_bytes};
 ghost use Rattle.dwarf_listing_core.specs.Lines.{is_plain, shown_byte};
-ghost use Rattle.dwarf_listing_core.specs.Sets.{ListsFirst, ListsSetAt, address_listing, offset_listing};
+ghost use Rattle.dwarf_listing_core.specs.Sets.{ListsFirst, ListsSet, ListsSetAt, NamesSet, address_listing, offset_listing};
 ghost use Rattle.dwarf_listing_core.specs.Tables.{ListsTable};
 ghost use Rattle.dwarf_listing_core.specs.Walk.{Follows, HasEnd, HasSetSize, ListsOne, ListsTableEnd, SetEndsAt, StringEndsAt, TableEndAt, is_padding};
+ghost use Rattle.dwarf_listing_core.specs.Wanted.{ListedAt, NamesAt, kind_of, source_kind};
 ghost use Rattle.dwarf_listing_core.specs.declared.sets.Style.TheVariants.{Titled};
 
-use super::entries::entries_at;
-use crate::kind::Kind;
-use crate::sets::{first_addresses, first_string_offsets};
+use super::entries::{entries_at, entry_names_at};
+use crate::kind::{Entry, Kind, Source, Wanted};
+use crate::sets::{first_addresses, first_names, first_string_offsets};
 use crate::tables::write_table;
 use dwarf_read_core::{
     Abbreviations, DebugAbbrev, DebugAbbrevOffset, DebugStr, DebugStrOffset, EndianSlice, Error,
@@ -66,6 +67,61 @@ impl Found<'_> {
                 output.write_all(b"\n")
             }
             Found::Set(lines) => output.write_all(lines),
+        }
+    }
+}
+
+/// Returns what begins at an offset of a section, and the string offsets below it that are listed
+/// with their strings, or the error there, and where the next begins.
+pub(crate) fn listed_at<'a>(
+    mem: Global,
+    wanted: Wanted<'_>,
+    section: &'a [u8],
+    offset: u64,
+) -> (Result<(Found<'a>, Vec<u64>), Error>, u64)
+    ensures found { UnlessOutOfMemory (ListedAt wanted.entry section.now offset)
+        (λ it. (found_bytes it.0, it.1.items)) result.0 }
+    ensures next { result.0 ≢ Err OutOfMemory →
+        Follows (HasEnd (kind_of wanted.entry) section.now offset) (length section.now) result.1 }
+    ensures later { offset < length section.now → offset < result.1 }
+    ensures within { result.1 ≤ length section.now }
+{
+    match wanted {
+        Wanted::Alone(kind) => {
+            let (found, next) = found_at(mem, kind, section, offset);
+            match found {
+                Ok(found) => (Ok((found, Vec::new(mem))), next),
+                Err(error) => (Err(error), next),
+            }
+        }
+        Wanted::Named(source, _) => {
+            let (found, next) = names_at(mem, source, section, offset);
+            match found {
+                Ok((line, names)) => (Ok((Found::Set(line), names)), next),
+                Err(error) => (Err(error), next),
+            }
+        }
+    }
+}
+
+// Returns the line before string offsets, and these, or the error there, and where they end.
+fn names_at(
+    mem: Global,
+    source: Source,
+    section: &[u8],
+    offset: u64,
+) -> (Result<(Vec<u8>, Vec<u64>), Error>, u64)
+    ensures found { UnlessOutOfMemory (NamesAt source section.now offset)
+        (λ it. (it.0.items, it.1.items)) result.0 }
+    ensures next { Follows (HasEnd (source_kind source) section.now offset)
+        (length section.now) result.1 }
+    ensures later { offset < length section.now → offset < result.1 }
+    ensures within { result.1 ≤ length section.now }
+{
+    match source {
+        Source::Sets(endian) => set_names_at(mem, section, endian, offset),
+        Source::Entries(endian, format) => {
+            entry_names_at(mem, section, Entry::StringOffset(endian, format), offset)
         }
     }
 }
@@ -140,9 +196,9 @@ fn table_end_at(mem: Global, section: &[u8], offset: u64) -> (Result<Found<'_>, 
     }
 }
 
-// Returns the string at an offset, in place: it is a part of the section, so nothing is copied. The
-// next string begins after its zero byte.
-fn string_at(section: &[u8], offset: u64) -> (Result<&[u8], Error>, u64)
+/// Returns the string at an offset, in place: it is a part of the section, so nothing is copied.
+/// The next string begins after its zero byte.
+pub(crate) fn string_at(section: &[u8], offset: u64) -> (Result<&[u8], Error>, u64)
     ensures ok { IfOk result.0 (λ string. (found : Input)
         × StringAt (section_of section.now false) offset (Ok found) × (string.now ≡ found.bytes)) }
     ensures err { IfErr result.0
@@ -171,7 +227,8 @@ fn addresses_at(
     offset: u64,
 ) -> (Result<Found<'_>, Error>, u64)
     ensures found { UnlessOutOfMemory
-        (ListsSetAt (address_listing Titled) endian section.now offset) found_bytes result.0 }
+        (ListsSetAt (address_listing Titled) ListsSet endian section.now offset)
+        found_bytes result.0 }
     ensures next { let whole = section_of section.now (is_big_at_run_time endian) in
         Follows (SetEndsAt whole offset) (length section.now) result.1 }
     ensures later { offset < length section.now → offset < result.1 }
@@ -186,7 +243,7 @@ fn addresses_at(
 // Returns the lines of the set of addresses at the front of a reader. A function of its own keeps
 // what is known of the lines apart from where the next set begins.
 fn addresses_of(mem: Global, set: EndianSlice<'_, RunTimeEndian>) -> Result<Found<'static>, Error>
-    ensures { UnlessOutOfMemory (ListsFirst (address_listing Titled)
+    ensures { UnlessOutOfMemory (ListsFirst (address_listing Titled) ListsSet
         (record { offset = 0; rest = input_of set.entry })) found_bytes result }
 {
     match first_addresses(mem, set) {
@@ -203,7 +260,7 @@ fn string_offsets_at(
     offset: u64,
 ) -> (Result<Found<'_>, Error>, u64)
     ensures found { UnlessOutOfMemory
-        (ListsSetAt (offset_listing Titled (2 ^ 64 - 1)) endian section.now offset)
+        (ListsSetAt (offset_listing Titled (2 ^ 64 - 1)) ListsSet endian section.now offset)
         found_bytes result.0 }
     ensures next { let whole = section_of section.now (is_big_at_run_time endian) in
         Follows (SetEndsAt whole offset) (length section.now) result.1 }
@@ -221,12 +278,34 @@ fn string_offsets_of(
     mem: Global,
     set: EndianSlice<'_, RunTimeEndian>,
 ) -> Result<Found<'static>, Error>
-    ensures { UnlessOutOfMemory (ListsFirst (offset_listing Titled (2 ^ 64 - 1))
+    ensures { UnlessOutOfMemory (ListsFirst (offset_listing Titled (2 ^ 64 - 1)) ListsSet
         (record { offset = 0; rest = input_of set.entry })) found_bytes result }
 {
     match first_string_offsets(mem, set) {
         Ok(lines) => Ok(Found::Set(lines)),
         Err(error) => Err(error),
+    }
+}
+
+// Returns the line of the set of string offsets at an offset, and these, as `string_offsets_at`
+// returns its lines.
+fn set_names_at(
+    mem: Global,
+    section: &[u8],
+    endian: RunTimeEndian,
+    offset: u64,
+) -> (Result<(Vec<u8>, Vec<u64>), Error>, u64)
+    ensures found { UnlessOutOfMemory
+        (ListsSetAt (offset_listing Titled (2 ^ 64 - 1)) NamesSet endian section.now offset)
+        (λ it. (it.0.items, it.1.items)) result.0 }
+    ensures next { let whole = section_of section.now (is_big_at_run_time endian) in
+        Follows (SetEndsAt whole offset) (length section.now) result.1 }
+    ensures later { offset < length section.now → offset < result.1 }
+    ensures within { result.1 ≤ length section.now }
+{
+    match set_at(section, endian, offset) {
+        Ok((set, next)) => (first_names(mem, set), next),
+        Err(error) => (Err(error), section.len() as u64),
     }
 }
 
@@ -286,8 +365,8 @@ pub(crate) fn is_padding(kind: Kind, section: &[u8], offset: usize) -> bool
     }
 }
 
-// Writes a string as text.
-fn write_shown<O: Write>(output: &mut O, string: &[u8]) -> io::Result<()>
+/// Writes a string as text.
+pub(crate) fn write_shown<O: Write>(output: &mut O, string: &[u8]) -> io::Result<()>
     ensures { OnOk result (Appends (O.contents output.old) (O.contents output.new)
         (flat_map shown_byte string.now)) }
 {

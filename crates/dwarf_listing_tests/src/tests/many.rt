@@ -10,12 +10,14 @@ use dwarf_listing_core::arguments::{Lines, OnError, parse_arguments};
 use dwarf_listing_core::fault::Fault;
 use dwarf_listing_core::kind::AddressWidth::{Eight, Four, One, Two};
 use dwarf_listing_core::kind::Entry::{Address, StringOffset};
-use dwarf_listing_core::kind::Kind;
 use dwarf_listing_core::kind::Kind::{
     Addresses, RawStrings, StringOffsets, Strings, TableEnds, Tables, WithoutHeader,
 };
+use dwarf_listing_core::kind::Source::{Entries, Sets};
+use dwarf_listing_core::kind::Wanted::{Alone, Named};
+use dwarf_listing_core::kind::{Kind, Names, Wanted};
 use dwarf_listing_core::many::fault::ManyFault;
-use dwarf_listing_core::many::{run_many, run_whole};
+use dwarf_listing_core::many::{read_strings, run_many, run_whole};
 use dwarf_listing_core::words::command_line;
 use dwarf_read_core::Format::{Dwarf32, Dwarf64};
 use dwarf_read_core::RunTimeEndian::{Big, Little};
@@ -31,7 +33,7 @@ type Bytes = &'static [u8];
 // ends.
 type Run = (
     OnError,
-    Kind,
+    Wanted<'static>,
     Bytes,
     Option<(Lines, Bytes)>,
     Bytes,
@@ -41,26 +43,26 @@ type Run = (
 
 #[rattlefmt::skip]
 const THREE_STRINGS: Run = (
-    Stop, Strings, STRINGS, Some((Offsets, b"4\n0x0\n0008")), b"0x4: two\n0x0: one\n0x8: \n", b"", Ok(false),
+    Stop, Alone(Strings), STRINGS, Some((Offsets, b"4\n0x0\n0008")), b"0x4: two\n0x0: one\n0x8: \n", b"", Ok(false),
 );
 
 #[rattlefmt::skip]
 const TABLES: Run = (
-    Stop, Tables, b"\x01\x11\0\0\0", Some((Offsets, b"0\n5\n6\n")), b"table 0x0:\n1 DW_TAG_compile_unit no\ntable 0x5:\n", b"",
+    Stop, Alone(Tables), b"\x01\x11\0\0\0", Some((Offsets, b"0\n5\n6\n")), b"table 0x0:\n1 DW_TAG_compile_unit no\ntable 0x5:\n", b"",
     Err(ManyFault::At(6, Error::UnexpectedEof(ReaderOffsetId(0)))),
 );
 
 // The table in the middle is malformed.
 #[rattlefmt::skip]
 const GOES_ON: Run = (
-    GoOn, Tables, b"\x01\x11\0\0\0\0\x01\0", Some((Offsets, b"0\n6\n5\n")),
+    GoOn, Alone(Tables), b"\x01\x11\0\0\0\0\x01\0", Some((Offsets, b"0\n6\n5\n")),
     b"table 0x0:\n1 DW_TAG_compile_unit no\ntable 0x5:\n", b"error at 0x6: invalid abbreviation tag: zero\n",
     Ok(true),
 );
 
 const NO_OFFSETS: Run = (
     Stop,
-    Strings,
+    Alone(Strings),
     STRINGS,
     Some((Offsets, b"")),
     b"",
@@ -71,7 +73,7 @@ const NO_OFFSETS: Run = (
 // Each of the tables needs memory.
 #[rattlefmt::skip]
 const TWO_TABLES: Run = (
-    Stop, Tables, b"\x01\x11\0\0\0\0\x01\x11\0\0\0\0", Some((Offsets, b"0\n6\n")),
+    Stop, Alone(Tables), b"\x01\x11\0\0\0\0\x01\x11\0\0\0\0", Some((Offsets, b"0\n6\n")),
     b"table 0x0:\n1 DW_TAG_compile_unit no\ntable 0x6:\n1 DW_TAG_compile_unit no\n", b"",
     Ok(false),
 );
@@ -80,7 +82,7 @@ const TWO_TABLES: Run = (
 // after them.
 #[rattlefmt::skip]
 const ALL_TABLES: Run = (
-    Stop, Tables, b"\x01\x11\0\0\0\0\0\0\0\0\x01\x2e\0\0\0\0\0\0\0", None,
+    Stop, Alone(Tables), b"\x01\x11\0\0\0\0\0\0\0\0\x01\x2e\0\0\0\0\0\0\0", None,
     b"table 0x0:\n1 DW_TAG_compile_unit no\ntable 0xa:\n1 DW_TAG_subprogram no\n\
         table 0x10:\ntable 0x11:\ntable 0x12:\n", b"",
     Ok(false),
@@ -89,28 +91,28 @@ const ALL_TABLES: Run = (
 // Where a malformed table ends isn't known.
 #[rattlefmt::skip]
 const BAD_TABLE: Run = (
-    GoOn, Tables, b"\0\x01\0\0\x01\x11\0\0\0\0", None,
+    GoOn, Alone(Tables), b"\0\x01\0\0\x01\x11\0\0\0\0", None,
     b"table 0x0:\n", b"error at 0x1: invalid abbreviation tag: zero\n", Ok(true),
 );
 
 // No zero byte is padding, and the last string has none after it.
 #[rattlefmt::skip]
 const ALL_STRINGS: Run = (
-    GoOn, Strings, b"a\0\0\0\0\0\\\x1b[\n\xc3\xa9\"~\0end", None,
+    GoOn, Alone(Strings), b"a\0\0\0\0\0\\\x1b[\n\xc3\xa9\"~\0end", None,
     b"0x0: a\n0x2: \n0x3: \n0x4: \n0x5: \n0x6: \\\\\\x1b[\\n\\xc3\\xa9\"~\n",
     b"error at 0xf: unexpected end of input\n", Ok(true),
 );
 
 #[rattlefmt::skip]
 const RAW_STRINGS: Run = (
-    Stop, RawStrings, b"\\\x1b[\n\xc3\xa9\0\0", None, b"0x0: \\\x1b[\n\xc3\xa9\n0x7: \n", b"", Ok(false),
+    Stop, Alone(RawStrings), b"\\\x1b[\n\xc3\xa9\0\0", None, b"0x0: \\\x1b[\n\xc3\xa9\n0x7: \n", b"", Ok(false),
 );
 
 // The second set has an unknown version, and the third one an address that is cut. Padding is
 // before the last.
 #[rattlefmt::skip]
 const ALL_SETS: Run = (
-    GoOn, Addresses(Little),
+    GoOn, Alone(Addresses(Little)),
     b"\x08\0\0\0\x05\0\x04\0\x78\x56\x34\x12\x04\0\0\0\x04\0\x04\0\x05\0\0\0\x05\0\x04\0\x01\
         \0\0\0\0\0\0\0\0\x06\0\0\0\x05\0\x02\0\xef\xbe", None,
     b"set 0x0: length 8, 32-bit, address size 4\n  0x12345678\n\
@@ -121,7 +123,7 @@ const ALL_SETS: Run = (
 // At the offsets the sets are given, the last of them past the end.
 #[rattlefmt::skip]
 const SETS: Run = (
-    GoOn, StringOffsets(Big),
+    GoOn, Alone(StringOffsets(Big)),
     b"\0\0\0\x08\0\x05\0\0\0\0\0\x2a\xff\xff\xff\xff\0\0\0\0\0\0\0\x0c\0\x05\0\0\x01\0\0\0\0\0\0\0",
     Some((Offsets, b"12\n0\n36\n37\n4\n")),
     b"set 0xc: length 12, 64-bit\n  0x100000000000000\nset 0x0: length 8, 32-bit\n  0x2a\n",
@@ -133,14 +135,14 @@ const SETS: Run = (
 // The length of the set is past the end, and so nothing follows.
 #[rattlefmt::skip]
 const LONG_SET: Run = (
-    Stop, StringOffsets(Little), b"\x04\0\0\0\x05\0\0\0\x05\0\0\0\x05\0\0\0", None,
+    Stop, Alone(StringOffsets(Little)), b"\x04\0\0\0\x05\0\0\0\x05\0\0\0\x05\0\0\0", None,
     b"set 0x0: length 4, 32-bit\n", b"", Err(ManyFault::At(8, Error::UnexpectedEof(ReaderOffsetId(12)))),
 );
 
 // The last two bytes are no whole address. Zero bytes are no padding between entries.
 #[rattlefmt::skip]
 const ENTRIES: Run = (
-    GoOn, WithoutHeader(Address(Little, Four)), b"\0\0\0\0\x78\x56\x34\x12\x01\x02", None,
+    GoOn, Alone(WithoutHeader(Address(Little, Four))), b"\0\0\0\0\x78\x56\x34\x12\x01\x02", None,
     b"set 0x0: no header, 8 bytes, address size 4\n  0x0\n  0x12345678\n",
     b"error at 0x8: unexpected end of input\n", Ok(true),
 );
@@ -148,7 +150,7 @@ const ENTRIES: Run = (
 // Entries are listed from an offset to the section's end. At the end there is none.
 #[rattlefmt::skip]
 const ENTRIES_AT_OFFSETS: Run = (
-    Stop, WithoutHeader(Address(Big, Two)), b"\xff\x01\x02\x03\x04", Some((Offsets, b"3\n1\n5\n0\n")),
+    Stop, Alone(WithoutHeader(Address(Big, Two))), b"\xff\x01\x02\x03\x04", Some((Offsets, b"3\n1\n5\n0\n")),
     b"set 0x3: no header, 2 bytes, address size 2\n  0x304\n\
         set 0x1: no header, 4 bytes, address size 2\n  0x102\n  0x304\n", b"",
     Err(ManyFault::At(5, Error::UnexpectedEof(ReaderOffsetId(5)))),
@@ -157,7 +159,7 @@ const ENTRIES_AT_OFFSETS: Run = (
 // Each part has entries of its own, and the last ends with the section.
 #[rattlefmt::skip]
 const ENTRIES_OF_PARTS: Run = (
-    Stop, WithoutHeader(StringOffset(Big, Dwarf32)),
+    Stop, Alone(WithoutHeader(StringOffset(Big, Dwarf32))),
     b"\xff\xff\xff\xff\0\0\0\x01\0\0\x01\0\0\0\0\x02", Some((Parts, b"4\n0xc\n12\n")),
     b"set 0x4: no header, 8 bytes, 32-bit\n  0x1\n  0x100\n\
         set 0xc: no header, 4 bytes, 32-bit\n  0x2\n", b"", Ok(false),
@@ -167,7 +169,7 @@ const ENTRIES_OF_PARTS: Run = (
 // section's end. Between two tables of a part there is padding.
 #[rattlefmt::skip]
 const PARTS: Run = (
-    GoOn, Tables, b"\x01\x11\0\0\0\0\x01\x2e\0\0\0\0\0\0\0\0\x01\x34\0\0\0\0",
+    GoOn, Alone(Tables), b"\x01\x11\0\0\0\0\x01\x2e\0\0\0\0\0\0\0\0\x01\x34\0\0\0\0",
     Some((Parts, b"0\n3\n30\n3\n6\n100\n")),
     b"table 0x6:\n1 DW_TAG_subprogram no\ntable 0x10:\n1 DW_TAG_variable no\n",
     b"error at 0x0: unexpected end of input\n", Ok(true),
@@ -176,19 +178,78 @@ const PARTS: Run = (
 // The first error ends the run, and the parts after it aren't listed.
 #[rattlefmt::skip]
 const BAD_PART: Run = (
-    Stop, Strings, b"one\0two\0three", Some((Parts, b"0\n8\n8\n13\n0\n4\n")),
+    Stop, Alone(Strings), b"one\0two\0three", Some((Parts, b"0\n8\n8\n13\n0\n4\n")),
     b"0x0: one\n0x4: two\n", b"", Err(ManyFault::At(8, Error::UnexpectedEof(ReaderOffsetId(8)))),
 );
 
 // A table ends after its code 0, or with the section.
 #[rattlefmt::skip]
 const TABLE_ENDS: Run = (
-    GoOn, TableEnds, b"\x01\x11\0\0\0\0\x01\0\0\0\0\x02\x2e\x01\0\0",
+    GoOn, Alone(TableEnds), b"\x01\x11\0\0\0\0\x01\0\0\0\0\x02\x2e\x01\0\0",
     Some((Offsets, b"0\n6\n11\n5\n16\n")), b"0x0: 0x6\n0xb: 0x10\n0x5: 0x6\n0x10: 0x10\n",
     b"error at 0x6: invalid abbreviation tag: zero\n", Ok(true),
 );
 
-const RUNS: [Run; 18] = [
+// Two sets with their strings, one of which looks like the line of another offset. The second set
+// has an offset past the end, one that is the end, and one whose string has no zero byte.
+#[rattlefmt::skip]
+const NAMED: Run = (
+    GoOn, Named(Sets(Little), Names { bytes: b"0x5: \t\0b\0end", is_raw: false }),
+    b"\x0c\0\0\0\x05\0\0\0\x07\0\0\0\0\0\0\0\x18\0\0\0\x05\0\0\0\x0d\0\0\0\x05\0\0\0\x0c\0\0\0\x09\0\0\0\x08\0\0\0",
+    None,
+    b"set 0x0: length 12, 32-bit\n  0x7: b\n  0x0: 0x5: \\t\n\
+        set 0x10: length 24, 32-bit\n  0xd\n  0x5: \\t\n  0xc\n  0x9\n  0x8: \n",
+    b"error at 0xd of the strings: unexpected end of input\n\
+        error at 0xc of the strings: unexpected end of input\n\
+        error at 0x9 of the strings: unexpected end of input\n", Ok(true),
+);
+
+// The strings are raw. The set between the others is malformed.
+#[rattlefmt::skip]
+const RAW_NAMES: Run = (
+    GoOn, Named(Sets(Big), Names { bytes: b"\\\x1b\n\0", is_raw: true }),
+    b"\0\0\0\x08\0\x05\0\0\0\0\0\0\0\0\0\x06\0\x05\0\0\0\0\0\0\0\x08\0\x05\0\0\0\0\0\x04",
+    None,
+    b"set 0x0: length 8, 32-bit\n  0x0: \\\x1b\n\nset 0x16: length 8, 32-bit\n  0x4\n",
+    b"error at 0xc: unexpected end of input\nerror at 0x4 of the strings: unexpected end of input\n", Ok(true),
+);
+
+// The second of the sets has an offset without a string, and isn't listed.
+#[rattlefmt::skip]
+const NO_STRING: Run = (
+    Stop, Named(Sets(Little), Names { bytes: b"a\0b", is_raw: false }),
+    b"\x0c\0\0\0\x05\0\0\0\0\0\0\0\x01\0\0\0\x0c\0\0\0\x05\0\0\0\0\0\0\0\x02\0\0\0", None,
+    b"set 0x0: length 12, 32-bit\n  0x0: a\n  0x1: \n", b"",
+    Err(ManyFault::NoString(2, Error::UnexpectedEof(ReaderOffsetId(2)))),
+);
+
+// A set with a malformed entry has that error, whatever its strings are.
+#[rattlefmt::skip]
+const BAD_SET_OF_NAMES: Run = (
+    Stop, Named(Sets(Little), Names { bytes: b"", is_raw: false }),
+    b"\x0a\0\0\0\x05\0\0\0\0\0\0\0\x01\0", Some((Offsets, b"0\n")), b"", b"",
+    Err(ManyFault::At(0, Error::UnexpectedEof(ReaderOffsetId(12)))),
+);
+
+// Entries of two parts, and what begins at the end of the first.
+#[rattlefmt::skip]
+const NAMED_ENTRIES: Run = (
+    GoOn, Named(Entries(Little, Dwarf32), Names { bytes: b"a\0\xe9\0", is_raw: false }),
+    b"\0\0\0\0\x02\0\0\0\0\0\x01\0\0\0", Some((Parts, b"0\n10\n10\n")),
+    b"set 0x0: no header, 8 bytes, 32-bit\n  0x0: a\n  0x2: \\xe9\n\
+        set 0xa: no header, 4 bytes, 32-bit\n  0x1: \n",
+    b"error at 0x8: unexpected end of input\n", Ok(true),
+);
+
+// The first entry has a string, and the second none, so neither is listed.
+#[rattlefmt::skip]
+const NO_STRING_OF_ENTRY: Run = (
+    Stop, Named(Entries(Big, Dwarf64), Names { bytes: b"a\0", is_raw: true }),
+    b"\0\0\0\0\0\0\0\0\xff\0\0\0\0\0\0\0", Some((Offsets, b"0\n8\n")), b"", b"",
+    Err(ManyFault::NoString(0xff00000000000000, Error::UnexpectedEof(ReaderOffsetId(0)))),
+);
+
+const RUNS: [Run; 24] = [
     THREE_STRINGS,
     TABLES,
     GOES_ON,
@@ -207,6 +268,12 @@ const RUNS: [Run; 18] = [
     PARTS,
     BAD_PART,
     TABLE_ENDS,
+    NAMED,
+    RAW_NAMES,
+    NO_STRING,
+    BAD_SET_OF_NAMES,
+    NAMED_ENTRIES,
+    NO_STRING_OF_ENTRY,
 ];
 
 // Offsets, and the number and the quote of the first line that isn't one.
@@ -234,14 +301,14 @@ fn write_run<O: Write, E: Write>(
     output: &mut O,
     errors: &mut E,
 ) -> Result<bool, ManyFault> {
-    let (on_error, kind, mut section, offsets, _, _, _) = *run;
+    let (on_error, wanted, mut section, offsets, _, _, _) = *run;
     let Some((lines, mut offsets)) = offsets else {
-        return run_whole(mem, on_error, kind, &mut section, output, errors);
+        return run_whole(mem, on_error, wanted, &mut section, output, errors);
     };
     run_many(
         mem,
         on_error,
-        kind,
+        wanted,
         &mut section,
         lines,
         &mut offsets,
@@ -272,7 +339,7 @@ fn a_bad_line_ends_the_run(rt: HostRuntime) -> Result<(), Fail> {
         for on_error in [Stop, GoOn] {
             let run = (
                 on_error,
-                Strings,
+                Alone(Strings),
                 *offsets,
                 Some((Offsets, *offsets)),
                 b"".as_slice(),
@@ -293,34 +360,68 @@ fn a_bad_line_ends_the_run(rt: HostRuntime) -> Result<(), Fail> {
 }
 
 // Arguments, and what they name.
-type Named = (
+type NamedRow = (
     &'static [Bytes],
-    Option<(OnError, Kind, &'static str, Option<(Lines, &'static str)>)>,
+    Option<
+        (
+            OnError,
+            Kind,
+            &'static str,
+            Option<(&'static str, bool)>,
+            Option<(Lines, &'static str)>,
+        ),
+    >,
 );
 
 #[rattlefmt::skip]
-static NAMED: &[Named] = &[
-    (&[b"abbrev", b"x"], Some((Stop, Tables, "x", Some((Offsets, "-"))))),
-    (&[b"str", b"x", b"-"], Some((Stop, Strings, "x", Some((Offsets, "-"))))),
-    (&[b"str", b"-", b"x"], Some((Stop, Strings, "-", Some((Offsets, "x"))))),
-    (&[b"str", b"x", b"x"], Some((Stop, Strings, "x", Some((Offsets, "x"))))),
-    (&[b"--keep-going", b"str", b"x"], Some((GoOn, Strings, "x", Some((Offsets, "-"))))),
-    (&[b"--raw", b"str", b"x"], Some((Stop, RawStrings, "x", Some((Offsets, "-"))))),
-    (&[b"addr", b"le", b"x"], Some((Stop, Addresses(Little), "x", Some((Offsets, "-"))))),
-    (&[b"str-offsets", b"be", b"x", b"y"], Some((Stop, StringOffsets(Big), "x", Some((Offsets, "y"))))),
-    (&[b"--all", b"abbrev", b"-"], Some((Stop, Tables, "-", None))),
-    (&[b"--all", b"--raw", b"--keep-going", b"--all", b"str", b"x"], Some((GoOn, RawStrings, "x", None))),
-    (&[b"--all", b"addr", b"be", b"x"], Some((Stop, Addresses(Big), "x", None))),
-    (&[b"abbrev-ends", b"x"], Some((Stop, TableEnds, "x", Some((Offsets, "-"))))),
-    (&[b"--parts", b"abbrev", b"x", b"y"], Some((Stop, Tables, "x", Some((Parts, "y"))))),
-    (&[b"addr-entries", b"le", b"1", b"x"], Some((Stop, WithoutHeader(Address(Little, One)), "x", Some((Offsets, "-"))))),
-    (&[b"addr-entries", b"be", b"2", b"x"], Some((Stop, WithoutHeader(Address(Big, Two)), "x", Some((Offsets, "-"))))),
-    (&[b"addr-entries", b"le", b"4", b"x"], Some((Stop, WithoutHeader(Address(Little, Four)), "x", Some((Offsets, "-"))))),
-    (&[b"--all", b"addr-entries", b"le", b"8", b"x"], Some((Stop, WithoutHeader(Address(Little, Eight)), "x", None))),
+static NAMES: &[NamedRow] = &[
+    (&[b"abbrev", b"x"], Some((Stop, Tables, "x", None, Some((Offsets, "-"))))),
+    (&[b"str", b"x", b"-"], Some((Stop, Strings, "x", None, Some((Offsets, "-"))))),
+    (&[b"str", b"-", b"x"], Some((Stop, Strings, "-", None, Some((Offsets, "x"))))),
+    (&[b"str", b"x", b"x"], Some((Stop, Strings, "x", None, Some((Offsets, "x"))))),
+    (&[b"--keep-going", b"str", b"x"], Some((GoOn, Strings, "x", None, Some((Offsets, "-"))))),
+    (&[b"--raw", b"str", b"x"], Some((Stop, RawStrings, "x", None, Some((Offsets, "-"))))),
+    (&[b"addr", b"le", b"x"], Some((Stop, Addresses(Little), "x", None, Some((Offsets, "-"))))),
+    (&[b"str-offsets", b"be", b"x", b"y"], Some((Stop, StringOffsets(Big), "x", None, Some((Offsets, "y"))))),
+    (&[b"--all", b"abbrev", b"-"], Some((Stop, Tables, "-", None, None))),
+    (&[b"--all", b"--raw", b"--keep-going", b"--all", b"str", b"x"], Some((GoOn, RawStrings, "x", None, None))),
+    (&[b"--all", b"addr", b"be", b"x"], Some((Stop, Addresses(Big), "x", None, None))),
+    (&[b"abbrev-ends", b"x"], Some((Stop, TableEnds, "x", None, Some((Offsets, "-"))))),
+    (&[b"--parts", b"abbrev", b"x", b"y"], Some((Stop, Tables, "x", None, Some((Parts, "y"))))),
+    (&[b"addr-entries", b"le", b"1", b"x"], Some((Stop, WithoutHeader(Address(Little, One)), "x", None, Some((Offsets, "-"))))),
+    (&[b"addr-entries", b"be", b"2", b"x"], Some((Stop, WithoutHeader(Address(Big, Two)), "x", None, Some((Offsets, "-"))))),
+    (&[b"addr-entries", b"le", b"4", b"x"], Some((Stop, WithoutHeader(Address(Little, Four)), "x", None, Some((Offsets, "-"))))),
+    (&[b"--all", b"addr-entries", b"le", b"8", b"x"], Some((Stop, WithoutHeader(Address(Little, Eight)), "x", None, None))),
     (&[b"--parts", b"str-offset-entries", b"le", b"32", b"-", b"y"],
-        Some((Stop, WithoutHeader(StringOffset(Little, Dwarf32)), "-", Some((Parts, "y"))))),
+        Some((Stop, WithoutHeader(StringOffset(Little, Dwarf32)), "-", None, Some((Parts, "y"))))),
     (&[b"--all", b"str-offset-entries", b"be", b"64", b"x"],
-        Some((Stop, WithoutHeader(StringOffset(Big, Dwarf64)), "x", None))),
+        Some((Stop, WithoutHeader(StringOffset(Big, Dwarf64)), "x", None, None))),
+    (&[b"--strings", b"s", b"str-offsets", b"le", b"x"],
+        Some((Stop, StringOffsets(Little), "x", Some(("s", false)), Some((Offsets, "-"))))),
+    (&[b"--raw", b"--strings", b"-", b"--all", b"str-offsets", b"be", b"x"],
+        Some((Stop, StringOffsets(Big), "x", Some(("-", true)), None))),
+    (&[b"--strings", b"--all", b"--keep-going", b"--parts", b"str-offset-entries", b"le", b"64", b"-", b"y"],
+        Some((GoOn, WithoutHeader(StringOffset(Little, Dwarf64)), "-", Some(("--all", false)), Some((Parts, "y"))))),
+    (&[b"--strings", b"x", b"str-offsets", b"le", b"x", b"x"],
+        Some((Stop, StringOffsets(Little), "x", Some(("x", false)), Some((Offsets, "x"))))),
+    (&[b"--strings", b"s", b"--strings", b"t", b"str-offsets", b"le", b"x"], None),
+    (&[b"--strings"], None),
+    (&[b"--all", b"--strings"], None),
+    (&[b"--strings", b"str-offsets", b"le", b"x"], None),
+    (&[b"--strings", b"s"], None),
+    (&[b"--strings", b"-", b"str-offsets", b"le", b"x"], None),
+    (&[b"--strings", b"-", b"str-offsets", b"le", b"x", b"-"], None),
+    (&[b"--strings", b"-", b"str-offsets", b"le", b"-", b"y"], None),
+    (&[b"--strings", b"-", b"--all", b"str-offsets", b"le", b"-"], None),
+    (&[b"--strings", b"s", b"str-offsets", b"le", b"-"], None),
+    (&[b"--strings", b"s", b"str", b"x"], None),
+    (&[b"--strings", b"s", b"--raw", b"str", b"x"], None),
+    (&[b"--strings", b"s", b"abbrev", b"x"], None),
+    (&[b"--strings", b"s", b"abbrev-ends", b"x"], None),
+    (&[b"--strings", b"s", b"addr", b"le", b"x"], None),
+    (&[b"--strings", b"s", b"addr-entries", b"le", b"8", b"x"], None),
+    (&[b"--raw", b"str-offsets", b"le", b"x"], None),
+    (&[b"--raw", b"str-offset-entries", b"le", b"32", b"x"], None),
     (&[b"--all", b"--parts", b"abbrev", b"x"], None),
     (&[b"--parts", b"--all", b"abbrev", b"x", b"y"], None),
     (&[b"addr-entries", b"le", b"x"], None),
@@ -349,13 +450,13 @@ static NAMED: &[Named] = &[
 #[test]
 fn takes_names(rt: HostRuntime) -> Result<(), Fail> {
     let mem = rt.alloc();
-    for (given, wanted) in NAMED {
+    for (given, wanted) in NAMES {
         let mut words = Vec::new(mem);
         words.push(b"dwarf_list_many".as_slice())?;
         words.extend_from_slice(given)?;
         let words = command_line(mem, &Given(&words))?;
         let named = parse_arguments(&words);
-        let named = named.map(|it| (it.on_error, it.kind, it.section, it.offsets));
+        let named = named.map(|it| (it.on_error, it.kind, it.section, it.strings, it.offsets));
         assert_eq!(rt; named, *wanted, "{given:?}");
     }
     Ok(())
@@ -369,7 +470,7 @@ fn check_ends(
     (section_calls, calls): (usize, usize),
     wanted: (&[u8], &[u8], Result<bool, ManyFault>),
 ) -> Result<(), Fail> {
-    let (on_error, kind, section, offsets, _, _, _) = *run;
+    let (on_error, listed, section, offsets, _, _, _) = *run;
     let mut section = Failing::new(section, section_calls, ErrorKind::OutOfMemory);
     let (mut output, mut errors) = (Vec::new(mem), Vec::new(mem));
     let outcome = match offsets {
@@ -378,7 +479,7 @@ fn check_ends(
             run_many(
                 mem,
                 on_error,
-                kind,
+                listed,
                 &mut section,
                 lines,
                 &mut offsets,
@@ -386,7 +487,14 @@ fn check_ends(
                 &mut errors,
             )
         }
-        None => run_whole(mem, on_error, kind, &mut section, &mut output, &mut errors),
+        None => run_whole(
+            mem,
+            on_error,
+            listed,
+            &mut section,
+            &mut output,
+            &mut errors,
+        ),
     };
     assert_eq!(rt; (output.as_slice(), errors.as_slice(), outcome), wanted);
     Ok(())
@@ -419,6 +527,24 @@ fn inputs_fail_at_each_call(rt: HostRuntime) -> Result<(), Fail> {
             (section_calls, calls),
             (text, told, outcome),
         )?;
+    }
+    Ok(())
+}
+
+// So may each call of the strings.
+#[test]
+fn strings_fail_at_each_call(rt: HostRuntime) -> Result<(), Fail> {
+    let mem = rt.alloc();
+    let calls = STRINGS.len().saturating_add(1);
+    for good_calls in 0..calls {
+        let mut strings = Failing::new(STRINGS, good_calls, ErrorKind::OutOfMemory);
+        let ended = read_strings(mem, &mut strings).err();
+        assert_eq!(rt; ended, Some(ManyFault::ReadStrings), "{good_calls}");
+    }
+    let mut strings = Failing::new(STRINGS, calls, ErrorKind::OutOfMemory);
+    match read_strings(mem, &mut strings) {
+        Ok(bytes) => assert_eq!(rt; bytes.as_slice(), STRINGS),
+        Err(fault) => assert!(rt; false, "{fault:?}"),
     }
     Ok(())
 }
@@ -499,7 +625,7 @@ fn no_write_follows_one_that_fails(rt: HostRuntime) -> Result<(), Fail> {
     let outcome = run_many(
         mem,
         Stop,
-        Strings,
+        Alone(Strings),
         &mut section,
         Offsets,
         &mut offsets,
@@ -548,16 +674,19 @@ fn refused_memory_for_many_offsets(rt: HostRuntime) -> Result<(), Fail> {
     Ok(())
 }
 
-const USAGE: &str = "usage: dwarf_list_many [--keep-going] [--raw] [--all] [--parts] KIND SECTION \
-    [OFFSETS], where KIND is abbrev, abbrev-ends, str, addr le|be, str-offsets le|be, \
+const USAGE: &str =
+    "usage: dwarf_list_many [--keep-going] [--raw] [--all] [--parts] [--strings FILE] \
+    KIND SECTION [OFFSETS], where KIND is abbrev, abbrev-ends, str, addr le|be, str-offsets le|be, \
     addr-entries le|be 1|2|4|8 or str-offset-entries le|be 32|64";
 
 // Errors, each with its line and its status.
 #[rattlefmt::skip]
 static SAID: &[(ManyFault, &str, u8)] = &[
     (ManyFault::At(31, Error::AbbreviationTagZero), "error at 0x1f: invalid abbreviation tag: zero", 1),
+    (ManyFault::NoString(31, Error::UnexpectedEof(ReaderOffsetId(0))), "error at 0x1f of the strings: unexpected end of input", 1),
     (ManyFault::ReadSection, "error: cannot read the section", 3),
     (ManyFault::ReadOffsets, "error: cannot read the offsets", 3),
+    (ManyFault::ReadStrings, "error: cannot read the strings", 3),
     (ManyFault::Other(Fault::Section(Error::OutOfMemory)), "error: out of memory", 1),
     (ManyFault::Other(Fault::Usage), USAGE, 2),
     (ManyFault::Other(Fault::Write), "error: cannot write output", 3),

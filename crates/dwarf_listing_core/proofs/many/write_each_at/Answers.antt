@@ -28,7 +28,7 @@ returns-in_err-fails g c =
     let within = c.loop-offset-test.true in
     let parts : take i offsets ++ get_or offsets i 0 ∷ drop (suc i) offsets ≡ offsets =
     grind (arith, take-append-drop, drop-cons) in
-    rw (p.1, p.2) (rw parts at (ended_at (get_or offsets i 0) (drop (suc i) offsets) before.1
+    rw (p.1, p.2) (rw parts at (ended_at c.args.on_error c.args.wanted c.args.section.now (get_or offsets i 0) (drop (suc i) offsets) before.1
     (WroteBoth (Appends (g.O.Write.contents c.args.output.now) (g.O.Write.contents c.write_at.new.output))
     (Appends (g.E.Write.contents c.args.errors.now) (g.E.Write.contents c.write_at.new.errors))) _
-    (λ same silent. (rw same before.2.0, rw silent before.2.1)) write_at.at write_at.stopped write_at.err))
+    (λ same silent. (rw same before.2.0, rw silent before.2.1)) write_at.err))

@@ -49,8 +49,8 @@ returns-in_err-failed g c =
     WroteBoth (Appends (g.O.Write.contents c.args.output.now) (g.O.Write.contents c.write_walk.new.output))
     (Appends (g.E.Write.contents c.args.errors.now) (g.E.Write.contents c.write_walk.new.errors)) in
     let fault = c.in_err-failed.field-0.0 in
-    let one : WritesWalk c.args.on_error c.args.kind (take end section) start Own (Err fault) =
-    subst (λ front. WritesWalk c.args.on_error c.args.kind front start Own (Err fault)) c.front_of_part.ensures.front
+    let one : WritesWalk c.args.on_error c.args.wanted (take end section) start Own (Err fault) =
+    subst (λ front. WritesWalk c.args.on_error c.args.wanted front start Own (Err fault)) c.front_of_part.ensures.front
     c.in_err-failed.ensures in
     rw (p.1, p.2) (inr (record {
       before = before.0;
@@ -63,7 +63,7 @@ returns-in_err-failed g c =
       ends = (
         one.0,
         one.1,
-        written_otherwise c.args.on_error c.args.kind (take end section) {One = Own}
+        written_otherwise c.args.on_error c.args.wanted (take end section) {One = Own}
             {Others = λ more. Whole (then_texts before.1 more)}
             (λ more wrote. (Appends-trans _ _ _ _ _ before.3.0 wrote.0, Appends-trans _ _ _ _ _ before.3.1 wrote.1))
             one.0 (Err fault) one.2,

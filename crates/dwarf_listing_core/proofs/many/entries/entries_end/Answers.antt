@@ -1,6 +1,6 @@
 use Rattle.dwarf_listing_core.proofs.Common.{arith, ◌+◌, ap}
 use Rattle.dwarf_listing_core.specs.Walk.{at_end, none_known}
-use Rattle.dwarf_listing_core.proofs.many.entries.entries_at.Goals as goal
+use Rattle.dwarf_listing_core.proofs.many.entries.entries_end.Goals as goal
 
 pub returns-then-size-eq0-clause-next : goal.returns-then-size-eq0-clause-next
 returns-then-size-eq0-clause-next c =
