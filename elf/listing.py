@@ -51,10 +51,15 @@ def program() -> str:
 
 
 def run(
-    kind: list[str], section: typing.BinaryIO, numbers: typing.Iterable[bytes] | None, take: Take
+    kind: list[str],
+    section: typing.BinaryIO,
+    numbers: typing.Iterable[bytes] | None,
+    take: Take,
+    strings: typing.BinaryIO | None = None,
 ) -> tuple[int, list[str]]:
     """Lists what these numbers name of a section, or all of it, and goes on after errors. Options before the kind may
-    say what the numbers are. A function takes the output. Returns the exit status, and the lines of errors."""
+    say what the numbers are. A file may have the strings that string offsets are listed with. A function takes the
+    output. Returns the exit status, and the lines of errors."""
     section.flush()
     os.lseek(section.fileno(), 0, os.SEEK_SET)
     with in_memory() as errors, in_memory() as places:
@@ -63,8 +68,9 @@ def run(
             places.writelines(b"%b\n" % it for it in numbers)
             places.flush()
             where = [*kind, "-", f"/dev/fd/{places.fileno()}"]
-        words = [program(), "--keep-going", *where]
-        files = (places.fileno(),)
+        named = ["--strings", f"/dev/fd/{strings.fileno()}"] if strings else []
+        words = [program(), "--keep-going", *named, *where]
+        files = [it.fileno() for it in (places, strings) if it]
         with subprocess.Popen(words, stdin=section, stdout=subprocess.PIPE, stderr=errors, pass_fds=files) as child:
             assert child.stdout
             try:
@@ -106,6 +112,8 @@ class Listing:
         if command in ("addr", "str-offsets"):
             self.kind.append("le" if file.order == "little" else "be")
         self.kept = in_memory()
+        # The strings that string offsets are listed with.
+        self.strings: typing.BinaryIO | None = None
 
     def list_all(self, offset: int | None, options: set[str]) -> None:
         """Lists what is at an offset of each section, or everything."""
@@ -130,7 +138,8 @@ class Listing:
                     self.keep(section, body)
                     self.show(section, None)
                 else:
-                    self.list_sets(section, body, "--strings" in options)
+                    self.strings = self.strings_of(section) if "--strings" in options else None
+                    self.list_sets(section, body)
 
     def list_sizes(self, sections: list[Section]) -> None:
         """Lists the names and sizes of the sections, and reports those that can't be read."""
@@ -166,19 +175,17 @@ class Listing:
         if len(lines) > ERRORS:
             self.report.say(f"{section} has {len(lines)} errors, and the first {ERRORS} are reported")
 
-    def show(self, section: Section, offsets: typing.Iterable[int] | None, file: typing.BinaryIO | None = None) -> None:
-        """Lists what is at these offsets of the section that is kept, or all of it, on standard output or in a file."""
-        self.show_as(self.kind, section, offsets, file or sys.stdout.buffer)
+    def show(self, section: Section, offsets: typing.Iterable[int] | None) -> None:
+        """Lists what is at these offsets of the section that is kept, or all of it."""
+        self.show_as(self.kind, section, offsets)
 
-    def show_parts(self, kind: list[str], section: Section, parts: list[Part], output: typing.BinaryIO) -> None:
+    def show_parts(self, kind: list[str], section: Section, parts: list[Part]) -> None:
         """Lists these parts of the section that is kept, as a kind that may be another one."""
-        self.show_as(["--parts", *kind], section, itertools.chain.from_iterable(parts), output)
+        self.show_as(["--parts", *kind], section, itertools.chain.from_iterable(parts))
 
-    def show_as(
-        self, kind: list[str], section: Section, numbers: typing.Iterable[int] | None, output: typing.BinaryIO
-    ) -> None:
+    def show_as(self, kind: list[str], section: Section, numbers: typing.Iterable[int] | None) -> None:
         lines = None if numbers is None else (b"%d" % it for it in numbers)
-        self.tell(section, *run(kind, self.kept, lines, lambda text: copy(text, output)))
+        self.tell(section, *run(kind, self.kept, lines, lambda text: copy(text, sys.stdout.buffer), self.strings))
 
     def parts(self, section: Section, body: Body) -> list[Part]:
         """The contributions that a package's index has to a section, and the parts between them, which are reported. Of
@@ -219,7 +226,7 @@ class Listing:
         for start, end in parts:
             self.report.note(f"no unit names the bytes from 0x{start:x} to 0x{end:x} of {section}{how}")
         if has_all and parts:
-            self.show_parts(self.kind, section, parts, sys.stdout.buffer)
+            self.show_parts(self.kind, section, parts)
 
     def ends(self, offsets: list[int]) -> dict[int, int]:
         """Where the tables at these offsets end, as the program says. Those that are malformed are reported elsewhere,
@@ -237,27 +244,16 @@ class Listing:
 
     # Sets.
 
-    def list_sets(self, section: Section, body: Body, has_strings: bool) -> None:
-        """Lists the sets of a section, and maybe each offset with its string."""
-        strings = self.strings_of(section) if has_strings else None
-        if not strings:
-            self.put_sets(section, body, sys.stdout.buffer)
-            return
-        with in_memory() as text, in_memory() as file:
-            self.put_sets(section, body, text)
-            self.keep(*strings, file)
-            self.put_strings(strings[0], file, text)
-
-    def put_sets(self, section: Section, body: Body, output: typing.BinaryIO) -> None:
+    def list_sets(self, section: Section, body: Body) -> None:
         """Lists the sets in turn, unless some have no header, or one is malformed and an index has the others."""
         units = self.file.units(section.family)
         old = [it for it in units if it.version < 5]
         self.keep(section, body)
         if not old and not self.file.package_of(section):
-            self.show(section, None, output)
+            self.show(section, None)
             return
         is_old = len(old) == len(units) > 0
-        if not is_old and self.are_shown(output):
+        if not is_old and self.are_shown(section):
             return
         starts = []
         without_header: dict[tuple[str, ...], list[Part]] = {}
@@ -274,48 +270,36 @@ class Listing:
             elif start < end and (own or not old):
                 starts.append(start)
         for kind, parts in without_header.items():
-            self.show_parts([*kind], section, parts, output)
+            self.show_parts([*kind], section, parts)
         if starts:
             self.report.note(f"{section}: only the first set of each contribution is listed")
-            self.show(section, starts, output)
+            self.show(section, starts)
 
-    def are_shown(self, output: typing.BinaryIO) -> bool:
-        """Lists all sets in turn, unless one of them is malformed."""
+    def are_shown(self, section: Section) -> bool:
+        """Lists all sets in turn, unless one of them is malformed. One whose strings are missing isn't."""
         with in_memory() as text:
             status, _ = run(self.kind, self.kept, None, lambda found: copy(found, text))
-            if not status:
-                text.seek(0)
-                copy(text, output)
-            return not status
+            if status:
+                return False
+            if self.strings:
+                self.show(section, None)
+                return True
+            text.seek(0)
+            copy(text, sys.stdout.buffer)
+            return True
 
-    def strings_of(self, section: Section) -> tuple[Section, Body] | None:
-        """The section with the strings of one of string offsets. None, and a report, if it can't be read."""
+    def strings_of(self, section: Section) -> typing.BinaryIO | None:
+        """The strings of a section of string offsets. None, and a report, if they can't be read."""
         found = [it for it in self.file.named("debug_str") if it.family == section.family]
         try:
             if not found:
                 raise Unlisted(f"has no section .debug_str{section.family[1]} with its strings")
-            return found[0], self.file.body(found[0])
+            strings = in_memory()
+            self.keep(found[0], self.file.body(found[0]), strings)
+            return strings
         except Unlisted as error:
             self.report.say(f"{found[0] if found else section} {error}")
             return None
-
-    def put_strings(self, section: Section, strings: typing.BinaryIO, text: typing.BinaryIO) -> None:
-        """Prints a listing of sets, whose offsets are indented. In place of each is the line of the string there. The
-        section of the strings is kept in a file."""
-
-        def put_lines(found: typing.IO[bytes]) -> None:
-            text.seek(0)
-            string = found.readline()
-            for line in text:
-                # The program reports where there is none.
-                if line.startswith(b" ") and string.startswith(line.strip() + b":"):
-                    line = b"  " + string
-                    string = found.readline()
-                sys.stdout.buffer.write(line)
-
-        text.seek(0)
-        offsets = (it.strip() for it in text if it.startswith(b" "))
-        self.tell(section, *run(["str"], strings, offsets, put_lines))
 
     def kind_of_entries(self, section: Section, units: list[Unit]) -> tuple[str, ...] | None:
         """What the program calls the entries of these units, which are of DWARF 4 and have no header. None, and a

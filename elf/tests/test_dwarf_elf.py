@@ -515,8 +515,15 @@ class Sets(unittest.TestCase):
         texts = iter(said)
 
         def run(
-            kind: list[str], section: typing.BinaryIO, numbers: typing.Iterable[bytes] | None, take: Take
+            kind: list[str],
+            section: typing.BinaryIO,
+            numbers: typing.Iterable[bytes] | None,
+            take: Take,
+            strings: typing.BinaryIO | None = None,
         ) -> tuple[int, list[str]]:
+            if strings:
+                strings.seek(0)
+                kind = ["--strings", strings.read().decode(), *kind]
             section.seek(0)
             runs.append((" ".join(kind), section.read(), None if numbers is None else list(numbers)))
             text, errors = next(texts)
@@ -604,19 +611,40 @@ class Sets(unittest.TestCase):
                 self.assertEqual(self.listed("str-offsets", sections, said), wanted)
 
     def test_strings_of_offsets(self) -> None:
-        sections = [
-            (".debug_info", PROGBITS, UNIT_5, 0, 0),
-            (".debug_str_offsets", PROGBITS, b"sets", 0, 0),
-            (".debug_str", PROGBITS, b"strings", 0, 0),
-        ]
-        error = "error at 0x9: the offset is past the end"
-        # A string looks like the line of another offset, and two offsets are one.
-        text = b"set 0x0: length 24, 32-bit\n  0x4\n  0x9\n  0x5\n  0x5\nset 0x1c: length 4, 32-bit\n  0x4\n"
-        said: list[Said] = [(text, []), (b"0x4: 0x9: a\n0x5: b\n0x5: b\n0x4: 0x9: a\n", [error])]
-        lines = text.replace(b"0x4\n", b"0x4: 0x9: a\n").replace(b"0x5\n", b"0x5: b\n")
-        runs = [("str-offsets le", b"sets", None), ("str", b"strings", [b"0x4", b"0x9", b"0x5", b"0x5", b"0x4"])]
-        wanted = (runs, lines, [f"section 3 .debug_str: {error}"])
-        self.assertEqual(self.listed("str-offsets", sections, said, "--strings"), wanted)
+        # The text of the program is passed on, whatever is in it.
+        text = b"set 0x0: length 24, 32-bit\n  0x4: 0x9: a\n  0x9\n  0x5: b\n"
+        error = "error at 0x9 of the strings: unexpected end of input"
+        offsets = "section 2 .debug_str_offsets"
+        no_headers = f"{offsets} has no headers, as in DWARF 4, and is listed by the units' format, 32-bit"
+        told = f"{offsets}: {error}"
+        named = "--strings names str-offsets le"
+        of_entries = "--strings names --parts str-offset-entries le 32"
+        rows: tuple[tuple[str, bytes, list[Said], list[Run], list[str]], ...] = (
+            ("of version 5", UNIT_5, [(text, [error])], [(named, b"sets", None)], [told]),
+            ("of version 4", UNIT_4, [(text, [error])], [(of_entries, b"sets", [b"0", b"4"])], [no_headers, told]),
+            (
+                "of both",
+                UNIT_4 + UNIT_5,
+                [(b"well", []), (text, [error])],
+                [("str-offsets le", b"sets", None), (named, b"sets", None)],
+                [told],
+            ),
+        )
+        for what, units, said, runs, lines in rows:
+            sections = [
+                (".debug_info", PROGBITS, units, 0, 0),
+                (".debug_str_offsets", PROGBITS, b"sets", 0, 0),
+                (".debug_str", PROGBITS, b"names", 0, 0),
+            ]
+            with self.subTest(what):
+                found = self.listed("str-offsets", sections, said, "--strings")
+                self.assertEqual(found, (runs, text, lines))
+
+    def test_no_strings(self) -> None:
+        sections = [(".debug_info", PROGBITS, UNIT_5, 0, 0), (".debug_str_offsets", PROGBITS, b"sets", 0, 0)]
+        found = self.listed("str-offsets", sections, [(b"text", [])], "--strings")
+        told = "section 2 .debug_str_offsets has no section .debug_str with its strings"
+        self.assertEqual(found, ([("str-offsets le", b"sets", None)], b"text", [told]))
 
 
 if __name__ == "__main__":
