@@ -134,10 +134,11 @@ impl Rising {
 }
 
 // For how many more abbreviations there is room at least when there is none for the next one, and
-// for how many attributes with them. A small table is never copied.
+// for how many attributes with them. Both lists begin with 1,024 bytes, which glibc still takes from
+// those that were freed last.
 const MORE_ABBREVIATIONS: usize = 32;
 
-const MORE_ATTRIBUTES: usize = 4 * MORE_ABBREVIATIONS;
+const MORE_ATTRIBUTES: usize = 2 * MORE_ABBREVIATIONS;
 
 // Makes room for one more abbreviation, and for the attributes of a usual one.
 #[inline]
