@@ -1,4 +1,5 @@
-"""Keeps what is built of the sources, so that it isn't built again: programs, programs of tests and static libraries.
+"""Keeps what is built of the sources, so that it isn't built again: programs, programs of tests, a static library, and
+the assembler files of the library for C.
 
 Each is kept outside the checkout, in ${XDG_CACHE_HOME:-~/.cache}, under a checksum of its sources and of the kit. So it
 is current as long as they are, whatever the times of files say, and another checkout finds it too. A copy is in the
@@ -11,6 +12,7 @@ import filecmp
 import hashlib
 import os
 import re
+import shlex
 import shutil
 import sys
 import tempfile
@@ -21,6 +23,28 @@ import kit
 
 # How many products are kept. Those that nothing took for the longest time go first.
 MOST_KEPT = 40
+# The crate whose code is in assembler files, their folder, and the targets that they are for.
+ASSEMBLED = "dwarf_read_c"
+FILES = f"{kit.ROOT}/rust/proved"
+TARGETS = {"x86_64": "x86_64-unknown-linux-gnu", "aarch64": "aarch64-unknown-linux-gnu"}
+# Takes the place of the kit's clang. It compiles as asked, and then makes an assembler file of the same code. Without
+# comments, since a line that begins with # is for the preprocessor; and .addrsig is unknown to the assembler of GNU.
+CLANG = """#!/bin/sh
+{clang} "$@" || exit
+case " $* " in *" -c "*) ;; *) exit 0 ;; esac
+for word; do
+    shift
+    case $word in
+    -c) set -- "$@" -S -fno-addrsig -fno-verbose-asm ;;
+    *.o) set -- "$@" {made} ;;
+    *) set -- "$@" "$word" ;;
+    esac
+done
+exec {clang} "$@"
+"""
+# A label that the compiler has made up. In a crate for Rust it may not be one of those of that compiler.
+LABEL = re.compile(r'(?<![\w".])\.L(?=\w)')
+TEXT = ("\t.ascii", "\t.asciz", "\t.string")
 
 
 def cache() -> str:
@@ -54,11 +78,6 @@ def place_of_copy(path: str, of_sources: str) -> str:
 def static_library(crate: str) -> str:
     """Where the static library of a crate is once it is built."""
     return f"{kit.ROOT}/crates/{crate}/out/lib{crate}.a"
-
-
-def unproved_library() -> str:
-    """Where the library for C is that `tools/static-library --unproved` builds."""
-    return f"{kit.ROOT}/crates/dwarf_read_c/out/libdwarf_read_unproved.a"
 
 
 def copy(source: str, target: str) -> None:
@@ -126,25 +145,62 @@ def in_turn(crate: str) -> Iterator[None]:
         os.close(handle)
 
 
-def put_library(crate: str, root: str, of_sources: str, tell: Callable[[str], object]) -> Optional[str]:
-    """Proves, builds and keeps the static library of a crate, over the libraries that `rt ci` has left in a checkout or
-    a copy. Returns where it is, or None if something goes wrong, which goes to `tell`."""
-    path = static_library(crate)
+def build(crate: str, root: str, of_sources: str, words: Sequence[str], tell: Callable[[str], object]) -> bool:
+    """Proves a crate, and builds its static library over the libraries that `rt ci` has left in a checkout or a copy.
+    Returns whether that went well. What goes wrong goes to `tell`."""
     rt = kit.load_rt()
     folder = f"{root}/crates/{crate}"
-    words = rt.rtlib.Crate(folder, root, {}).words(["--jobs", "2"])
+    said = rt.rtlib.Crate(folder, root, {}).words(["--jobs", "2"], keeps=False)
+    ran = kit.run(["rattle", "build", *said, "--backend", "llvm", *words], cwd=folder)
+    if ran.returncode:
+        tell(ran.stdout.strip()[-2000:])
+        return False
+    if sums(crate) != of_sources:
+        tell("the sources changed meanwhile: run this again")
+        return False
+    return True
+
+
+def put_library(crate: str, root: str, of_sources: str, tell: Callable[[str], object]) -> Optional[str]:
+    """Proves, builds and keeps the static library of a crate. Returns where it is, or None if something goes wrong."""
+    path = static_library(crate)
     tell(f"proving {crate}, and building {os.path.basename(path)}")
     with tempfile.TemporaryDirectory(prefix="library-") as room:
         made = f"{room}/library.a"
-        command = ["rattle", "build", *words, "--backend", "llvm", "-o", made, "--toolchain", f"{rt.KIT}/toolchain"]
-        ran = kit.run(command, cwd=folder)
-        if ran.returncode:
-            tell(ran.stdout.strip()[-2000:])
+        words = ["-o", made, "--toolchain", f"{kit.load_rt().KIT}/toolchain"]
+        return put(made, path, of_sources) if build(crate, root, of_sources, words, tell) else None
+
+
+def toolchain_with(script: str, folder: str) -> str:
+    """Makes a folder of links to the files of the kit's toolchain, with a script instead of its clang. Returns where
+    it is."""
+    real = f"{kit.load_rt().KIT}/toolchain"
+    kit.put(f"{folder}/bin/clang", script)
+    os.chmod(f"{folder}/bin/clang", 0o755)
+    for part in ("", "/bin"):
+        for name in os.listdir(real + part):
+            if not os.path.exists(f"{folder}{part}/{name}"):
+                os.symlink(f"{real}{part}/{name}", f"{folder}{part}/{name}")
+    return folder
+
+
+def put_assembler(name: str, root: str, of_sources: str, tell: Callable[[str], object]) -> Optional[str]:
+    """Proves the library for C for a target, and keeps its code as assembler. Returns where it is kept, or None if
+    something goes wrong."""
+    tell(f"proving {ASSEMBLED} for {TARGETS[name]}")
+    with tempfile.TemporaryDirectory(prefix="assembler-") as room:
+        made = f"{room}/{name}.s"
+        clang = shlex.quote(f"{kit.load_rt().KIT}/toolchain/bin/clang")
+        toolchain = toolchain_with(CLANG.format(clang=clang, made=shlex.quote(made)), f"{room}/toolchain")
+        words = ["--target", TARGETS[name], "-o", f"{room}/library.a", "--toolchain", toolchain]
+        if not build(ASSEMBLED, root, of_sources, words, tell):
             return None
-        if sums(crate) != of_sources:
-            tell("the sources changed meanwhile: run this again")
-            return None
-        return put(made, path, of_sources)
+        lines = kit.text_of(made).splitlines(True)
+        kit.put(made, "".join(it if it.startswith(TEXT) else LABEL.sub(".Ldwarf_read_", it) for it in lines))
+        kept = place_of_copy(f"{name}.s", of_sources)
+        copy(made, kept)
+        forget_oldest()
+        return kept
 
 
 def copy_crates(crates: Sequence[str], folder: str) -> None:

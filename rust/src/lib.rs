@@ -1,9 +1,10 @@
 //! This crate reads the lowest layer of DWARF: abbreviation tables, strings, string offsets,
 //! addresses and LEB128 numbers, the sizes of forms, the named constants, and the texts of errors.
 //!
-//! The library below is a port of that layer of gimli to Rattle, which is Rust with contracts: each
-//! of its functions is proved against its contract, on every input. This crate passes slices and
-//! returns `Result`. It has no state, and each call may be made from any number of threads.
+//! The calls below it are a port of that layer of gimli to Rattle, which is Rust with contracts: each
+//! of their functions is proved against its contract, on every input. The crate contains their code,
+//! as assembler. The crate itself isn't proved: it passes slices to these calls in `unsafe` blocks,
+//! and returns `Result`. It has no state, and each call may be made from any number of threads.
 //!
 //! ```
 //! use dwarf_read::constants::{DW_AT_name, DW_TAG_compile_unit};
@@ -23,13 +24,10 @@
 //! # }
 //! ```
 //!
-//! # Linking
+//! # Platforms
 //!
-//! `tools/install` of the repository installs the static library. `build.rs` looks for it in the
-//! folder that the environment variable `DWARF_READ_LIB` names, then by `pkg-config`, and then in
-//! the repository, if the crate is in a clone of it. The library is for Linux on x86-64, on
-//! processors of level x86-64-v2 and above. `cargo check` and `cargo doc` need no library. A library
-//! whose structs differ from those of this crate isn't linked, since its symbols have other names.
+//! The code is for Linux on x86-64, on processors of level x86-64-v2 and above, and on AArch64. No
+//! library has to be installed, and no C compiler is needed.
 //!
 //! # Features
 //!
@@ -45,7 +43,6 @@ extern crate std;
 mod bytes;
 pub mod constants;
 mod error;
-#[cfg(has_heap)]
 mod heap;
 mod sets;
 mod sys;
