@@ -1,5 +1,5 @@
 //! Links the static library of `crates/dwarf_compare`, which `tools/compare` has built and whose folder it names, and
-//! says which gimli is there. The crate for Rust links the library for C.
+//! says which gimli is there.
 
 use std::env;
 use std::fs;
@@ -24,9 +24,9 @@ fn main() {
     if minor >= 34 {
         println!("cargo:rustc-cfg=gimli_0_34");
     }
-    let folder = env::var("COMPARE_LIB").expect("COMPARE_LIB names the folder of the static libraries");
+    let folder = env::var("COMPARE_LIB").expect("COMPARE_LIB names the folder of the static library");
     println!("cargo:rustc-link-search=native={folder}");
-    // Nothing names what is in it. It moves the code of the libraries after it.
+    // Nothing names what is in it. It moves all other code.
     println!("cargo:rerun-if-changed={folder}/libin_front.a");
     println!("cargo:rustc-link-lib=static:+whole-archive=in_front");
     println!("cargo:rerun-if-changed={folder}/libdwarf_compare.a");

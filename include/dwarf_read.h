@@ -4,12 +4,13 @@
  * constants, and texts of errors. The section numbers are those of DWARF 5.
  *
  * The headers need C99 or C++11, or a later standard. The library is for Linux on x86-64, on processors of
- * level x86-64-v2 and above.
+ * level x86-64-v2 and above, and on AArch64.
  *
- * Link libdwarf_read.so or libdwarf_read.a. Each contains all calls, and the three functions of
- * dwarf_read_heap.h that they allocate memory with. A program that defines all three needs the archive, and
- * is linked with its own: the shared library calls those inside. Without an installation, link
- * libdwarf_read_c.a and dwarf_read_heap.c.
+ *     cc -O2 -I include program.c include/dwarf_read_heap.c include/dwarf_read.S
+ *
+ * dwarf_read.S has the calls. dwarf_read_heap.c has the three functions of dwarf_read_heap.h that they allocate
+ * memory with; a program that defines all three leaves that file out. An installed libdwarf_read.a contains both,
+ * and is linked with a program's own three. libdwarf_read.so contains both, too, and calls those inside.
  *
  * WHAT A CALL DOES. A call returns DWARF_OK and has written its outputs, or it returns another status.
  * A status from 1 to 99 is the number of an error. The call has then written that number to `fault`,

@@ -184,6 +184,12 @@ def toolchain_with(script: str, folder: str) -> str:
     return folder
 
 
+def with_own_labels(code: str) -> str:
+    """An assembler file in which the labels that the compiler has made up are of this library alone."""
+    lines = code.splitlines(True)
+    return "".join(it if it.startswith(TEXT) else LABEL.sub(".Ldwarf_read_", it) for it in lines)
+
+
 def put_assembler(name: str, root: str, of_sources: str, tell: Callable[[str], object]) -> Optional[str]:
     """Proves the library for C for a target, and keeps its code as assembler. Returns where it is kept, or None if
     something goes wrong."""
@@ -195,8 +201,7 @@ def put_assembler(name: str, root: str, of_sources: str, tell: Callable[[str], o
         words = ["--target", TARGETS[name], "-o", f"{room}/library.a", "--toolchain", toolchain]
         if not build(ASSEMBLED, root, of_sources, words, tell):
             return None
-        lines = kit.text_of(made).splitlines(True)
-        kit.put(made, "".join(it if it.startswith(TEXT) else LABEL.sub(".Ldwarf_read_", it) for it in lines))
+        kit.put(made, with_own_labels(kit.text_of(made)))
         kept = place_of_copy(f"{name}.s", of_sources)
         copy(made, kept)
         forget_oldest()

@@ -77,16 +77,19 @@ class Judging(unittest.TestCase):
             self.assertEqual(now.failed, failed, said)
 
     def test_libraries(self) -> None:
-        """Static libraries are built in the checkout if `rt ci` left its own there, and none below is missing."""
+        """What is linked is built in the checkout if `rt ci` left its own libraries there, and none is missing."""
         every = [*kit.CRATES]
-        # The crates with a library before `rt ci` and after it, and how many static libraries are then built.
-        rows = [([], every, len(kit.STATIC)), (every[:1], every, 0), ([], every[1:], 0), ([], [], 0)]
-        for before, after, count in rows:
+        # The crates with a library before `rt ci` and after it, and whether the static library and the code for each
+        # assembler file are then built.
+        rows = [([], every, True), (every[:1], every, False), ([], every[1:], False), ([], [], False)]
+        for before, after, is_built in rows:
             now = gate.Gate("")
+            names = ("place_of_copy", "find", "put_library", "put_assembler")
             with tempfile.TemporaryDirectory() as root, mock.patch.object(kit, "ROOT", root), mock.patch.multiple(
                 gate, read_bodies=mock.DEFAULT, judge_proofs=mock.DEFAULT, keep_programs=mock.DEFAULT
-            ), mock.patch.multiple(gate.products, sums=str, find=mock.DEFAULT, put_library=mock.DEFAULT) as made:
+            ), mock.patch.multiple(gate.products, sums=str, **dict.fromkeys(names, mock.DEFAULT)) as made:
                 made["find"].return_value = None
+                made["place_of_copy"].return_value = f"{root}/nothing"
                 for it in before:
                     os.makedirs(f"{root}/crates/{it}/out/rlib")
 
@@ -97,7 +100,9 @@ class Judging(unittest.TestCase):
 
                 with mock.patch.object(now, "step", prove):
                     self.assertTrue(gate.prove(now, 0))
-            self.assertEqual((made["put_library"].call_count, now.failed), (count, 0), (before, after))
+            built = [it.args[0] for name in ("put_assembler", "put_library") for it in made[name].call_args_list]
+            wanted = [*gate.products.TARGETS, *gate.LIBRARIES] if is_built else []
+            self.assertEqual((built, now.failed), (wanted, 0), (before, after))
 
     def test_jobs(self) -> None:
         """`rt ci` makes as many checks at a time as there is room for, unless RT_JOBS says how many."""

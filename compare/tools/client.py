@@ -15,7 +15,7 @@ from collections.abc import Sequence
 
 import checks
 import kit
-from common import CRATE, DEBIAN, OUT, PACKAGE, Failed, Missing, files_by_default, link_libraries, must, need, put
+from common import CRATE, DEBIAN, OUT, PACKAGE, Failed, Missing, files_by_default, link_library, must, need, put
 from common import put_sections, run
 
 MANIFEST = """[package]
@@ -49,10 +49,8 @@ debug = 2
 BUILD = """fn main() {
     println!("cargo:rerun-if-changed=build.rs");
     println!("cargo:rustc-link-search=native=FOLDER");
-    for library in ["dwarf_compare", "dwarf_read"] {
-        println!("cargo:rerun-if-changed=FOLDER/lib{}.a", library);
-        println!("cargo:rustc-link-lib=static={}", library);
-    }
+    println!("cargo:rerun-if-changed=FOLDER/libdwarf_compare.a");
+    println!("cargo:rustc-link-lib=static=dwarf_compare");
 }
 """
 MODULE = "#[allow(missing_docs, missing_debug_implementations, dead_code)]\npub mod {};\n"
@@ -122,7 +120,7 @@ def with_body(text: str, after: str, function: str, body: str) -> str:
 def patched(name: str, text: str) -> str:
     """A source file of gimli's that reads by the library."""
     if name == "lib.rs":
-        modules = "".join(map(MODULE.format, ("calls", "room", "sys")))
+        modules = "".join(map(MODULE.format, ("calls", "heap", "room", "sys")))
         return text.replace("pub mod leb128;", f"pub mod leb128;\n{modules}", 1)
     for file, after, function, body in BODIES:
         if file == name:
@@ -156,8 +154,11 @@ def copy(gimli: str, folder: str, is_patched: bool) -> None:
     put(f"{gimli}/README.md", f"{folder}/README.md")
     if is_patched:
         write(BUILD.replace("FOLDER", f"{OUT}/lib"), f"{folder}/build.rs")
-        for path in (f"{PACKAGE}/client/calls.rs", f"{PACKAGE}/src/room.rs", f"{CRATE}/src/sys.rs"):
+        of_crate = [f"{CRATE}/src/{it}.rs" for it in ("heap", "sys")]
+        for path in (f"{PACKAGE}/client/calls.rs", f"{PACKAGE}/src/room.rs", *of_crate):
             put(path, f"{folder}/src/{os.path.basename(path)}")
+        for path in kit.files_below(f"{CRATE}/proved"):
+            put(path, f"{folder}/proved/{os.path.basename(path)}")
 
 
 def tests(folder: str, planted: str = "") -> list[tuple[int, int]]:
@@ -235,7 +236,7 @@ def client(given: argparse.Namespace) -> int:
     gimli = source("gimli")
     if not gimli.endswith("gimli-0.27.0"):
         raise Missing(f"the patch is for gimli 0.27.0, and Debian's here is {os.path.basename(gimli)}")
-    link_libraries()
+    link_library()
     folders = [f"{OUT}/client/gimli", f"{OUT}/client/patched"]
     for folder in folders:
         copy(gimli, folder, folder is folders[1])

@@ -15,7 +15,6 @@ import products
 PACKAGE = f"{kit.ROOT}/compare"
 CRATE = f"{kit.ROOT}/rust"
 OUT = f"{PACKAGE}/out"
-INCLUDE = f"{kit.ROOT}/include"
 DEBIAN = "/usr/share/cargo/registry"
 # How long cargo may try to reach crates.io.
 FETCH_SECONDS = 120
@@ -79,52 +78,39 @@ def put(source: str, target: str) -> None:
 
 
 def put_in_front(count: int) -> None:
-    """Makes the library that is linked before the others: this many bytes of code, which nothing calls."""
-    source = f"{OUT}/in_front_{count}.s"
-    # The R keeps a linker from leaving the section out.
-    text = f'.section .text.in_front, "axR", @progbits\n.balign 64\n.skip {64 + count}, 0x90\n'
+    """Makes the library that the linker puts before all other code: this many bytes, which nothing calls."""
+    source, made, library = f"{OUT}/in_front_{count}.s", f"{OUT}/in_front.o", f"{OUT}/in_front.a"
+    # The linker of GNU puts .text.unlikely first, and the R keeps it from leaving the section out.
+    text = f'.section .text.unlikely.in_front, "axR", @progbits\n.balign 64\n.skip {64 + count}, 0x90\n'
     kit.put(source, text + '.section .note.GNU-stack, "", @progbits\n')
-    put(make_library(make_object(source)), f"{OUT}/lib/libin_front.a")
-
-
-def make_object(source: str) -> str:
-    """Compiles a source in assembler or C, and returns where the object is."""
-    made = f"{OUT}/{os.path.splitext(os.path.basename(source))[0]}.o"
-    must([os.environ.get("CC", "cc"), "-O2", "-fPIC", "-c", source, "-o", made], f"{source} isn't compiled")
-    return made
-
-
-def make_library(*parts: str) -> str:
-    """Makes a static library of an object, or of a static library and an object, and returns where it is."""
-    made = f"{OUT}/made.a"
+    must([os.environ.get("CC", "cc"), "-c", source, "-o", made], f"{source} isn't assembled")
     with contextlib.suppress(OSError):
-        os.unlink(made)
-    for library in parts[:-1]:
-        shutil.copyfile(library, made)
-    must(["ar", "rcsD", made, parts[-1]], f"the library of {parts[-1]} isn't made")
-    return made
+        os.unlink(library)
+    must(["ar", "rcsD", library, made], f"the library of {source} isn't made")
+    put(library, f"{OUT}/lib/libin_front.a")
 
 
-def link_libraries() -> None:
-    """Puts the library for C, with the functions by which it requests memory, and that of dwarf_compare into one
-    folder."""
-    for crate in kit.STATIC:
-        path = products.static_library(crate)
-        if not products.find(path, crate) and not (shutil.which("rt") and shutil.which("rattle")):
-            raise Missing("there is no rt: CONTRIBUTING.md names the kit that has it")
-        words = [f"{kit.ROOT}/tools/static-library", crate]
-        if subprocess.run(words, stdin=subprocess.DEVNULL, check=False).returncode:
-            raise Failed(f"the static library of {crate} isn't built")
-    heap = make_object(f"{INCLUDE}/dwarf_read_heap.c")
-    put(make_library(products.static_library("dwarf_read_c"), heap), f"{OUT}/lib/libdwarf_read.a")
-    put(products.static_library("dwarf_compare"), f"{OUT}/lib/libdwarf_compare.a")
+def link_library() -> None:
+    """Proves and builds the library of dwarf_compare, unless it is current, and puts it where cargo finds it."""
+    crate = "dwarf_compare"
+    path = products.static_library(crate)
+    # Commands that run side by side need the same library.
+    with products.in_turn(crate):
+        if not products.find(path, crate):
+            if not (shutil.which("rt") and shutil.which("rattle")):
+                raise Missing("there is no rt: CONTRIBUTING.md names the kit that has it")
+            of_sources = products.sums(crate)
+            with products.libraries(crate, say) as copy:
+                if not copy or not products.put_library(crate, copy, of_sources, say):
+                    raise Failed(f"the static library of {crate} isn't built")
+    put(path, f"{OUT}/lib/libdwarf_compare.a")
 
 
 def copy_crate() -> None:
     """Copies the crate for Rust to where the copies of the package name it."""
-    for part in ("", "src", "examples"):
+    for part in ("", "src", "proved", "examples"):
         for name in os.listdir(f"{CRATE}/{part}"):
-            if name.endswith((".rs", ".toml")):
+            if name.endswith((".rs", ".toml", ".s")):
                 put(f"{CRATE}/{part}/{name}", f"{OUT}/rust/{part}/{name}")
 
 
@@ -173,12 +159,11 @@ def build(is_debian: bool, in_front: int = 0) -> str:
     need("objcopy", "binutils")
     copy_crate()
     folder, words = sources_of_gimli(is_debian)
-    link_libraries()
+    link_library()
     put_in_front(in_front)
-    # The processor that the kit compiles for.
-    flags = os.environ.get("RUSTFLAGS", "") + " -C target-cpu=x86-64-v2"
-    folders = {it: f"{OUT}/lib" for it in ("COMPARE_LIB", "DWARF_READ_LIB")}
-    environment = {**os.environ, **folders, "RUSTFLAGS": flags.strip()}
+    # The processor that the kit compiles for, and the linker that puts a library in front.
+    flags = os.environ.get("RUSTFLAGS", "") + " -C target-cpu=x86-64-v2 -C link-arg=-fuse-ld=bfd"
+    environment = {**os.environ, "COMPARE_LIB": f"{OUT}/lib", "RUSTFLAGS": flags.strip()}
     words = ["cargo", "build", "--quiet", "--release", "--target-dir", f"{folder}/target", *words]
     must(words, "the program that compares isn't built", cwd=folder, env=environment)
     return f"{folder}/target/release/compare"

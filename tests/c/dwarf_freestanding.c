@@ -8,31 +8,38 @@
 #include "dwarf_read.h"
 #include "dwarf_read_heap.h"
 
-/* Written by instructions, since a compiler may make a loop that copies a call of the same function. */
+/* The empty instruction keeps a compiler from making a loop a call of the same function. */
+#define EACH_BYTE __asm__ volatile("" : : : "memory")
+
 void *memcpy(void *to, const void *from, size_t len);
 void *memmove(void *to, const void *from, size_t len);
 void *memset(void *to, int byte, size_t len);
 
 void *memcpy(void *to, const void *from, size_t len) {
-    void *result = to;
-    __asm__ volatile("rep movsb" : "+D"(to), "+S"(from), "+c"(len) : : "memory");
-    return result;
+    for (size_t i = 0; i < len; i++) {
+        EACH_BYTE;
+        ((uint8_t *)to)[i] = ((const uint8_t *)from)[i];
+    }
+    return to;
 }
 
 void *memmove(void *to, const void *from, size_t len) {
-    uint8_t *last = (uint8_t *)to + len - 1;
-    const uint8_t *from_last = (const uint8_t *)from + len - 1;
     if ((uintptr_t)to - (uintptr_t)from >= len) {
         return memcpy(to, from, len);
     }
-    __asm__ volatile("std; rep movsb; cld" : "+D"(last), "+S"(from_last), "+c"(len) : : "memory");
+    for (size_t i = len; i > 0; i--) {
+        EACH_BYTE;
+        ((uint8_t *)to)[i - 1] = ((const uint8_t *)from)[i - 1];
+    }
     return to;
 }
 
 void *memset(void *to, int byte, size_t len) {
-    void *result = to;
-    __asm__ volatile("rep stosb" : "+D"(to), "+c"(len) : "a"(byte) : "memory");
-    return result;
+    for (size_t i = 0; i < len; i++) {
+        EACH_BYTE;
+        ((uint8_t *)to)[i] = (uint8_t)byte;
+    }
+    return to;
 }
 
 /* The functions that the library allocates memory with. Blocks are consecutive parts of one array, and none is
@@ -90,12 +97,22 @@ static bool is_well(void) {
            is_text(dwarf_fault_string(&fault, text, sizeof text), "unexpected end of input");
 }
 
+#ifdef __x86_64__
 __attribute__((noreturn, force_align_arg_pointer)) void _start(void);
+#else
+__attribute__((noreturn)) void _start(void);
+#endif
 
 void _start(void) {
     int status = is_well() ? 0 : 1;
     for (;;) {
         /* The system call that ends the program. */
+#ifdef __x86_64__
         __asm__ volatile("syscall" : : "a"(60), "D"(status) : "rcx", "r11", "memory");
+#else
+        register long number __asm__("x8") = 93;
+        register long first __asm__("x0") = status;
+        __asm__ volatile("svc 0" : : "r"(number), "r"(first) : "memory");
+#endif
     }
 }

@@ -1,0 +1,77 @@
+"""Tests of what tools/assembler says of the files in the repository."""
+import contextlib
+import io
+import os
+import sys
+import tempfile
+import unittest
+from unittest import mock
+
+sys.dont_write_bytecode = True
+sys.path.insert(0, os.path.dirname(os.path.realpath(__file__)))
+import checks
+import kit
+import products
+
+assembler = kit.load("assembler", f"{kit.ROOT}/tools/assembler")
+NAME = "aarch64"
+SOURCES = "0123  a source\n"
+CODE = "\t.file\t\"rattle\"\n\tnop\n"
+
+
+class Judging(unittest.TestCase):
+    """A file is current if each byte is what is made of the sources, by this kit or by the one that it names."""
+
+    def judge(self, text: str, made: str, version: str) -> tuple[int, int, int]:
+        """What is counted of a file with this text where this kit makes this code: passed, failed and skipped."""
+        with tempfile.TemporaryDirectory() as folder, contextlib.redirect_stdout(io.StringIO()):
+            kept = f"{folder}/kept"
+            kit.put(kept, made)
+            if text:
+                kit.put(f"{folder}/{NAME}.s", text)
+            now = checks.Checks("assembler", folder)
+            with mock.patch.multiple(products, FILES=folder, place_of_copy=lambda *_: kept):
+                with mock.patch.object(kit, "version", lambda: version):
+                    assembler.judge(now, NAME, SOURCES)
+        return now.passed, now.failed, now.skipped
+
+    def test_files(self) -> None:
+        head = assembler.head(NAME, SOURCES, "this kit")
+        stale = assembler.head(NAME, "4567  a source\n", "this kit")
+        other = CODE.replace("nop", "ret")
+        # What the file is, what this kit makes, what it is called, and what is counted.
+        rows = [
+            (head + CODE, CODE, "this kit", (1, 0, 0)),
+            (head + other, CODE, "this kit", (0, 1, 0)),
+            (head.replace("proved", "Proved") + CODE, CODE, "this kit", (0, 1, 0)),
+            (head + CODE + "\n", CODE, "this kit", (0, 1, 0)),
+            (stale + CODE, CODE, "this kit", (0, 1, 0)),
+            ("", CODE, "this kit", (0, 1, 0)),
+            (head + CODE, CODE, "another kit", (1, 0, 0)),
+            (head + CODE, other, "another kit", (0, 0, 1)),
+            (stale + CODE, other, "another kit", (0, 1, 0)),
+            (CODE, CODE, "this kit", (0, 1, 0)),
+        ]
+        for text, made, version, wanted in rows:
+            self.assertEqual(self.judge(text, made, version), wanted, (text, made, version))
+
+
+class Labels(unittest.TestCase):
+    """Labels of the compiler get a prefix, and texts, symbols and sections stay."""
+
+    def test_labels(self) -> None:
+        rows = {
+            ".LBB2_3:\n": ".Ldwarf_read_BB2_3:\n",
+            "\tjne\t.LBB2_3\n": "\tjne\t.Ldwarf_read_BB2_3\n",
+            '\t.size\t"a::b", .Lfunc_end0-"a::b"\n': '\t.size\t"a::b", .Ldwarf_read_func_end0-"a::b"\n',
+            "\tleaq\t.LCPI4_0(%rip), %rax\n": "\tleaq\t.Ldwarf_read_CPI4_0(%rip), %rax\n",
+            "\tadd\tx8, x8, :lo12:.LJTI1_0\n": "\tadd\tx8, x8, :lo12:.Ldwarf_read_JTI1_0\n",
+            '\t.section\t.rodata..Lstatic.7,"a",@progbits\n': '\t.section\t.rodata..Lstatic.7,"a",@progbits\n',
+            '\t.asciz\t" .LBB2_3"\n': '\t.asciz\t" .LBB2_3"\n',
+            "\tcallq\trattle_alloc@PLT\n": "\tcallq\trattle_alloc@PLT\n",
+        }
+        self.assertEqual(products.with_own_labels("".join(rows)), "".join(rows.values()))
+
+
+if __name__ == "__main__":
+    unittest.main()
