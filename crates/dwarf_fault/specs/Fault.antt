@@ -2,7 +2,7 @@
 use Rattle.std.specs.Prelude.{◌≡◌, ◌<◌, ◌^◌, ℕ, Option, Some, None, IfSome}
 use Rattle.std.specs.Option.{option_map_or}
 use Rattle.dwarf_read_core.specs.declared.Error.{Error}
-use Rattle.dwarf_read_core.specs.declared.Error.TheVariants.{UnexpectedEof, BadUnsignedLeb128, BadSignedLeb128, AbbreviationTagZero, InvalidAbbreviationChildren, AttributeNameZero, AttributeFormZero, DuplicateAbbreviationCode, UnknownReservedLength, UnsupportedOffset, UnknownVersion, UnsupportedAddressSize, UnsupportedSegmentSize, UnsupportedOffsetSize, BadUtf8, AddressOverflow, UnsupportedRegister, OutOfMemory, UnterminatedAbbreviations}
+use Rattle.dwarf_read_core.specs.declared.Error.TheVariants.{UnexpectedEof, BadUnsignedLeb128, BadSignedLeb128, AbbreviationTagZero, InvalidAbbreviationChildren, AttributeNameZero, AttributeFormZero, DuplicateAbbreviationCode, UnknownReservedLength, UnsupportedOffset, UnknownVersion, UnsupportedAddressSize, UnsupportedSegmentSize, UnsupportedOffsetSize, BadUtf8, AddressOverflow, UnsupportedRegister, OutOfMemory, UnterminatedAbbreviations, UnknownUnitType}
 use Rattle.dwarf_fault.specs.declared.DwarfFault.{DwarfFault}
 
 -- the number of an error, and the position or value that it carries, if any, with a bound of its type; all errors of
@@ -27,6 +27,7 @@ number_and_value AddressOverflow = (16, None)
 number_and_value (UnsupportedRegister register) = (17, Some (register, 2 ^ 64))
 number_and_value OutOfMemory = (18, None)
 number_and_value (UnterminatedAbbreviations id) = (19, Some (id.0, 2 ^ 64))
+number_and_value (UnknownUnitType value) = (20, Some (value.0, 2 ^ 8))
 number_and_value _ = (255, None)
 
 -- the number of an error

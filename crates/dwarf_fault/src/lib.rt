@@ -6,7 +6,7 @@
 ghost use Rattle.std.specs.Prelude.{◌≡◌, ◌<◌};
 ghost use Rattle.dwarf_fault.specs.Fault.{Means, error_number, fault_of};
 
-use dwarf_read_core::{DwChildren, Error, ReaderOffsetId};
+use dwarf_read_core::{DwChildren, DwUt, Error, ReaderOffsetId};
 
 /// The error of a call.
 ///
@@ -44,6 +44,7 @@ pub fn fault_of(error: Error) -> DwarfFault
         Error::UnsupportedRegister(register) => (17, register),
         Error::OutOfMemory => (18, 0),
         Error::UnterminatedAbbreviations(ReaderOffsetId(position)) => (19, position),
+        Error::UnknownUnitType(DwUt(value)) => (20, u64::from(value)),
         _ => (255, 0),
     };
     DwarfFault { kind, value }
@@ -75,6 +76,7 @@ pub fn error_of(fault: &DwarfFault) -> Option<Error>
         17 => Error::UnsupportedRegister(value),
         18 => Error::OutOfMemory,
         19 => Error::UnterminatedAbbreviations(ReaderOffsetId(value)),
+        20 => Error::UnknownUnitType(DwUt(u8::try_from(value).ok()?)),
         _ => return None,
     };
     Some(error)

@@ -1,5 +1,5 @@
 -- Names that the proofs of this crate cite from elsewhere, passed on from one place.
-pub use Rattle.std.proofs.Common.{◌≡◌, ◌≢◌, Bool, true, ℕ, ◌+◌, ◌-◌, ◌/◌, ◌<◌, ◌≤◌, ◌^◌, List, [], ◌∷◌, length, drop}
+pub use Rattle.std.proofs.Common.{◌≡◌, ◌≢◌, Bool, true, if◌then◌else◌, ℕ, ◌+◌, ◌-◌, ◌/◌, ◌<◌, ◌≤◌, ◌^◌, List, [], ◌∷◌, length, drop}
 pub use Rattle.std.proofs.Common.{Result, Ok, Err, subst, arith, ◌⊎◌, inl, inr, length-drop, take, suc, ◌++◌, refl}
 pub use Rattle.std.proofs.Common.{sym, ap, ◌∙◌, sum_by, false, map, length-append}
 pub use Rattle.std.proofs.lemmas.Grind.{common_steps}

@@ -4,6 +4,7 @@ pub mod AbsentNumbers
 pub mod FoundStrings
 pub mod WrittenTables
 pub mod FoundSets
+pub mod OneUnit
 pub mod KnownErrors
 pub mod FamilyBounds
 pub mod RisingCodes

@@ -9,4 +9,5 @@ pub mod Names
 pub mod Families
 pub mod Forms
 pub mod Sets
+pub mod Units
 pub mod Version

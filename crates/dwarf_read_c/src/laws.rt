@@ -12,10 +12,16 @@ ghost use Rattle.dwarf_read_core.specs.declared.Format.TheVariants.{Dwarf32, Dwa
 ghost use Rattle.dwarf_fault.specs.Fault.{Means};
 ghost use Rattle.dwarf_read_c.specs.Sections.{offset_size};
 ghost use Rattle.dwarf_read_c.specs.Tables.{Measures, abbreviation_of, abbreviations_of, attribute_of, attributes_of};
+ghost use Rattle.dwarf_read_c.specs.Units.{TellsUnit, header_in};
+ghost use Rattle.dwarf_read_c.specs.declared.units.DwarfUnit.{DwarfUnit};
 ghost use Rattle.dwarf_read_c.specs.declared.tables.DwarfAbbreviation.{DwarfAbbreviation};
 
 use dwarf_fault::{DwarfFault, error_of};
-use dwarf_read_core::laws::exactly_one_end;
+use dwarf_read_core::laws::{exactly_one_contribution_at_an_offset, exactly_one_end};
+use dwarf_read_core::{EndianSlice, RunTimeEndian};
+use dwarf_unit_core::{InfoFields, TypesFields};
+
+type Slice<'a> = EndianSlice<'a, RunTimeEndian>;
 
 /// The table at an offset has exactly one measure.
 pub fn exactly_one_measure()
@@ -42,6 +48,19 @@ pub fn exactly_one_error(fault: &DwarfFault)
     ensures { HasOne (λ error. Means fault.now error) }
 {
     error_of(fault);
+}
+
+/// What a unit's header says determines what is written of it, so an offset has at most one unit.
+pub fn at_most_one_unit()
+    ensures info { (section : Input) (offset : ℕ) (a b : DwarfUnit)
+        → TellsUnit (header_in false) section offset a
+        → TellsUnit (header_in false) section offset b → a ≡ b }
+    ensures types { (section : Input) (offset : ℕ) (a b : DwarfUnit)
+        → TellsUnit (header_in true) section offset a
+        → TellsUnit (header_in true) section offset b → a ≡ b }
+{
+    exactly_one_contribution_at_an_offset::<Slice<'_>, InfoFields<usize>>();
+    exactly_one_contribution_at_an_offset::<Slice<'_>, TypesFields<usize>>();
 }
 
 /// A string offset has as many bytes as a word of its format.

@@ -3,11 +3,12 @@
 //!
 //! A call returns [`DWARF_OK`](status::DWARF_OK), or a status that says why it failed. The caller
 //! owns all memory: a call reads the bytes that are passed and writes to the places that are
-//! passed, and no call returns a pointer. Offsets and positions are counted in bytes from the first
+//! passed. The only pointers that a call hands out are those of names, which are a part of the
+//! program. Offsets and positions are counted in bytes from the first
 //! byte that is passed.
 //!
-//! A call that passes a struct whose fields have changed has the version of that change at the end
-//! of its name, so that a program that was compiled with an older header doesn't link. The header
+//! A call whose parameters, or the fields of whose structs, have changed has the version of that
+//! change at the end of its name, so that a program that was compiled with an older header doesn't link. The header
 //! defines its name without that end.
 
 #![tactic(auto)]
@@ -24,4 +25,5 @@ pub mod sets;
 pub mod status;
 pub mod tables;
 pub mod texts;
+pub mod units;
 pub mod version;

@@ -3,7 +3,7 @@
 ghost use Rattle.std.specs.Prelude.{◌≡◌, ◌≢◌, Option, None, option_map};
 ghost use Rattle.dwarf_read_core.specs.ErrorText.{error_text};
 ghost use Rattle.dwarf_fault.specs.Fault.{Means, error_number};
-ghost use Rattle.dwarf_read_c.specs.Names.{PutsName};
+ghost use Rattle.dwarf_read_c.specs.Names.{PutsText};
 
 use crate::room::put;
 use crate::status::DWARF_NO_NAME;
@@ -25,7 +25,7 @@ pub extern "C" fn dwarf_fault_text(
 ) -> u32
     ensures reported { result ≢ error_number Error.OutOfMemory
         → (error : Option Error) × Means fault.now error
-        × PutsName (option_map error_text error) text.old text.new len.old len.new result }
+        × PutsText (option_map error_text error) text.old text.new len.old len.new result }
     // Only a text needs memory.
     ensures memory { Means fault.now None → result ≢ error_number Error.OutOfMemory }
     ensures no_text { result ≡ error_number Error.OutOfMemory

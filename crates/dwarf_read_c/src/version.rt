@@ -7,9 +7,9 @@ ghost use Rattle.dwarf_read_c.specs.Version.{library_version};
 use crate::room::put;
 
 // tools/static-library builds an unproved library with another text.
-const VERSION: &str = "0.3.0";
+const VERSION: &str = "0.4.0";
 
-/// Writes the version of the library, such as `0.3.0`, to the front of `version`, without a zero
+/// Writes the version of the library, such as `0.4.0`, to the front of `version`, without a zero
 /// byte after it. `len` is the number of its bytes. If `version` has no room for them, only `len`
 /// is written, and the call returns `DWARF_NO_ROOM`.
 #[unsafe(no_mangle)]
