@@ -1,7 +1,7 @@
 /*
  * The lowest layer of DWARF reading, proved, for C, C++ and Rust: LEB128 numbers, strings, lookups by
- * an index, sets of addresses and of string offsets, abbreviation tables, sizes of forms, names of
- * constants, and texts of errors. The section numbers are those of DWARF 5.
+ * an index, sets of addresses and of string offsets, headers of units, abbreviation tables, sizes of forms,
+ * names of constants, and texts of errors. The section numbers are those of DWARF 5.
  *
  * The headers need C99 or C++11, or a later standard. The library is for Linux on x86-64, on processors of
  * level x86-64-v2 and above, and on AArch64.
@@ -29,11 +29,11 @@
  *
  * WHAT THE CALLER HAS TO MAKE SURE OF, since nothing checks it:
  *
- *  - A pointer before a length points to as many items as the length says, which take less than 2^63
- *    bytes. They may be uninitialized if the call only writes them. If the length is 0, the pointer may be
- *    null. The number of places for an output is called `room`.
- *  - Every other pointer points to one place of its type.
- *  - No place that a call may write overlaps another place or bytes that are passed to the same call.
+ *  - A pointer before a length points to an array of as many elements as the length says, which takes less
+ *    than 2^63 bytes. The elements may be uninitialized if the call only writes them. If the length is 0, the
+ *    pointer may be null. The length of an array that a call writes is called its `room`.
+ *  - Every other pointer points to one object of its type.
+ *  - Nothing that a call may write overlaps anything else that is passed to the same call.
  *  - Before a call returns, nobody else writes what it reads, and nobody else reads or writes what it
  *    writes.
  *
@@ -45,21 +45,26 @@
 #include <stdbool.h>
 #include <stddef.h>
 #include <stdint.h>
+#if __STDC_HOSTED__
+#include <stdlib.h>
+#include <string.h>
+#endif
 
 /* The version of this header. dwarf_read_version writes that of the library. */
 #define DWARF_READ_VERSION_MAJOR 0
-#define DWARF_READ_VERSION_MINOR 3
+#define DWARF_READ_VERSION_MINOR 4
 #define DWARF_READ_VERSION_PATCH 0
-#define DWARF_READ_VERSION "0.3.0"
+#define DWARF_READ_VERSION "0.4.0"
 
-/* The symbols of the calls that pass a struct whose fields have changed. They end in the version of that change, so
-   that a program that was compiled with the header of another version doesn't link. */
+/* The symbols of the calls whose parameters, or the fields of whose structs, have changed. They end in the version of
+   that change, so that a program that was compiled with the header of another version doesn't link. */
 #define dwarf_address_set dwarf_address_set_0_3
+#define dwarf_constant_name dwarf_constant_name_0_4
 #define dwarf_str_offset_set dwarf_str_offset_set_0_3
 #define dwarf_table_measure dwarf_table_measure_0_3
 #define dwarf_table_read dwarf_table_read_0_3
 
-/* Enough places for every name and every text of an error, with a zero byte after it. */
+/* The room that every text of an error and the version fit in, with a zero byte after it. */
 #define DWARF_TEXT_ROOM 64
 
 #ifdef __cplusplus
@@ -84,6 +89,7 @@ enum {
     DWARF_UNSUPPORTED_ADDRESS_SIZE = 12,   /* the value is the size */
     DWARF_UNSUPPORTED_SEGMENT_SIZE = 13,   /* the value is the size */
     DWARF_OUT_OF_MEMORY = 18,
+    DWARF_UNKNOWN_UNIT_TYPE = 20,          /* the value is the type */
 
     /* No call here returns these. dwarf_fault_text has their texts. */
     DWARF_UNSUPPORTED_OFFSET_SIZE = 14, /* the value is the size */
@@ -92,7 +98,7 @@ enum {
     DWARF_UNSUPPORTED_REGISTER = 17,       /* the value is the register */
     DWARF_UNTERMINATED_ABBREVIATIONS = 19, /* the value is the position */
 
-    DWARF_NO_ROOM = 100, /* fewer places than items */
+    DWARF_NO_ROOM = 100, /* an array is shorter than what the call has to write */
     DWARF_NO_NAME = 101, /* no constant has the value, or no error the number and the value */
     DWARF_END = 102,     /* there is nothing to read at the section's end */
     DWARF_NO_SIZE = 103  /* the form doesn't determine how many bytes a value has */
@@ -121,8 +127,8 @@ uint32_t dwarf_uleb128(const uint8_t *bytes, size_t len, uint64_t *value, size_t
 uint32_t dwarf_sleb128(const uint8_t *bytes, size_t len, int64_t *value, size_t *number_len,
                        struct dwarf_fault *fault);
 
-/* Writes the shortest bytes of a number. `len` is their count, at most ten. Returns DWARF_OK, or
-   DWARF_NO_ROOM if there are fewer places; then only `len` is written. */
+/* Writes the shortest bytes of a number. `len` is their count, at most ten. Elements after them are left
+   unchanged. Returns DWARF_OK, or DWARF_NO_ROOM if `room` is less than `len`; then only `len` is written. */
 uint32_t dwarf_uleb128_write(uint64_t value, uint8_t *bytes, size_t room, size_t *len);
 uint32_t dwarf_sleb128_write(int64_t value, uint8_t *bytes, size_t room, size_t *len);
 
@@ -217,16 +223,55 @@ uint32_t dwarf_str_offset_set(const uint8_t *section, size_t len, bool is_big, s
                               struct dwarf_set *set, struct dwarf_fault *fault);
 
 /*
+ * HEADERS OF UNITS (7.5.1).
+ */
+
+/* What the header of a unit says. Its entries are the bytes from `first_entry` up to `next`. */
+struct dwarf_unit {
+    size_t next;          /* the end of the unit, where the next one may begin */
+    size_t unit_length;   /* how many bytes of the unit follow its initial length */
+    size_t first_entry;   /* the offset of its first entry */
+    size_t abbrev_offset; /* the offset of its table in .debug_abbrev */
+    uint64_t identifier;  /* of a type unit the signature; of a skeleton or split unit what both share; else 0 */
+    size_t type_offset;   /* of a type unit the offset of its type, from the unit's start; else 0 */
+    uint16_t version;     /* 2 to 5 */
+    uint8_t unit_type;    /* DW_UT_compile to DW_UT_split_type, see below */
+    uint8_t address_size; /* 1, 2, 4 or 8 */
+    uint8_t word_size;    /* 4 in the 32-bit format, 8 in the 64-bit format */
+};
+
+/* Reads the header of the unit at an offset of .debug_types if `is_types` is set, and else of .debug_info.
+   Returns DWARF_END, and writes nothing, if the offset is the section's end. So call it at 0, and then at the
+   `next` of each unit.
+
+   A header before version 5 has no type: the unit is a DW_UT_compile in .debug_info, and a DW_UT_type in
+   .debug_types.
+
+   The first of these errors:
+    - DWARF_UNEXPECTED_EOF at 0 if the offset is past the end, and at the offset if fewer than four bytes
+      follow it;
+    - DWARF_UNKNOWN_RESERVED_LENGTH if those four are 0xfffffff0 to 0xfffffffe;
+    - DWARF_UNEXPECTED_EOF after the four bytes if they are 0xffffffff and fewer than eight follow;
+    - DWARF_UNEXPECTED_EOF after the length if fewer bytes follow;
+    - the first error of a field, in their order: DWARF_UNEXPECTED_EOF at the field if the unit ends before its
+      end; DWARF_UNKNOWN_VERSION if the version isn't 2 to 5; DWARF_UNSUPPORTED_ADDRESS_SIZE if the address
+      size isn't 1, 2, 4 or 8;
+    - DWARF_UNKNOWN_UNIT_TYPE if the type isn't DW_UT_compile to DW_UT_split_type, after the fields that all
+      units have, and before those of its type. */
+uint32_t dwarf_unit_header(const uint8_t *section, size_t len, bool is_big, bool is_types, size_t offset,
+                           struct dwarf_unit *unit, struct dwarf_fault *fault);
+
+/*
  * ABBREVIATION TABLES (7.5.3).
  *
- * These two calls allocate memory for the table, and free it before they return. They return
- * DWARF_OUT_OF_MEMORY if an allocation fails. They may not be called in a signal handler.
+ * dwarf_table_load, below, reads a table into memory of its own. The two calls before it read into arrays of the
+ * caller. They allocate memory for the table, and free it before they return. They return DWARF_OUT_OF_MEMORY if
+ * an allocation fails. They may not be called in a signal handler.
  *
- * Each call parses the whole table. So make places once, and keep them from table to table. An abbreviation has at
- * least five bytes, and an attribute two, so (len - offset) / 5 places for abbreviations and (len - offset) / 2 for
- * attributes suffice for every table from an offset on. They are 14.4 times as large as these bytes, but pages that no
- * table touches take no memory. With fewer places, make more when a call returns DWARF_NO_ROOM: it has then measured
- * the table already.
+ * Each call parses the whole table. If dwarf_table_read returns DWARF_NO_ROOM, it has measured the table already. An
+ * abbreviation has at least five bytes, and an attribute two, so arrays of (len - offset) / 5 abbreviations and of
+ * (len - offset) / 2 attributes have room for every table from an offset on. They are 14.4 times as large as these
+ * bytes: to make and to free them for each table costs more time than to read it.
  */
 
 /* How large a table is. */
@@ -266,17 +311,17 @@ uint32_t dwarf_table_measure(const uint8_t *section, size_t len, size_t offset,
                              struct dwarf_measure *measure, struct dwarf_fault *fault);
 
 /* Reads the table at an offset of .debug_abbrev: its abbreviations in the order of their codes, and the
-   attributes of all of them in the same order. The places after them are not changed. Returns
-   DWARF_NO_ROOM if there are fewer places for either; then only `measure` is written. It doesn't return that
-   if there are (len - offset) / 5 places for abbreviations and (len - offset) / 2 for attributes. The errors
-   are those of dwarf_table_measure. */
+   attributes of all of them in the same order. Elements after them are left unchanged. Returns
+   DWARF_NO_ROOM if there is too little room for either; then only `measure` is written. It doesn't return that
+   if there is room for (len - offset) / 5 abbreviations and for (len - offset) / 2 attributes. The errors are
+   those of dwarf_table_measure. */
 uint32_t dwarf_table_read(const uint8_t *section, size_t len, size_t offset,
                           struct dwarf_abbreviation *abbreviations, size_t abbreviation_room,
                           struct dwarf_attribute_spec *attributes, size_t attribute_room,
                           struct dwarf_measure *measure, struct dwarf_fault *fault);
 
 /* Finds the abbreviation with a code among those of a table, which are in the order of their codes as
-   dwarf_table_read writes them. Returns null if there is none. */
+   they are read. Returns null if there is none. */
 static inline const struct dwarf_abbreviation *
 dwarf_table_find(const struct dwarf_abbreviation *abbreviations, size_t count, uint64_t code) {
     /* The codes before it are smaller, and none is 0. So its index is less than its code. In a table whose
@@ -296,6 +341,89 @@ dwarf_table_find(const struct dwarf_abbreviation *abbreviations, size_t count, u
     return low < count && abbreviations[low].code == code ? &abbreviations[low] : NULL;
 }
 
+#if __STDC_HOSTED__
+#ifdef __cplusplus
+#define DWARF_CAST(type, pointer) static_cast<type>(pointer)
+#else
+#define DWARF_CAST(type, pointer) (pointer)
+#endif
+
+/* A table, in one block of memory. */
+struct dwarf_table {
+    struct dwarf_abbreviation *abbreviations; /* as many as `measure` says, in the order of their codes */
+    struct dwarf_attribute_spec *attributes;  /* those of all abbreviations, in the same order */
+    struct dwarf_measure measure;
+};
+
+/* The arrays of a table in a block: attributes follow this many abbreviations. */
+static inline void dwarf_table_lay(struct dwarf_table *table, void *block, size_t room) {
+    table->abbreviations = DWARF_CAST(struct dwarf_abbreviation *, block);
+    block = table->abbreviations + room;
+    table->attributes = DWARF_CAST(struct dwarf_attribute_spec *, block);
+}
+
+/* Reads the table at an offset into a new block with this room. If there is no memory for one, it is only measured. */
+static inline uint32_t dwarf_table_load_within(const uint8_t *section, size_t len, size_t offset, size_t room,
+                                               size_t attribute_room, struct dwarf_table *table,
+                                               struct dwarf_fault *fault) {
+    size_t row_size = sizeof *table->abbreviations, attribute_size = sizeof *table->attributes;
+    struct dwarf_measure *measure = &table->measure;
+    void *block = malloc(room * row_size + attribute_room * attribute_size);
+    if (block == NULL) {
+        return dwarf_table_read(section, len, offset, NULL, 0, NULL, 0, measure, fault);
+    }
+    dwarf_table_lay(table, block, room);
+    uint32_t status = dwarf_table_read(section, len, offset, table->abbreviations, room, table->attributes,
+                                       attribute_room, measure, fault);
+    if (status == DWARF_OK && measure->abbreviations != 0) {
+        /* What the table needs is moved to the front of the block, and the rest is given back. */
+        size_t rows = measure->abbreviations * row_size, attributes = measure->attributes * attribute_size;
+        memmove(table->abbreviations + measure->abbreviations, table->attributes, attributes);
+        void *fitted = realloc(block, rows + attributes);
+        dwarf_table_lay(table, fitted != NULL ? fitted : block, measure->abbreviations);
+    } else {
+        free(block);
+        table->abbreviations = NULL;
+        table->attributes = NULL;
+    }
+    return status;
+}
+
+/* Reads the table at an offset of .debug_abbrev into memory from malloc, as much as the table needs. Give it back
+   with dwarf_table_free, before another table is read into `table`. The errors are those of dwarf_table_measure,
+   also DWARF_OUT_OF_MEMORY. After an error the table has no abbreviations, and no memory. */
+static inline uint32_t dwarf_table_load(const uint8_t *section, size_t len, size_t offset,
+                                        struct dwarf_table *table, struct dwarf_fault *fault) {
+    static const struct dwarf_table empty = {NULL, NULL, {0, 0, 0, 0}};
+    size_t left = offset < len ? len - offset : 0;
+    /* Room for most tables, in a block that malloc doesn't request from the system each time. */
+    size_t room = left / 5 < 1000 ? left / 5 : 1000, attribute_room = left / 2 < 4000 ? left / 2 : 4000;
+    *table = empty;
+    uint32_t status = dwarf_table_load_within(section, len, offset, room, attribute_room, table, fault);
+    if (status == DWARF_NO_ROOM) {
+        status = dwarf_table_load_within(section, len, offset, table->measure.abbreviations,
+                                         table->measure.attributes, table, fault);
+    }
+    if (status == DWARF_NO_ROOM) {
+        status = fault->kind = DWARF_OUT_OF_MEMORY;
+        fault->value = 0;
+    }
+    if (status != DWARF_OK) {
+        *table = empty;
+    }
+    return status;
+}
+
+/* Frees the memory of a table that was loaded. It then has no abbreviations. */
+static inline void dwarf_table_free(struct dwarf_table *table) {
+    static const struct dwarf_table empty = {NULL, NULL, {0, 0, 0, 0}};
+    free(table->abbreviations);
+    *table = empty;
+}
+
+#undef DWARF_CAST
+#endif
+
 /*
  * SIZES OF FORMS (7.5.6).
  */
@@ -306,14 +434,17 @@ dwarf_table_find(const struct dwarf_abbreviation *abbreviations, size_t count, u
 uint32_t dwarf_form_size(uint16_t form, uint16_t version, uint8_t address_size, bool is_64, size_t *size);
 
 /*
- * NAMES AND TEXTS.
+ * NAMES OF CONSTANTS.
  *
  * dwarf_constants.h has the numbers by these names, such as DW_TAG_label.
- *
- * Each call writes a name, such as DW_TAG_label, or a text, without a zero byte after it. `len` is how
- * many bytes it has. The call returns DWARF_OK; DWARF_NO_ROOM if there are fewer places, and then only
- * `len` is written; or DWARF_NO_NAME if there is no name or text, and then nothing is written.
  */
+
+/* The name of a constant, such as DW_TAG_label: `len` bytes, without a zero byte after them. They are a part of the
+   program, and never change. printf prints them by "%.*s" with (int)name.len and name.text. */
+struct dwarf_name {
+    const char *text;
+    size_t len; /* 0 if there is no name */
+};
 
 /* The families of constants. (Generated.) */
 enum {
@@ -352,71 +483,61 @@ enum {
     DWARF_FAMILY_GDB_INDEX_SYMBOL_KIND = 33  /* Kinds of symbols in .gdb_index */
 };
 
-/* Writes the name of a constant by its family and its value, such as DW_LANG_Rust. There is no name, either,
-   for a number that no family has. */
-uint32_t dwarf_constant_name(uint32_t family, uint64_t value, char *name, size_t room, size_t *len);
+/* Finds the name of a constant by its family and its value, such as DW_LANG_Rust. Returns DWARF_NO_NAME, and
+   leaves `name` as it was, if no constant of the family has the value, or if no family has the number. `name` has to
+   be a name before the call, too, such as {"", 0}: the functions below begin with that. */
+uint32_t dwarf_constant_name(uint32_t family, uint64_t value, struct dwarf_name *name);
 
-/* The same calls for a tag, an attribute and a form. */
-static inline uint32_t dwarf_tag_name(uint16_t tag, char *name, size_t room, size_t *len) {
-    return dwarf_constant_name(DWARF_FAMILY_TAG, tag, name, room, len);
+/* Returns the name of a constant by its family and its value, of a tag, of an attribute, or of a form. If there is none,
+   it has no bytes. */
+static inline struct dwarf_name dwarf_name_of(uint32_t family, uint64_t value) {
+    struct dwarf_name name = {"", 0};
+    (void)dwarf_constant_name(family, value, &name);
+    return name;
 }
 
-static inline uint32_t dwarf_attribute_name(uint16_t attribute, char *name, size_t room, size_t *len) {
-    return dwarf_constant_name(DWARF_FAMILY_AT, attribute, name, room, len);
+static inline struct dwarf_name dwarf_tag_name(uint16_t tag) {
+    return dwarf_name_of(DWARF_FAMILY_TAG, tag);
 }
 
-static inline uint32_t dwarf_form_name(uint16_t form, char *name, size_t room, size_t *len) {
-    return dwarf_constant_name(DWARF_FAMILY_FORM, form, name, room, len);
+static inline struct dwarf_name dwarf_attribute_name(uint16_t attribute) {
+    return dwarf_name_of(DWARF_FAMILY_AT, attribute);
 }
 
-/* Writes the version of the library, such as 0.3.0. The version of a library that isn't proved ends in -unproved.
-   There is always a text. */
+static inline struct dwarf_name dwarf_form_name(uint16_t form) {
+    return dwarf_name_of(DWARF_FAMILY_FORM, form);
+}
+
+/*
+ * THE VERSION, AND TEXTS OF ERRORS.
+ *
+ * Each call writes a text without a zero byte after it. `len` is how many bytes it has. Elements after them are left
+ * unchanged. The call returns DWARF_OK, or DWARF_NO_ROOM if `room` is less than `len`, and then only `len` is written.
+ */
+
+/* Writes the version of the library, such as 0.4.0. */
 uint32_t dwarf_read_version(char *version, size_t room, size_t *len);
 
-/* Writes the text of an error. The call allocates memory for a text, and frees it before it returns. It returns
-   DWARF_OUT_OF_MEMORY if an allocation fails; then nothing is written. It may not be called in a signal
-   handler. */
+/* Writes the text of an error. Returns DWARF_NO_NAME, and writes nothing, if no error has this number and this value.
+   The call allocates memory for a text, and frees it before it returns. It returns DWARF_OUT_OF_MEMORY if an
+   allocation fails; then nothing is written. It may not be called in a signal handler. */
 uint32_t dwarf_fault_text(const struct dwarf_fault *fault, char *text, size_t room, size_t *len);
 
 /*
- * NAMES AND TEXTS AS STRINGS OF C.
+ * THE SAME AS STRINGS OF C.
  *
- * Each of these functions writes a name or a text with a zero byte after it, and returns the
- * pointer to it. It returns null and writes nothing if the call above returns another status than
- * DWARF_OK, or if there is no place for the zero byte.
+ * Each of these functions writes the version or a text with a zero byte after it, and returns the pointer to it. It
+ * returns null and writes nothing if the call above returns another status than DWARF_OK, or if there is no room for
+ * the zero byte.
  */
 
-/* Puts the zero byte after what a call wrote, if that left a place for it. */
+/* Puts the zero byte after what a call wrote, if there is room for it. */
 static inline const char *dwarf_string_ended(uint32_t status, char *text, size_t room, size_t len) {
     if (status != DWARF_OK || len >= room) {
         return NULL;
     }
     text[len] = 0;
     return text;
-}
-
-static inline const char *dwarf_tag_string(uint16_t tag, char *name, size_t room) {
-    size_t len = 0;
-    uint32_t status = dwarf_tag_name(tag, name, room - (room != 0), &len);
-    return dwarf_string_ended(status, name, room, len);
-}
-
-static inline const char *dwarf_attribute_string(uint16_t attribute, char *name, size_t room) {
-    size_t len = 0;
-    uint32_t status = dwarf_attribute_name(attribute, name, room - (room != 0), &len);
-    return dwarf_string_ended(status, name, room, len);
-}
-
-static inline const char *dwarf_form_string(uint16_t form, char *name, size_t room) {
-    size_t len = 0;
-    uint32_t status = dwarf_form_name(form, name, room - (room != 0), &len);
-    return dwarf_string_ended(status, name, room, len);
-}
-
-static inline const char *dwarf_constant_string(uint32_t family, uint64_t value, char *name, size_t room) {
-    size_t len = 0;
-    uint32_t status = dwarf_constant_name(family, value, name, room - (room != 0), &len);
-    return dwarf_string_ended(status, name, room, len);
 }
 
 static inline const char *dwarf_read_version_string(char *version, size_t room) {

@@ -15,10 +15,7 @@
 
 #include <inttypes.h>
 #include <stdio.h>
-#include <stdlib.h>
 #include <string.h>
-
-typedef const char *name_call(uint16_t value, char *name, size_t room);
 
 struct bytes {
     uint8_t *items;
@@ -45,17 +42,15 @@ static bool read_input(struct bytes *input) {
 
 static int failed(const struct dwarf_fault *fault) {
     char text[DWARF_TEXT_ROOM];
-    if (dwarf_fault_string(fault, text, sizeof text) != NULL) {
-        fprintf(stderr, "error: %s\n", text);
-    }
+    const char *what = dwarf_fault_string(fault, text, sizeof text);
+    fprintf(stderr, "error: %s\n", what != NULL ? what : "out of memory");
     return 1;
 }
 
 /* Prints the name of a constant, or its number if it has none. */
-static void print_name(name_call *call, const char *type, uint16_t value) {
-    char name[DWARF_TEXT_ROOM];
-    if (call(value, name, sizeof name) != NULL) {
-        fputs(name, stdout);
+static void print_name(struct dwarf_name name, const char *type, uint16_t value) {
+    if (name.len != 0) {
+        fwrite(name.text, 1, name.len, stdout);
     } else {
         printf("Unknown %s: %u", type, (unsigned)value);
     }
@@ -63,85 +58,36 @@ static void print_name(name_call *call, const char *type, uint16_t value) {
 
 static void print_attribute(const struct dwarf_attribute_spec *attribute) {
     fputs("  ", stdout);
-    print_name(dwarf_attribute_string, "DwAt", attribute->name);
+    print_name(dwarf_attribute_name(attribute->name), "DwAt", attribute->name);
     putchar(' ');
-    print_name(dwarf_form_string, "DwForm", attribute->form);
+    print_name(dwarf_form_name(attribute->form), "DwForm", attribute->form);
     if (attribute->form == DW_FORM_implicit_const) {
         printf(" %" PRId64, attribute->implicit_const);
     }
     putchar('\n');
 }
 
-/* Places for the abbreviations and the attributes of a table. */
-struct places {
-    struct dwarf_abbreviation *abbreviations;
-    struct dwarf_attribute_spec *attributes;
-    size_t room, attribute_room;
-};
-
-/* Returns more places, or these if there are enough or memory runs out. What was in them is lost. */
-static void *more(void *places, size_t *room, size_t wanted, size_t size) {
-    void *made = *room < wanted ? malloc(wanted * size) : NULL;
-    if (made == NULL) {
-        return places;
-    }
-    free(places);
-    *room = wanted;
-    return made;
-}
-
-/* Makes places, where there are fewer. Returns false if memory runs out. */
-static bool reserve(struct places *places, size_t room, size_t attribute_room) {
-    places->abbreviations = (struct dwarf_abbreviation *)more(places->abbreviations, &places->room, room,
-                                                              sizeof *places->abbreviations);
-    places->attributes = (struct dwarf_attribute_spec *)more(places->attributes, &places->attribute_room,
-                                                             attribute_room, sizeof *places->attributes);
-    return places->room >= room && places->attribute_room >= attribute_room;
-}
-
-/* Reads the table at an offset into places that suffice for any table there. If there isn't that much memory, the
-   first reading tells how many the table needs. */
-static uint32_t read_table(struct bytes section, size_t offset, struct places *places, struct dwarf_measure *measure,
-                           struct dwarf_fault *fault) {
-    size_t left = offset < section.len ? section.len - offset : 0;
-    bool is_enough = reserve(places, left / 5, left / 2);
-    for (;;) {
-        uint32_t status = dwarf_table_read(section.items, section.len, offset, places->abbreviations, places->room,
-                                           places->attributes, places->attribute_room, measure, fault);
-        if (status != DWARF_NO_ROOM || is_enough) {
-            return status;
-        }
-        is_enough = reserve(places, measure->abbreviations, measure->attributes);
-        if (!is_enough) {
-            fault->kind = DWARF_OUT_OF_MEMORY;
-            return DWARF_OUT_OF_MEMORY;
-        }
-    }
-}
-
-static void print_table(const struct places *places, size_t count) {
-    for (size_t i = 0; i < count; i++) {
-        const struct dwarf_abbreviation *it = &places->abbreviations[i];
+static void print_table(const struct dwarf_table *table) {
+    for (size_t i = 0; i < table->measure.abbreviations; i++) {
+        const struct dwarf_abbreviation *it = &table->abbreviations[i];
         printf("%" PRIu64 " ", it->code);
-        print_name(dwarf_tag_string, "DwTag", it->tag);
+        print_name(dwarf_tag_name(it->tag), "DwTag", it->tag);
         puts(it->has_children ? " yes" : " no");
         for (size_t k = 0; k < it->attribute_count; k++) {
-            print_attribute(&places->attributes[it->first_attribute + k]);
+            print_attribute(&table->attributes[it->first_attribute + k]);
         }
     }
 }
 
 static int show_table(struct bytes section, size_t offset) {
-    struct places places = {NULL, NULL, 0, 0};
-    struct dwarf_measure measure;
-    struct dwarf_fault fault = {0, 0};
-    uint32_t status = read_table(section, offset, &places, &measure, &fault);
-    if (status == DWARF_OK) {
-        print_table(&places, measure.abbreviations);
+    struct dwarf_table table;
+    struct dwarf_fault fault;
+    if (dwarf_table_load(section.items, section.len, offset, &table, &fault) != DWARF_OK) {
+        return failed(&fault);
     }
-    free(places.abbreviations);
-    free(places.attributes);
-    return status == DWARF_OK ? 0 : failed(&fault);
+    print_table(&table);
+    dwarf_table_free(&table);
+    return 0;
 }
 
 static int show_string(struct bytes section, size_t offset) {

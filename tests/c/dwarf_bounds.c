@@ -71,54 +71,46 @@ static void check_numbers(void) {
     check(status == DWARF_NO_ROOM && len == 10 && bytes[0] == 0x7f, "ten bytes in four");
 }
 
-static void check_names(void) {
-    char name[] = "..............";
-    size_t len = 7, room = sizeof name - 1;
-    uint32_t status = dwarf_tag_name(0x0a, name, room, &len);
-    check(status == DWARF_OK && len == 12 && strcmp(name, "DW_TAG_label..") == 0, "a tag");
-    status = dwarf_attribute_name(3, name, room, &len);
-    check(status == DWARF_OK && len == 10 && strcmp(name, "DW_AT_nameel..") == 0, "an attribute");
-    status = dwarf_form_name(8, name, room, &len);
-    check(status == DWARF_OK && len == 14 && strcmp(name, "DW_FORM_string") == 0, "a form");
-    status = dwarf_tag_name(4660, name, room, &len);
-    check(status == DWARF_NO_NAME && len == 14, "a tag without a name");
-    status = dwarf_tag_name(0x11, name, room, &len);
-    check(status == DWARF_NO_ROOM && len == 19 && strcmp(name, "DW_FORM_string") == 0, "a long name");
-}
-
-/* A family, a value and a room; what the call for the name returns, the length and the name. In the last rows the low
-   bytes of the value have a name, or the number is that of no family. */
+/* A family and a value; what the call for the name returns, and the name. In the last rows the low bytes of the value
+   have a name, or the number is that of no family. */
 static const struct {
     uint32_t family;
     uint64_t value;
-    size_t room;
     uint32_t status;
-    size_t len;
     const char *name;
 } constants[] = {
-    {DWARF_FAMILY_TAG, 0x0a, 63, DWARF_OK, 12, "DW_TAG_label"},
-    {DWARF_FAMILY_LANG, 0x1c, 12, DWARF_OK, 12, "DW_LANG_Rust"},
-    {DWARF_FAMILY_ADDR, 0, 63, DWARF_OK, 12, "DW_ADDR_none"},
-    {DWARF_FAMILY_SECT_V2, 2, 63, DWARF_OK, 16, "DW_SECT_V2_TYPES"},
-    {DWARF_FAMILY_GDB_INDEX_SYMBOL_KIND, 1, 63, DWARF_OK, 26, "GDB_INDEX_SYMBOL_KIND_TYPE"},
-    {DWARF_FAMILY_SECT, 1, 11, DWARF_NO_ROOM, 12, ""},
-    {DWARF_FAMILY_ACCESS, 0x101, 63, DWARF_NO_NAME, 7, ""},
-    {DWARF_FAMILY_TAG, 0x1000a, 63, DWARF_NO_NAME, 7, ""},
-    {DWARF_FAMILY_SECT, (UINT64_C(1) << 32) + 1, 63, DWARF_NO_NAME, 7, ""},
-    {DWARF_FAMILY_ADDR, UINT64_MAX, 63, DWARF_NO_NAME, 7, ""},
-    {0, 1, 63, DWARF_NO_NAME, 7, ""},
-    {DWARF_FAMILY_GDB_INDEX_SYMBOL_KIND + 1, 1, 63, DWARF_NO_NAME, 7, ""},
-    {UINT32_MAX, 1, 63, DWARF_NO_NAME, 7, ""},
+    {DWARF_FAMILY_TAG, 0x0a, DWARF_OK, "DW_TAG_label"},
+    {DWARF_FAMILY_AT, 3, DWARF_OK, "DW_AT_name"},
+    {DWARF_FAMILY_FORM, 8, DWARF_OK, "DW_FORM_string"},
+    {DWARF_FAMILY_LANG, 0x1c, DWARF_OK, "DW_LANG_Rust"},
+    {DWARF_FAMILY_ADDR, 0, DWARF_OK, "DW_ADDR_none"},
+    {DWARF_FAMILY_SECT_V2, 2, DWARF_OK, "DW_SECT_V2_TYPES"},
+    {DWARF_FAMILY_GDB_INDEX_SYMBOL_KIND, 1, DWARF_OK, "GDB_INDEX_SYMBOL_KIND_TYPE"},
+    {DWARF_FAMILY_TAG, 4660, DWARF_NO_NAME, ""},
+    {DWARF_FAMILY_ACCESS, 0x101, DWARF_NO_NAME, ""},
+    {DWARF_FAMILY_TAG, 0x1000a, DWARF_NO_NAME, ""},
+    {DWARF_FAMILY_SECT, (UINT64_C(1) << 32) + 1, DWARF_NO_NAME, ""},
+    {DWARF_FAMILY_ADDR, UINT64_MAX, DWARF_NO_NAME, ""},
+    {0, 1, DWARF_NO_NAME, ""},
+    {DWARF_FAMILY_GDB_INDEX_SYMBOL_KIND + 1, 1, DWARF_NO_NAME, ""},
+    {UINT32_MAX, 1, DWARF_NO_NAME, ""},
 };
+
+static bool is_name(struct dwarf_name name, const char *wanted) {
+    return name.len == strlen(wanted) && memcmp(name.text, wanted, name.len) == 0;
+}
 
 static void check_constants(void) {
     for (size_t i = 0; i < sizeof constants / sizeof *constants; i++) {
-        char name[64] = "";
-        size_t len = 7;
-        uint32_t status = dwarf_constant_name(constants[i].family, constants[i].value, name, constants[i].room, &len);
-        check(status == constants[i].status && len == constants[i].len, "a constant");
-        check(strcmp(name, constants[i].name) == 0, "its name");
+        struct dwarf_name name = {"before", 6};
+        uint32_t status = dwarf_constant_name(constants[i].family, constants[i].value, &name);
+        check(status == constants[i].status, "a constant");
+        check(is_name(name, status == DWARF_OK ? constants[i].name : "before"), "its name");
+        check(is_name(dwarf_name_of(constants[i].family, constants[i].value), constants[i].name), "its name, returned");
     }
+    check(is_name(dwarf_tag_name(0x0a), "DW_TAG_label"), "the name of a tag");
+    check(is_name(dwarf_attribute_name(3), "DW_AT_name"), "the name of an attribute");
+    check(is_name(dwarf_form_name(8), "DW_FORM_string") && is_name(dwarf_form_name(0xffff), ""), "the name of a form");
 }
 
 /* A form, a version, an address size and a format; what the call for the size returns and writes. */
@@ -228,13 +220,76 @@ static void check_worked_sets(set_call *call, const struct set_row *rows, size_t
     }
 }
 
+/* Units of versions 4 and 5, with an entry of one byte: a compilation unit, a skeleton, and a type unit of the 64-bit
+   format. Then one with an unknown type, one with an unknown version, and one with an unknown address size; and a unit
+   that both sections can have. */
+static const char units[] =
+    "\x08\x00\x00\x00\x04\x00\x44\x33\x22\x11\x08\x01"
+    "\x11\x00\x00\x00\x05\x00\x04\x04\x10\x00\x00\x00\x88\x77\x66\x55\x44\x33\x22\x11\x01"
+    "\xff\xff\xff\xff\x1d\x00\x00\x00\x00\x00\x00\x00"
+    "\x05\x00\x02\x08\x20\x00\x00\x00\x00\x00\x00\x00\x08\x07\x06\x05\x04\x03\x02\x01\x1c\x00\x00\x00\x00\x00\x00\x00\x01"
+    "\x09\x00\x00\x00\x05\x00\x07\x08\x30\x00\x00\x00\x01"
+    "\x08\x00\x00\x00\x01\x00\x44\x33\x22\x11\x08\x01"
+    "\x08\x00\x00\x00\x02\x00\x44\x33\x22\x11\x03\x01"
+    "\x13\x00\x00\x00\x04\x00\x40\x00\x00\x00\x04\x08\x07\x06\x05\x04\x03\x02\x01\x17\x00\x00\x00";
+
+/* The offset of a unit, and whether the section is .debug_types; what the call returns and writes, and the value of the
+   error. */
+static const struct unit_row {
+    size_t offset;
+    bool is_types;
+    uint32_t status;
+    struct dwarf_unit unit;
+    uint64_t error;
+} unit_rows[] = {
+    {0, false, DWARF_OK, {12, 8, 11, 0x11223344, 0, 0, 4, 1, 8, 4}, 0},
+    {0, true, DWARF_UNEXPECTED_EOF, {7, 7, 7, 7, 7, 7, 7, 7, 7, 7}, 11},
+    {12, false, DWARF_OK, {33, 17, 32, 16, 0x1122334455667788, 0, 5, 4, 4, 4}, 0},
+    {12, true, DWARF_OK, {33, 17, 32, 16, 0x1122334455667788, 0, 5, 4, 4, 4}, 0},
+    {33, false, DWARF_OK, {74, 29, 73, 32, 0x0102030405060708, 28, 5, 2, 8, 8}, 0},
+    {74, false, DWARF_UNKNOWN_UNIT_TYPE, {7, 7, 7, 7, 7, 7, 7, 7, 7, 7}, 7},
+    {87, false, DWARF_UNKNOWN_VERSION, {7, 7, 7, 7, 7, 7, 7, 7, 7, 7}, 1},
+    {99, false, DWARF_UNSUPPORTED_ADDRESS_SIZE, {7, 7, 7, 7, 7, 7, 7, 7, 7, 7}, 3},
+    {111, false, DWARF_OK, {134, 19, 122, 64, 0, 0, 4, 1, 4, 4}, 0},
+    {111, true, DWARF_OK, {134, 19, 134, 64, 0x0102030405060708, 23, 4, 2, 4, 4}, 0},
+    {134, false, DWARF_END, {7, 7, 7, 7, 7, 7, 7, 7, 7, 7}, 0},
+    {135, true, DWARF_UNEXPECTED_EOF, {7, 7, 7, 7, 7, 7, 7, 7, 7, 7}, 0},
+    {SIZE_MAX, false, DWARF_UNEXPECTED_EOF, {7, 7, 7, 7, 7, 7, 7, 7, 7, 7}, 0},
+    {132, false, DWARF_UNEXPECTED_EOF, {7, 7, 7, 7, 7, 7, 7, 7, 7, 7}, 132},
+};
+
+static bool is_unit(const struct dwarf_unit *it, const struct dwarf_unit *wanted) {
+    return it->next == wanted->next && it->unit_length == wanted->unit_length && it->first_entry == wanted->first_entry &&
+           it->abbrev_offset == wanted->abbrev_offset && it->identifier == wanted->identifier &&
+           it->type_offset == wanted->type_offset && it->version == wanted->version &&
+           it->unit_type == wanted->unit_type && it->address_size == wanted->address_size &&
+           it->word_size == wanted->word_size;
+}
+
+static void check_units(void) {
+    static const uint8_t big[] = {0, 0, 0, 8, 0, 5, 3, 8, 0x11, 0x22, 0x33, 0x44};
+    static const struct dwarf_unit none = {7, 7, 7, 7, 7, 7, 7, 7, 7, 7};
+    static const struct dwarf_unit partial = {12, 8, 12, 0x11223344, 0, 0, 5, 3, 8, 4};
+    struct dwarf_fault fault = {7, 7};
+    struct dwarf_unit unit = none;
+    for (size_t i = 0; i < sizeof unit_rows / sizeof *unit_rows; i++) {
+        struct dwarf_fault its_fault = {7, 7};
+        unit = none;
+        uint32_t status = dwarf_unit_header((const uint8_t *)units, sizeof units - 1, false, unit_rows[i].is_types,
+                                            unit_rows[i].offset, &unit, &its_fault);
+        check(status == unit_rows[i].status && is_reported(its_fault, status, unit_rows[i].error), "a unit");
+        check(is_unit(&unit, &unit_rows[i].unit), "its header");
+    }
+    check(dwarf_unit_header(big, sizeof big, true, false, 0, &unit, &fault) == DWARF_OK, "a big-endian unit");
+    check(is_unit(&unit, &partial) && is_fault(fault, 7, 7), "its header");
+    check(dwarf_unit_header(NULL, 0, true, true, 0, &unit, &fault) == DWARF_END, "no unit");
+    check(is_unit(&unit, &partial) && is_fault(fault, 7, 7), "what it leaves");
+}
+
 static void check_no_room(void) {
     size_t len = 7;
     check(dwarf_uleb128_write(UINT64_MAX, NULL, 0, &len) == DWARF_NO_ROOM && len == 10, "unsigned");
     check(dwarf_sleb128_write(-65, NULL, 0, &len) == DWARF_NO_ROOM && len == 2, "signed");
-    check(dwarf_tag_name(0x11, NULL, 0, &len) == DWARF_NO_ROOM && len == 19, "tag without room");
-    len = 7;
-    check(dwarf_form_name(0xffff, NULL, 0, &len) == DWARF_NO_NAME && len == 7, "form without name");
 }
 
 /* An error and a room for its text; what the call returns, the length and the text. First comes each error by its name
@@ -265,12 +320,14 @@ static const struct {
     {{DWARF_UNSUPPORTED_REGISTER, 0x10000}, 63, DWARF_OK, 29, "unsupported register: 0x10000"},
     {{DWARF_OUT_OF_MEMORY, 0}, 63, DWARF_OK, 13, "out of memory"},
     {{DWARF_UNTERMINATED_ABBREVIATIONS, 9}, 63, DWARF_OK, 31, "unterminated abbreviation table"},
+    {{DWARF_UNKNOWN_UNIT_TYPE, 0x80}, 63, DWARF_OK, 23, "unknown unit type: 0x80"},
+    {{DWARF_UNKNOWN_UNIT_TYPE, 256}, 63, DWARF_NO_NAME, 7, ""},
     {{DWARF_UNKNOWN_VERSION, UINT64_MAX}, 63, DWARF_OK, 43, "unknown DWARF version: 18446744073709551615"},
     {{DWARF_UNKNOWN_VERSION, UINT64_MAX}, 0, DWARF_NO_ROOM, 43, ""},
     {{DWARF_UNSUPPORTED_OFFSET_SIZE, 256}, 63, DWARF_NO_NAME, 7, ""},
     {{DWARF_UNKNOWN_RESERVED_LENGTH, 0xfffffff0}, 32, DWARF_NO_ROOM, 35, ""},
     {{0, 0}, 63, DWARF_NO_NAME, 7, ""},
-    {{20, 0}, 63, DWARF_NO_NAME, 7, ""},
+    {{21, 0}, 63, DWARF_NO_NAME, 7, ""},
     {{UINT32_MAX, 0}, 63, DWARF_NO_NAME, 7, ""},
 };
 
@@ -282,6 +339,23 @@ static void check_texts(void) {
         check(status == texts[i].status && len == texts[i].len, "a text");
         check(strcmp(text, texts[i].text) == 0, "its bytes");
     }
+}
+
+/* A text as a string: what is written for each room. A byte is written only if the whole text and its end fit. */
+static void check_strings(void) {
+    static const struct dwarf_fault fault = {DWARF_UNKNOWN_VERSION, UINT64_MAX};
+    static const char wanted[] = "unknown DWARF version: 18446744073709551615";
+    for (size_t room = 0; room <= DWARF_TEXT_ROOM; room++) {
+        char text[DWARF_TEXT_ROOM + 1], untouched[DWARF_TEXT_ROOM + 1];
+        memset(text, 7, sizeof text);
+        memset(untouched, 7, sizeof untouched);
+        const char *string = dwarf_fault_string(&fault, text, room);
+        size_t written = room < sizeof wanted ? 0 : sizeof wanted;
+        check(string == (written ? text : NULL), "a text as a string");
+        check(memcmp(text, wanted, written) == 0, "its bytes and its end");
+        check(memcmp(text + written, untouched, sizeof text - written) == 0, "what is after its end");
+    }
+    check(sizeof wanted <= DWARF_TEXT_ROOM, "the room for the longest text");
 }
 
 /* The version of the library is the header's, with -unproved after it if it isn't proved. */
@@ -423,6 +497,46 @@ static void check_orders(void) {
     }
 }
 
+/* A table in memory of its own is what is read into arrays: with few rows, with more than the first block has room for,
+   empty, and after an error. */
+static void check_loaded(void) {
+    static uint8_t section[3 * 1100 * 6];
+    static struct dwarf_abbreviation rows[3 * 1100];
+    static struct dwarf_attribute_spec its[3 * 1100];
+    for (size_t count = 0; count <= 1100; count += count < 3 ? 1 : count < 999 ? 996 : 1) {
+        uint8_t *at = section;
+        for (size_t i = 0; i < count; i++) {
+            const uint8_t row[] = {(uint8_t)((i + 1) | 0x80), (uint8_t)((i + 1) >> 7), 0x2e, 0, 3, 8, 0, 0};
+            memcpy(at, row, sizeof row);
+            at += sizeof row;
+        }
+        *at++ = 0;
+        size_t len = (size_t)(at - section);
+        struct dwarf_measure measure = {7, 7, 7, 7};
+        struct dwarf_fault fault = {7, 7};
+        struct dwarf_table loaded;
+        memset(&loaded, 7, sizeof loaded);
+        check(dwarf_table_read(section, len, 0, rows, 1100, its, 1100, &measure, &fault) == DWARF_OK, "rows");
+        check(dwarf_table_load(section, len, 0, &loaded, &fault) == DWARF_OK, "a loaded table");
+        check(is_fault(fault, 7, 7) && is_measure(loaded.measure, measure), "its measure");
+        check((loaded.abbreviations == NULL) == (count == 0), "its memory");
+        for (size_t i = 0; i < count; i++) {
+            check(is_abbreviation(loaded.abbreviations[i], rows[i]), "a loaded abbreviation");
+            check(is_attribute(loaded.attributes[i], its[i]), "a loaded attribute");
+        }
+        dwarf_table_free(&loaded);
+        check(loaded.abbreviations == NULL && loaded.measure.abbreviations == 0, "a freed table");
+    }
+    struct dwarf_fault fault = {7, 7};
+    struct dwarf_table loaded;
+    memset(&loaded, 7, sizeof loaded);
+    check(dwarf_table_load(table, 16, 0, &loaded, &fault) == DWARF_UNEXPECTED_EOF, "a table that is cut");
+    check(is_fault(fault, DWARF_UNEXPECTED_EOF, 16) && loaded.abbreviations == NULL, "its error");
+    check(loaded.attributes == NULL && loaded.measure.abbreviations == 0, "what it has");
+    check(dwarf_table_load(NULL, 0, 1, &loaded, &fault) == DWARF_UNEXPECTED_EOF, "a table past the end");
+    check(is_fault(fault, DWARF_UNEXPECTED_EOF, 0) && loaded.measure.end == 0, "its error");
+}
+
 /* An empty section is a table that nothing closes. */
 static void check_empty_tables(void) {
     static const struct dwarf_measure empty = {0, 0, 0, 0};
@@ -472,7 +586,6 @@ static void check_offsets(void) {
 
 int main(void) {
     check_numbers();
-    check_names();
     check_constants();
     check_sizes();
     check_no_bytes();
@@ -480,12 +593,15 @@ int main(void) {
     check_sets(dwarf_str_offset_set);
     check_worked_sets(dwarf_address_set, address_sets, sizeof address_sets / sizeof *address_sets);
     check_worked_sets(dwarf_str_offset_set, offset_sets, sizeof offset_sets / sizeof *offset_sets);
+    check_units();
     check_no_room();
     check_texts();
+    check_strings();
     check_version();
     check_measures();
     check_tables();
     check_orders();
+    check_loaded();
     check_empty_tables();
     check_lookups();
     check_offsets();

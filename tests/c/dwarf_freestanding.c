@@ -70,6 +70,14 @@ void rattle_dealloc(void *block) {
     (void)block;
 }
 
+static bool is_name(struct dwarf_name name, const char *wanted) {
+    size_t i = 0;
+    while (i < name.len && name.text[i] == wanted[i]) {
+        i++;
+    }
+    return i == name.len && wanted[i] == 0;
+}
+
 static bool is_text(const char *text, const char *wanted) {
     size_t i = 0;
     while (text != NULL && text[i] == wanted[i] && wanted[i] != 0) {
@@ -90,7 +98,7 @@ static bool is_well(void) {
     }
     const struct dwarf_abbreviation *unit = dwarf_table_find(rows, measure.abbreviations, 1);
     bool is_read = unit != NULL && unit->tag == DW_TAG_compile_unit && attributes[1].implicit_const == -42;
-    if (!is_read || !is_text(dwarf_tag_string(unit->tag, text, sizeof text), "DW_TAG_compile_unit")) {
+    if (!is_read || !is_name(dwarf_tag_name(unit->tag), "DW_TAG_compile_unit")) {
         return false;
     }
     return dwarf_table_read(section, 2, 0, rows, 2, attributes, 2, &measure, &fault) == DWARF_UNEXPECTED_EOF &&

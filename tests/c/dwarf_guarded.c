@@ -218,7 +218,20 @@ static void call_sets(const uint8_t *bytes, size_t len, size_t offset, bool is_b
     end();
 }
 
-/* Reads a table into this many places, and searches it for each code that it may have. Returns the status. */
+/* A unit that was read ends within the section, and its entries begin within the unit. */
+static void call_units(const uint8_t *bytes, size_t len, size_t offset, bool is_big) {
+    for (int is_types = 0; is_types < 2; is_types++) {
+        begin("dwarf_unit_header");
+        struct dwarf_unit *unit = (struct dwarf_unit *)output(sizeof *unit);
+        uint32_t status = dwarf_unit_header(bytes, len, is_big, is_types == 1, offset, unit, fault());
+        if (status == DWARF_OK && (unit->next > len || unit->first_entry > unit->next || unit->first_entry <= offset)) {
+            die("its entries aren't in the section");
+        }
+        end();
+    }
+}
+
+/* Reads a table into arrays of this room, and searches it for each code that it may have. Returns the status. */
 static uint32_t call_table_read(const uint8_t *bytes, size_t len, size_t offset, size_t room, size_t attribute_room) {
     begin("dwarf_table_read");
     struct dwarf_measure *measure = (struct dwarf_measure *)output(sizeof *measure);
@@ -260,8 +273,16 @@ static void call_tables(const uint8_t *bytes, size_t len, size_t offset) {
     /* An abbreviation has at least five bytes, and an attribute two. */
     size_t left = offset < len ? len - offset : 0;
     if (call_table_read(bytes, len, offset, left / 5, left / 2) != status) {
-        die("its status isn't that of the measure, though there are places for every table");
+        die("its status isn't that of the measure, though there is room for every table");
     }
+    struct dwarf_table loaded;
+    begin("dwarf_table_load");
+    uint32_t loading = dwarf_table_load(bytes, len, offset, &loaded, fault());
+    end();
+    if (loading != status || loaded.measure.abbreviations != (status == DWARF_OK ? count : 0)) {
+        die("its status or its measure isn't that of dwarf_table_measure");
+    }
+    dwarf_table_free(&loaded);
 }
 
 /*
@@ -281,6 +302,13 @@ static uint32_t read_table(const uint8_t *bytes, size_t len) {
     struct dwarf_abbreviation *abbreviations = (struct dwarf_abbreviation *)output(room * sizeof *abbreviations);
     struct dwarf_attribute_spec *attributes = (struct dwarf_attribute_spec *)output(more * sizeof *attributes);
     return dwarf_table_read(bytes, len, 0, abbreviations, room, attributes, more, measure, fault());
+}
+
+static uint32_t load_table(const uint8_t *bytes, size_t len) {
+    struct dwarf_table loaded;
+    uint32_t status = dwarf_table_load(bytes, len, 0, &loaded, fault());
+    dwarf_table_free(&loaded);
+    return status;
 }
 
 static uint32_t write_text(const uint8_t *bytes, size_t len) {
@@ -323,12 +351,14 @@ static void call_on_cuts(const uint8_t *bytes, size_t len) {
             for (int is_big = 0; is_big < 2; is_big++) {
                 call_lookups(given, cut, offset, is_big == 1);
                 call_sets(given, cut, offset, is_big == 1);
+                call_units(given, cut, offset, is_big == 1);
             }
             call_tables(given, cut, offset);
         }
     }
     call_failing(measure_table, "dwarf_table_measure without memory", section.given, len);
     call_failing(read_table, "dwarf_table_read without memory", section.given, len);
+    call_failing(load_table, "dwarf_table_load without memory", section.given, len);
     call_failing(write_text, "dwarf_fault_text without memory", section.given, len);
 }
 
@@ -336,51 +366,31 @@ static void call_on_cuts(const uint8_t *bytes, size_t len) {
  * The calls that write bytes, at every length of their room.
  */
 
-typedef uint32_t name_call(uint16_t value, char *name, size_t room, size_t *len);
-typedef const char *string_call(uint16_t value, char *name, size_t room);
-
-/* A string has to be the name with a zero byte after it, or null if there is no place for that byte. */
-static void check_string(const char *string, const char *places, size_t room, size_t len) {
-    if ((string != NULL) != (len < room) || (string != NULL && (string != places || strlen(string) != len))) {
-        die("it isn't the name");
+/* A string has to be the text with a zero byte after it, or null if there is no room for that byte. */
+static void check_string(const char *string, const char *text, size_t room, size_t len) {
+    if ((string != NULL) != (len < room) || (string != NULL && (string != text || strlen(string) != len))) {
+        die("it isn't the text");
     }
 }
 
-static void call_names(name_call *name, string_call *string, const char *what) {
+/* The name of each value of a family: it is written if there is one, and has no zero byte. */
+static void call_names(uint32_t family) {
     for (uint32_t value = 0; value <= UINT16_MAX; value++) {
-        begin(what);
-        size_t *len = (size_t *)output(sizeof *len);
-        uint32_t status = name((uint16_t)value, (char *)output(0), 0, len);
-        size_t all = status == DWARF_NO_NAME ? 0 : *len;
+        static const struct dwarf_name none = {"", 0};
+        begin("dwarf_constant_name");
+        struct dwarf_name *name = (struct dwarf_name *)output(sizeof *name);
+        *name = none;
+        uint32_t status = dwarf_constant_name(family, value, name);
+        struct dwarf_name found = *name;
         end();
-        if (status == DWARF_NO_NAME) {
-            continue;
+        if (status != (found.len == 0 ? DWARF_NO_NAME : DWARF_OK) || memchr(found.text, 0, found.len) != NULL) {
+            die("its status isn't that of a name");
         }
-        for (size_t room = 0; room <= all + 2; room++) {
-            begin(what);
-            len = (size_t *)output(sizeof *len);
-            status = name((uint16_t)value, (char *)output(room), room, len);
-            end();
-            if (status != (room < all ? DWARF_NO_ROOM : DWARF_OK) || all >= DWARF_TEXT_ROOM) {
-                die("its status isn't that of its room");
-            }
-            begin(what);
-            char *places = (char *)output(room);
-            check_string(string((uint16_t)value, places, room), places, room, all);
-            end();
+        struct dwarf_name same = dwarf_name_of(family, value);
+        if (same.len != found.len || memcmp(same.text, found.text, same.len) != 0) {
+            die("another name is returned");
         }
     }
-}
-
-/* The family whose names are called for. */
-static uint32_t family;
-
-static uint32_t constant_name(uint16_t value, char *name, size_t room, size_t *len) {
-    return dwarf_constant_name(family, value, name, room, len);
-}
-
-static const char *constant_string(uint16_t value, char *name, size_t room) {
-    return dwarf_constant_string(family, value, name, room);
 }
 
 static void call_sizes(void) {
@@ -401,7 +411,7 @@ static void call_sizes(void) {
 static void call_texts(void) {
     static const uint64_t values[] = {0, 1, UINT32_MAX, UINT64_MAX};
     for (size_t i = 0; i < sizeof values / sizeof *values; i++) {
-        for (uint32_t kind = 0; kind <= 20; kind++) {
+        for (uint32_t kind = 0; kind <= 21; kind++) {
             for (size_t room = 0; room <= DWARF_TEXT_ROOM; room++) {
                 struct dwarf_fault it = {kind, values[i]};
                 begin("dwarf_fault_text");
@@ -412,8 +422,8 @@ static void call_texts(void) {
                 end();
                 begin("dwarf_fault_string");
                 given = (struct dwarf_fault *)memcpy(output(sizeof it), &it, sizeof it);
-                char *places = (char *)output(room);
-                check_string(dwarf_fault_string(given, places, room), places, room, all);
+                char *text = (char *)output(room);
+                check_string(dwarf_fault_string(given, text, room), text, room, all);
                 end();
             }
         }
@@ -431,8 +441,8 @@ static void call_version(void) {
             die("its status isn't that of its room");
         }
         begin("dwarf_read_version_string");
-        char *places = (char *)output(room);
-        check_string(dwarf_read_version_string(places, room), places, room, all);
+        char *text = (char *)output(room);
+        check_string(dwarf_read_version_string(text, room), text, room, all);
         end();
     }
 }
@@ -483,11 +493,8 @@ int main(int argc, char **argv) {
         for (int at = 1; at < argc; at++) {
             call_on_cuts(bytes, read_file(argv[at], bytes, sizeof bytes));
         }
-        call_names(dwarf_tag_name, dwarf_tag_string, "a name of a tag");
-        call_names(dwarf_attribute_name, dwarf_attribute_string, "a name of an attribute");
-        call_names(dwarf_form_name, dwarf_form_string, "a name of a form");
-        for (family = 0; family <= DWARF_FAMILY_GDB_INDEX_SYMBOL_KIND + 1; family++) {
-            call_names(constant_name, constant_string, "a name of a constant");
+        for (uint32_t family = 0; family <= DWARF_FAMILY_GDB_INDEX_SYMBOL_KIND + 1; family++) {
+            call_names(family);
         }
         call_sizes();
         call_texts();
