@@ -4,7 +4,7 @@ use crate::sys::Set;
 use std::fmt;
 
 /// The errors by the numbers of `include/dwarf_read.h`.
-pub const ERRORS: [&str; 20] = [
+pub const ERRORS: [&str; 21] = [
     "none",
     "UnexpectedEof",
     "BadUnsignedLeb128",
@@ -25,6 +25,7 @@ pub const ERRORS: [&str; 20] = [
     "UnsupportedRegister",
     "OutOfMemory",
     "UnterminatedAbbreviations",
+    UNKNOWN_UNIT_TYPE,
 ];
 
 /// The name of an error by its number.
@@ -39,14 +40,14 @@ const OLD_NAMES: [(&str, &str); 3] = [
     ("UnsupportedUnitType", UNKNOWN_UNIT_TYPE),
 ];
 
-/// The error of units alone, which no call for C returns.
+/// The error of units alone.
 pub const UNKNOWN_UNIT_TYPE: &str = "UnknownUnitType";
 
 /// An error as its debug text tells it: its name, and the number in it, if there is one.
 pub fn fault_of_text(text: &str, rest: Option<usize>) -> Answer {
     let name = text.split('(').next().unwrap_or_default();
     let name = OLD_NAMES.iter().find(|it| it.0 == name).map_or(name, |it| it.1);
-    let known = ERRORS.iter().chain([&UNKNOWN_UNIT_TYPE]).find(|it| **it == name);
+    let known = ERRORS.iter().find(|it| **it == name);
     let kind = known.copied().unwrap_or("an error without a number");
     let value = text.rsplit('(').next().and_then(|it| it.trim_end_matches(')').parse().ok());
     Answer::Fault { kind, value, rest }

@@ -44,7 +44,7 @@ fn write_sets(out: &mut impl Write, sets: Sets, are_addresses: bool) -> Result<(
     for set in sets {
         let set = set?;
         let (offset, length, bits) =
-            (set.offset(), set.unit_length(), if set.is_64() { 64 } else { 32 });
+            (set.offset(), set.unit_length(), 8 * set.format().word_size());
         write!(out, "set {offset}: length {length}, {bits}-bit")?;
         if are_addresses {
             writeln!(out, ", address size {}", set.entry_size())?;

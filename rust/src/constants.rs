@@ -6,20 +6,20 @@
 //!
 //! assert_eq!(DW_AT_name.0, 3);
 //! assert_eq!(DW_LANG_Rust.to_string(), "DW_LANG_Rust");
-//! assert_eq!(DW_LANG_Rust.name().unwrap(), "DW_LANG_Rust");
+//! assert_eq!(DW_LANG_Rust.static_string(), Some("DW_LANG_Rust"));
 //! assert_eq!(DwLang(0x7fff).to_string(), "Unknown DwLang: 32767");
-//! assert_eq!(DwLang(0x7fff).name(), None);
+//! assert_eq!(DwLang(0x7fff).static_string(), None);
 //! ```
 //!
 //! A constant of one family isn't one of another:
 //!
 //! ```compile_fail,E0308
-//! dwarf_read::tag_name(dwarf_read::constants::DW_AT_name);
+//! use dwarf_read::constants::{DwTag, DW_AT_name};
+//!
+//! let tag: DwTag = DW_AT_name;
 //! ```
 #![allow(missing_docs, non_upper_case_globals)]
 
-use crate::sys;
-use crate::text::Name;
 use core::fmt;
 
 macro_rules! families {
@@ -35,16 +35,21 @@ macro_rules! families {
             impl $family {
                 /// Returns the name of the constant with this value, if there is one. If there are
                 /// several, it is the first that the standard or the vendor has.
-                pub fn name(self) -> Option<Name> {
-                    name_of($at, self.0.into())
+                pub fn static_string(self) -> Option<&'static str> {
+                    // The first name of a value is taken.
+                    #[allow(unreachable_patterns)]
+                    match self.0 {
+                        $($value => Some(stringify!($name)),)*
+                        _ => None,
+                    }
                 }
             }
 
             /// Writes the name of the constant, or the family and the number if it has none.
             impl fmt::Display for $family {
                 fn fmt(&self, f: &mut fmt::Formatter<'_>) -> fmt::Result {
-                    match self.name() {
-                        Some(name) => f.pad(&name),
+                    match self.static_string() {
+                        Some(name) => f.pad(name),
                         None => write!(f, "Unknown {}: {}", stringify!($family), self.0),
                     }
                 }
@@ -53,21 +58,12 @@ macro_rules! families {
             $(pub const $name: $family = $family($value);)*
         )*
 
-        // Each family with its number, and the values and names of its constants.
+        // The number of each family, its name, and what finds the name of a value.
         #[cfg(test)]
-        const FAMILIES: &[(u32, &str, &[(u64, &str)])] = &[
-            $(($at, stringify!($family), &[$(($value, stringify!($name))),*])),*
+        const FAMILIES: &[(u32, &str, fn(u64) -> Option<&'static str>)] = &[
+            $(($at, stringify!($family), |value| $family(value.try_into().ok()?).static_string())),*
         ];
     };
-}
-
-// The library's name of a constant, which is proved.
-fn name_of(family: u32, value: u64) -> Option<Name> {
-    // SAFETY: see `sys`.
-    Name::written(|name, room, len| unsafe {
-        sys::dwarf_constant_name(family, value, name, room, len)
-    })
-    .ok()
 }
 
 // tools/constants writes this list.
@@ -496,14 +492,34 @@ mod tests {
     use super::*;
     use std::string::ToString;
 
-    // The names that are declared here, compared with those that the library has.
+    // The library's name of a constant, which is proved.
+    #[repr(C)]
+    struct Name {
+        text: *const u8,
+        len: usize,
+    }
+
+    extern "C" {
+        #[link_name = "dwarf_constant_name_0_4"]
+        fn dwarf_constant_name(family: u32, value: u64, name: &mut Name) -> u32;
+    }
+
+    fn name_of(family: u32, value: u64) -> Option<&'static str> {
+        let mut name = Name { text: "".as_ptr(), len: 0 };
+        // SAFETY: see `sys`. The bytes of a name are a part of the program.
+        let bytes = unsafe {
+            let status = dwarf_constant_name(family, value, &mut name);
+            assert_eq!(status == crate::sys::OK, name.len != 0);
+            core::slice::from_raw_parts(name.text, name.len)
+        };
+        (name.len != 0).then(|| core::str::from_utf8(bytes).unwrap())
+    }
+
     #[test]
     fn names_are_those_of_the_library() {
-        for (number, family, rows) in FAMILIES {
+        for (number, family, found) in FAMILIES {
             for value in (0..=0x1_0000).chain([u32::MAX.into(), 1 << 32, u64::MAX]) {
-                let declared = rows.iter().find(|row| row.0 == value).map(|row| row.1);
-                let name = name_of(*number, value);
-                assert_eq!(name.as_deref(), declared, "{} {}", family, value);
+                assert_eq!(found(value), name_of(*number, value), "{} {}", family, value);
             }
         }
         assert_eq!(FAMILIES.len(), 33);
@@ -522,5 +538,19 @@ mod tests {
             std::format!("{:>14}|{:?}", DW_TAG_label, DW_TAG_label),
             "  DW_TAG_label|DwTag(10)"
         );
+        // A width and a precision are of the whole name.
+        assert_eq!(
+            std::format!("{:.6}|{:<14}|", DW_TAG_label, DW_TAG_label),
+            "DW_TAG|DW_TAG_label  |"
+        );
+    }
+
+    #[test]
+    fn constants_are_ordered_and_hashed_by_their_values() {
+        use std::collections::{BTreeSet, HashSet};
+        let tags = [DW_TAG_label, DwTag(3), DW_TAG_hi_user, DwTag(10), DwTag(0x0300)];
+        let ordered: std::vec::Vec<u16> = BTreeSet::from(tags).into_iter().map(|it| it.0).collect();
+        assert_eq!(ordered, [3, 10, 0x300, 0xffff]);
+        assert_eq!(HashSet::from(tags).len(), 4);
     }
 }

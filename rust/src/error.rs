@@ -1,8 +1,7 @@
 //! Errors: a number and a value of the library, as a Rust type.
 
 use crate::sys;
-use crate::text::Name;
-use core::fmt;
+use core::{fmt, str};
 
 /// The result of a call.
 pub type Result<T> = core::result::Result<T, Error>;
@@ -27,11 +26,11 @@ pub enum ErrorKind {
     AttributeFormZero,
     /// An abbreviation has the code of an earlier one. The value is the code.
     DuplicateAbbreviationCode,
-    /// The length of a set is reserved. The value is that length.
+    /// The length of a set or a unit is reserved. The value is that length.
     UnknownReservedLength,
     /// A number doesn't fit an offset.
     UnsupportedOffset,
-    /// The version of a set isn't 5. The value is the version.
+    /// The version of a set isn't 5, or that of a unit isn't 2 to 5. The value is the version.
     UnknownVersion,
     /// Addresses don't have this size, which is the value.
     UnsupportedAddressSize,
@@ -49,12 +48,14 @@ pub enum ErrorKind {
     OutOfMemory,
     /// Only the section's end closes a table. The value is the position.
     UnterminatedAbbreviations,
+    /// The type of a unit isn't one of DWARF 5. The value is the type.
+    UnknownUnitType,
     /// An error that only a newer library than this crate has, by its number.
     Other(u32),
 }
 
 // In the order of their numbers, from 1.
-const KINDS: [ErrorKind; 19] = [
+const KINDS: [ErrorKind; 20] = [
     ErrorKind::UnexpectedEof,
     ErrorKind::BadUnsignedLeb128,
     ErrorKind::BadSignedLeb128,
@@ -74,7 +75,11 @@ const KINDS: [ErrorKind; 19] = [
     ErrorKind::UnsupportedRegister,
     ErrorKind::OutOfMemory,
     ErrorKind::UnterminatedAbbreviations,
+    ErrorKind::UnknownUnitType,
 ];
+
+// Enough for every text.
+const TEXT_ROOM: usize = 64;
 
 /// The error of a call. `Display` writes its text.
 ///
@@ -96,9 +101,6 @@ impl Error {
     pub(crate) fn unterminated(end: usize) -> Error {
         Error(sys::Fault { kind: 19, value: end as u64 })
     }
-
-    /// The error for an index that no offset fits.
-    pub(crate) const UNSUPPORTED_OFFSET: Error = Error(sys::Fault { kind: 10, value: 0 });
 
     /// Which error it is.
     pub fn kind(&self) -> ErrorKind {
@@ -124,15 +126,15 @@ impl fmt::Debug for Error {
 
 impl fmt::Display for Error {
     fn fmt(&self, f: &mut fmt::Formatter<'_>) -> fmt::Result {
+        let (mut text, mut len) = ([0; TEXT_ROOM], 0);
         // SAFETY: see `sys`.
-        let text = Name::written(|text, room, len| unsafe {
-            sys::dwarf_fault_text(&self.0, text, room, len)
-        });
-        match text {
-            Ok(text) => f.pad(&text),
+        let status =
+            unsafe { sys::dwarf_fault_text(&self.0, text.as_mut_ptr(), TEXT_ROOM, &mut len) };
+        match status {
+            sys::OK => f.pad(str::from_utf8(&text[..len]).unwrap_or_default()),
             // There wasn't enough memory for the text.
-            Err(status) if status == Error::OUT_OF_MEMORY.0.kind => f.pad("out of memory"),
-            Err(_) => write!(f, "unknown error {}", self.0.kind),
+            status if status == Error::OUT_OF_MEMORY.0.kind => f.pad("out of memory"),
+            _ => write!(f, "unknown error {}", self.0.kind),
         }
     }
 }
@@ -185,17 +187,26 @@ mod tests {
             ErrorKind::UnsupportedRegister => "unsupported register: 0x0",
             ErrorKind::OutOfMemory => "out of memory",
             ErrorKind::UnterminatedAbbreviations => "unterminated abbreviation table",
-            ErrorKind::Other(_) => "unknown error 20",
+            ErrorKind::UnknownUnitType => "unknown unit type: 0x0",
+            ErrorKind::Other(_) => "unknown error 21",
         }
     }
 
     // The library's text of a number, which is proved, shows that the number is that of the kind.
     #[test]
     fn numbers_are_those_of_the_library() {
-        for (number, kind) in (1..).zip(KINDS.into_iter().chain([ErrorKind::Other(20)])) {
+        for (number, kind) in (1..).zip(KINDS.into_iter().chain([ErrorKind::Other(21)])) {
             let error = Error(sys::Fault { kind: number, value: 0 });
             assert_eq!((error.kind(), error.to_string().as_str()), (kind, text_of(kind)));
         }
+    }
+
+    #[test]
+    fn the_longest_text_is_whole_and_can_be_padded() {
+        let error = Error(sys::Fault { kind: 11, value: u64::MAX });
+        let text = "unknown DWARF version: 18446744073709551615";
+        assert_eq!(error.to_string(), text);
+        assert_eq!(format!("{:>45}|{:.7}|", error, error), format!("  {}|unknown|", text));
     }
 
     // As a library would return them that is newer than this crate, or wrong.
@@ -203,7 +214,7 @@ mod tests {
     fn unknown_numbers_are_errors() {
         for (status, value, shown) in [(0, 0, "Ok(true)"), (102, 0, "Ok(false)")]
             .into_iter()
-            .chain([(1, 7, "Err(UnexpectedEof(7))"), (20, 7, "Err(Other(20)(7))")])
+            .chain([(1, 7, "Err(UnexpectedEof(7))"), (21, 7, "Err(Other(21)(7))")])
             .chain([(99, 7, "Err(Other(99)(7))"), (100, 7, "Err(Other(100)(0))")])
             .chain([(u32::MAX, 7, "Err(Other(4294967295)(0))")])
         {

@@ -46,3 +46,48 @@ unsafe extern "C" fn rattle_realloc(
 unsafe extern "C" fn rattle_dealloc(block: *mut c_void) {
     free(block)
 }
+
+#[cfg(test)]
+mod tests {
+    use super::*;
+
+    // The pointer that the library gets is never null.
+    #[test]
+    fn null_is_no_block() {
+        let none = tried(core::ptr::null_mut());
+        assert!(!none.is_block);
+        let mut byte = 0_u8;
+        let place: *mut c_void = (&mut byte as *mut u8).cast();
+        let one = tried(place);
+        assert!(one.is_block && one.block.as_ptr() == place);
+    }
+
+    #[test]
+    fn a_block_has_its_bytes_and_keeps_them() {
+        for (size, align) in [(0, 1), (0, 16), (1, 1), (24, 8), (4096, 16)] {
+            assert_eq!(size_of(size, align), if size == 0 { align } else { size });
+            // SAFETY: each block has as many bytes as are written, and is freed once.
+            unsafe {
+                let first = rattle_alloc(size, align);
+                assert!(first.is_block && first.block.as_ptr() as usize % align == 0);
+                first.block.as_ptr().cast::<u8>().write_bytes(7, size);
+                let more = rattle_realloc(first.block.as_ptr(), size, size + 4096, align);
+                let bytes = core::slice::from_raw_parts(more.block.as_ptr().cast::<u8>(), size);
+                assert!(more.is_block && bytes.iter().all(|it| *it == 7));
+                rattle_dealloc(more.block.as_ptr());
+            }
+        }
+    }
+
+    // A block that is larger than what malloc has isn't one.
+    #[test]
+    fn a_refused_block_is_none() {
+        // SAFETY: no block is made, and the first is freed once.
+        unsafe {
+            assert!(!rattle_alloc(isize::MAX as usize, 8).is_block);
+            let block = rattle_alloc(8, 8).block.as_ptr();
+            assert!(!rattle_realloc(block, 8, isize::MAX as usize, 8).is_block);
+            rattle_dealloc(block);
+        }
+    }
+}

@@ -1,5 +1,6 @@
-//! This crate reads the lowest layer of DWARF: abbreviation tables, strings, string offsets,
-//! addresses and LEB128 numbers, the sizes of forms, the named constants, and the texts of errors.
+//! This crate reads the lowest layer of DWARF: abbreviation tables, headers of units, strings, string
+//! offsets, addresses and LEB128 numbers, the sizes of forms, the named constants, and the texts of
+//! errors.
 //!
 //! The calls below it are a port of that layer of gimli to Rattle, which is Rust with contracts: each
 //! of their functions is proved against its contract, on every input. The crate contains their code,
@@ -47,14 +48,14 @@ mod heap;
 mod sets;
 mod sys;
 mod table;
-mod text;
+mod units;
 
-use constants::{DwAt, DwForm, DwTag};
+use constants::DwForm;
 use error::check;
 pub use error::{Error, ErrorKind, Result};
 pub use sets::{address_sets, str_offset_sets, Entries, Set, Sets};
-pub use table::{measure, tables, Abbreviation, Abbreviations, Attribute, Measure, Table, Tables};
-pub use text::Name;
+pub use table::{tables, Abbreviation, Abbreviations, Attribute, Table, Tables};
+pub use units::{type_units, units, Unit, UnitType, Units};
 
 // The program that is shown there.
 #[cfg(doctest)]
@@ -74,6 +75,48 @@ impl ByteOrder {
     fn is_big(self) -> bool {
         self == ByteOrder::Big
     }
+}
+
+/// The format of a unit or a set (DWARF 5, 7.4).
+#[derive(Debug, Clone, Copy, PartialEq, Eq, Hash)]
+pub enum Format {
+    /// The 32-bit format.
+    Dwarf32,
+    /// The 64-bit format.
+    Dwarf64,
+}
+
+impl Format {
+    fn of_word_size(word_size: u8) -> Format {
+        if word_size == 8 {
+            Format::Dwarf64
+        } else {
+            Format::Dwarf32
+        }
+    }
+
+    /// Returns how many bytes an offset or a length has: 4 or 8.
+    ///
+    /// ```
+    /// assert_eq!(dwarf_read::Format::Dwarf64.word_size(), 8);
+    /// ```
+    pub fn word_size(self) -> u8 {
+        match self {
+            Format::Dwarf32 => 4,
+            Format::Dwarf64 => 8,
+        }
+    }
+}
+
+/// What the size of a value depends on, as [`Unit::encoding`] returns it.
+#[derive(Debug, Clone, Copy, PartialEq, Eq, Hash)]
+pub struct Encoding {
+    /// How many bytes an address has.
+    pub address_size: u8,
+    /// The format of the unit.
+    pub format: Format,
+    /// The DWARF version of the unit.
+    pub version: u16,
 }
 
 /// Returns the unsigned LEB128 number that the bytes begin with, and how many bytes it has.
@@ -167,7 +210,7 @@ pub fn string(section: &[u8], offset: usize) -> Result<&[u8]> {
 }
 
 /// Returns the string offset at an index, among those that follow each other from `base` on in
-/// `.debug_str_offsets`. Each has eight bytes if `is_64` is set, and four otherwise.
+/// `.debug_str_offsets`. Each has as many bytes as a word of the unit's format.
 ///
 /// # Errors
 ///
@@ -177,11 +220,22 @@ pub fn string(section: &[u8], offset: usize) -> Result<&[u8]> {
 /// - `UnsupportedOffset` if the index times the size of an entry is 2^64 or more;
 /// - `UnexpectedEof` at `base` if the entry begins past the end, and at the entry if it ends past
 ///   the end.
+///
+/// ```
+/// use dwarf_read::{str_offset, string, ByteOrder, Format};
+///
+/// let debug_str = b"one\0two\0";
+/// // A header of eight bytes, and the offsets 0 and 4.
+/// let debug_str_offsets = [12, 0, 0, 0, 5, 0, 0, 0, 0, 0, 0, 0, 4, 0, 0, 0];
+/// let offset = str_offset(&debug_str_offsets, ByteOrder::Little, Format::Dwarf32, 8, 1)?;
+/// assert_eq!(string(debug_str, offset)?, b"two");
+/// # Ok::<(), dwarf_read::Error>(())
+/// ```
 pub fn str_offset(
-    section: &[u8], order: ByteOrder, is_64: bool, base: usize, index: u64,
+    section: &[u8], order: ByteOrder, format: Format, base: usize, index: u64,
 ) -> Result<usize> {
-    let index = sets::place(index)?;
     let (bytes, len, is_big, mut offset) = (section.as_ptr(), section.len(), order.is_big(), 0);
+    let (is_64, index) = (format == Format::Dwarf64, index as usize);
     // SAFETY: see `sys`.
     check(|fault| unsafe {
         sys::dwarf_str_offset(bytes, len, is_big, is_64, base, index, &mut offset, fault)
@@ -190,70 +244,72 @@ pub fn str_offset(
 }
 
 /// Returns the address at an index, among those that follow each other from `base` on in
-/// `.debug_addr`. Each has `size` bytes: 1, 2, 4 or 8.
+/// `.debug_addr`. Each has `address_size` bytes: 1, 2, 4 or 8.
 ///
 /// # Errors
 ///
 /// The first of these:
 ///
 /// - `UnexpectedEof` at 0 if `base` is past the end;
-/// - `UnsupportedOffset` if the index times `size` is 2^64 or more;
+/// - `UnsupportedOffset` if the index times `address_size` is 2^64 or more;
 /// - `UnexpectedEof` at `base` if the address would begin past the end;
-/// - `UnsupportedAddressSize` if `size` isn't 1, 2, 4 or 8;
+/// - `UnsupportedAddressSize` if `address_size` isn't 1, 2, 4 or 8;
 /// - `UnexpectedEof` at the address if it ends past the end.
-pub fn address(section: &[u8], order: ByteOrder, size: u8, base: usize, index: u64) -> Result<u64> {
-    let index = sets::place(index)?;
+///
+/// ```
+/// use dwarf_read::{address, ByteOrder, ErrorKind};
+///
+/// // A header of eight bytes, and two addresses.
+/// let section = [12, 0, 0, 0, 5, 0, 4, 0, 0x78, 0x56, 0x34, 0x12, 0xef, 0xbe, 0xad, 0xde];
+/// assert_eq!(address(&section, ByteOrder::Little, 4, 8, 1), Ok(0xdeadbeef));
+/// let error = address(&section, ByteOrder::Little, 4, 8, 2).unwrap_err();
+/// assert_eq!((error.kind(), error.value()), (ErrorKind::UnexpectedEof, 16));
+/// ```
+pub fn address(
+    section: &[u8], order: ByteOrder, address_size: u8, base: usize, index: u64,
+) -> Result<u64> {
     let (bytes, len, is_big, mut address) = (section.as_ptr(), section.len(), order.is_big(), 0);
+    let index = index as usize;
     // SAFETY: see `sys`.
     check(|fault| unsafe {
-        sys::dwarf_address(bytes, len, is_big, size, base, index, &mut address, fault)
+        sys::dwarf_address(bytes, len, is_big, address_size, base, index, &mut address, fault)
     })?;
     Ok(address)
 }
 
-/// Returns how many bytes a value of a form has in a unit of this version, with addresses of
-/// `address_size` bytes, and in the 64-bit format if `is_64` is set. `None` if the form doesn't
-/// determine it, or if no form has this number.
+/// Returns how many bytes a value of a form has in a unit with this encoding. `None` if the form
+/// doesn't determine it, or if no form has this number.
 ///
 /// ```
 /// use dwarf_read::constants::{DW_FORM_ref_addr, DW_FORM_udata};
-/// use dwarf_read::form_size;
+/// use dwarf_read::{form_size, Encoding, Format};
 ///
-/// assert_eq!(form_size(DW_FORM_ref_addr, 2, 8, false), Some(8));
-/// assert_eq!(form_size(DW_FORM_ref_addr, 5, 8, false), Some(4));
-/// assert_eq!(form_size(DW_FORM_udata, 5, 8, false), None);
+/// let encoding = Encoding { address_size: 8, format: Format::Dwarf32, version: 5 };
+/// assert_eq!(form_size(DW_FORM_ref_addr, encoding), Some(4));
+/// assert_eq!(form_size(DW_FORM_ref_addr, Encoding { version: 2, ..encoding }), Some(8));
+/// assert_eq!(form_size(DW_FORM_udata, encoding), None);
 /// ```
-pub fn form_size(form: DwForm, version: u16, address_size: u8, is_64: bool) -> Option<usize> {
-    let mut size = 0;
+pub fn form_size(form: DwForm, encoding: Encoding) -> Option<usize> {
+    let Encoding { address_size, format, version } = encoding;
+    let (is_64, mut size) = (format == Format::Dwarf64, 0);
     // SAFETY: see `sys`.
     let status = unsafe { sys::dwarf_form_size(form.0, version, address_size, is_64, &mut size) };
     (status == sys::OK).then_some(size)
 }
 
-/// Returns the name of a tag, if it has one. Each type of [`constants`] has a call `name`.
-pub fn tag_name(tag: DwTag) -> Option<Name> {
-    tag.name()
-}
+#[cfg(test)]
+mod tests {
+    use crate::sys;
 
-/// Returns the name of an attribute, if it has one.
-pub fn attribute_name(name: DwAt) -> Option<Name> {
-    name.name()
-}
+    extern "C" {
+        fn dwarf_read_version(version: *mut u8, room: usize, len: &mut usize) -> u32;
+    }
 
-/// Returns the name of a form, if it has one.
-pub fn form_name(form: DwForm) -> Option<Name> {
-    form.name()
-}
-
-/// Returns the version of the library, such as 0.3.0. That of a library that isn't proved ends in
-/// `-unproved`.
-///
-/// ```
-/// assert!(dwarf_read::version().starts_with("0."));
-/// ```
-pub fn version() -> Name {
-    // SAFETY: see `sys`.
-    let written =
-        Name::written(|version, room, len| unsafe { sys::dwarf_read_version(version, room, len) });
-    written.unwrap_or_default()
+    #[test]
+    fn the_code_has_the_version_of_the_crate() {
+        let (mut version, mut len) = ([0; 64], 0);
+        // SAFETY: see `sys`.
+        let status = unsafe { dwarf_read_version(version.as_mut_ptr(), 64, &mut len) };
+        assert_eq!((status, &version[..len]), (sys::OK, env!("CARGO_PKG_VERSION").as_bytes()));
+    }
 }

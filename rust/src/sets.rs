@@ -1,8 +1,8 @@
 //! Sets of addresses and of string offsets.
 
 use crate::bytes::Bytes;
-use crate::error::{check_unless, Error, Result};
-use crate::{address, str_offset, sys, ByteOrder};
+use crate::error::{check_unless, Result};
+use crate::{address, str_offset, sys, ByteOrder, Format};
 use core::fmt;
 use core::iter::FusedIterator;
 
@@ -45,12 +45,6 @@ pub fn address_sets(section: &[u8], order: ByteOrder) -> Sets<'_> {
 /// ```
 pub fn str_offset_sets(section: &[u8], order: ByteOrder) -> Sets<'_> {
     Sets { section, order, kind: Kind::StrOffsets, offset: Some(0) }
-}
-
-/// An index, as the calls take it. An index that isn't an offset gives the error that a product
-/// which isn't one gives.
-pub(crate) fn place(index: u64) -> Result<usize> {
-    usize::try_from(index).map_err(|_| Error::UNSUPPORTED_OFFSET)
 }
 
 /// The sets of a section, in the order of their offsets. If there is an error, it is the last item.
@@ -136,9 +130,9 @@ impl<'s> Set<'s> {
         self.header.unit_length
     }
 
-    /// Returns whether the set is of the 64-bit format.
-    pub fn is_64(&self) -> bool {
-        self.header.word_size == 8
+    /// Returns the format of the set.
+    pub fn format(&self) -> Format {
+        Format::of_word_size(self.header.word_size)
     }
 
     /// Returns how many whole entries the set has. One that the set's end cuts isn't counted.
@@ -162,7 +156,7 @@ impl<'s> Set<'s> {
         match self.kind {
             Kind::Addresses => address(self.section, self.order, size, base, index),
             Kind::StrOffsets => {
-                let offset = str_offset(self.section, self.order, self.is_64(), base, index)?;
+                let offset = str_offset(self.section, self.order, self.format(), base, index)?;
                 Ok(offset as u64)
             }
         }
@@ -176,7 +170,7 @@ impl<'s> Set<'s> {
 
 impl PartialEq for Set<'_> {
     fn eq(&self, other: &Self) -> bool {
-        let of_header = |it: &Self| (it.kind, it.unit_length(), it.is_64(), it.entry_size());
+        let of_header = |it: &Self| (it.kind, it.unit_length(), it.format(), it.entry_size());
         // The lengths of both and the sizes of their entries are equal, and so are the counts.
         let whole = |it: &Self| it.entries().take(it.entry_count());
         of_header(self) == of_header(other) && whole(self).eq(whole(other))
@@ -190,7 +184,7 @@ impl fmt::Debug for Set<'_> {
         f.debug_struct("Set")
             .field("offset", &self.offset())
             .field("unit_length", &self.unit_length())
-            .field("is_64", &self.is_64())
+            .field("format", &self.format())
             .field("entry_size", &self.entry_size())
             .field("entry_count", &self.entry_count())
             .field("bytes", &Bytes(&self.section[self.base()..]))

@@ -4,8 +4,8 @@
 //! slice is valid for as many items as its length says, and a vector for as many as its capacity;
 //! an output overlaps nothing, since it is borrowed mutably for the call.
 //!
-//! The symbol of a call that passes one of these structs ends in the version of that struct.
-//! `tests/layouts.rs` compares them with the header.
+//! The symbol of a call whose parameters, or the fields of whose structs, have changed ends in the
+//! version of that change. `tests/layouts.rs` compares them with the header.
 
 // The code of the calls, which `tools/assembler` of the repository makes of what is proved. It needs
 // the three functions of `heap`, and `memcpy`, `memmove` and `memset`.
@@ -50,6 +50,22 @@ pub struct Set {
     pub entry_count: usize,
     pub word_size: u8,
     pub entry_size: u8,
+}
+
+/// What the header of a unit says.
+#[repr(C)]
+#[derive(Debug, Default, Clone, Copy, PartialEq, Eq)]
+pub struct Unit {
+    pub next: usize,
+    pub unit_length: usize,
+    pub first_entry: usize,
+    pub abbrev_offset: usize,
+    pub identifier: u64,
+    pub type_offset: usize,
+    pub version: u16,
+    pub unit_type: u8,
+    pub address_size: u8,
+    pub word_size: u8,
 }
 
 /// How large a table is.
@@ -112,9 +128,9 @@ extern "C" {
         section: *const u8, len: usize, is_big: bool, offset: usize, set: &mut Set,
         fault: &mut Fault,
     ) -> u32;
-    #[link_name = "dwarf_table_measure_0_3"]
-    pub fn dwarf_table_measure(
-        section: *const u8, len: usize, offset: usize, measure: &mut Measure, fault: &mut Fault,
+    pub fn dwarf_unit_header(
+        section: *const u8, len: usize, is_big: bool, is_types: bool, offset: usize,
+        unit: &mut Unit, fault: &mut Fault,
     ) -> u32;
     #[link_name = "dwarf_table_read_0_3"]
     pub fn dwarf_table_read(
@@ -125,9 +141,5 @@ extern "C" {
     pub fn dwarf_form_size(
         form: u16, version: u16, address_size: u8, is_64: bool, size: &mut usize,
     ) -> u32;
-    pub fn dwarf_constant_name(
-        family: u32, value: u64, name: *mut u8, room: usize, len: &mut usize,
-    ) -> u32;
     pub fn dwarf_fault_text(fault: &Fault, text: *mut u8, room: usize, len: &mut usize) -> u32;
-    pub fn dwarf_read_version(version: *mut u8, room: usize, len: &mut usize) -> u32;
 }

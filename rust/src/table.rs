@@ -2,7 +2,7 @@
 
 use crate::bytes::Bytes;
 use crate::constants::{DW_FORM_implicit_const, DwAt, DwForm, DwTag};
-use crate::error::{check, check_unless, Error, Result};
+use crate::error::{check_unless, Error, Result};
 use crate::sys;
 use alloc::vec::Vec;
 use core::fmt;
@@ -12,6 +12,11 @@ use core::slice;
 // The least size of an abbreviation and of an attribute, in bytes.
 const ROW_BYTES: usize = 5;
 const ATTRIBUTE_BYTES: usize = 2;
+
+// Room for most tables: blocks of 32 and 64 kilobytes, which an allocator doesn't request from the
+// system each time.
+const USUAL_ROWS: usize = 1000;
+const USUAL_ATTRIBUTES: usize = 4000;
 
 /// An abbreviation table of `.debug_abbrev`.
 ///
@@ -45,13 +50,13 @@ pub struct Table {
     is_closed_by_null: bool,
 }
 
-// Makes places for that many items, unless there are enough.
+// Makes room for that many items, unless there is enough.
 fn reserve<T>(items: &mut Vec<T>, count: usize) -> Result<()> {
     let more = count.saturating_sub(items.len());
     items.try_reserve_exact(more).map_err(|_| Error::OUT_OF_MEMORY)
 }
 
-// Returns a copy with places for these items alone.
+// Returns a copy with room for these items alone.
 fn copied<T: Copy>(items: &[T]) -> Result<Vec<T>> {
     let mut copy = Vec::new();
     reserve(&mut copy, items.len())?;
@@ -59,7 +64,7 @@ fn copied<T: Copy>(items: &[T]) -> Result<Vec<T>> {
     Ok(copy)
 }
 
-// Gives up the places after the items. A large block shrinks where it is, but keeps whole pages, so
+// Gives up the room after the items. A large block shrinks where it is, but keeps whole pages, so
 // that few items are copied.
 fn fitted<T: Copy>(mut items: Vec<T>) -> Result<Vec<T>> {
     if items.len() < items.capacity() / 8 {
@@ -72,10 +77,9 @@ fn fitted<T: Copy>(mut items: Vec<T>) -> Result<Vec<T>> {
 impl Table {
     /// Reads the table at an offset of `.debug_abbrev`.
     ///
-    /// The call reserves places that suffice for any table of the section, 14.4 bytes for each of
-    /// its bytes, and gives up those that the table doesn't need. Pages of them that the table
-    /// doesn't reach take no memory. To read many tables, use [`tables`] or
-    /// [`read_again`](Table::read_again).
+    /// The table keeps as much memory as it needs. It is parsed once if it has at most 1,000
+    /// abbreviations and 4,000 attributes, and twice otherwise. To read all tables of a section, use
+    /// [`tables`]; to read many one after another, [`read_again`](Table::read_again).
     ///
     /// # Errors
     ///
@@ -121,19 +125,33 @@ impl Table {
         }
     }
 
-    /// Reads the table at an offset of `.debug_abbrev` in place of this one, into its places, which
-    /// it keeps. There are then enough for any table of the section, and reading another reserves
-    /// none.
+    /// Reads the table at an offset of `.debug_abbrev` in place of this one, into its memory, which
+    /// it keeps and enlarges.
     ///
     /// # Errors
     ///
     /// Those of [`read`](Table::read). This table is then unchanged.
+    ///
+    /// ```
+    /// use dwarf_read::Table;
+    ///
+    /// let section = [1, 0x11, 0, 0, 0, 0, 1, 0x2e, 0, 0, 0, 0];
+    /// let mut table = Table::default();
+    /// let mut found = Vec::new();
+    /// while table.end() < section.len() {
+    ///     table.read_again(&section, table.end())?;
+    ///     found.push((table.offset(), table.len()));
+    /// }
+    /// assert_eq!(found, [(0, 1), (6, 1)]);
+    /// # Ok::<(), dwarf_read::Error>(())
+    /// ```
     pub fn read_again(&mut self, section: &[u8], offset: usize) -> Result<()> {
-        // Enough for any table of the section, so that blocks of one size are requested for each of
-        // them, and the same pages are reached again. If there isn't that much memory, the first
-        // call tells how much the table needs.
-        let _ = reserve(&mut self.rows, section.len() / ROW_BYTES);
-        let _ = reserve(&mut self.attributes, section.len() / ATTRIBUTE_BYTES);
+        // Room for any table here would take 14.4 times as many bytes as the section has. To make
+        // and to free that much takes longer than to read the table. If there isn't even this much
+        // memory, the first call tells how much the table needs.
+        let len = section.len().saturating_sub(offset);
+        let _ = reserve(&mut self.rows, USUAL_ROWS.min(len / ROW_BYTES));
+        let _ = reserve(&mut self.attributes, USUAL_ATTRIBUTES.min(len / ATTRIBUTE_BYTES));
         let mut measure = sys::Measure::default();
         if !self.fill(section, offset, sys::NO_ROOM, &mut measure)? {
             reserve(&mut self.rows, measure.abbreviations)?;
@@ -150,7 +168,7 @@ impl Table {
         Ok(())
     }
 
-    // Reads a table into the places. Returns whether the call succeeded, or returned that status.
+    // Reads a table into the room there is. Returns whether the call succeeded, or returned that status.
     fn fill(
         &mut self, section: &[u8], offset: usize, named: u32, measure: &mut sys::Measure,
     ) -> Result<bool> {
@@ -253,43 +271,6 @@ impl<'t> IntoIterator for &'t Table {
     }
 }
 
-/// How large a table is.
-#[derive(Debug, Clone, Copy, PartialEq, Eq, Hash)]
-#[non_exhaustive]
-pub struct Measure {
-    /// How many abbreviations the table has.
-    pub abbreviations: usize,
-    /// How many attributes all of them have together.
-    pub attributes: usize,
-    /// The offset in the section at which another table may begin, as [`Table::end`].
-    pub end: usize,
-    /// Whether a code of value 0 closes the table, and not the section's end.
-    pub is_closed_by_null: bool,
-}
-
-/// Measures the table at an offset of `.debug_abbrev`. This parses the table as reading it does,
-/// and keeps nothing.
-///
-/// # Errors
-///
-/// Those of [`Table::read`].
-///
-/// ```
-/// let measure = dwarf_read::measure(&[1, 0x11, 1, 3, 8, 0, 0, 0], 0)?;
-/// assert_eq!((measure.abbreviations, measure.attributes, measure.end), (1, 1, 8));
-/// assert!(measure.is_closed_by_null);
-/// # Ok::<(), dwarf_read::Error>(())
-/// ```
-pub fn measure(section: &[u8], offset: usize) -> Result<Measure> {
-    let mut found = sys::Measure::default();
-    // SAFETY: see `crate::sys`.
-    check(|fault| unsafe {
-        sys::dwarf_table_measure(section.as_ptr(), section.len(), offset, &mut found, fault)
-    })?;
-    let sys::Measure { abbreviations, attributes, end, closed_by_null } = found;
-    Ok(Measure { abbreviations, attributes, end, is_closed_by_null: closed_by_null == 1 })
-}
-
 /// Returns the tables of a whole `.debug_abbrev`, each of which begins at the end of the one
 /// before.
 ///
@@ -312,7 +293,7 @@ pub struct Tables<'s> {
     section: &'s [u8],
     // Where the next table begins, unless there was an error.
     offset: Option<usize>,
-    // The last table, whose places suffice for any of the section.
+    // The last table, whose memory is used again.
     room: Table,
 }
 
@@ -321,7 +302,7 @@ impl Tables<'_> {
         self.room.read_again(self.section, offset)?;
         let end = self.room.end;
         let table = if end == self.section.len() {
-            // No other table needs the places.
+            // No other table needs the memory.
             core::mem::take(&mut self.room).fitted()?
         } else {
             self.room.copied()?

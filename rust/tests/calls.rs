@@ -2,10 +2,9 @@
 //! is shown.
 
 use dwarf_read::constants::*;
-use dwarf_read::{
-    address, address_sets, measure, sleb128, sleb128_write, str_offset, str_offset_sets,
-};
-use dwarf_read::{tables, uleb128, uleb128_write, ByteOrder, ErrorKind, Set, Table};
+use dwarf_read::{address, address_sets, sleb128, sleb128_write, str_offset, str_offset_sets};
+use dwarf_read::{tables, type_units, uleb128, uleb128_write, units};
+use dwarf_read::{ByteOrder, Encoding, ErrorKind, Format, Set, Table, Unit, UnitType};
 
 #[test]
 fn each_code_is_found_and_no_other() {
@@ -38,7 +37,8 @@ fn counting(count: u16) -> Vec<u8> {
 
 #[test]
 fn large_tables_are_read_like_small_ones() {
-    for count in [1, 511, 512, 513, 2048, 5000] {
+    // With 2,000, the room for most tables is full.
+    for count in [1, 511, 999, 1000, 1001, 2000, 2001, 5000] {
         let section = counting(count);
         let table = Table::read(&section, 0).unwrap();
         let codes: Vec<u64> = table.iter().map(|it| it.code()).collect();
@@ -46,9 +46,8 @@ fn large_tables_are_read_like_small_ones() {
         assert!(table
             .iter()
             .all(|it| it.attributes().len() == 2 && it.attributes()[1].name() == DW_AT_type));
-        let found = measure(&section, 0).unwrap();
-        let size = (found.abbreviations, found.attributes, found.end, found.is_closed_by_null);
-        assert_eq!(size, (count.into(), 2 * usize::from(count), section.len(), true));
+        assert_eq!((table.len(), table.end()), (count.into(), section.len()));
+        assert!(table.is_closed_by_null());
         let mut again = Table::read(&[], 0).unwrap();
         again.read_again(&section, 0).unwrap();
         assert_eq!(again, table);
@@ -68,7 +67,7 @@ fn an_error_leaves_a_table_as_it_was() {
         (counting(9)[..89].to_vec(), 0, ErrorKind::UnexpectedEof),
     ] {
         assert_eq!(table.read_again(&section, offset).unwrap_err().kind(), kind);
-        assert_eq!(measure(&section, offset).unwrap_err().kind(), kind);
+        assert_eq!(Table::read(&section, offset).unwrap_err().kind(), kind);
         assert_eq!(table, before);
         assert_eq!((table.offset(), table.end()), (0, before.end()));
     }
@@ -190,10 +189,119 @@ fn an_index_has_64_bits() {
         let found = [
             set.get(index).unwrap_err(),
             address(&section, little, 4, 8, index).unwrap_err(),
-            str_offset(&section, little, false, 8, index).unwrap_err(),
+            str_offset(&section, little, Format::Dwarf32, 8, index).unwrap_err(),
         ];
         assert!(found.iter().all(|it| it.kind() == ErrorKind::UnsupportedOffset));
     }
+}
+
+#[test]
+fn the_base_of_a_set_follows_its_header() {
+    let narrow = [8, 0, 0, 0, 5, 0, 4, 0, 1, 0, 0, 0];
+    let wide = [&[0xff; 4][..], &[12, 0, 0, 0, 0, 0, 0, 0, 5, 0, 8, 0, 2], &[0; 7]].concat();
+    for (section, format, base, entry) in
+        [(&narrow[..], Format::Dwarf32, 8, 1), (&wide, Format::Dwarf64, 16, 2)]
+    {
+        for are_addresses in [true, false] {
+            let set = only(section, ByteOrder::Little, are_addresses);
+            assert_eq!((set.format(), set.base(), set.entry_count()), (format, base, 1));
+            assert_eq!(set.get(0), Ok(entry));
+        }
+        let offset = str_offset(section, ByteOrder::Little, format, base, 0);
+        assert_eq!(offset, Ok(entry as usize));
+    }
+}
+
+// A unit of each type, with an entry of one byte. The second is of the 64-bit format. The last is of
+// version 4, with what a type unit has.
+fn all_units() -> Vec<u8> {
+    let signature = [8, 7, 6, 5, 4, 3, 2, 1];
+    let mut section = vec![9, 0, 0, 0, 5, 0, 1, 8, 16, 0, 0, 0, 1];
+    section.extend([0xff; 4]);
+    section.extend([29, 0, 0, 0, 0, 0, 0, 0, 5, 0, 2, 4, 32, 0, 0, 0, 0, 0, 0, 0]);
+    section.extend(signature);
+    section.extend([40, 0, 0, 0, 0, 0, 0, 0, 1]);
+    section.extend([9, 0, 0, 0, 5, 0, 3, 8, 0, 0, 0, 0, 1]);
+    for it in [4, 5] {
+        section.extend([17, 0, 0, 0, 5, 0, it, 8, 0, 0, 0, 0]);
+        section.extend(signature);
+        section.push(1);
+    }
+    section.extend([21, 0, 0, 0, 5, 0, 6, 8, 0, 0, 0, 0]);
+    section.extend(signature);
+    section.extend([24, 0, 0, 0, 1]);
+    section.extend([20, 0, 0, 0, 4, 0, 48, 0, 0, 0, 2]);
+    section.extend(signature);
+    section.extend([23, 0, 0, 0, 1]);
+    section
+}
+
+#[test]
+fn units_have_their_fields() {
+    let (id, wide) = (0x0102030405060708, Format::Dwarf64);
+    let section = all_units();
+    let found: Vec<Unit> = units(&section, ByteOrder::Little).map(Result::unwrap).collect();
+    let encoding = Encoding { address_size: 8, format: Format::Dwarf32, version: 5 };
+    let typed = UnitType::Type { type_signature: id, type_offset: 40 };
+    let split = UnitType::SplitType { type_signature: id, type_offset: 24 };
+    // The offset, the length, where the entries begin, the table, the encoding and the type.
+    let rows = [
+        (0, 9, 12, 16, encoding, UnitType::Compilation),
+        (13, 29, 53, 32, Encoding { address_size: 4, format: wide, version: 5 }, typed),
+        (54, 9, 66, 0, encoding, UnitType::Partial),
+        (67, 17, 87, 0, encoding, UnitType::Skeleton(id)),
+        (88, 17, 108, 0, encoding, UnitType::SplitCompilation(id)),
+        (109, 21, 133, 0, encoding, split),
+        (
+            134,
+            20,
+            145,
+            48,
+            Encoding { address_size: 2, version: 4, ..encoding },
+            UnitType::Compilation,
+        ),
+    ];
+    assert_eq!(found.len(), rows.len());
+    for (unit, row) in found.iter().zip(rows) {
+        let place = (unit.offset(), unit.unit_length(), unit.entries_offset());
+        assert_eq!(place, (row.0, row.1, row.2));
+        let its = (unit.debug_abbrev_offset(), unit.encoding(), unit.type_());
+        assert_eq!(its, (row.3, row.4, row.5));
+        let end = row.0 + row.1 + if row.4.format == wide { 12 } else { 4 };
+        assert_eq!(unit.entries(), &section[row.2..end]);
+    }
+    let unit = type_units(&section[134..], ByteOrder::Little).next().unwrap().unwrap();
+    assert_eq!(unit.type_(), UnitType::Type { type_signature: id, type_offset: 23 });
+    assert_eq!((unit.encoding().version, unit.entries()), (4, &[1][..]));
+    let big = [0, 0, 0, 8, 0, 5, 3, 8, 0x11, 0x22, 0x33, 0x44];
+    let unit = units(&big, ByteOrder::Big).next().unwrap().unwrap();
+    assert_eq!((unit.debug_abbrev_offset(), unit.entries()), (0x11223344, &[][..]));
+    let shown = "Unit { offset: 0, unit_length: 8, encoding: Encoding { address_size: 8, format: \
+                 Dwarf32, version: 5 }, type_: Partial, debug_abbrev_offset: 287454020, entries: [] }";
+    assert_eq!(format!("{:?}", unit), shown);
+}
+
+#[test]
+fn an_error_is_the_last_unit() {
+    let section = all_units();
+    for (cut, kind, value, count) in [
+        (section.len() - 1, ErrorKind::UnexpectedEof, 138, 6),
+        (15, ErrorKind::UnexpectedEof, 13, 1),
+    ] {
+        let mut found = units(&section[..cut], ByteOrder::Little);
+        assert_eq!(found.by_ref().take_while(Result::is_ok).count(), count);
+        assert!(found.next().is_none());
+        let error = units(&section[..cut], ByteOrder::Little).last().unwrap().unwrap_err();
+        assert_eq!((error.kind(), error.value()), (kind, value));
+    }
+    let unknown = [9, 0, 0, 0, 5, 0, 7, 8, 0, 0, 0, 0, 1];
+    let error = units(&unknown, ByteOrder::Little).next().unwrap().unwrap_err();
+    assert_eq!((error.kind(), error.value()), (ErrorKind::UnknownUnitType, 7));
+    assert_eq!(error.to_string(), "unknown unit type: 0x7");
+    assert!(units(&[], ByteOrder::Big).next().is_none());
+    let shown = format!("{:?}", units(&unknown, ByteOrder::Big));
+    let head = "Units { section: [0x09, 0x00, 0x00, 0x00, 0x05, 0x00, 0x07, 0x08, ...; 13]";
+    assert_eq!(shown, format!("{}, order: Big, offset: Some(0) }}", head));
 }
 
 #[test]
@@ -220,7 +328,8 @@ fn at_most_eight_bytes_of_a_section_are_shown() {
     let mut entries = set.entries();
     entries.next();
     let shown = "[0x0c, 0x00, 0x00, 0x00, 0x05, 0x00, 0x04, 0x00, ...; 1016]";
-    let of_set = "Set { offset: 0, unit_length: 12, is_64: false, entry_size: 4, entry_count: 2, \
+    let of_set =
+        "Set { offset: 0, unit_length: 12, format: Dwarf32, entry_size: 4, entry_count: 2, \
                   bytes: [0x01, 0x02, 0x03, 0x04, 0x05, 0x06, 0x07, 0x08] }";
     let rows = [
         (

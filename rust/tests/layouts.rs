@@ -58,6 +58,20 @@ fn structs_are_those_of_the_header() {
             word_size,
             entry_size
         ),
+        layout!(
+            Unit,
+            "dwarf_unit",
+            next,
+            unit_length,
+            first_entry,
+            abbrev_offset,
+            identifier,
+            type_offset,
+            version,
+            unit_type,
+            address_size,
+            word_size
+        ),
     ]
     .concat();
     let include = Path::new(env!("CARGO_MANIFEST_DIR")).join("../include");

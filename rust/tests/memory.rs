@@ -59,8 +59,8 @@ fn counted<T>(call: impl FnOnce() -> T) -> (T, usize, usize) {
 
 #[test]
 fn a_table_keeps_what_it_needs() {
-    // A table that fills its section, and one after which the section has much more.
-    // The places for any table are shrunk, or copied if they are many.
+    // A table that fills its section, and one after which the section has much more. The room of
+    // most tables is shrunk, or the table copied if it needs little of it.
     for (section, count, wanted) in
         [(counting(100), 100, 2), ([counting(3), vec![0; 10_000]].concat(), 3, 4)]
     {
@@ -68,6 +68,22 @@ fn a_table_keeps_what_it_needs() {
         assert_eq!((table.len(), kept), (count, count * (ROW + ATTRIBUTE)));
         assert_eq!(blocks, wanted);
     }
+}
+
+// The room that is made at first, however large the section is.
+const USUAL: usize = 1000 * ROW + 4000 * ATTRIBUTE;
+
+#[test]
+fn a_large_section_takes_no_more_than_a_small_one() {
+    let section = [counting(3), vec![0; 10_000_000]].concat();
+    let most = LIMIT.with(|it| it.replace(4000 * ATTRIBUTE));
+    let (table, blocks, kept) = counted(|| Table::read(&section, 0).unwrap());
+    assert_eq!((table.len(), blocks, kept), (3, 4, 3 * (ROW + ATTRIBUTE)));
+    let mut again = Table::default();
+    let ((), blocks, kept) = counted(|| again.read_again(&section, 0).unwrap());
+    assert_eq!((again.len(), blocks, kept), (3, 2, USUAL));
+    assert!(tables(&section).take(1000).all(|it| it.is_ok()));
+    LIMIT.with(|it| it.set(most));
 }
 
 #[test]
@@ -90,7 +106,7 @@ fn tables_keep_what_they_need() {
     let ((), blocks, kept) = counted(|| all.extend(tables(&section).map(Result::unwrap)));
     assert_eq!(all.iter().map(Table::len).collect::<Vec<_>>(), [3, 50, 0, 100]);
     assert_eq!(kept, 153 * (ROW + ATTRIBUTE));
-    // Two blocks of places, which the last table keeps, and two for each copy that isn't empty.
+    // Two blocks of room, which the last table keeps, and two for each copy that isn't empty.
     assert_eq!(blocks, 2 + 2 * 2);
 }
 
