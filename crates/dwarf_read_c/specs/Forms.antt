@@ -1,4 +1,4 @@
--- How the size of a form is written to the place of a caller.
+-- How the size of a form is written for a caller.
 use Rattle.std.specs.Prelude.{◌≡◌, ℕ, Bool, Option, Some, None, if◌then◌else◌}
 use Rattle.dwarf_read_core.specs.declared.Encoding.{Encoding}
 use Rattle.dwarf_read_core.specs.declared.Format.TheVariants.{Dwarf32, Dwarf64}

@@ -57,6 +57,6 @@ attributes_in ds = flat_map (λ d. map attribute_of d.attributes) ds
 abbrev pub attributes_of : Table → List DwarfAttributeSpec
 attributes_of t = attributes_in (values t.by_code)
 
--- there are fewer places for abbreviations, or for attributes, than the table has
+-- there is less room for abbreviations, or for attributes, than the table needs
 abbrev pub LacksRoom : DwarfMeasure → ℕ → ℕ → Type 0
 LacksRoom measure abbreviations attributes = (abbreviations < measure.abbreviations) ⊎ (attributes < measure.attributes)

@@ -1,4 +1,4 @@
-//! What a table is read into: the places of C, or a table with any codes.
+//! What a table is read into: the arrays of C, or a table with any codes.
 
 ghost use Rattle.std.specs.Prelude.{◌≡◌, ◌≢◌, ◌↔◌, ◌<◌, ◌≤◌, ◌^◌, ◌==◌, [], true, false, length, map, All, IsTrue, IfOk, IfErr, OnOk};
 ghost use Rattle.std.specs.Vec.{vec_len, vec_capacity};
@@ -99,7 +99,7 @@ impl Rising {
         (self.abbreviations.len(), self.attributes.len())
     }
 
-    // Writes the abbreviations and the attributes of all of them to the front of the places.
+    // Writes the abbreviations and the attributes of all of them to the front of the arrays.
     fn fill(&self, abbreviations: &mut [DwarfAbbreviation], attributes: &mut [DwarfAttributeSpec])
         requires room { finite.len (by_code_of self.now) ≤ length abbreviations.old }
         requires counted { attribute_count (by_code_of self.now) ≤ length attributes.old }
@@ -200,7 +200,7 @@ impl Kept {
     }
 
     // Writes the abbreviations and the attributes of all of them, in the order of their codes, to
-    // the front of the places.
+    // the front of the arrays.
     pub(crate) fn fill(
         &self,
         abbreviations: &mut [DwarfAbbreviation],
@@ -287,7 +287,7 @@ fn attribute_count(table: &Abbreviations) -> usize
 }
 
 // Writes the abbreviations and the attributes of all of them, in the order of their codes, to the
-// front of the places.
+// front of the arrays.
 #[tactic(auto, using(crate::proofs::WrittenTables::table_steps))]
 fn fill(
     table: &Abbreviations,
@@ -316,7 +316,7 @@ fn fill(
     }
 }
 
-// Writes the attributes of one abbreviation, each to the place of its index.
+// Writes the attributes of one abbreviation, each to its index.
 fn fill_each(attributes: &[AttributeSpecification], places: &mut [DwarfAttributeSpec])
     requires { length attributes.now ≡ length places.old }
     ensures { places.new ≡ map attribute_of attributes.now }

@@ -2,7 +2,7 @@
 //! declares these functions, and says what a caller has to make sure of.
 //!
 //! A call returns [`DWARF_OK`](status::DWARF_OK), or a status that says why it failed. The caller
-//! owns all memory: a call reads the bytes that are passed and writes to the places that are
+//! owns all memory: a call reads the bytes that are passed and writes to the arrays that are
 //! passed. The only pointers that a call hands out are those of names, which are a part of the
 //! program. Offsets and positions are counted in bytes from the first
 //! byte that is passed.

@@ -3,7 +3,7 @@
 /// The call succeeded, and its outputs are written.
 pub const DWARF_OK: u32 = 0;
 
-/// There are more items than the caller has places for. The call wrote their count, or the measure
+/// There are more items than the caller's array has room for. The call wrote their count, or the measure
 /// of the table, and nothing else.
 pub const DWARF_NO_ROOM: u32 = 100;
 

@@ -105,11 +105,11 @@ pub extern "C" fn dwarf_table_measure_0_3(
 
 /// Reads the table at `offset` of `.debug_abbrev`: its abbreviations in the order of their codes,
 /// and the attributes of all of them in the same order. `measure` is what [`dwarf_table_measure_0_3`]
-/// writes. The call doesn't change the places after them.
+/// writes. Elements after them are left unchanged.
 ///
-/// If there are fewer places than abbreviations or attributes, only `measure` is written, and the
-/// call returns `DWARF_NO_ROOM`. It doesn't if there is a place for an abbreviation for every five
-/// bytes from `offset` on, and one for an attribute for every two: none has fewer bytes.
+/// If an array is too short, only `measure` is written, and the call returns `DWARF_NO_ROOM`. It
+/// doesn't if there is room for an abbreviation for every five bytes from `offset` on, and for an
+/// attribute for every two: none has fewer bytes.
 ///
 /// # Errors
 ///
@@ -173,7 +173,7 @@ fn table_at(mem: Global, section: &[u8], offset: usize) -> Result<(Kept, usize),
 }
 
 // Writes the measure of a table that ends there, and its abbreviations and attributes to the front
-// of the places. If there are fewer places for either, only the measure is written.
+// of the arrays. If either is too short, only the measure is written.
 fn put_table(
     table: &Kept,
     end: usize,
