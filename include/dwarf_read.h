@@ -368,25 +368,31 @@ static inline uint32_t dwarf_table_load_within(const uint8_t *section, size_t le
                                                struct dwarf_fault *fault) {
     size_t row_size = sizeof *table->abbreviations, attribute_size = sizeof *table->attributes;
     struct dwarf_measure *measure = &table->measure;
-    void *block = malloc(room * row_size + attribute_room * attribute_size);
+    size_t size = room * row_size + attribute_room * attribute_size;
+    void *block = malloc(size);
     if (block == NULL) {
         return dwarf_table_read(section, len, offset, NULL, 0, NULL, 0, measure, fault);
     }
     dwarf_table_lay(table, block, room);
     uint32_t status = dwarf_table_read(section, len, offset, table->abbreviations, room, table->attributes,
                                        attribute_room, measure, fault);
-    if (status == DWARF_OK && measure->abbreviations != 0) {
-        /* What the table needs is moved to the front of the block, and the rest is given back. */
-        size_t rows = measure->abbreviations * row_size, attributes = measure->attributes * attribute_size;
-        memmove(table->abbreviations + measure->abbreviations, table->attributes, attributes);
-        void *fitted = realloc(block, rows + attributes);
-        dwarf_table_lay(table, fitted != NULL ? fitted : block, measure->abbreviations);
-    } else {
+    if (status != DWARF_OK || measure->abbreviations == 0) {
         free(block);
         table->abbreviations = NULL;
         table->attributes = NULL;
+        return status;
     }
-    return status;
+    /* A copy that takes no more than the table needs, if there is memory for it. */
+    size_t rows = measure->abbreviations * row_size, attributes = measure->attributes * attribute_size;
+    void *fitted = rows + attributes < size ? malloc(rows + attributes) : NULL;
+    if (fitted != NULL) {
+        const struct dwarf_attribute_spec *read = table->attributes;
+        memcpy(fitted, block, rows);
+        dwarf_table_lay(table, fitted, measure->abbreviations);
+        memcpy(table->attributes, read, attributes);
+        free(block);
+    }
+    return DWARF_OK;
 }
 
 /* Reads the table at an offset of .debug_abbrev into memory from malloc, as much as the table needs. Give it back
@@ -396,8 +402,8 @@ static inline uint32_t dwarf_table_load(const uint8_t *section, size_t len, size
                                         struct dwarf_table *table, struct dwarf_fault *fault) {
     static const struct dwarf_table empty = {NULL, NULL, {0, 0, 0, 0}};
     size_t left = offset < len ? len - offset : 0;
-    /* Room for most tables, in a block that malloc doesn't request from the system each time. */
-    size_t room = left / 5 < 1000 ? left / 5 : 1000, attribute_room = left / 2 < 4000 ? left / 2 : 4000;
+    /* Room for most tables, in a block of 768 kilobytes, which malloc soon takes from what was freed. */
+    size_t room = left / 5 < 8000 ? left / 5 : 8000, attribute_room = left / 2 < 32000 ? left / 2 : 32000;
     *table = empty;
     uint32_t status = dwarf_table_load_within(section, len, offset, room, attribute_room, table, fault);
     if (status == DWARF_NO_ROOM) {

@@ -166,7 +166,7 @@ const BY_CRATE: [(&str, fn(Bytes, Places) -> u64); 3] = [
 fn of_calls(name: &str, section: Vec<u8>, given: Vec<Table>, all: &mut Vec<Workload>) {
     let count = given.iter().map(|it| it.1.len()).sum();
     let (s, o) = of_tables(name, section, given, all);
-    // The places are made once for the section, as the loop of docs/C.md makes them.
+    // The arrays are made once for the section.
     let ours = move || {
         let mut room = Room::default();
         o.iter().filter(|it| room.read(s, **it).is_ok()).count() as u64

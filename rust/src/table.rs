@@ -13,10 +13,10 @@ use core::slice;
 const ROW_BYTES: usize = 5;
 const ATTRIBUTE_BYTES: usize = 2;
 
-// Room for most tables: blocks of 32 and 64 kilobytes, which an allocator doesn't request from the
-// system each time.
-const USUAL_ROWS: usize = 1000;
-const USUAL_ATTRIBUTES: usize = 4000;
+// Room for most tables, in blocks of 256 and 512 kilobytes, which an allocator soon takes from what
+// was freed.
+const USUAL_ROWS: usize = 8000;
+const USUAL_ATTRIBUTES: usize = 32000;
 
 /// An abbreviation table of `.debug_abbrev`.
 ///
@@ -77,8 +77,8 @@ fn fitted<T: Copy>(mut items: Vec<T>) -> Result<Vec<T>> {
 impl Table {
     /// Reads the table at an offset of `.debug_abbrev`.
     ///
-    /// The table keeps as much memory as it needs. It is parsed once if it has at most 1,000
-    /// abbreviations and 4,000 attributes, and twice otherwise. To read all tables of a section, use
+    /// The table keeps as much memory as it needs. It is parsed once if it has at most 8,000
+    /// abbreviations and 32,000 attributes, and twice otherwise. To read all tables of a section, use
     /// [`tables`]; to read many one after another, [`read_again`](Table::read_again).
     ///
     /// # Errors

@@ -37,8 +37,9 @@ fn counting(count: u16) -> Vec<u8> {
 
 #[test]
 fn large_tables_are_read_like_small_ones() {
-    // With 2,000, the room for most tables is full.
-    for count in [1, 511, 999, 1000, 1001, 2000, 2001, 5000] {
+    // From 8,001 on there isn't room for the abbreviations at first, and from 16,001 on for the
+    // attributes.
+    for count in [1, 511, 512, 513, 5000, 7999, 8000, 8001, 16000, 16001] {
         let section = counting(count);
         let table = Table::read(&section, 0).unwrap();
         let codes: Vec<u64> = table.iter().map(|it| it.code()).collect();

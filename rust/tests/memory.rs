@@ -71,12 +71,12 @@ fn a_table_keeps_what_it_needs() {
 }
 
 // The room that is made at first, however large the section is.
-const USUAL: usize = 1000 * ROW + 4000 * ATTRIBUTE;
+const USUAL: usize = 8000 * ROW + 32000 * ATTRIBUTE;
 
 #[test]
 fn a_large_section_takes_no_more_than_a_small_one() {
     let section = [counting(3), vec![0; 10_000_000]].concat();
-    let most = LIMIT.with(|it| it.replace(4000 * ATTRIBUTE));
+    let most = LIMIT.with(|it| it.replace(32000 * ATTRIBUTE));
     let (table, blocks, kept) = counted(|| Table::read(&section, 0).unwrap());
     assert_eq!((table.len(), blocks, kept), (3, 4, 3 * (ROW + ATTRIBUTE)));
     let mut again = Table::default();

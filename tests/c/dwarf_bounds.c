@@ -500,15 +500,17 @@ static void check_orders(void) {
 /* A table in memory of its own is what is read into arrays: with few rows, with more than the first block has room for,
    empty, and after an error. */
 static void check_loaded(void) {
-    static uint8_t section[3 * 1100 * 6];
-    static struct dwarf_abbreviation rows[3 * 1100];
-    static struct dwarf_attribute_spec its[3 * 1100];
-    for (size_t count = 0; count <= 1100; count += count < 3 ? 1 : count < 999 ? 996 : 1) {
+    static const size_t counts[] = {0, 1, 2, 3, 200, 7999, 8000, 8001, 8002};
+    static uint8_t section[8002 * 8 + 1];
+    static struct dwarf_abbreviation rows[8002];
+    static struct dwarf_attribute_spec its[8002];
+    for (size_t row = 0; row < sizeof counts / sizeof *counts; row++) {
+        size_t count = counts[row];
         uint8_t *at = section;
         for (size_t i = 0; i < count; i++) {
-            const uint8_t row[] = {(uint8_t)((i + 1) | 0x80), (uint8_t)((i + 1) >> 7), 0x2e, 0, 3, 8, 0, 0};
-            memcpy(at, row, sizeof row);
-            at += sizeof row;
+            const uint8_t it[] = {(uint8_t)((i + 1) | 0x80), (uint8_t)((i + 1) >> 7), 0x2e, 0, 3, 8, 0, 0};
+            memcpy(at, it, sizeof it);
+            at += sizeof it;
         }
         *at++ = 0;
         size_t len = (size_t)(at - section);
@@ -516,7 +518,7 @@ static void check_loaded(void) {
         struct dwarf_fault fault = {7, 7};
         struct dwarf_table loaded;
         memset(&loaded, 7, sizeof loaded);
-        check(dwarf_table_read(section, len, 0, rows, 1100, its, 1100, &measure, &fault) == DWARF_OK, "rows");
+        check(dwarf_table_read(section, len, 0, rows, 8002, its, 8002, &measure, &fault) == DWARF_OK, "rows");
         check(dwarf_table_load(section, len, 0, &loaded, &fault) == DWARF_OK, "a loaded table");
         check(is_fault(fault, 7, 7) && is_measure(loaded.measure, measure), "its measure");
         check((loaded.abbreviations == NULL) == (count == 0), "its memory");
