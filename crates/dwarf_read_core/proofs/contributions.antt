@@ -5,3 +5,4 @@ pub mod Contributions
 pub mod Places
 pub mod Offsets
 pub mod Entries
+pub mod MissingBytes

@@ -7,6 +7,7 @@ pub use Rattle.dwarf_reader_core.proofs.public.BadNumbers
 pub use Rattle.dwarf_reader_core.proofs.public.InitialLengths
 pub use Rattle.dwarf_reader_core.proofs.public.Headers
 pub use Rattle.dwarf_reader_core.proofs.public.MissingFields
+pub use Rattle.dwarf_reader_core.proofs.public.Readings
 pub mod Results
 pub mod Items
 pub mod Entries

@@ -38,5 +38,6 @@ pub use Rattle.dwarf_reader_core.specs.InitialLength
 pub use Rattle.dwarf_reader_core.specs.Input
 pub use Rattle.dwarf_reader_core.specs.Leb128
 pub use Rattle.dwarf_reader_core.specs.Once
+pub use Rattle.dwarf_reader_core.specs.Readings
 pub use Rattle.dwarf_reader_core.specs.Shortest
 pub use Rattle.dwarf_reader_core.specs.Slice

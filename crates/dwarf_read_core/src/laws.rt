@@ -11,7 +11,9 @@ ghost use Rattle.dwarf_const_core.specs.Names.{name_of};
 ghost use Rattle.dwarf_reader_core.specs.Input.{Input, after, end_of};
 ghost use Rattle.dwarf_base_core.specs.Format.{initial_length_size};
 ghost use Rattle.dwarf_base_core.specs.Number.{number_of};
+ghost use Rattle.dwarf_base_core.specs.declared.common.Format.{Format};
 ghost use Rattle.dwarf_reader_core.specs.Faults.{IsCutIn, eof, is_number_size};
+ghost use Rattle.dwarf_reader_core.specs.InitialLength.{HasLength};
 ghost use Rattle.dwarf_reader_core.specs.Once.{HasOne};
 ghost use Rattle.dwarf_reader_core.specs.Appended.{followed_by, IsNotEof, IsShortestFront};
 ghost use Rattle.dwarf_read_core.specs.Answer.{Answer, IsFinal, IsStrictlyFinal, IsTableError, StrictAnswer, TableEndsAt, unterminated};
@@ -33,8 +35,8 @@ pub use dwarf_base_core::laws::{names_of_sections, numbers_of_bytes};
 pub use dwarf_code_core::laws::{names_are_distinct, negate_ra_state_is_window_save};
 pub use dwarf_const_core::laws::names_are_distinct as names_of_two_bytes_are_distinct;
 pub use dwarf_reader_core::laws::{
-    bad_bytes_stay_bad, exactly_one_initial_length, exactly_one_outcome, exactly_one_shortest,
-    missing_bytes_of_headers, no_encoding_begins_another, one_string, written_is_read,
+    bad_bytes_stay_bad, exactly_one_initial_length, exactly_one_outcome, exactly_one_read,
+    exactly_one_shortest, missing_bytes_of_headers, no_encoding_begins_another, written_is_read,
 };
 
 /// Every section has exactly one result at every offset: a table, or the first error.
@@ -307,6 +309,25 @@ pub fn exactly_one_header<R: Reader, H: HeaderFields<R>>()
 {
     H::law();
 }
+
+/// An `UnexpectedEof` in place of an entry is that of its bytes. The error in place of a contribution
+/// that begins past the section's end, or that the end cuts, is that of the first part that isn't
+/// there whole: the bytes before its offset, its initial length, and the bytes that this measures.
+#[tactic(auto, using(crate::proofs::contributions::MissingBytes::missing))]
+pub fn missing_bytes_of_contributions<R: Reader, H: HeaderFields<R>>()
+    ensures entry { (fits : ℕ → Bool) (width : ℕ) (input : Input) (position : ℕ)
+        → EntryAt fits width input (Err (eof position))
+        → IsCutIn input (width ∷ []) (eof position) }
+    ensures outside { (greatest : ℕ) (section : Input) (offset : ℕ) (e : Error)
+        → length section.bytes < offset
+        → ContributionAtOffset H.header greatest section offset (Err e)
+        → IsCutIn section (offset ∷ []) e }
+    ensures cut { (greatest : ℕ) (section mid : Input) (offset n : ℕ) (format : Format) (e : Error)
+        → offset ≤ length section.bytes
+        → HasLength greatest (after offset section) format n mid → length mid.bytes < n
+        → ContributionAtOffset H.header greatest section offset (Err e)
+        → IsCutIn section (offset ∷ initial_length_size format ∷ n ∷ []) e }
+{}
 
 /// Each contribution of a list is where its offset says: its entries are the part of the section
 /// after its initial length and its header, up to its end.

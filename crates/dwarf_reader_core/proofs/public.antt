@@ -8,3 +8,4 @@ pub mod BadNumbers
 pub mod InitialLengths
 pub mod Headers
 pub mod MissingFields
+pub mod Readings

@@ -7,3 +7,4 @@ pub mod Appended
 pub mod Leb128
 pub mod InitialLength
 pub mod Shortest
+pub mod Readings

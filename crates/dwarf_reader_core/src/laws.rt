@@ -1,13 +1,14 @@
 //! Laws of the definitions that the contracts cite.
 
-ghost use Rattle.std.specs.Prelude.{◌≡◌, ◌≤◌, ◌⊎◌, ◌↔◌, ◌++◌, ℕ, List, [], ◌∷◌, Err, length, IsTrue};
+ghost use Rattle.std.specs.Prelude.{◌≡◌, ◌≤◌, ◌↔◌, ◌++◌, ℕ, List, [], ◌∷◌, Err, length, IsTrue};
 ghost use Rattle.dwarf_base_core.specs.declared.error.Error.{Error};
-ghost use Rattle.dwarf_reader_core.specs.Input.{Input, TakesString};
-ghost use Rattle.dwarf_reader_core.specs.Faults.{HasNoByte, IsCutIn, eof};
+ghost use Rattle.dwarf_reader_core.specs.Input.{Input};
+ghost use Rattle.dwarf_reader_core.specs.Faults.{IsCutIn, eof};
 ghost use Rattle.dwarf_reader_core.specs.Headers.{AddressFieldsAt, StringOffsetsFieldsAt};
 ghost use Rattle.dwarf_reader_core.specs.InitialLength.{LengthAt};
 ghost use Rattle.dwarf_reader_core.specs.Leb128.{unsigned64, unsigned16, signed64, HasNumber, HasOutcome, IsEncoding, IsMalformed, Kind, Number, is_in_range, limit};
 ghost use Rattle.dwarf_reader_core.specs.Once.{HasOne};
+ghost use Rattle.dwarf_reader_core.specs.Readings.{AddressRead, AddressSizeRead, BoundedRead, EncodingRead, IsRead, Leb128Read, NumberRead, OffsetRead, PartRead, SignedRead, SkipRead, StringRead, WordRead};
 ghost use Rattle.dwarf_reader_core.specs.Shortest.{Encodes, IsShortest};
 
 use dwarf_base_core::laws::numbers_of_bytes;
@@ -49,15 +50,6 @@ pub fn written_is_read()
         → HasNumber k (bytes ++ rest) number (length bytes) }
 {}
 
-/// Bytes either begin with exactly one string, or have no zero byte.
-pub fn one_string()
-    ensures taken { (old s t x y : Input) → TakesString old s x → TakesString old t y
-        → (s ≡ t) × (x ≡ y) }
-    ensures either { (old s x : Input) (e : Error) → TakesString old s x → HasNoByte 0 old e → ⊥ }
-    ensures some { (old : Input) → ((s : Input) × (x : Input) × TakesString old s x)
-        ⊎ ((e : Error) × HasNoByte 0 old e) }
-{}
-
 /// Bytes have exactly one result for an initial length: they begin with one, or have one error.
 #[tactic(auto, using(crate::proofs::public::InitialLengths::lengths_exactly_one))]
 pub fn exactly_one_initial_length()
@@ -76,4 +68,24 @@ pub fn missing_bytes_of_headers()
     ensures initial_length { (greatest : ℕ) (old new : Input) (position : ℕ)
         → LengthAt greatest old (Err (eof position), new)
         → IsCutIn old (4 ∷ 8 ∷ []) (eof position) }
+{}
+
+/// What a call reads is determined by the bytes: there is exactly one result, and exactly one input
+/// remains, after an error, too. Appended bytes change it only if bytes were missing, and then the
+/// position in the `UnexpectedEof` is that of what remains.
+#[tactic(auto, using(crate::proofs::public::Readings::readings))]
+pub fn exactly_one_read()
+    ensures skip { (n : ℕ) → IsRead (SkipRead n) }
+    ensures split { (n : ℕ) → IsRead (PartRead n) }
+    ensures null_terminated_slice { IsRead StringRead }
+    ensures unsigned_number { (n : ℕ) → IsRead (NumberRead n) }
+    ensures signed_number { (n : ℕ) → IsRead (SignedRead n) }
+    ensures leb128 { (k : Kind) → IsRead (Leb128Read k) }
+    ensures bounded_leb128 { (bound : ℕ) → IsRead (BoundedRead bound) }
+    ensures skipped_leb128 { IsRead EncodingRead }
+    ensures initial_length { (greatest : ℕ) → IsRead (LengthAt greatest) }
+    ensures address_size { IsRead AddressSizeRead }
+    ensures address { (size : ℕ) → IsRead (AddressRead size) }
+    ensures word { (greatest n : ℕ) → IsRead (WordRead greatest n) }
+    ensures sized_offset { (greatest size : ℕ) → IsRead (OffsetRead greatest size) }
 {}

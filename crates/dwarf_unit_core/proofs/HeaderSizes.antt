@@ -6,12 +6,12 @@ use Rattle.dwarf_read_core.specs.declared.Format.{Format}
 use Rattle.dwarf_read_core.specs.Format.{word_size}
 use Rattle.dwarf_read_core.specs.Headers.{IsHeader}
 use Rattle.dwarf_read_core.specs.Input.{Input, Takes, after}
-use Rattle.dwarf_read_core.proofs.public.Consuming.{takes-both}
+use Rattle.dwarf_read_core.proofs.public.Consuming.{front, front-taken, takes-both}
 use Rattle.dwarf_unit_core.specs.declared.header.UnitFields.{UnitFields}
 use Rattle.dwarf_unit_core.specs.declared.header.UnitType.{UnitType}
 use Rattle.dwarf_unit_core.specs.Fields.{address_size, before_5, from_5, header_size, number, offset, own_fields, own_size, type_fields, unit_fields, unit_header}
 use Rattle.dwarf_unit_core.specs.Layout.{Layout, says, lacks, field, ◌>>=◌, HasFields, no_field, one_field}
-use Rattle.dwarf_unit_core.proofs.Layouts.{fields-exactly_one, front, front-ok, front-taken, lacks-no_ok, says-ok}
+use Rattle.dwarf_unit_core.proofs.Layouts.{fields-exactly_one, front-ok, lacks-no_ok, says-ok}
 
 -- fields of one layout and then those of the next are both there
 both-split : {A B : Type 0} (layout : Layout A) (next : A → Layout B) {old new : Input} {y : B}

@@ -1,20 +1,12 @@
 -- An input has exactly one result for the fields of a layout; and the fields of two consecutive layouts.
-use Rattle.std.proofs.Common.{◌≡◌, ◌≤◌, ◌<◌, ℕ, length, refl, sym, Result, Ok, Err, arith, take}
+use Rattle.std.proofs.Common.{◌≡◌, ◌≤◌, ◌<◌, ℕ, length, refl, sym, Result, Ok, Err, arith}
+use Rattle.dwarf_read_core.proofs.public.Consuming.{front, front-taken}
 use Rattle.dwarf_read_core.proofs.public.Once.{one_unless}
-use Rattle.dwarf_read_core.specs.Number.{number_of}
 use Rattle.dwarf_read_core.specs.declared.Error.{Error}
 use Rattle.dwarf_read_core.specs.Input.{Input, TakesNumber, after}
 use Rattle.dwarf_read_core.specs.Faults.{eof_here}
 use Rattle.dwarf_read_core.specs.Once.{HasOne}
 use Rattle.dwarf_unit_core.specs.Layout.{Layout, says, lacks, field, ◌>>=◌, HasFields, HasNoFields, FieldsAt, no_field, one_field, unsupported, field_cut, later_field}
-
--- the number of the first n bytes
-abbrev pub front : ℕ → Input → ℕ
-front n old = number_of old.is_big (take n old.bytes)
-
--- the first n bytes are the number that they encode
-pub front-taken : (n : ℕ) (old : Input) → n ≤ length old.bytes → TakesNumber n old (front n old) (after n old)
-front-taken n old enough = record { enough = enough; encoded = refl; left = refl }
 
 module _ {A : Type 0} where
   -- what a layout without fields says is what it says

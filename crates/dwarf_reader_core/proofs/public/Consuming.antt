@@ -1,5 +1,5 @@
 -- Consuming bytes and numbers: what remains, two steps in a row, and the same step with more bytes appended.
-use Rattle.dwarf_reader_core.proofs.Common.{common_steps, ◌≡◌, ◌≤◌, ℕ, ◌+◌, ◌-◌, Bool, true, false, List, [], ◌∷◌, length, take, take-take, get_or, refl, ap, ◌∙◌, arith, add-zero, add_assoc, drop-drop, length-append, length-drop, take-append-le, drop-append-le, Input, after, Takes, TakesByte, TakesNumber}
+use Rattle.dwarf_reader_core.proofs.Common.{common_steps, ◌≡◌, ◌≤◌, ℕ, ◌+◌, ◌-◌, Bool, true, false, List, [], ◌∷◌, length, take, take-take, get_or, refl, ap, ◌∙◌, arith, add-zero, add_assoc, drop-drop, length-append, length-drop, take-append-le, drop-append-le, Input, after, ◌<◌, IsTooShort, eof_here, Takes, TakesByte, TakesNumber}
 use Rattle.dwarf_base_core.specs.Number.{number_of}
 use Rattle.dwarf_reader_core.specs.Appended.{followed_by}
 use Rattle.dwarf_reader_core.specs.Input.{end_of}
@@ -26,6 +26,10 @@ rest-length n old new takes = ap (λ (i : Input). length i.bytes) takes.left ∙
 pub takes-both : {m n : ℕ} {old mid new : Input} → Takes m old mid → Takes n mid new → Takes (m + n) old new
 takes-both {m} {n} {old} {mid} a b = grind (arith, common_steps)
 
+-- bytes that are consumed are consumed with more bytes appended
+pub takes-more : {n : ℕ} {old new : Input} (more : List ℕ) → Takes n old new → Takes n (followed_by old more) (followed_by new more)
+takes-more more takes = grind (arith, length-append, drop-append-le)
+
 -- ---- numbers
 
 -- a number that is consumed is consumed with more bytes appended too
@@ -49,3 +53,17 @@ number_of_first false (byte ∷ bytes) some = omega arith
 -- the byte that is consumed is the first one
 pub byte_front : {old new : Input} {byte : ℕ} → TakesByte old byte new → byte ≡ get_or old.bytes 0 0
 byte_front {old} taken = taken.encoded ∙ number_of_first old.is_big old.bytes taken.enough
+
+-- ---- what is at the front
+
+-- the number of the first n bytes
+abbrev pub front : ℕ → Input → ℕ
+front n old = number_of old.is_big (take n old.bytes)
+
+-- if there are n bytes, their number is consumed
+pub front-taken : (n : ℕ) (old : Input) → n ≤ length old.bytes → TakesNumber n old (front n old) (after n old)
+front-taken n old enough = record { enough = enough; encoded = refl; left = refl }
+
+-- if there are fewer than n bytes, that is an error
+pub front-cut : (n : ℕ) (old : Input) → length old.bytes < n → IsTooShort n old (eof_here old) old
+front-cut n old short = record { short = short; fault = refl; left = refl }

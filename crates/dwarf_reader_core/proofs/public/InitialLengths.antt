@@ -7,20 +7,8 @@ use Rattle.dwarf_base_core.specs.Format.{initial_length_size}
 use Rattle.dwarf_base_core.specs.Number.{number_of}
 use Rattle.dwarf_reader_core.specs.Appended.{followed_by, IsNotEof}
 use Rattle.dwarf_reader_core.specs.InitialLength.{HasLength, in_four_bytes, in_eight_bytes, HasNoLength, four_cut, reserved, eight_cut, too_great, LengthAt}
-use Rattle.dwarf_reader_core.proofs.public.Consuming.{number_more, takes-both}
+use Rattle.dwarf_reader_core.proofs.public.Consuming.{front, front-cut, front-taken, number_more, takes-both}
 use Rattle.dwarf_reader_core.proofs.public.Once.{one_by_equality, one_unless}
-
--- the number of the first n bytes
-abbrev front_number : ℕ → Input → ℕ
-front_number n old = number_of old.is_big (take n old.bytes)
-
--- if there are n bytes, their number is consumed
-front_taken : (n : ℕ) (old : Input) → n ≤ length old.bytes → TakesNumber n old (front_number n old) (after n old)
-front_taken n old enough = record { enough = enough; encoded = refl; left = refl }
-
--- if there are fewer than n bytes, that is an error
-front_cut : (n : ℕ) (old : Input) → length old.bytes < n → IsTooShort n old (eof_here old) old
-front_cut n old short = record { short = short; fault = refl; left = refl }
 
 -- a result for the initial length, and what remains
 abbrev Outcome : Type 0
@@ -33,30 +21,30 @@ long_only : (greatest : ℕ) (old : Input) → TakesNumber 4 old 0xffff_ffff (af
     → HasOne (LengthAt greatest old)
 long_only greatest old four =
     let mid = after 4 old in
-    one_unless (length mid.bytes) 8 (Err (eof_here mid), mid) (λ short. eight_cut four (front_cut 8 mid short))
+    one_unless (length mid.bytes) 8 (Err (eof_here mid), mid) (λ short. eight_cut four (front-cut 8 mid short))
     (λ short other is. grind arith) (λ more.
-    one_unless greatest (front_number 8 mid) (Err UnsupportedOffset, after 8 mid)
-    (λ over. too_great four (front_taken 8 mid more) over) (λ over other is. grind arith)
+    one_unless greatest (front 8 mid) (Err UnsupportedOffset, after 8 mid)
+    (λ over. too_great four (front-taken 8 mid more) over) (λ over other is. grind arith)
     (λ fits. (
-      (Ok (Dwarf64, front_number 8 mid), after 8 mid),
-      in_eight_bytes four (front_taken 8 mid more) fits,
+      (Ok (Dwarf64, front 8 mid), after 8 mid),
+      in_eight_bytes four (front-taken 8 mid more) fits,
       λ other is. grind arith,
     )))
 
 -- every input has exactly one result for an initial length
 pub lengths_exactly_one : (greatest : ℕ) (old : Input) → HasOne (LengthAt greatest old)
 lengths_exactly_one greatest old =
-    let n = front_number 4 old in
+    let n = front 4 old in
     let mid = after 4 old in
-    one_unless (length old.bytes) 4 (Err (eof_here old), old) (λ short. four_cut (front_cut 4 old short))
+    one_unless (length old.bytes) 4 (Err (eof_here old), old) (λ short. four_cut (front-cut 4 old short))
     (λ short other is. grind arith) (λ enough.
-    one_unless n 0xffff_fff0 (Ok (Dwarf32, n), mid) (λ low. in_four_bytes (front_taken 4 old enough) low)
+    one_unless n 0xffff_fff0 (Ok (Dwarf32, n), mid) (λ low. in_four_bytes (front-taken 4 old enough) low)
     (λ low other is. grind arith) (λ high.
     one_by_equality n 0xffff_ffff
     (λ same. long_only greatest old (record { enough = enough; encoded = sym same; left = refl }))
     (λ different. (
       (Err (UnknownReservedLength n), mid),
-      reserved (front_taken 4 old enough) high different,
+      reserved (front-taken 4 old enough) high different,
       λ other is. grind arith,
     ))))
 

@@ -1,7 +1,9 @@
 -- Bytes either begin with exactly one string, or have no zero byte.
-use Rattle.dwarf_reader_core.proofs.Common.{◌≡◌, ◌≢◌, ℕ, zero, suc, ◌+◌, ◌<◌, take, refl, sym, ap, ◌∙◌, arith, ◌⊎◌, inl, inr, List, [], ◌∷◌, All, All-nil, All-cons, cases_lt, length, length-drop, length-take, Error, Input, after, first, IsFirst, Takes, TakesString, HasNoByte, eof_here}
+use Rattle.dwarf_reader_core.proofs.Common.{◌≡◌, ◌≢◌, ℕ, zero, suc, ◌+◌, ◌<◌, take, refl, sym, ap, ◌∙◌, arith, ◌⊎◌, inl, inr, List, [], ◌∷◌, ◌++◌, All, All-nil, All-cons, cases_lt, length, length-append, length-drop, length-take, take-append-le, drop-append-le, ◌≤◌, Error, Input, after, first, IsFirst, Takes, TakesString, HasNoByte, eof_here}
 use Rattle.std.proofs.Common.{get_or-take, slice_index}
+use Rattle.std.proofs.lemmas.List.{get_or_append_left}
 use Rattle.std.proofs.lemmas.List.Elements.{All-get_or}
+use Rattle.dwarf_reader_core.specs.Appended.{followed_by}
 
 -- a byte that is found remains after those before it
 pub found_byte-left : {byte n : ℕ} {old mid : Input} → IsFirst byte old.bytes n → Takes n old mid → length mid.bytes < 1 → ⊥
@@ -71,3 +73,17 @@ string_taken_or_none old =
           record { len = found.0; ends = found.1; content = refl; left = refl } in
           inl (first found.0 old, after (found.0 + 1) old, taken)
     ]
+
+-- a string that is consumed is consumed with more bytes appended too
+pub string_taken-more : {old string new : Input} (more : List ℕ) → TakesString old string new
+    → TakesString (followed_by old more) string (followed_by new more)
+string_taken-more {old} {string} {new} more is = record {
+  len = is.len;
+  ends = record {
+    within = omega (arith, is.ends.within, length-append old.bytes more);
+    here = get_or_append_left old.bytes more 0 is.len is.ends.within ∙ is.ends.here;
+    before = rw (take-append-le is.len old.bytes more (omega (arith, is.ends.within))) is.ends.before;
+  };
+  content = grind (arith, is.content, is.ends.within, take-append-le);
+  left = grind (arith, is.left, is.ends.within, drop-append-le);
+}
