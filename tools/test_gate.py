@@ -158,6 +158,9 @@ fn free() {}
     def test_disagreements(self) -> None:
         at = "note: src/lib.rt:17:5: "
         proof = "proofs/read/Pair/first/Answers.antt:3:1: error: "
+        # What is printed of an error that goes on in the next line: "has no field `call`", or "has no `returns`".
+        of_record = f"{proof}`returns-clause-ok`: record `Rattle.low.proofs.Pair.first.Lts.After` (nearest: .other)"
+        of_goals = f"{proof}`returns-clause-ok`: `goal.returns-clause-ok`: module `Rattle.low.proofs.Pair.first.Goals`"
         # The first line of a wrong body, what `rt` prints, and whether they agree.
         rows = [
             ("# refused by Pair::first", f"{at}an index", True),
@@ -167,6 +170,10 @@ fn free() {}
             ("# refused by Pair::first, clause ok", f"{proof}`returns-clause-ok`: no", True),
             ("# refused by free", "src/lib.rt:19:1: error: no", True),
             ("# refused by first", "proofs/first/Answers.antt:1:1: error: no", True),
+            ("# refused by Pair::first, clause ok", f"{proof}`returns-clause-ok`: expected type `record`", True),
+            ("# refused by Pair::first, clause ok", of_record, False),
+            ("# refused by Pair::first, clause ok", of_goals, False),
+            ("# refused by Pair::first, clause ok", of_goals.partition(": module")[0][:-3], False),
             ("# refused by Pair::first", f"{at}{self.GOAL}", False),
             ("# refused by Pair::first, clause okay", f"{at}{self.GOAL}", False),
             ("# refused by Pair::first, clause err", f"{proof}`returns-clause-ok`: no", False),

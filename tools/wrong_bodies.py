@@ -12,6 +12,9 @@ NOTE = re.compile(r"# refused by ([\w:]+)(?:, clauses? (\w+(?:(?:, | and )\w+)*)
 # with one. A long line is cut.
 PLACE = re.compile(r"(?:note: )?(?:\./)?((?:src|proofs)/\S+?):(\d+):(\d+): ")
 CLAUSE = re.compile(r"-clause-(\w+)`")
+# An error of a proof file that begins so says that a module or a record lacks a name. What is lacking is on the next
+# line, which `rt` neither reads nor prints, so it can't tell such an error from a refusal.
+LACKS_NAME = re.compile(r"error: (?:`[^`]*`: )?(?:record `|module `|`[^`]*`: module `|`goal\.)")
 # A file of a function's proof, in the folder of its path.
 PROOF = re.compile(r"proofs/(?:[a-z_0-9]+/)*((?:[A-Z]\w*/)?\w+)/(?:Answers|Invariants|Proof)\.antt")
 # Functions are found by the heads of items, and by what ends one. Comments and texts are passed over.
@@ -67,10 +70,12 @@ def function_of(line: str, text_at: Callable[[str], str]) -> str:
 
 def disagreement(note: str, line: str, text_at: Callable[[str], str]) -> Optional[str]:
     """Why the first line of a wrong body isn't what `rt` printed of it, or None if it is: the function is the same, and
-    the clause, if one is printed, is one of those in the first line."""
+    the clause, if one is printed, is one of those in the first line. What is refused for a name shows nothing."""
     noted = NOTE.fullmatch(note)
     if not noted:
         return f"begins with a line that names no function and clauses: {note}"
+    if LACKS_NAME.search(line):
+        return f"is refused for a name that a proof file gives, so this says nothing of the contract: {line}"
     function = function_of(line, text_at)
     if function != noted[1]:
         return f"is refused by {function}, and its first line says {noted[1]}"
