@@ -32,17 +32,19 @@ class Checks:
                 print(f"{self.name}: {what}: {'ok' if well else 'FAILED'}", flush=True)
         return bool(well)
 
-    def skip(self, what: str, why: str) -> None:
-        """Counts a check that can't be made here, and prints a line that says why."""
+    def skip(self, what: str, why: str, count: int = 1) -> None:
+        """Counts checks that can't be made here, and prints a line that says why."""
         with self.lock:
-            self.skipped += 1
-            print(f"{self.name}: {what}: skipped, since {why}", flush=True)
+            self.skipped += count
+            of_many = "" if count == 1 else f", {count} checks"
+            print(f"{self.name}: {what}{of_many}: skipped, since {why}", flush=True)
 
-    def has(self, what: str, *tools: str) -> bool:
-        """Whether all these tools are there. The first that isn't is named."""
+    def has(self, what: str, *tools: str, count: int = 1) -> bool:
+        """Whether all these tools are there. If not, the first that isn't is named, and this many checks count as
+        skipped: all that aren't made for it."""
         lacking = [it for it in tools if not shutil.which(it)]
         if lacking:
-            self.skip(what, f"there is no {lacking[0]}")
+            self.skip(what, f"there is no {lacking[0]}", count)
         return not lacking
 
     def run(self, what: str, words: Sequence[str], **how: Any) -> bool:
@@ -60,15 +62,17 @@ class Checks:
             ran = subprocess.run(words, **how, check=False)
         return ran.stdout, ran.returncode
 
-    def end(self, wanted: int = 1) -> int:
-        """Prints the counts, and returns the exit status. If fewer checks were made than there are, the others count as
-        skipped if something was skipped, and as failed otherwise."""
-        lacking = max(0, wanted - self.passed - self.failed - self.skipped)
-        if lacking and self.skipped:
-            self.skipped += lacking
-        elif lacking:
+    def end(self, wanted: Optional[int] = None) -> int:
+        """Prints the counts, and returns the exit status. The checks that were made or skipped have to be exactly as
+        many as there are, if a number is given, and at least one otherwise."""
+        made = self.passed + self.failed + self.skipped
+        lacking = (wanted or 1) - made
+        if lacking > 0:
             self.failed += lacking
-            print(f"{self.name}: {lacking} of {wanted} checks weren't made: FAILED")
+            print(f"{self.name}: {lacking} of {wanted or 1} checks were neither made nor skipped: FAILED")
+        elif lacking < 0 and wanted is not None:
+            self.failed += 1
+            print(f"{self.name}: {made} checks were made or skipped, and {wanted} are counted: FAILED")
         print(f"{self.passed} passed, {self.failed} failed, {self.skipped} skipped")
         return 1 if self.failed else 0
 
@@ -91,7 +95,7 @@ def end_by_pipe() -> None:
 
 def run(main: Callable[[list[str]], int], count: Optional[int] = None) -> None:
     """Runs a script, and ends with its exit status. If it is interrupted, its scratch folder goes first. With the word
-    `--checks` a script prints this count of the checks that it makes, and makes none."""
+    `--checks` a script prints this count of the checks that it makes or skips, and makes none."""
     if count is not None and sys.argv[1:] == ["--checks"]:
         print(count)
         sys.exit()

@@ -29,6 +29,8 @@ class Judging(unittest.TestCase):
         ("a line\n2 passed, 0 failed, 1 skipped\n", 0, 3, (2, 0, 1)),
         ("2 passed, 1 failed\n", 1, 3, (2, 1, 0)),
         ("2 passed, 0 failed\n", 0, 3, (2, 1, 0)),
+        ("4 passed, 0 failed\n", 0, 3, (4, 1, 0)),
+        ("2 passed, 0 failed, 2 skipped\n", 0, 3, (2, 1, 2)),
         ("3 passed, 0 failed\n", 1, 3, (3, 1, 0)),
         ("2 passed, 1 failed\n", 0, 3, (2, 2, 0)),
         ("3 passed, 0 failed\nand more\n", 0, 3, (0, 1, 0)),
@@ -41,6 +43,39 @@ class Judging(unittest.TestCase):
             with contextlib.redirect_stdout(io.StringIO()):
                 now.judge("a step", said, status, wanted)
             self.assertEqual((now.passed, now.failed, now.skipped), counts, said)
+
+    def test_kit_may_count_more(self) -> None:
+        """Only what the kit counts may be more than what is here."""
+        for made, failed in ((2, 1), (3, 0), (4, 0)):
+            now = gate.Gate("")
+            with contextlib.redirect_stdout(io.StringIO()):
+                now.judge("a step", f"{made} passed, 0 failed\n", 0, 3, is_exact=False)
+            self.assertEqual((now.passed, now.failed), (made, failed))
+
+    def test_ends(self) -> None:
+        """A run of checks ends well if it made or skipped exactly as many as there are."""
+        # How many there are, and how many passed, failed and were skipped; the last line, and the status.
+        rows: list[tuple[Optional[int], tuple[int, int, int], str, int]] = [
+            (3, (3, 0, 0), "3 passed, 0 failed, 0 skipped", 0),
+            (3, (1, 0, 2), "1 passed, 0 failed, 2 skipped", 0),
+            (3, (0, 0, 3), "0 passed, 0 failed, 3 skipped", 0),
+            (3, (2, 1, 0), "2 passed, 1 failed, 0 skipped", 1),
+            (3, (2, 0, 0), "2 passed, 1 failed, 0 skipped", 1),
+            (3, (1, 0, 1), "1 passed, 1 failed, 1 skipped", 1),
+            (3, (4, 0, 0), "4 passed, 1 failed, 0 skipped", 1),
+            (3, (3, 0, 1), "3 passed, 1 failed, 1 skipped", 1),
+            (None, (9, 0, 0), "9 passed, 0 failed, 0 skipped", 0),
+            (None, (0, 0, 0), "0 passed, 1 failed, 0 skipped", 1),
+        ]
+        for wanted, (passed, failed, skipped), line, status in rows:
+            now = gate.checks.Checks("some", "")
+            with contextlib.redirect_stdout(io.StringIO()) as said:
+                for it in (True,) * passed + (False,) * failed:
+                    now.tell(it, "a check")
+                if skipped:
+                    self.assertFalse(now.has("checks", "no-such-program", count=skipped))
+                self.assertEqual(now.end(wanted), status)
+            self.assertEqual(said.getvalue().splitlines()[-1], line)
 
     def test_counts(self) -> None:
         rows = [
@@ -93,7 +128,7 @@ class Judging(unittest.TestCase):
                 for it in before:
                     os.makedirs(f"{root}/crates/{it}/out/rlib")
 
-                def prove(*_: object, env: object, root: str = root, after: list[str] = after) -> str:
+                def prove(*_: object, env: object, is_exact: object, root: str = root, after: list[str] = after) -> str:
                     for it in after:
                         os.makedirs(f"{root}/crates/{it}/out/rlib", exist_ok=True)
                     return ""

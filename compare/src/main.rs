@@ -55,6 +55,8 @@ struct Wanted {
     is_all: bool,
     /// The errors to plant in the second reader, by their places in its list.
     plants: Vec<usize>,
+    /// How many errors can't be planted with this gimli.
+    left_out: usize,
 }
 
 fn from_hexadecimal(text: &str) -> Option<Vec<u8>> {
@@ -92,7 +94,10 @@ fn wanted(words: &mut dyn Iterator<Item = String>) -> Result<Wanted, String> {
             }
             "--all" => found.is_all = true,
             // The last one is planted where the units of gimli 0.27 are compared.
-            "--plants" => found.plants = (0..PLANTS.len() - usize::from(!HAS_UNITS)).collect(),
+            "--plants" => {
+                found.left_out = usize::from(!HAS_UNITS);
+                found.plants = (0..PLANTS.len() - found.left_out).collect();
+            }
             "--plant" => {
                 let name = next()?;
                 let place = PLANTS.iter().position(|it| *it == name);
@@ -203,7 +208,7 @@ fn compare(wanted: &Wanted) -> ExitCode {
             tally.ask(&question, &bytes);
         }
     }
-    tally.print(found, lost);
+    tally.print(found, lost, wanted.left_out);
     ExitCode::from(u8::from(tally.differences != 0 || lost != 0))
 }
 

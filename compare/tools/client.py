@@ -258,4 +258,4 @@ def client(given: argparse.Namespace) -> int:
         if what not in shown:
             seen = f"the {where} do not show it"
         now.tell(what in shown, f"planted {what}: {seen}")
-    return now.end()
+    return now.end(1 + len(files) + len(PLANTED))
