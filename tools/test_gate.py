@@ -3,6 +3,7 @@ import contextlib
 import glob
 import io
 import os
+import re
 import sys
 import tempfile
 import unittest
@@ -138,6 +139,30 @@ class Judging(unittest.TestCase):
             built = [it.args[0] for name in ("put_assembler", "put_library") for it in made[name].call_args_list]
             wanted = [*gate.products.TARGETS, *gate.LIBRARIES] if is_built else []
             self.assertEqual((built, now.failed), (wanted, 0), (before, after))
+
+    def test_steps_of_the_page(self) -> None:
+        """The gate runs the steps of the page's table, each once."""
+        text = kit.text_of(f"{kit.ROOT}/CONTRIBUTING.md").partition("\n## The gate\n")[2].partition("\n## ")[0]
+        listed = [it for row in re.findall(r"^\| (`.*?) \| ", text, re.M) for it in re.findall(r"`([^`]+)`", row)]
+        listed = [it for it in listed if not it.startswith("tools/")]
+        begun: list[list[str]] = []
+
+        def begin(_: object, words: list[str], *__: object, **___: object) -> str:
+            begun.append(words)
+            return "well"
+
+        now = gate.Gate("/")
+        steps = mock.Mock(side_effect=lambda rows: [begin(*it) for it in rows])
+        rest = dict.fromkeys(("judge_proofs", "keep_programs", "keep_libraries"), mock.DEFAULT)
+        with mock.patch.multiple(now, run=begin, step=begin, steps_at_once=steps, end=lambda: 0), mock.patch.multiple(
+            gate, read_bodies=lambda _: [], checks_of=lambda _: 1, has_library=lambda _: False, DISK_BYTES=0, **rest
+        ):
+            self.assertEqual(gate.gate(now), 0)
+        begun = [[os.path.relpath(it[0], kit.ROOT) if "/" in it[0] else it[0], *it[1:]] for it in begun]
+        commands = [" ".join(it).removeprefix("tools/") for it in begun]
+        self.assertEqual(len(commands), len(listed), commands)
+        for name in listed:
+            self.assertEqual(sum(f"{it} ".startswith(f"{name} ") for it in commands), 1, (name, commands))
 
     def test_jobs(self) -> None:
         """`rt ci` makes as many checks at a time as there is room for, unless RT_JOBS says how many."""
