@@ -1,7 +1,8 @@
 //! The calls of the proved library with which a copy of gimli 0.27 reads tables, strings, lookups and LEB128 numbers.
 //!
 //! `tools/compare client` puts this file into the copy, and lets the bodies there call these functions. The environment
-//! variable `COMPARE_PLANTED` plants an error: what is compared has to show it.
+//! variable `COMPARE_PLANTED` plants an error: what is compared has to show it. With the word `reached` each call panics,
+//! so that the tests that come here are those that fail.
 
 use crate::common::Format;
 use crate::endianity::Endianity;
@@ -24,6 +25,11 @@ thread_local! {
 /// Whether an error is planted at this place.
 fn is_planted(place: &str) -> bool {
     PLANTED.with(|it| it == place)
+}
+
+/// Panics if that is planted. Each patched body begins with it.
+pub fn reached() {
+    assert!(!is_planted("reached"), "a call of the library");
 }
 
 /// The library counts positions from the first byte, and gimli from the section's own.

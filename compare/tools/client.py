@@ -114,7 +114,7 @@ def with_body(text: str, after: str, function: str, body: str) -> str:
     while depth:
         depth += (text[end] == "{") - (text[end] == "}")
         end += 1
-    return f"{text[:at]}{{ {body} }}{text[end:]}"
+    return f"{text[:at]}{{ crate::calls::reached(); {body} }}{text[end:]}"
 
 
 def patched(name: str, text: str) -> str:
@@ -161,12 +161,9 @@ def copy(gimli: str, folder: str, is_patched: bool) -> None:
             put(path, f"{folder}/proved/{os.path.basename(path)}")
 
 
-def tests(folder: str, planted: str = "") -> list[tuple[int, int]]:
-    """How many of gimli's own tests pass and fail in a copy: of each kind, and what was printed."""
-    words = ["cargo", "test", "--quiet", "--offline", "--no-fail-fast"]
-    if planted:
-        # The tests of its modules are enough.
-        words.append("--lib")
+def tests(folder: str, planted: str = "", kinds: Sequence[str] = ()) -> list[tuple[int, int]]:
+    """How many of gimli's own tests pass and fail in a copy: of each kind, or of those kinds that are named."""
+    words = ["cargo", "test", "--quiet", "--offline", "--no-fail-fast", *kinds]
     said, status = run(words, cwd=folder, env={**os.environ, "COMPARE_PLANTED": planted})
     found = [(int(passed), int(failed)) for passed, failed in RESULT.findall(said)]
     if not found or status and not sum(failed for _, failed in found):
@@ -248,9 +245,13 @@ def client(given: argparse.Namespace) -> int:
     with tempfile.TemporaryDirectory(prefix="compare-") as work:
         now = checks.Checks("compare", work)
         now.tell(found == wanted and not sum(it[1] for it in found), f"gimli's own tests by the library: {kinds}")
+        # A test that passes without a call of the library says nothing of it.
+        reached = [failed for _, failed in tests(folders[1], "reached")]
+        now.tell(sum(reached), f"of these reach the library: {', '.join(map(str, reached))}")
         files = given.files or files_by_default(f"{folders[1]}/target/release/examples/dump")
         shown = compare_dumps(now, files, folders, work)
-    failures = sum(failed for _, failed in tests(folders[1], "number"))
+    # The tests of gimli's modules are enough.
+    failures = sum(failed for _, failed in tests(folders[1], "number", ["--lib"]))
     if failures:
         shown.add("number")
     for what, where in PLANTED:
@@ -258,4 +259,4 @@ def client(given: argparse.Namespace) -> int:
         if what not in shown:
             seen = f"the {where} do not show it"
         now.tell(what in shown, f"planted {what}: {seen}")
-    return now.end(1 + len(files) + len(PLANTED))
+    return now.end(2 + len(files) + len(PLANTED))
