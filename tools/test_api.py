@@ -32,11 +32,21 @@ class Pages(unittest.TestCase):
         self.addCleanup(os.remove, file.name)
         self.put(name, file.name)
 
-    def test_pages_are_complete(self) -> None:
-        self.assertEqual([*api.misnamed(), *api.without_row(), *api.absent(), *api.misplaced()], [])
-        for crate in api.CRATES:
-            page = kit.text_of(f"{kit.ROOT}/crates/{crate}/CALLING.md")
-            self.assertEqual(api.text_of(crate, page), page)
+    def test_check(self) -> None:
+        """The check fails for a line of any of these, and for a page that isn't what would be written."""
+        names = ("misnamed", "without_row", "absent", "misplaced", "without_caller", "unlisted", "undeclared")
+        other = "crates/dwarf_read_core/CALLING.md isn't what tools/api would write"
+        for faulty in (*names, "text_of"):
+            self.put("text_of", lambda crate, text: text)
+            for it in names:
+                self.put(it, lambda *_: [])
+            if faulty == "text_of":
+                self.put(faulty, lambda crate, text: text + "more" * (crate == "dwarf_read_core"))
+            else:
+                self.put(faulty, lambda *_: [other])
+            with contextlib.redirect_stdout(io.StringIO()) as said:
+                self.assertEqual((api.check(), said.getvalue()), (1, f"{other}\n"), faulty)
+            self.doCleanups()
 
     def test_call_without_row(self) -> None:
         self.changed("PROVED", "| `get_str_offset`, `get_address` |", "| `get_address` |")
@@ -128,10 +138,6 @@ class Pages(unittest.TestCase):
     def test_clauses_in_the_short_form(self) -> None:
         lines = ["ensures ok { OnOk result", "    (self.new ≡ self.old) }"]
         self.assertEqual(api.clause(lines), ["  ensures ok: OnOk result", "      (S' ≡ S)"])
-
-    def test_lemmas_are_offered(self) -> None:
-        listed = [(crate, file) for crate in kit.CRATES for file in api.offered(crate)]
-        self.assertEqual([*api.unlisted(api.citing()), *api.undeclared(listed)], [])
 
     def test_lemmas_that_cannot_be_cited(self) -> None:
         wanted = (
