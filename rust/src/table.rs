@@ -64,10 +64,10 @@ fn copied<T: Copy>(items: &[T]) -> Result<Vec<T>> {
     Ok(copy)
 }
 
-// Gives up the room after the items. A large block shrinks where it is, but keeps whole pages, so
-// that few items are copied.
+// Gives up the room after the items. A block that shrinks leaves a gap, so items that need less than
+// half of it are copied.
 fn fitted<T: Copy>(mut items: Vec<T>) -> Result<Vec<T>> {
-    if items.len() < items.capacity() / 8 {
+    if items.len() < items.capacity() / 2 {
         return copied(&items);
     }
     items.shrink_to_fit();

@@ -59,10 +59,10 @@ fn counted<T>(call: impl FnOnce() -> T) -> (T, usize, usize) {
 
 #[test]
 fn a_table_keeps_what_it_needs() {
-    // A table that fills its section, and one after which the section has much more. The room of
-    // most tables is shrunk, or the table copied if it needs little of it.
+    // A table that fills its section, and one after which the section has much more. What needs less
+    // than half of its room is copied: the attributes of the first, and all of the second.
     for (section, count, wanted) in
-        [(counting(100), 100, 2), ([counting(3), vec![0; 10_000]].concat(), 3, 4)]
+        [(counting(100), 100, 3), ([counting(3), vec![0; 10_000]].concat(), 3, 4)]
     {
         let (table, blocks, kept) = counted(|| Table::read(&section, 0).unwrap());
         assert_eq!((table.len(), kept), (count, count * (ROW + ATTRIBUTE)));
@@ -105,8 +105,8 @@ fn tables_keep_what_they_need() {
     let ((), blocks, kept) = counted(|| all.extend(tables(&section).map(Result::unwrap)));
     assert_eq!(all.iter().map(Table::len).collect::<Vec<_>>(), [3, 50, 0, 100]);
     assert_eq!(kept, 153 * (ROW + ATTRIBUTE));
-    // Two blocks of room, which the last table keeps, and two for each copy that isn't empty.
-    assert_eq!(blocks, 2 + 2 * 2);
+    // Two blocks of room, and two for each copy that isn't empty.
+    assert_eq!(blocks, 2 + 2 * 3);
 }
 
 #[test]
