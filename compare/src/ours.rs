@@ -5,7 +5,8 @@
 //! borrowed mutably.
 
 use crate::plain::length_at;
-use crate::question::{error_name, fault_of_text, Answer, Declaration, Question, Unit, What};
+use crate::question;
+use crate::question::{error_name, fault_of_text, sum_of, Answer, Declaration, Question, What};
 use crate::room::Room;
 use crate::sys::*;
 
@@ -37,10 +38,8 @@ extern "C" {
     fn compare_readers(
         bytes: Byte, len: usize, asked: &Asked, found: &mut [u64; 4], text: *mut u8, room: usize,
     ) -> usize;
-    fn compare_units(
-        bytes: Byte, len: usize, asked: &Asked, units: *mut Unit, places: usize, count: &mut usize, text: *mut u8,
-        room: usize,
-    ) -> usize;
+    #[link_name = "dwarf_table_measure_0_3"]
+    fn dwarf_table_measure(bytes: Byte, len: usize, offset: usize, measure: &mut Measure, fault: &mut Fault) -> u32;
 }
 
 /// The library, with places for tables.
@@ -185,17 +184,43 @@ fn found(bytes: &[u8], offset: usize, codes: &[u64]) -> Answer {
 
 /// The units that a question requests, and the error after them.
 fn units(question: &Question, bytes: &[u8]) -> Answer {
-    let (asked, mut units, mut text) = (asked(0, question), vec![Unit::default(); 4], [0; 100]);
+    let Question { what, is_big, at, .. } = *question;
+    let (data, len, is_one) = (bytes.as_ptr(), bytes.len(), what == What::UnitAt);
+    let (mut units, mut offset) = (Vec::new(), if is_one { at } else { 0 });
     loop {
-        let (data, to, room, mut count) = (bytes.as_ptr(), units.as_mut_ptr(), units.len(), 0);
-        let (at, most) = (text.as_mut_ptr(), text.len());
-        let len = unsafe { compare_units(data, bytes.len(), &asked, to, room, &mut count, at, most) };
-        let is_whole = count <= room;
-        units.resize(count, Unit::default());
-        if is_whole {
-            let shown = String::from_utf8_lossy(text.get(..len).unwrap_or_default());
-            return Answer::units(units, (len != 0).then(|| fault_of_text(&shown, None)));
+        let (mut it, mut fault) = (Unit::default(), Fault::default());
+        let is_types = what == What::TypesUnits;
+        match unsafe { dwarf_unit_header(data, len, is_big, is_types, offset, &mut it, &mut fault) } {
+            OK => units.push(shown_unit(offset, &it, bytes)),
+            // gimli has an error for a unit that is requested and isn't there: 1 at the end.
+            END if is_one => {
+                return Answer::units(units, Some(failed(1, Fault { kind: 1, value: len as u64 }, None)));
+            }
+            END => return Answer::units(units, None),
+            status => return Answer::units(units, Some(failed(status, fault, None))),
         }
+        if is_one {
+            return Answer::units(units, None);
+        }
+        offset = it.next;
+    }
+}
+
+fn shown_unit(offset: usize, it: &Unit, bytes: &[u8]) -> question::Unit {
+    let entries = &bytes[it.first_entry..it.next];
+    question::Unit {
+        offset,
+        unit_length: it.unit_length,
+        abbrev_offset: it.abbrev_offset,
+        signature: it.identifier,
+        type_offset: it.type_offset,
+        first_entry: it.first_entry as u64,
+        entries: entries.len(),
+        sum: sum_of(entries),
+        version: it.version,
+        word_size: it.word_size,
+        address_size: it.address_size,
+        unit_type: it.unit_type,
     }
 }
 

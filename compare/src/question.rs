@@ -56,8 +56,7 @@ pub fn fault_of_text(text: &str, rest: Option<usize>) -> Answer {
 /// Declares what is asked, each with the word that asks it.
 macro_rules! whats {
     ($($(#[$doc:meta])* $what:ident $word:literal,)*) => {
-        /// What is asked. Those up to `Addresses` are numbered as in `crates/dwarf_compare/src/readers.rt`, and those
-        /// of units as in `units.rt` there.
+        /// What is asked. Those up to `Addresses` are numbered as in `crates/dwarf_compare/src/readers.rt`.
         #[derive(Debug, Clone, Copy, PartialEq)]
         pub enum What { $($(#[$doc])* $what,)* }
 
@@ -136,7 +135,6 @@ impl Declaration {
 }
 
 /// What the header of a unit says, and its entries. What a unit of its type doesn't have is 0.
-#[repr(C)]
 #[derive(Debug, Default, Clone, Copy, PartialEq)]
 pub struct Unit {
     pub offset: usize,

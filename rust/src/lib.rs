@@ -45,6 +45,7 @@ mod bytes;
 pub mod constants;
 mod error;
 mod heap;
+mod proved;
 mod sets;
 mod sys;
 mod table;
