@@ -120,7 +120,7 @@ def with_body(text: str, after: str, function: str, body: str) -> str:
 def patched(name: str, text: str) -> str:
     """A source file of gimli's that reads by the library."""
     if name == "lib.rs":
-        modules = "".join(map(MODULE.format, ("calls", "heap", "room", "sys")))
+        modules = "".join(map(MODULE.format, ("calls", "heap", "proved", "room", "sys")))
         return text.replace("pub mod leb128;", f"pub mod leb128;\n{modules}", 1)
     for file, after, function, body in BODIES:
         if file == name:
@@ -154,7 +154,7 @@ def copy(gimli: str, folder: str, is_patched: bool) -> None:
     put(f"{gimli}/README.md", f"{folder}/README.md")
     if is_patched:
         write(BUILD.replace("FOLDER", f"{OUT}/lib"), f"{folder}/build.rs")
-        of_crate = [f"{CRATE}/src/{it}.rs" for it in ("heap", "sys")]
+        of_crate = [f"{CRATE}/src/{it}.rs" for it in ("heap", "proved", "sys")]
         for path in (f"{PACKAGE}/client/calls.rs", f"{PACKAGE}/src/room.rs", *of_crate):
             put(path, f"{folder}/src/{os.path.basename(path)}")
         for path in kit.files_below(f"{CRATE}/proved"):
