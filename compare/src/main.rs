@@ -4,6 +4,7 @@
 
 mod all;
 mod cost;
+mod demand;
 mod made;
 mod measure;
 mod ours;
@@ -49,6 +50,8 @@ struct Wanted {
     again: String,
     /// What is measured in place of comparing.
     measured: Option<Measured>,
+    /// Whether single tables are measured.
+    is_demand: bool,
     /// The kind and the length of the only table that is measured.
     table: Option<(String, u64)>,
     /// Whether all short inputs are asked.
@@ -93,6 +96,7 @@ fn wanted(words: &mut dyn Iterator<Item = String>) -> Result<Wanted, String> {
                 found.table = Some((kind, count.parse().map_err(|_| "--table needs a number")?));
             }
             "--all" => found.is_all = true,
+            "--demand" => found.is_demand = true,
             // The last one is planted where the units of gimli 0.27 are compared.
             "--plants" => {
                 found.left_out = usize::from(!HAS_UNITS);
@@ -225,6 +229,11 @@ fn run(words: Vec<String>) -> Result<ExitCode, String> {
         ["--make", kind, bytes, path] => make(kind, bytes, path)?,
         _ => {
             let wanted = wanted(&mut words.iter().cloned())?;
+            if wanted.is_demand {
+                let found = wanted.sections.iter().find(|it| it.1 == "debug_abbrev");
+                demand::demand(&found.ok_or("there is no .debug_abbrev")?.2)?;
+                return Ok(ExitCode::SUCCESS);
+            }
             let what = match wanted.measured {
                 None => return Ok(compare(&wanted)),
                 Some(what) => what,

@@ -1,0 +1,21 @@
+"""Measures the reading of single tables of a large section, with what the kernel takes of it."""
+import argparse
+import tempfile
+
+from common import Missing, build, debug_file_of_libc, must, sections
+from measure import what_ran
+
+
+def demand(given: argparse.Namespace) -> int:
+    """Prints the table of `demand`."""
+    program = build(given.debian)
+    path = given.files[0] if given.files else debug_file_of_libc()
+    if not path:
+        raise Missing("there is no debug file of the C library: `apt-get install libc6-dbg` installs it")
+    with tempfile.TemporaryDirectory(prefix="compare-") as work:
+        words = sections(path, work)
+        rows = must([program, "--demand", *words], "tables aren't measured").splitlines()
+    print(f"gimli {must([program, '--gimli'], 'the program is another one')}; {what_ran()}; {rows[0]}\n")
+    heads = ["tables", "threads", "gimli", "here", "ratio"]
+    print("\n".join([f"| {' | '.join(heads)} |", "|---" * len(heads) + "|", *rows[1:]]))
+    return 0
