@@ -68,6 +68,13 @@ def sums(crate: str) -> str:
     return "".join(f"{sum_of(f'{kit.ROOT}/{it}')}  {it}\n" for it in paths)
 
 
+def code_of(crate: str) -> str:
+    """What decides the code of a crate: the checksums of its sources and of those below it, and their lines of
+    crates.txt. The other lines there change nothing."""
+    rows = "".join(f"{it}: {' '.join(kit.CRATES[it])}\n" for it in [*kit.below(crate), crate])
+    return rows + sums(crate).partition("\n")[2]
+
+
 def place_of_copy(path: str, of_sources: str) -> str:
     """Where a product of these sources is kept."""
     version = kit.version() if shutil.which("rt") else kit.KIT
@@ -155,7 +162,7 @@ def build(crate: str, root: str, of_sources: str, words: Sequence[str], tell: Ca
     if ran.returncode:
         tell(ran.stdout.strip()[-2000:])
         return False
-    if sums(crate) != of_sources:
+    if of_sources not in (sums(crate), code_of(crate)):
         tell("the sources changed meanwhile: run this again")
         return False
     return True

@@ -123,7 +123,7 @@ class Judging(unittest.TestCase):
             names = ("place_of_copy", "find", "put_library", "put_assembler")
             with tempfile.TemporaryDirectory() as root, mock.patch.object(kit, "ROOT", root), mock.patch.multiple(
                 gate, read_bodies=mock.DEFAULT, judge_proofs=mock.DEFAULT, keep_programs=mock.DEFAULT
-            ), mock.patch.multiple(gate.products, sums=str, **dict.fromkeys(names, mock.DEFAULT)) as made:
+            ), mock.patch.multiple(gate.products, sums=str, code_of=str, **dict.fromkeys(names, mock.DEFAULT)) as made:
                 made["find"].return_value = None
                 made["place_of_copy"].return_value = f"{root}/nothing"
                 for it in before:

@@ -31,6 +31,21 @@ class Keeping(unittest.TestCase):
             self.assertIsNone(products.find(place, other))
 
 
+class Sources(unittest.TestCase):
+    """The code of a crate is decided by its sources and its lines of crates.txt, and by those below it."""
+
+    def test_rows(self) -> None:
+        crate = [*kit.CRATES][1]
+        with mock.patch.object(products, "sums", lambda _: "12  crates.txt\n34  a source\n"):
+            before = products.code_of(crate)
+            self.assertNotIn("crates.txt", before)
+            self.assertIn("34  a source\n", before)
+            with mock.patch.dict(kit.CRATES, other=[]):
+                self.assertEqual(products.code_of(crate), before)
+            with mock.patch.dict(kit.CRATES, {crate: []}):
+                self.assertNotEqual(products.code_of(crate), before)
+
+
 class Libraries(unittest.TestCase):
     """The libraries below a crate are taken if `rt ci` has kept all of them. Otherwise `rt ci` runs."""
 
