@@ -7,6 +7,7 @@
  * such libraries in a program use the same three.
  *
  * None of them may throw, or leave by longjmp, since the library has no unwind tables; and none may call the library.
+ * They are called by as many threads at once as make calls that allocate.
  */
 #ifndef DWARF_READ_HEAP_H
 #define DWARF_READ_HEAP_H

@@ -159,7 +159,7 @@ pub fn sleb128(bytes: &[u8]) -> Result<(i64, usize)> {
 }
 
 /// Writes the shortest bytes of an unsigned LEB128 number to the front of these. Returns how many
-/// they are, at most ten; or `None`, and writes nothing, if there are fewer places.
+/// they are, at most ten; or `None`, and writes nothing, if there is less room.
 ///
 /// ```
 /// let mut bytes = [0; 10];

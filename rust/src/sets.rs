@@ -151,6 +151,15 @@ impl<'s> Set<'s> {
     ///
     /// `UnexpectedEof` if the set doesn't contain all of its bytes, and `UnsupportedOffset` if the
     /// index times the size of an entry is 2^64 or more.
+    ///
+    /// ```
+    /// use dwarf_read::{address_sets, ByteOrder};
+    ///
+    /// let section = [12, 0, 0, 0, 5, 0, 4, 0, 0x78, 0x56, 0x34, 0x12, 0xef, 0xbe, 0xad, 0xde];
+    /// let set = address_sets(&section, ByteOrder::Little).next().unwrap()?;
+    /// assert_eq!((set.base(), set.entry_count(), set.get(1)?), (8, 2, 0xdeadbeef));
+    /// # Ok::<(), dwarf_read::Error>(())
+    /// ```
     pub fn get(&self, index: u64) -> Result<u64> {
         let (base, size) = (self.header.first_entry, self.header.entry_size);
         match self.kind {
@@ -163,6 +172,15 @@ impl<'s> Set<'s> {
     }
 
     /// Returns the entries of the set. If the set's end cuts an entry, that error is the last item.
+    ///
+    /// ```
+    /// use dwarf_read::{str_offset_sets, ByteOrder};
+    ///
+    /// let section = [12, 0, 0, 0, 5, 0, 0, 0, 1, 0, 0, 0, 2, 0, 0, 0];
+    /// let set = str_offset_sets(&section, ByteOrder::Little).next().unwrap()?;
+    /// assert!(set.entries().eq([Ok(1), Ok(2)]));
+    /// # Ok::<(), dwarf_read::Error>(())
+    /// ```
     pub fn entries(&self) -> Entries<'s> {
         Entries { set: *self, index: Some(0) }
     }

@@ -93,6 +93,17 @@ impl Table {
     /// - `DuplicateAbbreviationCode` for a whole abbreviation with the code of an earlier one.
     ///
     /// `OutOfMemory` if memory runs out.
+    ///
+    /// ```
+    /// use dwarf_read::{ErrorKind, Table};
+    ///
+    /// let section = [0, 1, 0x11, 0, 3, 8, 0, 0, 0];
+    /// let table = Table::read(&section, 1)?;
+    /// assert_eq!((table.len(), table.offset(), table.end()), (1, 1, 9));
+    /// let error = Table::read(&section[..5], 1).unwrap_err();
+    /// assert_eq!((error.kind(), error.value()), (ErrorKind::UnexpectedEof, 5));
+    /// # Ok::<(), dwarf_read::Error>(())
+    /// ```
     pub fn read(section: &[u8], offset: usize) -> Result<Table> {
         let mut table = Table::default();
         table.read_again(section, offset)?;
@@ -193,7 +204,14 @@ impl Table {
         Ok(Table { rows, attributes, ..*self })
     }
 
-    /// Returns the abbreviation with a code.
+    /// Returns the abbreviation with a code, such as that of an entry.
+    ///
+    /// ```
+    /// let table = dwarf_read::Table::read(&[7, 0x2e, 1, 0, 0, 0], 0)?;
+    /// assert!(table.get(7).unwrap().has_children());
+    /// assert_eq!(table.get(1), None);
+    /// # Ok::<(), dwarf_read::Error>(())
+    /// ```
     pub fn get(&self, code: u64) -> Option<Abbreviation<'_>> {
         // In most tables the codes count from 1.
         let guess = usize::try_from(code.wrapping_sub(1)).unwrap_or(usize::MAX);
@@ -205,6 +223,12 @@ impl Table {
     }
 
     /// Returns the abbreviations in the order of their codes.
+    ///
+    /// ```
+    /// let table = dwarf_read::Table::read(&[2, 0x2e, 0, 0, 0, 1, 0x11, 1, 0, 0, 0], 0)?;
+    /// assert!(table.iter().map(|it| it.code()).eq([1, 2]));
+    /// # Ok::<(), dwarf_read::Error>(())
+    /// ```
     pub fn iter(&self) -> Abbreviations<'_> {
         Abbreviations { table: self, rows: self.rows.iter() }
     }
@@ -230,7 +254,8 @@ impl Table {
         self.end
     }
 
-    /// Returns whether a code of value 0 closes the table, and not the section's end.
+    /// Returns whether a code of value 0 closes the table, and not the section's end. See
+    /// [`read_strict`](Table::read_strict).
     pub fn is_closed_by_null(&self) -> bool {
         self.is_closed_by_null
     }
@@ -433,6 +458,16 @@ impl Attribute {
     }
 
     /// Returns the attribute's value, if that is in the table itself.
+    ///
+    /// ```
+    /// use dwarf_read::constants::{DW_AT_decl_file, DW_FORM_implicit_const};
+    ///
+    /// let table = dwarf_read::Table::read(&[1, 0x2e, 0, 0x3a, 0x21, 1, 0, 0, 0], 0)?;
+    /// let attribute = table.get(1).unwrap().attributes()[0];
+    /// assert_eq!((attribute.name(), attribute.form()), (DW_AT_decl_file, DW_FORM_implicit_const));
+    /// assert_eq!(attribute.implicit_const(), Some(1));
+    /// # Ok::<(), dwarf_read::Error>(())
+    /// ```
     pub fn implicit_const(&self) -> Option<i64> {
         (self.form() == DW_FORM_implicit_const).then_some(self.0.implicit_const)
     }
