@@ -74,7 +74,7 @@ impl DebugLink {
         self.find_below(path, DEBUG_FOLDER, report)
     }
 
-    fn find_below(&self, path: &OsStr, debug: &str, report: &mut Report) -> Result<Option<String>> {
+    pub fn find_below(&self, path: &OsStr, debug: &str, report: &mut Report) -> Result<Option<String>> {
         for (place, is_by_name) in self.places(path, debug) {
             if !Path::new(&place).is_file() {
                 continue;

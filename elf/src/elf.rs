@@ -133,8 +133,8 @@ impl<'d> Elf<'d> {
             let header: &F::SectionHeader = at(self.whole, place, &"the header of a section")?;
             let name = header.sh_name(self.endian);
             if name as usize >= names.len() {
-                let text = format_args!("section {number} has its name at 0x{name:x}, past the end of the names");
-                errors.say(report, &"", text);
+                let text = format!("section {number} has its name at 0x{name:x}, past the end of the names");
+                errors.say(report, &"the names of sections", text);
                 continue;
             }
             let name = part(names, name.into(), NAME_BYTES as u64);
@@ -179,8 +179,6 @@ fn compression_of<F: FileHeader<Endian = Endianness>>(raw: &[u8], endian: Endian
     let size = size_of::<F::CompressionHeader>();
     match raw.read_at::<F::CompressionHeader>(0) {
         Ok(found) => Ok((found.ch_type(endian), found.ch_size(endian).into(), size)),
-        Err(()) => {
-            unlisted(format!("is compressed, and has {} of the {size} bytes of the header of that", raw.len()))
-        }
+        Err(()) => unlisted(format!("is compressed, and has {} of the {size} bytes of the header of that", raw.len())),
     }
 }

@@ -225,9 +225,7 @@ impl<'a> Archive<'a> {
         Ok(None)
     }
 
-    fn member(
-        &mut self, at: usize, field: &'a [u8], size: usize, report: &mut Report,
-    ) -> Result<Option<Member<'a>>> {
+    fn member(&mut self, at: usize, field: &'a [u8], size: usize, report: &mut Report) -> Result<Option<Member<'a>>> {
         let begin = at + MEMBER_BYTES;
         let is_index = matches!(field, b"/" | b"//" | b"/SYM64/");
         if self.is_thin && !is_index {
@@ -249,9 +247,7 @@ impl<'a> Archive<'a> {
         }
         let (name, skipped, _) = self.name(at, field, report);
         if skipped > size {
-            return unlisted(format!(
-                "the member at 0x{at:x} is shorter than its name, and what follows isn't read"
-            ));
+            return unlisted(format!("the member at 0x{at:x} is shorter than its name, and what follows isn't read"));
         }
         // Other systems name the index so, with more after it.
         let bytes = Some(whole.get(skipped..).unwrap_or_default());
@@ -287,9 +283,7 @@ impl<'a> Archive<'a> {
 impl Member<'_> {
     /// Calls a function with the name of a member and its bytes. Those of a thin archive are in a file, or in a member
     /// of another archive.
-    fn open(
-        &self, archive: &OsStr, report: &mut Report, called: &mut dyn FnMut(String, Result<&[u8]>, &mut Report),
-    ) {
+    fn open(&self, archive: &OsStr, report: &mut Report, called: &mut dyn FnMut(String, Result<&[u8]>, &mut Report)) {
         let name = plain(self.name);
         if self.bytes.is_some() {
             return called(name, Ok(self.bytes.unwrap_or_default()), report);

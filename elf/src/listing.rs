@@ -74,7 +74,7 @@ pub fn list(file: &DebugFile<'_>, request: &Request, report: &mut Report) {
     let mut errors = Limited::default();
     for section in &sections {
         if let Err(error) = listing.list(section, sections.len() > 1, &named) {
-            errors.say(listing.report, section, format_args!(" {error}"));
+            errors.say(listing.report, section, format_args!("{section} {error}"));
         }
     }
 }
@@ -84,7 +84,7 @@ fn list_sizes(file: &DebugFile<'_>, sections: &[&Section<'_>], report: &mut Repo
     let mut errors = Limited::default();
     for section in sections {
         let size = file.size(section, report).unwrap_or_else(|error| {
-            errors.say(report, section, format_args!(" {error}"));
+            errors.say(report, section, format_args!("{section} {error}"));
             file.stated_size(section)
         });
         let _ = writeln!(report.output, "{:28} {size:10}", section.name());
@@ -174,7 +174,8 @@ impl<'d> Listing<'_, 'd> {
             }
         };
         if let Err(error) = &found {
-            listed.errors.say(self.report, listed.section, format_args!(": error at 0x{at:x}: {error}"));
+            let section = listed.section;
+            listed.errors.say(self.report, section, format_args!("{section}: error at 0x{at:x}: {error}"));
         }
         (found.is_ok(), next)
     }
@@ -256,8 +257,9 @@ impl<'d> Listing<'_, 'd> {
             }
             Some(Err(error)) => {
                 output.put(b"\n");
-                let text = format_args!(": error at 0x{entry:x} of the strings: {error}");
-                listed.errors.say(self.report, listed.section, text);
+                let section = listed.section;
+                let text = format!("{section}: error at 0x{entry:x} of the strings: {error}");
+                listed.errors.say(self.report, section, text);
             }
         }
     }
@@ -324,12 +326,12 @@ impl<'d> Listing<'_, 'd> {
         let mut end = 0;
         for (start, size) in package.contributions(section.base).into_iter().chain([(len, 0)]) {
             if start > end {
-                let text = format_args!(": no row of the index has the bytes from 0x{end:x} to 0x{start:x}");
+                let text = format!("{section}: no row of the index has the bytes from 0x{end:x} to 0x{start:x}");
                 listed.errors.say(self.report, section, text);
                 parts.push((end, start));
             }
             if start + size > len {
-                let text = format_args!(": the contribution at 0x{start:x} is past the end");
+                let text = format!("{section}: the contribution at 0x{start:x} is past the end");
                 listed.errors.say(self.report, section, text);
             }
             end = end.max(start + size);
@@ -341,13 +343,12 @@ impl<'d> Listing<'_, 'd> {
     // Sets.
 
     /// Lists the sets in turn, unless some have no header, or one is malformed and an index has the others.
-    fn list_sets(
-        &mut self, what: What, listed: &mut Listed<'_, 'd>, uses: &BTreeMap<Option<u64>, BTreeSet<Use>>,
-    ) {
+    fn list_sets(&mut self, what: What, listed: &mut Listed<'_, 'd>, uses: &BTreeMap<Option<u64>, BTreeSet<Use>>) {
         let mut all = uses.values().flatten();
         let has_old = uses.values().flatten().any(|it| it.is_old);
         let is_old = has_old && all.all(|it| it.is_old);
-        if !has_old && self.file.package_of(listed.section.family).is_none() || !is_old && is_well_formed(what, listed) {
+        if !has_old && self.file.package_of(listed.section.family).is_none() || !is_old && is_well_formed(what, listed)
+        {
             return self.walk(what, listed, (0, u64::MAX));
         }
         let mut with_header = Vec::new();
@@ -362,8 +363,9 @@ impl<'d> Listing<'_, 'd> {
                 }
             } else if own.iter().any(|it| it.is_old) {
                 let why = "since a unit of DWARF 4 may have them, as a set without a header";
-                let text = format_args!(": the bytes from 0x{start:x} to 0x{end:x} aren't listed, {why}");
-                listed.errors.say(self.report, listed.section, text);
+                let section = listed.section;
+                let text = format!("{section}: the bytes from 0x{start:x} to 0x{end:x} aren't listed, {why}");
+                listed.errors.say(self.report, section, text);
             } else if !own.is_empty() || !has_old {
                 with_header.push((start, end));
             }
@@ -414,7 +416,7 @@ impl<'d> Listing<'_, 'd> {
         let kind = match sizes.iter().next() {
             Some(size @ (1 | 2 | 4 | 8)) if sizes.len() == 1 => *size as u8,
             _ => {
-                let text = format_args!(" has no headers, and isn't listed: the units' {about} is {names}");
+                let text = format!("{section} has no headers, and isn't listed: the units' {about} is {names}");
                 listed.errors.say(self.report, section, text);
                 return None;
             }

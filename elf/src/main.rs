@@ -26,12 +26,9 @@ use arguments::{parse, wants_help, Request, HELP};
 use debug_link::DebugLink;
 use inputs::{each_input, expect_elf, opened, title, Input, Words};
 use listing::{lack_of, list, sections_of};
-use report::{reason, tell, unlisted, Report, Result, WRONG_IO};
+use report::{tell, unlisted, Report, Result};
 use sections::DebugFile;
 use std::ffi::OsStr;
-use std::fs::File;
-use std::io;
-use std::os::unix::io::AsFd;
 
 const WRONG_WORDS: u8 = 2;
 
@@ -126,15 +123,9 @@ fn run(words: &Words, report: &mut Report) -> u8 {
 #[allow(unsafe_code)]
 #[no_mangle]
 pub extern "C" fn main() -> i32 {
-    // Rust's own output is written line by line.
-    let output = match io::stdout().as_fd().try_clone_to_owned() {
-        Ok(output) => File::from(output),
-        Err(error) => {
-            tell(format_args!("standard output: {}", reason(&error)));
-            return WRONG_IO.into();
-        }
-    };
     let words: Words = std::env::args_os().skip(1).collect();
-    let mut report = Report::new(Box::new(output), Box::new(io::stderr()));
-    run(&words, &mut report).into()
+    match Report::of_streams() {
+        Ok(mut report) => run(&words, &mut report).into(),
+        Err(status) => status.into(),
+    }
 }

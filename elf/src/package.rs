@@ -8,7 +8,8 @@ pub type Contribution = Option<(u64, u64)>;
 
 /// The sections that have contributions, and the columns of theirs in the index: DW_SECT_INFO, DW_SECT_TYPES,
 /// DW_SECT_ABBREV and DW_SECT_STR_OFFSETS. The other columns aren't needed here.
-const COLUMNS: [(&str, u32); 4] = [("debug_info", 1), ("debug_types", 2), ("debug_abbrev", 3), ("debug_str_offsets", 6)];
+const COLUMNS: [(&str, u32); 4] =
+    [("debug_info", 1), ("debug_types", 2), ("debug_abbrev", 3), ("debug_str_offsets", 6)];
 /// How many of them are sections of units.
 const UNITS: usize = 2;
 
@@ -56,7 +57,11 @@ impl Package {
         let rows = self.rows.get(own)?;
         let row = rows.get(rows.partition_point(|it| start(it) <= offset).checked_sub(1)?)?;
         let (first, size) = row[own]?;
-        if offset < first + size { row[wanted] } else { None }
+        if offset < first + size {
+            row[wanted]
+        } else {
+            None
+        }
     }
 
     /// Where the contributions to a section are, with their sizes, in order.

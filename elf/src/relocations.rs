@@ -103,7 +103,16 @@ pub struct Relocations<'d> {
 
 impl<'d> Relocations<'d> {
     pub fn new(file: &Elf<'d>, rows: &'d [u8], symbols: &'d [u8], has_addends: bool) -> Relocations<'d> {
-        let row_bytes = if file.is_64 { 16 } else { 8 } + if has_addends { if file.is_64 { 8 } else { 4 } } else { 0 };
+        let row_bytes = if file.is_64 { 16 } else { 8 }
+            + if has_addends {
+                if file.is_64 {
+                    8
+                } else {
+                    4
+                }
+            } else {
+                0
+            };
         let kinds = [(ABSOLUTE, Effect::Replace), (ADDED, Effect::Add), (SUBTRACTED, Effect::Subtract)];
         let mut table = Relocations {
             machine: file.machine,

@@ -2,7 +2,9 @@
 
 use std::collections::HashSet;
 use std::fmt::{self, Display};
+use std::fs::File;
 use std::io::{self, Write};
+use std::os::unix::io::AsFd;
 use std::process::exit;
 
 /// After this many errors of a kind the others aren't reported.
@@ -10,7 +12,7 @@ pub const ERRORS: usize = 1000;
 /// The exit statuses of an error in a file and of one of input or output, and the one that a shell has for a program
 /// that SIGPIPE ends.
 const WRONG_FILE: u8 = 1;
-pub const WRONG_IO: u8 = 3;
+const WRONG_IO: u8 = 3;
 const CLOSED: i32 = 141;
 const BUFFER_BYTES: usize = 1 << 16;
 
@@ -145,6 +147,19 @@ impl Report {
         Report { output, status: 0, errors, said: HashSet::new(), before: String::new() }
     }
 
+    /// One that prints to the standard streams. If the output is closed, that is told, and the exit status returned.
+    #[cfg_attr(test, allow(dead_code))]
+    pub fn of_streams() -> std::result::Result<Report, u8> {
+        // Rust's own output is written line by line.
+        match io::stdout().as_fd().try_clone_to_owned() {
+            Ok(output) => Ok(Report::new(Box::new(File::from(output)), Box::new(io::stderr()))),
+            Err(error) => {
+                tell(format_args!("standard output: {}", reason(&error)));
+                Err(WRONG_IO)
+            }
+        }
+    }
+
     /// One that prints nothing.
     pub fn silent() -> Report {
         Report::new(Box::new(io::sink()), Box::new(io::sink()))
@@ -189,10 +204,10 @@ pub struct Limited(usize);
 
 impl Limited {
     /// Reports an error of a part of a file, or that there are more.
-    pub fn say(&mut self, report: &mut Report, whose: &dyn Display, text: fmt::Arguments<'_>) {
+    pub fn say(&mut self, report: &mut Report, whose: &dyn Display, text: impl Display) {
         self.0 += 1;
         match self.0 {
-            0..=ERRORS => report.say(format_args!("{whose}{text}")),
+            0..=ERRORS => report.say(text),
             it if it == ERRORS + 1 => report.say(format_args!("{whose}: more such errors, which aren't reported")),
             _ => {}
         }

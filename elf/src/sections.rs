@@ -157,7 +157,11 @@ impl<'d> DebugFile<'d> {
         let header = &section.header;
         let raw = crate::elf::part(self.elf.whole, header.start, header.size);
         let stated = self.elf.compression(raw).map_or(0, |it| it.1);
-        if header.is_compressed() { stated } else { 0 }
+        if header.is_compressed() {
+            stated
+        } else {
+            0
+        }
     }
 
     /// The bytes of a section, inflated.
@@ -187,7 +191,7 @@ impl<'d> DebugFile<'d> {
         let mut errors = Limited::default();
         for table in &tables {
             table.apply(&mut data, 0, 0, end, &mut |error| {
-                let text = format_args!(" {error}, so the bytes there are listed as they are in the file");
+                let text = format!("{section} {error}, so the bytes there are listed as they are in the file");
                 errors.say(report, section, text);
                 Ok(())
             })?;

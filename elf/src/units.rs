@@ -131,7 +131,7 @@ impl<'f, 'd> Units<'f, 'd> {
     /// Reports what is wrong with the unit at an offset.
     pub fn tell(&mut self, offset: u64, text: impl Display, report: &mut Report) {
         let section = self.section;
-        self.errors.say(report, &format_args!("the unit at 0x{offset:x} of {section}"), format_args!(" {text}"));
+        self.errors.say(report, section, format_args!("the unit at 0x{offset:x} of {section} {text}"));
     }
 
     // The unit at the current place, if no padding is there, and goes on to the next place.
@@ -140,8 +140,8 @@ impl<'f, 'd> Units<'f, 'd> {
         let padding = self.padding()?;
         if padding > 0 {
             let section = self.section;
-            let text = format_args!("the {padding} bytes at 0x{offset:x} of {section} are zero, and passed over");
-            self.paddings.say(report, &"", text);
+            let text = format!("the {padding} bytes at 0x{offset:x} of {section} are zero, and passed over");
+            self.paddings.say(report, section, text);
             self.at += padding;
             return Ok(None);
         }
@@ -278,7 +278,12 @@ fn tables_of(file: &DebugFile<'_>, family: (&str, &str), found: &mut Tables, rep
     let sizes: Vec<Option<u64>> = homes.iter().map(|it| file.size(it, report).ok()).collect();
     each_unit(file, family, report, &mut |units, unit, _| {
         let home = match homes.len() {
-            0 => return unlisted(format!("names a table, but there is no section {}.debug_abbrev{}", family.0, family.1)),
+            0 => {
+                return unlisted(format!(
+                    "names a table, but there is no section {}.debug_abbrev{}",
+                    family.0, family.1
+                ))
+            }
             1 => 0,
             _ => units.home(unit, &homes)?,
         };
@@ -313,9 +318,7 @@ fn place_of_table(file: &DebugFile<'_>, section: &Section<'_>, unit: &Unit) -> R
 }
 
 /// How units use a section, by the offset of what they use. In a package the rows say it, and else it is all.
-pub fn uses(
-    file: &DebugFile<'_>, section: &Section<'_>, report: &mut Report,
-) -> BTreeMap<Option<u64>, BTreeSet<Use>> {
+pub fn uses(file: &DebugFile<'_>, section: &Section<'_>, report: &mut Report) -> BTreeMap<Option<u64>, BTreeSet<Use>> {
     let mut found: BTreeMap<Option<u64>, BTreeSet<Use>> = BTreeMap::new();
     let package = file.package_of(section.family);
     each_unit(file, section.family, report, &mut |units, unit, _| {
