@@ -189,6 +189,9 @@ struct Member<'a> {
     inner: Option<usize>,
 }
 
+/// What is called with the name of a member, and its bytes.
+type Opened<'o> = &'o mut dyn FnMut(String, Result<&[u8]>, &mut Report);
+
 // The number of some digits, if they are some.
 fn digits(text: &[u8]) -> Option<usize> {
     let text = std::str::from_utf8(text).ok()?;
@@ -283,7 +286,7 @@ impl<'a> Archive<'a> {
 impl Member<'_> {
     /// Calls a function with the name of a member and its bytes. Those of a thin archive are in a file, or in a member
     /// of another archive.
-    fn open(&self, archive: &OsStr, report: &mut Report, called: &mut dyn FnMut(String, Result<&[u8]>, &mut Report)) {
+    fn open(&self, archive: &OsStr, report: &mut Report, called: Opened<'_>) {
         let name = plain(self.name);
         if self.bytes.is_some() {
             return called(name, Ok(self.bytes.unwrap_or_default()), report);

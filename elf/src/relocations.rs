@@ -142,9 +142,9 @@ impl<'d> Relocations<'d> {
         // Only the symbol's number is in the file's order, and then come four bytes, the type last.
         let is_mips64el = self.is_64 && self.machine == elf::EM_MIPS && self.endian == Endianness::Little;
         let row = if self.has_addends {
-            self.rows.read_at::<F::Rela>(number * size_of::<F::Rela>() as u64).map(F::Rela::clone)
+            self.rows.read_at::<F::Rela>(number * size_of::<F::Rela>() as u64).copied()
         } else {
-            self.rows.read_at::<F::Rel>(number * size_of::<F::Rel>() as u64).map(|it| F::Rela::from(it.clone()))
+            self.rows.read_at::<F::Rel>(number * size_of::<F::Rel>() as u64).map(|it| F::Rela::from(*it))
         };
         // The number is less than the count.
         let row = row.unwrap_or_else(|()| unreachable!());

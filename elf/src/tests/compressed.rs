@@ -133,6 +133,9 @@ fn zstd_is_told() {
 fn all_frames_of_zstd_are_read() {
     let frames: Vec<u8> = [&b"one\0"[..], b"two\0"].iter().flat_map(|it| zstd::encode_all(*it, 3).unwrap()).collect();
     assert_eq!(strings(2, 8, &frames), said(0, "0x0: one\n0x4: two\n", &[]));
-    let line = "section 1 .debug_str is to inflate to 8 bytes, and inflates to 4";
-    assert_eq!(strings(2, 8, &frames[..frames.len() - 1]), said(1, "0x0: one\n", &[line]));
+    let lines = [
+        "section 1 .debug_str is to inflate to 8 bytes, and inflates to 7",
+        "section 1 .debug_str: error at 0x4: unexpected end of input",
+    ];
+    assert_eq!(strings(2, 8, &frames[..frames.len() - 1]), said(1, "0x0: one\n", &lines));
 }

@@ -43,12 +43,14 @@ fn one(address: u64) -> String {
     format!("set 0x0: length 12, 32-bit, address size 8\n  0x{address:x}\n")
 }
 
+type Types = &'static [(u64, usize, i64)];
+
 const STORED: u64 = 0x1112_1314_1516_1718;
 
 // The machine's number, its class and byte order, and for each type its number, its bytes, and what it does with the
 // number that is there: nothing, adding the sum to it, or subtracting that.
 #[rustfmt::skip]
-const MACHINES: &[(u64, bool, bool, &[(u64, usize, i64)])] = &[
+const MACHINES: &[(u64, bool, bool, Types)] = &[
     (2, false, true, &[(3, 4, 0), (23, 4, 0), (76, 4, 0)]),            // SPARC
     (3, false, false, &[(1, 4, 0), (32, 4, 0)]),                       // x86
     (4, false, true, &[(1, 4, 0), (31, 4, 0)]),                        // 68000
