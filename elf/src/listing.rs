@@ -7,7 +7,7 @@ use crate::report::{unlisted, Limited, Report, Result, ERRORS};
 use crate::sections::{DebugFile, Family, Section};
 use crate::text::{put_string, put_table, put_title};
 use crate::units::{tables, uses, Tables, Use};
-use dwarf_read::{address_sets, str_offset_sets, ByteOrder, Error, Set, Table};
+use dwarf_read::{address_sets, str_offset_sets, ByteOrder, Error, Format, Set, Table};
 use object::Endianness;
 use std::borrow::Cow;
 use std::collections::{BTreeMap, BTreeSet};
@@ -15,7 +15,7 @@ use std::fmt::Write;
 use std::rc::Rc;
 
 /// What is listed of a section.
-#[derive(Debug, Clone, Copy, PartialEq, Eq, PartialOrd, Ord)]
+#[derive(Debug, Clone, Copy, PartialEq, Eq)]
 enum What {
     Tables,
     Strings,
@@ -23,8 +23,8 @@ enum What {
     StringOffsets,
     /// Addresses of this size without a header.
     AddressesAlone(u8),
-    /// String offsets of this size without a header.
-    StringOffsetsAlone(u8),
+    /// String offsets of this format without a header.
+    StringOffsetsAlone(Format),
 }
 
 impl What {
@@ -169,9 +169,8 @@ impl<'d> Listing<'_, 'd> {
                 let (set, next) = set_at(what, bytes, listed.order, at);
                 (set.map(|set| self.put_set(&set, listed, at)), next)
             }
-            What::AddressesAlone(size) | What::StringOffsetsAlone(size) => {
-                self.entries_at(what, bytes, size.into(), listed, at)
-            }
+            What::AddressesAlone(size) => self.entries_at(what, bytes, size, listed, at),
+            What::StringOffsetsAlone(format) => self.entries_at(what, bytes, format.word_size(), listed, at),
         };
         if let Err(error) = &found {
             let section = listed.section;
@@ -206,7 +205,7 @@ impl<'d> Listing<'_, 'd> {
     fn put_set(&mut self, set: &Set<'_>, listed: &mut Listed<'_, 'd>, at: u64) {
         let output = &mut self.report.output;
         put_title(output, "set ", at, "");
-        let bits = if set.is_64() { 64 } else { 32 };
+        let bits = 8 * set.format().word_size();
         let _ = write!(output, ": length {}, {bits}-bit", set.unit_length());
         if self.request.command == Command::Addr {
             let _ = write!(output, ", address size {}", set.entry_size());
@@ -220,13 +219,16 @@ impl<'d> Listing<'_, 'd> {
 
     // Lists the entries from an offset on that the section has whole, or else the error of the first.
     fn entries_at(
-        &mut self, what: What, bytes: &[u8], size: u64, listed: &mut Listed<'_, 'd>, at: u64,
+        &mut self, what: What, bytes: &[u8], size: u8, listed: &mut Listed<'_, 'd>, at: u64,
     ) -> (std::result::Result<(), Error>, u64) {
+        let size = u64::from(size);
         let count = (bytes.len() as u64 - at) / size;
         let (order, base) = (listed.order, at as usize);
         let entry = |index| match what {
-            What::AddressesAlone(size) => dwarf_read::address(bytes, order, size, base, index),
-            _ => dwarf_read::str_offset(bytes, order, size == 8, base, index).map(|it| it as u64),
+            What::StringOffsetsAlone(format) => {
+                dwarf_read::str_offset(bytes, order, format, base, index).map(|it| it as u64)
+            }
+            _ => dwarf_read::address(bytes, order, size as u8, base, index),
         };
         if count == 0 {
             return (entry(0).map(drop), bytes.len() as u64);
@@ -423,7 +425,11 @@ impl<'d> Listing<'_, 'd> {
         };
         let how = format!("as in DWARF 4, and is listed by the units' {about}, {names}");
         self.report.note(format!("{section} has no headers, {how}"));
-        Some(if is_addr { What::AddressesAlone(kind) } else { What::StringOffsetsAlone(kind) })
+        Some(match kind {
+            size if is_addr => What::AddressesAlone(size),
+            8 => What::StringOffsetsAlone(Format::Dwarf64),
+            _ => What::StringOffsetsAlone(Format::Dwarf32),
+        })
     }
 }
 
@@ -442,7 +448,7 @@ fn set_at(what: What, bytes: &[u8], order: ByteOrder, at: u64) -> (std::result::
         _ => str_offset_sets(rest, order),
     };
     let set = sets.next().unwrap_or_else(|| Err(missing())).and_then(|set| {
-        let begin = set.base() - if set.is_64() { 12 } else { 4 };
+        let begin = set.base() - if set.format() == Format::Dwarf64 { 12 } else { 4 };
         if (set.unit_length() - begin) % usize::from(set.entry_size()) != 0 {
             return Err(missing());
         }

@@ -33,7 +33,7 @@ fn put_attribute(output: &mut Output, attribute: &Attribute) {
 macro_rules! put_names {
     ($($put:ident: $family:ty),*) => {
         $(fn $put(output: &mut Output, constant: $family) {
-            match constant.name() {
+            match constant.static_string() {
                 Some(name) => output.put(name.as_bytes()),
                 None => { let _ = write!(output, "{constant}"); }
             }
