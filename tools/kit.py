@@ -17,8 +17,8 @@ from typing import Any, Optional, Union
 
 ROOT = os.path.dirname(os.path.dirname(os.path.realpath(__file__)))
 PARTS = ("src", "specs", "proofs")
-# The folders with tests of scripts: those of what lists ELF files, and those of the scripts here.
-SCRIPT_TESTS = ("elf/tests", "tools")
+# The folders with tests of scripts.
+SCRIPT_TESTS = ("tools",)
 # The kit that these scripts were written for.
 KIT = "rattle-kit-13f logic dac8208d650f15bf"
 # A command that has ended, with all that it wrote.
