@@ -32,7 +32,7 @@ import kit
 import products
 from unproved import say
 
-PROGRAMS = ("dwarf_list", "dwarf_list_many")
+PROGRAMS = ("dwarf_list",)
 # The processor minutes that proving and building both programs takes.
 PROOF_MINUTES = 45
 NO_KIT = "the command rt of the Rattle kit isn't on PATH"

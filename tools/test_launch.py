@@ -178,18 +178,6 @@ class Help(unittest.TestCase):
         listed = re.findall(r"^  ([a-z-]+ (?:OFFSET|N|le\|be))  ", printed(LAUNCHER, "--help"), re.M)
         self.assertEqual(sorted(listed), sorted(usage("Fault", NAME).split(" | ")))
 
-    def test_many(self) -> None:
-        arguments, _, kinds = usage("ManyFault", f"{NAME}_many").partition(", where KIND is ")
-        told = re.findall(r"^  --many (.*)\n((?:   .*\n)+)", printed(LAUNCHER, "--help"), re.M)
-        self.assertEqual([it for it, _ in told], [arguments])
-        named = re.findall(r"[a-z-]+(?: le\|be)?", kinds.replace(" or ", ", "))
-        for it in named:
-            self.assertIn(it, " ".join(told[0][1].split()))
-        # The launcher passes each of them on.
-        passed = re.findall(r"dwarf_list_many/([a-z-]+)", kit.text_of(LAUNCHER))
-        options = re.findall(r"\[(--[a-z-]+)[^]]*\]", arguments)
-        self.assertEqual(sorted(passed), sorted([*options, *(it.split()[0] for it in named)]))
-
     def test_installed(self) -> None:
         with tempfile.TemporaryDirectory() as folder:
             kit.put(f"{folder}/start", printed(f"{kit.ROOT}/tools/install", "--start"))
@@ -261,8 +249,7 @@ class Manual(unittest.TestCase):
         self.assertIn("ends with status 141", page)
 
     def test_dwarf_elf(self) -> None:
-        file = f"{kit.ROOT}/elf/src/help.txt"
-        said = kit.text_of(file) if os.path.isfile(file) else printed(f"{kit.ROOT}/elf/dwarf_elf", "--help")
+        said = kit.text_of(f"{kit.ROOT}/elf/src/help.txt")
         commands = set(re.findall(r"^    \S*dwarf_elf FILE\.\. (\S+(?: \S+)?)  ", said, re.M))
         self.assertEqual(self.tags("dwarf_elf", "COMMANDS"), commands)
         options = {*re.findall(r"^    (--\w+)  ", said, re.M), *re.findall(r"dwarf_elf (--\w+)", said)}

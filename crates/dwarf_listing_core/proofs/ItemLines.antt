@@ -7,7 +7,6 @@ use Rattle.dwarf_read_core.specs.Lookups.{UnlessOutOfMemory}
 use Rattle.dwarf_read_core.specs.Input.{Input}
 use Rattle.dwarf_read_core.specs.Items.{GivesFirst}
 use Rattle.dwarf_read_core.specs.Contributions.{Remaining, RemainingOf, remaining_of, seen_by}
-use Rattle.dwarf_listing_core.specs.Sets.{NamesSet, one_number}
 
 -- ---- the loop over an iterator
 
@@ -25,12 +24,6 @@ in_front-error {Lists} text e joined = is_it joined.0 joined.1 joined.2
     is_it : (rest : Result (List ℕ) Error) → Lists rest → Err e ≡ in_front text rest → Lists (Err e)
     is_it (Ok more) lists same = absurd cc
     is_it (Err other) lists same = subst Lists (sym same) lists
-
--- what is listed after no text is all that is listed
-pub after_nothing : {Lists : Result (List ℕ) Error → Type 0} (listed : Result (List ℕ) Error)
-    → Joins (Ok []) Lists listed → Lists listed
-after_nothing {Lists} listed (Ok more, lists, same) = subst Lists (sym same) lists
-after_nothing {Lists} listed (Err e, lists, same) = subst Lists (sym same) lists
 
 -- what is listed of the items that remain completes the text to the old one and what is listed of all items
 abbrev pub Completes : {I : Type 0} → (I → Result (List ℕ) Error → Type 0) → I → I → List ℕ → List ℕ → Type 0
@@ -111,18 +104,3 @@ set_appended listing s view is_free old between new r line = listed_otherwise (�
           (h.0, entries, refl),
           h.2 ∙ ap (λ t. in_front t h.0) line ∙ sym (in_front-append old (listing.header_line s) h.0),
         )
-
--- the line of a set and the numbers that its entries append to none are the set with its entries as numbers
-pub set_of_names : {H X : Type 0} (listing : SetListing H) (s : Set H) (view : X → ℕ) (is_free : Bool)
-    (line numbers : List ℕ) (r : Result (Unit {0}) Error) → line ≡ listing.header_line s
-    → UnlessOutOfMemory (Joins (Ok []) (ListsRun (GivesFirst listing.represents view is_free)
-    (λ x. ListsLine one_number (view x)) (listing.entries s))) (λ _. numbers) r
-    → UnlessOutOfMemory (NamesSet listing s) (λ _. (line, numbers)) r
-set_of_names listing s view is_free line numbers (Ok x) same h = (
-  numbers,
-  items_of_run listing.represents view (ListsLine one_number) (after_nothing (Ok numbers) h) (λ other. absurd cc),
-  λ i. (same i, numbers),
-)
-set_of_names listing s view is_free line numbers (Err e) same h = λ memory.
-    items_of_run listing.represents view (ListsLine one_number) (after_nothing (Err e) (h memory))
-    (λ other. memory cc)

@@ -1,10 +1,9 @@
-//! Numbers of the command line and of lists of offsets: ASCII digits, and before a signed one an
-//! optional minus.
+//! Numbers of the command line: ASCII digits, and before a signed one an optional minus.
 
 ghost use Rattle.std.specs.Prelude.{◌≡◌};
-ghost use Rattle.std.specs.Char.{is_ascii_digit, is_ascii_hexdigit};
+ghost use Rattle.std.specs.Char.{is_ascii_digit};
 ghost use Rattle.std.specs.List.{list_all};
-ghost use Rattle.dwarf_listing_core.specs.Number.{hexadecimal_of, signed_of, unsigned_of, without_minus};
+ghost use Rattle.dwarf_listing_core.specs.Number.{signed_of, unsigned_of, without_minus};
 
 /// Parses one or more ASCII digits as a number below 2^64. Leading zeros are allowed.
 #[tactic(auto, using(crate::proofs::Numbers::parsed_unsigned))]
@@ -28,35 +27,6 @@ pub fn parse_signed(text: &str) -> Option<i64>
     } else {
         None
     }
-}
-
-/// Parses like [`parse_unsigned`], from bytes that may not be UTF-8.
-#[tactic(auto, using(crate::proofs::Numbers::not_text))]
-pub fn parse_digits(text: &[u8]) -> Option<u64>
-    ensures { result ≡ unsigned_of text.now }
-{
-    match str::from_utf8(text) {
-        Ok(text) => parse_unsigned(text),
-        Err(_) => None,
-    }
-}
-
-/// Parses one or more hexadecimal ASCII digits, of either case, as a number below 2^64. The bytes
-/// may not be UTF-8.
-#[tactic(auto, using(crate::proofs::Numbers::parsed_hexadecimal, crate::proofs::Numbers::not_hex_text))]
-pub fn parse_hexadecimal(text: &[u8]) -> Option<u64>
-    ensures { result ≡ hexadecimal_of text.now }
-{
-    match str::from_utf8(text) {
-        Ok(text) if is_all_hex(text.as_bytes()) => u64::from_str_radix(text, 16).ok(),
-        _ => None,
-    }
-}
-
-fn is_all_hex(text: &[u8]) -> bool
-    ensures { result ≡ list_all is_ascii_hexdigit text.now }
-{
-    text.iter().all(|byte| byte.is_ascii_hexdigit())
 }
 
 fn is_all_digits(text: &[u8]) -> bool

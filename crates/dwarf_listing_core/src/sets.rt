@@ -5,10 +5,9 @@ ghost use Rattle.std.specs.Fmt.{digit_glyph};
 ghost use Rattle.std.specs.Iterator.{IsFinite};
 ghost use Rattle.dwarf_read_core.specs.ErrorText.{hexadecimal};
 ghost use Rattle.dwarf_read_core.specs.Lookups.{UnlessOutOfMemory};
-ghost use Rattle.dwarf_read_core.specs.Contributions.{Remaining, seen_by};
+ghost use Rattle.dwarf_read_core.specs.Contributions.{Remaining};
 ghost use Rattle.dwarf_listing_core.specs.Items.{Joins, ListsRun};
-ghost use Rattle.dwarf_listing_core.specs.Sets.{ListsAddresses, ListsFirst, ListsLine, ListsSection, ListsSet, ListsStringOffsets, NamesSet, address_header_line, address_line, address_listing, offset_header_line, offset_line, offset_listing, one_number, set_title};
-ghost use Rattle.dwarf_listing_core.specs.declared.sets.Style.TheVariants.{Whole, Titled};
+ghost use Rattle.dwarf_listing_core.specs.Sets.{ListsAddresses, ListsSection, ListsStringOffsets, address_header_line, address_line, address_listing, offset_header_line, offset_line, offset_listing, set_title};
 
 use dwarf_read_core::{
     AddrHeader, DebugAddr, DebugStrOffset, DebugStrOffsets, EndianSlice, Error, Reader,
@@ -35,9 +34,9 @@ pub fn addresses(mem: Global, section: &[u8], endian: RunTimeEndian) -> Result<V
 // Returns the lines of the sets of addresses that a reader has.
 fn addresses_from<R: Reader<Offset = usize>>(mem: Global, section: R) -> Result<Vec<u8>, Error>
     ensures { let sets : Remaining = record { offset = 0; rest = R.view section } in
-        UnlessOutOfMemory (ListsSection (address_listing Whole) sets) vec_items result }
+        UnlessOutOfMemory (ListsSection address_listing sets) vec_items result }
 {
-    text_of(mem, Style::Whole, DebugAddr::from(section).headers()?)
+    text_of(mem, DebugAddr::from(section).headers()?)
 }
 
 /// Returns the sets of string offsets of a whole `.debug_str_offsets`: a line for each header, such
@@ -55,170 +54,50 @@ pub fn string_offsets(mem: Global, section: &[u8], endian: RunTimeEndian) -> Res
 // Returns the lines of the sets of string offsets that a reader has.
 fn string_offsets_from<R: Reader<Offset = usize>>(mem: Global, section: R) -> Result<Vec<u8>, Error>
     ensures { let sets : Remaining = record { offset = 0; rest = R.view section } in
-        UnlessOutOfMemory (ListsSection (offset_listing Whole (2 ^ 64 - 1)) sets) vec_items result }
+        UnlessOutOfMemory (ListsSection (offset_listing (2 ^ 64 - 1)) sets) vec_items result }
 {
-    text_of(mem, Style::Whole, DebugStrOffsets::from(section).headers()?)
-}
-
-/// Returns the lines of the set of addresses at the front of a reader, without its title.
-///
-/// # Errors
-///
-/// That of the header, or that of the set's addresses. `OutOfMemory` if memory runs out.
-pub(crate) fn first_addresses<R: Reader<Offset = usize>>(
-    mem: Global,
-    set: R,
-) -> Result<Vec<u8>, Error>
-    ensures { let sets : Remaining = record { offset = 0; rest = R.view set } in
-        UnlessOutOfMemory (ListsFirst (address_listing Titled) ListsSet sets) vec_items result }
-{
-    let end = set.offset_id();
-    let mut headers = DebugAddr::from(set).headers()?;
-    match headers.next()? {
-        Some(header) => text_alone(mem, &header),
-        None => Err(Error::UnexpectedEof(end)),
-    }
-}
-
-/// Returns the lines of the set of string offsets at the front of a reader, without its title.
-///
-/// # Errors
-///
-/// As [`first_addresses`] returns them.
-pub(crate) fn first_string_offsets<R: Reader<Offset = usize>>(
-    mem: Global,
-    set: R,
-) -> Result<Vec<u8>, Error>
-    ensures { let sets : Remaining = record { offset = 0; rest = R.view set } in
-        UnlessOutOfMemory (ListsFirst (offset_listing Titled (2 ^ 64 - 1)) ListsSet sets) vec_items
-        result }
-{
-    let end = set.offset_id();
-    let mut headers = DebugStrOffsets::from(set).headers()?;
-    match headers.next()? {
-        Some(header) => text_alone(mem, &header),
-        None => Err(Error::UnexpectedEof(end)),
-    }
-}
-
-/// Returns the line of the set of string offsets at the front of a reader, without its title, and
-/// its string offsets.
-///
-/// # Errors
-///
-/// As [`first_addresses`] returns them.
-pub(crate) fn first_names<R: Reader<Offset = usize>>(
-    mem: Global,
-    set: R,
-) -> Result<(Vec<u8>, Vec<u64>), Error>
-    ensures { let sets : Remaining = record { offset = 0; rest = R.view set } in
-        UnlessOutOfMemory (ListsFirst (offset_listing Titled (2 ^ 64 - 1)) NamesSet sets)
-        (λ it. (it.0.items, it.1.items)) result }
-{
-    let end = set.offset_id();
-    let mut headers = DebugStrOffsets::from(set).headers()?;
-    match headers.next()? {
-        Some(header) => names_of(mem, &header),
-        None => Err(Error::UnexpectedEof(end)),
-    }
-}
-
-// Returns the line of a set of string offsets, and these.
-fn names_of<R: Reader>(
-    mem: Global,
-    header: &StrOffsetsHeader<R>,
-) -> Result<(Vec<u8>, Vec<u64>), Error>
-    ensures { UnlessOutOfMemory
-        (NamesSet (offset_listing Titled R.Offset.GREATEST) (seen_by R.view header.now))
-        (λ it. (it.0.items, it.1.items)) result }
-{
-    let (offset, length) = (header.offset().into_u64(), header.length().into_u64());
-    let bits = header.format().word_size() * 8;
-    let mut line = Vec::new(mem);
-    push_offset_header(&mut line, Style::Titled, offset, length, bits)?;
-    let mut names = Vec::new(mem);
-    push_numbers(&mut names, header.entries()?)?;
-    Ok((line, names))
-}
-
-// Appends string offsets, in order.
-fn push_numbers<O: ReaderOffset, I: Iterator<Item = Result<DebugStrOffset<O>, Error>>>(
-    numbers: &mut Vec<u64>,
-    items: I,
-) -> Result<(), Error>
-    requires can { I.can_next items }
-    requires ends { IsFinite (I.remaining items) }
-    ensures { UnlessOutOfMemory (Joins (Ok numbers.old.items)
-        (ListsRun I.next_gives (λ offset. ListsLine one_number (O.value offset.0)) items))
-        (λ _. numbers.new.items) result }
-{
-    for item in items {
-        numbers.push(item?.0.into_u64())?;
-    }
-    Ok(())
-}
-
-// How a set is listed.
-#[derive(Clone, Copy)]
-pub(crate) enum Style {
-    // Among all sets of a section: its header begins with its offset, and string offsets are
-    // decimal.
-    Whole,
-    // Alone, after a title: string offsets are hexadecimal.
-    Titled,
+    text_of(mem, DebugStrOffsets::from(section).headers()?)
 }
 
 /// An item of a section, such as a set or an entry of a set, which is listed by lines.
 trait Listed: Drop {
     ghost use Rattle.dwarf_read_core.specs.declared.Error.{Error};
-    ghost use Rattle.dwarf_listing_core.specs.declared.sets.Style.{Style};
 
-    ghost lists: { Style → Self → Result (List ℕ) Error → Type 0 };
+    ghost lists: { Self → Result (List ℕ) Error → Type 0 };
 
     /// Appends the lines of the item, or returns the error that takes their place.
-    fn push_lines(&self, style: Style, text: &mut Vec<u8>) -> Result<(), Error>
-        ensures { UnlessOutOfMemory (Joins (Ok text.old.items) (lists style self.now))
+    fn push_lines(&self, text: &mut Vec<u8>) -> Result<(), Error>
+        ensures { UnlessOutOfMemory (Joins (Ok text.old.items) (lists self.now))
             (λ _. text.new.items) result };
 }
 
 // Returns the lines of items, in order.
 fn text_of<T: Listed, I: Iterator<Item = Result<T, Error>>>(
     mem: Global,
-    style: Style,
     items: I,
 ) -> Result<Vec<u8>, Error>
     requires can { I.can_next items }
     requires ends { IsFinite (I.remaining items) }
-    ensures { UnlessOutOfMemory (ListsRun I.next_gives (T.lists style) items) vec_items result }
+    ensures { UnlessOutOfMemory (ListsRun I.next_gives T.lists items) vec_items result }
 {
     let mut text = Vec::new(mem);
-    push_items(&mut text, style, items)?;
-    Ok(text)
-}
-
-// Returns the lines of an item alone.
-fn text_alone<T: Listed>(mem: Global, item: &T) -> Result<Vec<u8>, Error>
-    ensures { UnlessOutOfMemory (T.lists Style.Titled item.now) vec_items result }
-{
-    let mut text = Vec::new(mem);
-    item.push_lines(Style::Titled, &mut text)?;
+    push_items(&mut text, items)?;
     Ok(text)
 }
 
 // Appends the lines of items, in order.
 fn push_items<T: Listed, I: Iterator<Item = Result<T, Error>>>(
     text: &mut Vec<u8>,
-    style: Style,
     items: I,
 ) -> Result<(), Error>
     requires can { I.can_next items }
     requires ends { IsFinite (I.remaining items) }
     ensures { UnlessOutOfMemory
-        (Joins (Ok text.old.items) (ListsRun I.next_gives (T.lists style) items))
+        (Joins (Ok text.old.items) (ListsRun I.next_gives T.lists items))
         (λ _. text.new.items) result }
 {
     for item in items {
-        item?.push_lines(style, text)?;
+        item?.push_lines(text)?;
     }
     Ok(())
 }
@@ -227,14 +106,14 @@ impl<R: Reader> Listed for AddrHeader<R> {
     ghost use Rattle.dwarf_read_core.specs.Contributions.{seen_by};
     ghost use Rattle.dwarf_listing_core.specs.Sets.{ListsSet, address_listing};
 
-    ghost lists = { λ style header. ListsSet (address_listing style) (seen_by R.view header) };
+    ghost lists = { λ header. ListsSet address_listing (seen_by R.view header) };
 
-    fn push_lines(&self, style: Style, text: &mut Vec<u8>) -> Result<(), Error> {
+    fn push_lines(&self, text: &mut Vec<u8>) -> Result<(), Error> {
         let (offset, length) = (self.offset().0.into_u64(), self.length().into_u64());
         let encoding = self.encoding();
         let (bits, size) = (encoding.format.word_size() * 8, encoding.address_size);
-        push_address_header(text, style, offset, length, bits, size)?;
-        push_items(text, style, self.entries()?)
+        push_address_header(text, offset, length, bits, size)?;
+        push_items(text, self.entries()?)
     }
 }
 
@@ -242,20 +121,19 @@ impl<R: Reader> Listed for StrOffsetsHeader<R> {
     ghost use Rattle.dwarf_read_core.specs.Contributions.{seen_by};
     ghost use Rattle.dwarf_listing_core.specs.Sets.{ListsSet, offset_listing};
 
-    ghost lists = { λ style header.
-        ListsSet (offset_listing style R.Offset.GREATEST) (seen_by R.view header) };
+    ghost lists = { λ header.
+        ListsSet (offset_listing R.Offset.GREATEST) (seen_by R.view header) };
 
-    fn push_lines(&self, style: Style, text: &mut Vec<u8>) -> Result<(), Error> {
+    fn push_lines(&self, text: &mut Vec<u8>) -> Result<(), Error> {
         let (offset, length) = (self.offset().into_u64(), self.length().into_u64());
         let bits = self.format().word_size() * 8;
-        push_offset_header(text, style, offset, length, bits)?;
-        push_items(text, style, self.entries()?)
+        push_offset_header(text, offset, length, bits)?;
+        push_items(text, self.entries()?)
     }
 }
 
 fn push_address_header(
     text: &mut Vec<u8>,
-    style: Style,
     offset: u64,
     length: u64,
     bits: u8,
@@ -263,42 +141,38 @@ fn push_address_header(
 ) -> Result<(), AllocError>
     ensures { OnOk result
         (text.new.items
-        ≡ text.old.items ++ address_header_line style offset length bits size) }
+        ≡ text.old.items ++ address_header_line offset length bits size) }
 {
-    push_set_title(text, style, offset)?;
+    push_set_title(text, offset)?;
     writeln!(text, "length {length}, {bits}-bit, address size {size}").map_err(|_| AllocError)
 }
 
 fn push_offset_header(
     text: &mut Vec<u8>,
-    style: Style,
     offset: u64,
     length: u64,
     bits: u8,
 ) -> Result<(), AllocError>
     ensures { OnOk result
-        (text.new.items ≡ text.old.items ++ offset_header_line style offset length bits) }
+        (text.new.items ≡ text.old.items ++ offset_header_line offset length bits) }
 {
-    push_set_title(text, style, offset)?;
+    push_set_title(text, offset)?;
     writeln!(text, "length {length}, {bits}-bit").map_err(|_| AllocError)
 }
 
-fn push_set_title(text: &mut Vec<u8>, style: Style, offset: u64) -> Result<(), AllocError>
-    ensures { OnOk result (text.new.items ≡ text.old.items ++ set_title style offset) }
+fn push_set_title(text: &mut Vec<u8>, offset: u64) -> Result<(), AllocError>
+    ensures { OnOk result (text.new.items ≡ text.old.items ++ set_title offset) }
 {
-    match style {
-        Style::Whole => write!(text, "set {offset}: ").map_err(|_| AllocError),
-        Style::Titled => Ok(()),
-    }
+    write!(text, "set {offset}: ").map_err(|_| AllocError)
 }
 
 // An address.
 impl Listed for u64 {
     ghost use Rattle.dwarf_listing_core.specs.Sets.{ListsLine, address_line};
 
-    ghost lists = { λ _. ListsLine address_line };
+    ghost lists = { ListsLine address_line };
 
-    fn push_lines(&self, _style: Style, text: &mut Vec<u8>) -> Result<(), Error> {
+    fn push_lines(&self, text: &mut Vec<u8>) -> Result<(), Error> {
         Ok(push_address(text, *self)?)
     }
 }
@@ -306,15 +180,15 @@ impl Listed for u64 {
 impl<O: ReaderOffset> Listed for DebugStrOffset<O> {
     ghost use Rattle.dwarf_listing_core.specs.Sets.{ListsLine, offset_line};
 
-    ghost lists = { λ style offset. ListsLine (offset_line style) (O.value offset.0) };
+    ghost lists = { λ offset. ListsLine offset_line (O.value offset.0) };
 
-    fn push_lines(&self, style: Style, text: &mut Vec<u8>) -> Result<(), Error> {
-        Ok(push_string_offset(text, style, self.0.into_u64())?)
+    fn push_lines(&self, text: &mut Vec<u8>) -> Result<(), Error> {
+        Ok(push_string_offset(text, self.0.into_u64())?)
     }
 }
 
-/// Appends the line of an address.
-pub(crate) fn push_address(text: &mut Vec<u8>, address: u64) -> Result<(), AllocError>
+// Appends the line of an address.
+fn push_address(text: &mut Vec<u8>, address: u64) -> Result<(), AllocError>
     ensures { OnOk result (text.new.items ≡ text.old.items ++ address_line address) }
 {
     let mut line = [b'\n'; 17];
@@ -323,20 +197,10 @@ pub(crate) fn push_address(text: &mut Vec<u8>, address: u64) -> Result<(), Alloc
     text.extend_from_slice(&line[start..])
 }
 
-// Appends the line of a string's offset.
-fn push_string_offset(text: &mut Vec<u8>, style: Style, offset: u64) -> Result<(), AllocError>
-    ensures { OnOk result (text.new.items ≡ text.old.items ++ offset_line style offset) }
-{
-    match style {
-        Style::Whole => push_decimal(text, offset),
-        Style::Titled => push_address(text, offset),
-    }
-}
-
-// Appends the line of a decimal offset. With a `Buffer` of `itoa`, after which the line end is
+// Appends the line of a string's offset. With a `Buffer` of `itoa`, after which the line end is
 // appended alone, a listing takes six to nine per cent more instructions.
-fn push_decimal(text: &mut Vec<u8>, offset: u64) -> Result<(), AllocError>
-    ensures { OnOk result (text.new.items ≡ text.old.items ++ offset_line Whole offset) }
+fn push_string_offset(text: &mut Vec<u8>, offset: u64) -> Result<(), AllocError>
+    ensures { OnOk result (text.new.items ≡ text.old.items ++ offset_line offset) }
 {
     let mut line = [b'\n'; 21];
     let start = write_digits(offset, &mut line, 20);
@@ -344,9 +208,9 @@ fn push_decimal(text: &mut Vec<u8>, offset: u64) -> Result<(), AllocError>
     text.extend_from_slice(&line[start..])
 }
 
-/// Puts the hexadecimal digits of a number before the last byte, and returns where they begin.
-/// A section has many addresses, and formatting each by `{:x}` takes twice as long.
-pub(crate) fn put_hexadecimal(line: &mut [u8; 17], number: u64) -> usize
+// Puts the hexadecimal digits of a number before the last byte, and returns where they begin.
+// A section has many addresses, and formatting each by `{:x}` takes twice as long.
+fn put_hexadecimal(line: &mut [u8; 17], number: u64) -> usize
     ensures bound { result ≤ 17 }
     ensures digits { drop result line.new ≡ hexadecimal number ++ drop 16 line.old }
 {

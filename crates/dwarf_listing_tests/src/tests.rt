@@ -10,7 +10,6 @@ use std::test::Fail;
 mod arguments;
 mod cuts;
 mod ends;
-mod many;
 
 const CUT: &str = "error: unexpected end of input";
 

@@ -1,9 +1,8 @@
 use Rattle.dwarf_listing_core.proofs.Common.{address_listing}
 use Rattle.dwarf_listing_core.proofs.ItemLines.{text_of_sets}
-use Rattle.dwarf_listing_core.specs.declared.sets.Style.TheVariants.{Whole}
 use Rattle.dwarf_listing_core.proofs.sets.addresses_from.Goals as goal
 
 pub returns : goal.returns
 returns g c =
     let same = rw c.from.ensures at c.in_ok-headers.ensures.ok in
-    text_of_sets g.R.Reader.view (address_listing Whole) g.R.Reader.clone_is_free _ same c.text_of.result c.text_of.ensures
+    text_of_sets g.R.Reader.view address_listing g.R.Reader.clone_is_free _ same c.text_of.result c.text_of.ensures

@@ -8,6 +8,6 @@ invariant-loop-item g l =
     record {
       can : (goal.iterator-loop-item g).can_next l.item-iterator;
       ends : (goal.iterator-loop-item g).is_finite l.item-iterator;
-      completes : Completes (ListsRun g.I.Iterator.next_gives (g.T.Listed.lists l.style))
+      completes : Completes (ListsRun g.I.Iterator.next_gives g.T.Listed.lists)
           l.fn.items l.item-iterator l.initial.text.items l.text.items;
     }
