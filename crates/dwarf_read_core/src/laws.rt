@@ -35,8 +35,8 @@ pub use dwarf_base_core::laws::{names_of_sections, numbers_of_bytes};
 pub use dwarf_code_core::laws::{names_are_distinct, negate_ra_state_is_window_save};
 pub use dwarf_const_core::laws::names_are_distinct as names_of_two_bytes_are_distinct;
 pub use dwarf_reader_core::laws::{
-    bad_bytes_stay_bad, exactly_one_initial_length, exactly_one_outcome, exactly_one_read,
-    exactly_one_shortest, missing_bytes_of_headers, no_encoding_begins_another, written_is_read,
+    bad_bytes_stay_bad, exactly_one_outcome, exactly_one_read, exactly_one_shortest,
+    missing_bytes_of_headers, no_encoding_begins_another, written_is_read,
 };
 
 /// Every section has exactly one result at every offset: a table, or the first error.

@@ -50,12 +50,6 @@ pub fn written_is_read()
         → HasNumber k (bytes ++ rest) number (length bytes) }
 {}
 
-/// Bytes have exactly one result for an initial length: they begin with one, or have one error.
-#[tactic(auto, using(crate::proofs::public::InitialLengths::lengths_exactly_one))]
-pub fn exactly_one_initial_length()
-    ensures { (greatest : ℕ) (old : Input) → HasOne (LengthAt greatest old) }
-{}
-
 /// An `UnexpectedEof` in place of a header or an initial length is that of the first field that isn't
 /// there whole, at the position where the field begins.
 #[tactic(auto, using(crate::proofs::public::MissingFields::missing_fields))]
