@@ -76,7 +76,8 @@ pub extern "C" fn dwarf_unit_header(
     ensures end_fault { result ≡ DWARF_END → fault.new ≡ fault.old }
     ensures rejected { let s = section_of section.now is_big in
         result ≢ DWARF_OK → result ≢ DWARF_END
-        → Rejects (HasNoContributionAt (header_in is_types) (2 ^ 64 - 1) s offset) result fault.new }
+        → Rejects (HasNoContributionAt (header_in is_types) (2 ^ 64 - 1) s offset)
+        result fault.new }
     ensures no_unit { result ≢ DWARF_OK → unit.new ≡ unit.old }
     ensures no_fault { result ≡ DWARF_OK → fault.new ≡ fault.old }
 {

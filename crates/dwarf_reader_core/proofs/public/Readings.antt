@@ -223,6 +223,7 @@ module _ (n : ℕ) where
   skip-to old (Ok done, new) is = record { enough = is.2.enough; left = is.2.left }
   skip-to old (Err e, new) is = is
 
+  -- and bytes that are skipped is what it reads
   skip-from : (old : Input) (r : Result ⊤ Error × Input) → SkipRead n old r → Mapped (λ x. tt) (NumberRead n) old r
   skip-from old (Ok done, new) is = (front n old, refl, record { enough = is.enough; encoded = refl; left = is.left })
   skip-from old (Err e, new) is = is
@@ -237,6 +238,7 @@ module _ (n : ℕ) where
   signed-to old (Ok x, new) is = record { number = is.0; taken = is.2; signed = is.1 }
   signed-to old (Err e, new) is = is
 
+  -- and a signed number is what it reads
   signed-from : (old : Input) (r : Result ℤ Error × Input) → SignedRead n old r
       → Mapped (signed_number n) (NumberRead n) old r
   signed-from old (Ok x, new) is = (is.number, is.signed, is.taken)
@@ -253,10 +255,12 @@ module _ (greatest n : ℕ) where
   abbrev CheckedWordRead : Reading ℕ
   CheckedWordRead = Then (NumberRead n) (λ x. CheckedRead (nat_le x greatest) x UnsupportedOffset)
 
+  -- what it reads is a word that has to be an offset
   word-to : (old : Input) (r : Result ℕ Error × Input) → CheckedWordRead old r → WordRead greatest n old r
   word-to old (Ok x, new) is = grind arith
   word-to old (Err e, new) is = grind arith
 
+  -- and a word that has to be an offset is what it reads
   word-from : (old : Input) (r : Result ℕ Error × Input) → WordRead greatest n old r → CheckedWordRead old r
   word-from old (Ok x, new) is = grind arith
   word-from old (Err e, new) is = grind arith
@@ -273,10 +277,12 @@ module _ (size : ℕ) where
   CheckedAddressRead =
       Then (CheckedRead (is_number_size size) size (UnsupportedAddressSize size)) (λ checked. NumberRead size)
 
+  -- what it reads is an address
   address-to : (old : Input) (r : Result ℕ Error × Input) → CheckedAddressRead old r → AddressRead size old r
   address-to old (Ok x, new) is = grind arith
   address-to old (Err e, new) is = grind arith
 
+  -- and an address is what it reads
   address-from : (old : Input) (r : Result ℕ Error × Input) → AddressRead size old r → CheckedAddressRead old r
   address-from old (Ok x, new) is = (size, old, rw is.1 refl, is.0)
   address-from old (Err e, new) (inl none) = inl (rw (none.none, none.fault, none.left) refl)
@@ -295,10 +301,12 @@ module _ (size : ℕ) where
     CheckedOffsetRead =
         Then (CheckedRead (is_number_size size) size (UnsupportedOffsetSize size)) (λ checked. WordRead greatest size)
 
+    -- what it reads is an offset of a size
     offset-to : (old : Input) (r : Result ℕ Error × Input) → CheckedOffsetRead old r → OffsetRead greatest size old r
     offset-to old (Ok x, new) is = grind arith
     offset-to old (Err e, new) is = grind arith
 
+    -- and an offset of a size is what it reads
     offset-from : (old : Input) (r : Result ℕ Error × Input) → OffsetRead greatest size old r → CheckedOffsetRead old r
     offset-from old (Ok x, new) is = (size, old, rw is.1 refl, (is.0, is.2))
     offset-from old (Err e, new) (inl none) = inl (rw (none.none, none.fault, none.left) refl)
@@ -316,10 +324,12 @@ module _ (size : ℕ) where
 abbrev CheckedSizeRead : Reading ℕ
 CheckedSizeRead = Then (NumberRead 1) (λ x. CheckedRead (is_number_size x) x (UnsupportedAddressSize x))
 
+-- what it reads is a size of addresses
 size-to : (old : Input) (r : Result ℕ Error × Input) → CheckedSizeRead old r → AddressSizeRead old r
 size-to old (Ok x, new) is = grind arith
 size-to old (Err e, new) is = grind arith
 
+-- and a size of addresses is what it reads
 size-from : (old : Input) (r : Result ℕ Error × Input) → AddressSizeRead old r → CheckedSizeRead old r
 size-from old (Ok x, new) is = grind arith
 size-from old (Err e, new) is = grind arith
@@ -438,10 +448,12 @@ module _ (bound : ℕ) where
   abbrev CheckedNumberRead : Reading ℕ
   CheckedNumberRead = Then (Leb128Read unsigned64) (λ x. CheckedRead (nat_lt x bound) x BadUnsignedLeb128)
 
+  -- what it reads is a bounded number
   bounded-to : (old : Input) (r : Result ℕ Error × Input) → CheckedNumberRead old r → BoundedRead bound old r
   bounded-to old (Ok x, new) is = grind arith
   bounded-to old (Err e, new) is = grind arith
 
+  -- and a bounded number is what it reads
   bounded-from : (old : Input) (r : Result ℕ Error × Input) → BoundedRead bound old r → CheckedNumberRead old r
   bounded-from old (Ok x, new) is = grind arith
   bounded-from old (Err e, new) is = grind arith
