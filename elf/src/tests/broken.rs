@@ -165,6 +165,9 @@ fn tables_may_be_within_tables() {
     let second = "2 DW_TAG_subprogram no\n";
     let wanted = format!("table 0x0:\n1 DW_TAG_compile_unit no\n{second}table 0x5:\n{second}");
     assert_eq!(tables(&[5, 0], &data, "abbrev"), said(0, &wanted, &[]));
+    // The second ends before the first does.
+    let wanted = format!("table 0x0:\n1 DW_TAG_compile_unit no\n{second}table 0x2:\n");
+    assert_eq!(tables(&[2, 0], &data, "abbrev"), said(0, &wanted, &[]));
 }
 
 #[test]

@@ -107,6 +107,21 @@ fn units_are_read_as_they_are_inflated() {
 }
 
 #[test]
+fn a_header_may_cross_the_parts_that_are_inflated() {
+    // The last field of the second header is the first byte of another part, and is read before the one in front.
+    let mut units = unit(4, 0);
+    units.resize((1 << 16) - 10, 1);
+    units[..4].copy_from_slice(&((1 << 16) - 14_u32).to_le_bytes());
+    units.extend(unit(4, 2));
+    let sections = [
+        (".debug_info", PROGBITS, packed(1, units.len() as u64, &deflated(&units)), 0, 0),
+        (".debug_abbrev", PROGBITS, packed(1, 3, &deflated(&[0; 3])), 0, 0),
+    ];
+    let found = listed(&elf(&sections, FORM), "abbrev");
+    assert_eq!(found.1, "table 0x0:\ntable 0x2:\n");
+}
+
+#[test]
 fn units_after_an_error_are_inflated() {
     let data = deflated(&little(&[(0xffff_fff5, 4), (0, 8)]));
     let sections =

@@ -147,9 +147,22 @@ fn a_common_symbol_has_no_address() {
 }
 
 #[test]
-fn rows_may_be_in_any_order() {
-    let rows = [(4, 10, 0), (0, 10, 1), (6, 0, 0)];
-    assert_eq!(address(&rows, STORED, OBJECT, 2), said(0, &one(0x20_0000_0021), &[]));
+fn tables_of_relocations_that_are_not_read_are_told() {
+    let set = little(&[(12, 4), (5, 2), (8, 1), (0, 1), (7, 8)]);
+    for (kind, link, why) in [
+        (0x4000_0014, 3, "has compact relocations (SHT_CREL), which aren't read"),
+        (RELA, 2, "has relocations whose symbols are to be in section 2, and aren't"),
+        (RELA, 9, "has relocations whose symbols are to be in section 9, and aren't"),
+    ] {
+        let sections: [Section<'_>; 4] = [
+            (".debug_addr", PROGBITS, set.clone(), 0, 0),
+            (".debug_abbrev", PROGBITS, vec![0], 0, 0),
+            (".symtab", SYMTAB, vec![0; 24], 0, 0),
+            (".rela", kind, vec![0; 24], link, 1),
+        ];
+        let line = format!("section 1 .debug_addr {why}");
+        assert_eq!(listed(&elf(&sections, OBJECT), "addr"), said(1, "", &[&line]));
+    }
 }
 
 /// A unit whose relocations are these. The tables listed are those that it names.
@@ -167,11 +180,17 @@ fn units_are_read_with_their_relocations() {
         (vec![(8, 10, 0x10)], 0x30),
         // One begins before the number, and changes its first four bytes.
         (vec![(4, 1, 0x0801_0005_u64.wrapping_add(0x33 << 32).wrapping_sub(0x20))], 0x33),
+        // One that isn't known is at a byte that isn't needed.
+        (vec![(6, 77, 0)], 7),
         // One ends where the number begins, or begins after its end.
         (vec![(4, 10, 0x0801_0005 - 0x20), (12, 0, 0)], 7),
     ] {
         assert_eq!(tables(&rows, unit.clone()), said(0, &format!("table 0x{table:x}:\n"), &[]));
     }
+    // The rows may be in any order.
+    let units = [&unit[..], &unit].concat();
+    let found = tables(&[(20, 10, 0x11), (8, 10, 0x10)], units);
+    assert_eq!(found, said(0, "table 0x30:\ntable 0x31:\n", &[]));
     let told = "the unit at 0x0 of section 1 .debug_info has a relocation at 0x8 of type 77, which isn't known here";
     let turn = "no unit names a table of section 2 .debug_abbrev, so the tables are listed in turn, from 0x0 on";
     assert_eq!(tables(&[(8, 77, 0)], unit), said(1, "", &[told, turn]));

@@ -92,6 +92,9 @@ fn tables_of_a_package_count_from_its_contributions() {
     let rows: [&[(u64, u64)]; 2] = [&[(0, 12), (0, 0x30), (0, 8)], &[(12, 12), (0x30, 0x50), (8, 8)]];
     let found = package(&index(&rows, 5, &[1, 3, 6]), &[0; 16], "abbrev");
     assert_eq!((found.0, found.1.as_str()), (0, "table 0x2:\ntable 0x32:\n"));
+    // Of two rows for the same units the last counts.
+    let rows: [&[(u64, u64)]; 2] = [&[(0, 24), (0, 0x30), (0, 8)], &[(0, 24), (0x30, 0x50), (8, 8)]];
+    assert_eq!(package(&index(&rows, 5, &[1, 3, 6]), &[0; 16], "abbrev").1, "table 0x32:\n");
     let row = [(0, 12), (0, 1), (0, 16)];
     for (data, why) in [
         (index(&[&row], 9, &[1, 3, 6]), "section 4 .debug_cu_index has the unknown version 9, and isn't read"),
