@@ -1,5 +1,5 @@
 -- How `parse` reads digits.
-use Rattle.dwarf_listing_core.proofs.Common.{◌≡◌, ℕ, Bool, true, ◌+◌, ◌^◌, ◌<◌, ◌≤◌, List, [], ◌∷◌, length, get_or, ℤ, neg_ℤ, None, rules, arith, Result, Ok, Err, All, option_map, IsUtf8, nat_tests, common_steps, decimal_below, signed_of, unsigned_of, without_minus}
+use Rattle.dwarf_listing_core.proofs.Common.{◌≡◌, ℕ, true, ◌+◌, ◌<◌, ◌≤◌, List, length, ℤ, neg_ℤ, rules, arith, Result, Ok, Err, option_map, nat_tests, common_steps, decimal_below, signed_of, unsigned_of, without_minus}
 use Rattle.std.specs.Int.{w64}
 use Rattle.std.proofs.lemmas.Str.Parse.{IsNumeralModel, numerals_by_value, parse_digits, parse_signed_digits, parse_signed_minus}
 use Rattle.std.specs.Char.{is_ascii_digit}

@@ -3,7 +3,7 @@ use Rattle.std.proofs.Common.{◌≡◌, ◌≤◌, ◌<◌, ℕ, length, refl, 
 use Rattle.dwarf_read_core.proofs.public.Consuming.{front, front-taken}
 use Rattle.dwarf_read_core.proofs.public.Once.{one_unless}
 use Rattle.dwarf_read_core.specs.declared.Error.{Error}
-use Rattle.dwarf_read_core.specs.Input.{Input, TakesNumber, after}
+use Rattle.dwarf_read_core.specs.Input.{Input, after}
 use Rattle.dwarf_read_core.specs.Faults.{eof_here}
 use Rattle.dwarf_read_core.specs.Once.{HasOne}
 use Rattle.dwarf_unit_core.specs.Layout.{Layout, says, lacks, field, ◌>>=◌, HasFields, HasNoFields, FieldsAt, no_field, one_field, unsupported, field_cut, later_field}

@@ -3,7 +3,7 @@ use Rattle.dwarf_read_core.proofs.Common.{common_steps, ◌≡◌, ℕ, ◌+◌,
 use Rattle.dwarf_base_core.specs.Number.{number_of}
 use Rattle.dwarf_reader_core.proofs.public.Once.{one_by_test, one_unless}
 use Rattle.dwarf_read_core.proofs.lookups.Results.{lookup-stays}
-use Rattle.dwarf_read_core.specs.Words.{Slot, distance, slot_offset, IsPlaced, Holds, HasWord, HasAddress, HasNoPlace, no_base, no_distance, no_place, HasNoWord, word_unplaced, word_cut, word_too_great, HasNoAddress, address_unplaced, address_unsized, address_cut, WordAt, AddressAt}
+use Rattle.dwarf_read_core.specs.Words.{Slot, distance, slot_offset, IsPlaced, Holds, HasWord, HasAddress, HasNoPlace, no_base, no_distance, no_place, HasNoWord, word_unplaced, word_cut, word_too_great, address_unplaced, address_unsized, address_cut, WordAt, AddressAt}
 
 -- ---- going to the place
 

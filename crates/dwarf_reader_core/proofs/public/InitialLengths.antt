@@ -1,10 +1,9 @@
 -- Bytes have exactly one initial length, or exactly one error in place of it, and either stays with more bytes appended.
-use Rattle.dwarf_reader_core.proofs.Common.{ℕ, ◌<◌, ◌≤◌, List, length, take, Result, Ok, Err, refl, sym, arith, Error, eof_here, IsTooShort, Input, after, Takes, TakesNumber, HasOne}
+use Rattle.dwarf_reader_core.proofs.Common.{ℕ, List, length, Result, Ok, Err, refl, sym, arith, Error, eof_here, Input, after, Takes, TakesNumber, HasOne}
 use Rattle.dwarf_base_core.specs.declared.common.Format.{Format}
 use Rattle.dwarf_base_core.specs.declared.common.Format.TheVariants.{Dwarf32, Dwarf64}
 use Rattle.dwarf_base_core.specs.declared.error.Error.TheVariants.{UnknownReservedLength, UnsupportedOffset}
 use Rattle.dwarf_base_core.specs.Format.{initial_length_size}
-use Rattle.dwarf_base_core.specs.Number.{number_of}
 use Rattle.dwarf_reader_core.specs.Appended.{followed_by, IsNotEof}
 use Rattle.dwarf_reader_core.specs.InitialLength.{HasLength, in_four_bytes, in_eight_bytes, HasNoLength, four_cut, reserved, eight_cut, too_great, LengthAt}
 use Rattle.dwarf_reader_core.proofs.public.Consuming.{front, front-cut, front-taken, number_more, takes-both}

@@ -1,12 +1,12 @@
 -- Each reading has exactly one result, which appended bytes change only where bytes were missing; and so has each
 -- reading that is made of others.
 use Rattle.std.specs.Prelude.{if◌then◌else◌, nat_le, nat_lt, ◌≢◌}
-use Rattle.dwarf_reader_core.proofs.Common.{Bool, true, common_steps, ◌≡◌, ◌∙◌, ℕ, ℤ, ⊤, ◌+◌, ◌<◌, ◌≤◌, false, IsTrue, List, ◌++◌, length, take, Result, Ok, Err, refl, sym, ap, ◌⊎◌, inl, inr, arith, false≢true, HasNoByte, HasOne, HasOutcome, IsEncoding, NoneIsLast, IsTooShort, Kind, Number, Outcome, Value, End, Bad, limit, unsigned64, Error, Input, after, eof, eof_here, first, Takes, TakesNumber, TakesString, length-append, take-append-le, drop-append-le}
-use Rattle.dwarf_base_core.specs.Number.{number_of, signed_number}
+use Rattle.dwarf_reader_core.proofs.Common.{Bool, true, ◌≡◌, ◌∙◌, ℕ, ℤ, ⊤, ◌≤◌, false, List, length, take, Result, Ok, Err, refl, sym, ap, inl, inr, arith, HasNoByte, HasOutcome, IsEncoding, NoneIsLast, IsTooShort, Kind, Number, Outcome, Value, End, Bad, limit, unsigned64, Error, Input, after, eof, eof_here, first, TakesString, length-append, take-append-le, drop-append-le}
+use Rattle.dwarf_base_core.specs.Number.{signed_number}
 use Rattle.dwarf_base_core.specs.declared.common.Format.{Format}
 use Rattle.dwarf_base_core.specs.declared.error.Error.TheVariants.{BadUnsignedLeb128, UnsupportedAddressSize, UnsupportedOffset, UnsupportedOffsetSize}
 use Rattle.dwarf_reader_core.specs.Appended.{followed_by}
-use Rattle.dwarf_reader_core.specs.Faults.{IsUnsupportedSize, is_number_size}
+use Rattle.dwarf_reader_core.specs.Faults.{is_number_size}
 use Rattle.dwarf_reader_core.specs.InitialLength.{HasNoLength, LengthAt, eight_cut, four_cut, reserved, too_great}
 use Rattle.dwarf_reader_core.specs.Leb128.{ReadsNumber, overflow_error}
 use Rattle.dwarf_reader_core.specs.Readings.{AddressRead, AddressSizeRead, BoundedRead, EncodingRead, Given, IsRead, IsSettled, Leb128Read, Mapped, NumberRead, OffsetRead, PartRead, Reading, SignedRead, SkipRead, StringRead, Then, WordRead}
@@ -15,7 +15,7 @@ use Rattle.dwarf_reader_core.proofs.public.BadNumbers.{bad_more}
 use Rattle.dwarf_reader_core.proofs.public.Consuming.{front, front-cut, front-taken, number_more, takes-more}
 use Rattle.dwarf_reader_core.proofs.public.InitialLengths.{length_more, lengths_exactly_one, no_length-more}
 use Rattle.dwarf_reader_core.proofs.public.MissingFields.{eof-same}
-use Rattle.dwarf_reader_core.proofs.public.Once.{one_by_test, one_unless}
+use Rattle.dwarf_reader_core.proofs.public.Once.{one_unless}
 use Rattle.dwarf_reader_core.proofs.public.Strings.{string_not_none, string_taken-more, string_taken_once, string_taken_or_none}
 
 -- ---- results

@@ -1,5 +1,5 @@
 -- Bytes either begin with exactly one string, or have no zero byte.
-use Rattle.dwarf_reader_core.proofs.Common.{◌≡◌, ◌≢◌, ℕ, zero, suc, ◌+◌, ◌<◌, take, refl, sym, ap, ◌∙◌, arith, ◌⊎◌, inl, inr, List, [], ◌∷◌, ◌++◌, All, All-nil, All-cons, cases_lt, length, length-append, length-drop, length-take, take-append-le, drop-append-le, ◌≤◌, Error, Input, after, first, IsFirst, Takes, TakesString, HasNoByte, eof_here}
+use Rattle.dwarf_reader_core.proofs.Common.{◌≡◌, ◌≢◌, ℕ, zero, suc, ◌+◌, ◌<◌, take, refl, sym, ap, ◌∙◌, arith, ◌⊎◌, inl, inr, List, [], ◌∷◌, All, All-nil, All-cons, cases_lt, length, length-append, length-drop, length-take, take-append-le, drop-append-le, Error, Input, after, first, IsFirst, Takes, TakesString, HasNoByte, eof_here}
 use Rattle.std.proofs.Common.{get_or-take, slice_index}
 use Rattle.std.proofs.lemmas.List.{get_or_append_left}
 use Rattle.std.proofs.lemmas.List.Elements.{All-get_or}
