@@ -6,7 +6,7 @@ use crate::relocations::number_of;
 use crate::report::{unlisted, Limited, Report, Result, ERRORS};
 use crate::sections::{DebugFile, Family, Section};
 use crate::text::{put_string, put_table, put_title};
-use crate::units::{tables, uses, Tables, Use};
+use crate::units::{tables, uses, Tables, Use, Uses};
 use dwarf_read::{address_sets, str_offset_sets, ByteOrder, Error, Format, Set, Table};
 use object::Endianness;
 use std::borrow::Cow;
@@ -70,7 +70,8 @@ pub fn list(file: &DebugFile<'_>, request: &Request, report: &mut Report) {
         (Command::Abbrev, None) => tables(file, report),
         _ => Tables::new(),
     };
-    let mut listing = Listing { file, request, report, room: Table::default(), strings: None };
+    let (room, strings, uses) = Default::default();
+    let mut listing = Listing { file, request, report, room, strings, uses };
     let mut errors = Limited::default();
     for section in &sections {
         if let Err(error) = listing.list(section, sections.len() > 1, &named) {
@@ -101,8 +102,9 @@ struct Listing<'f, 'd> {
     report: &'f mut Report,
     // The table that was read last, in whose memory the next is read.
     room: Table,
-    // The strings that string offsets are listed with.
-    strings: Option<(Family<'d>, Strings<'d>)>,
+    // The strings that string offsets are listed with, and how units use sets, for each family of sections.
+    strings: BTreeMap<Family<'d>, Strings<'d>>,
+    uses: BTreeMap<Family<'d>, Rc<Uses>>,
 }
 
 /// A section, with the bytes that are listed.
@@ -123,10 +125,9 @@ impl<'d> Listing<'_, 'd> {
         let what = What::of(self.request.command);
         let is_all = self.request.offset.is_none();
         let strings = if self.request.has_strings { self.strings_of(section) } else { None };
-        let uses = if is_all && matches!(what, What::Addresses | What::StringOffsets) {
-            uses(self.file, section, self.report)
-        } else {
-            BTreeMap::new()
+        let uses = match what {
+            What::Addresses | What::StringOffsets if is_all => self.uses_of(section),
+            _ => Rc::default(),
         };
         let body = self.file.relocated(section, body, self.report)?;
         let order = match self.file.elf.endian {
@@ -345,7 +346,7 @@ impl<'d> Listing<'_, 'd> {
     // Sets.
 
     /// Lists the sets in turn, unless some have no header, or one is malformed and an index has the others.
-    fn list_sets(&mut self, what: What, listed: &mut Listed<'_, 'd>, uses: &BTreeMap<Option<u64>, BTreeSet<Use>>) {
+    fn list_sets(&mut self, what: What, listed: &mut Listed<'_, 'd>, uses: &Uses) {
         let mut all = uses.values().flatten();
         let has_old = uses.values().flatten().any(|it| it.is_old);
         let is_old = has_old && all.all(|it| it.is_old);
@@ -380,14 +381,22 @@ impl<'d> Listing<'_, 'd> {
 
     /// The strings of a section of string offsets. `None`, and a report, if they can't be read.
     fn strings_of(&mut self, section: &Section<'d>) -> Strings<'d> {
-        match &self.strings {
-            Some((family, found)) if *family == section.family => found.clone(),
-            _ => {
-                let found = self.read_strings(section).map(Rc::new);
-                self.strings = Some((section.family, found.clone()));
-                found
-            }
+        if let Some(found) = self.strings.get(&section.family) {
+            return found.clone();
         }
+        let found = self.read_strings(section).map(Rc::new);
+        self.strings.insert(section.family, found.clone());
+        found
+    }
+
+    /// How units use a section of sets.
+    fn uses_of(&mut self, section: &Section<'d>) -> Rc<Uses> {
+        if let Some(found) = self.uses.get(&section.family) {
+            return found.clone();
+        }
+        let found = Rc::new(uses(self.file, section, self.report));
+        self.uses.insert(section.family, found.clone());
+        found
     }
 
     fn read_strings(&mut self, section: &Section<'d>) -> Option<Cow<'d, [u8]>> {

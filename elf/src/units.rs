@@ -317,9 +317,12 @@ fn place_of_table(file: &DebugFile<'_>, section: &Section<'_>, unit: &Unit) -> R
     }
 }
 
+/// How units use a section of sets, by the offset of what they use.
+pub type Uses = BTreeMap<Option<u64>, BTreeSet<Use>>;
+
 /// How units use a section, by the offset of what they use. In a package the rows say it, and else it is all.
-pub fn uses(file: &DebugFile<'_>, section: &Section<'_>, report: &mut Report) -> BTreeMap<Option<u64>, BTreeSet<Use>> {
-    let mut found: BTreeMap<Option<u64>, BTreeSet<Use>> = BTreeMap::new();
+pub fn uses(file: &DebugFile<'_>, section: &Section<'_>, report: &mut Report) -> Uses {
+    let mut found = Uses::new();
     let package = file.package_of(section.family);
     each_unit(file, section.family, report, &mut |units, unit, _| {
         let start = match package {
