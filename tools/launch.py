@@ -2,8 +2,8 @@
 
     python3 launch.py CRATE WORD..    runs the program of a crate, which is built first if need be
     python3 launch.py CRATE --path    prints where that program is
-    python3 launch.py --prove         proves and builds both programs
-    python3 launch.py --version       prints the versions, and whether the programs are proved
+    python3 launch.py --prove         proves and builds the program
+    python3 launch.py --version       prints the versions, and whether the program is proved
 
 The proved program is run if it is current, which its checksums say (tools/products.py). Else tools/unproved.py builds
 one, unless that is current. Without the kit, a program that is there is run, even if it was built from other sources.
@@ -33,7 +33,7 @@ import products
 from unproved import say
 
 PROGRAMS = ("dwarf_list",)
-# The processor minutes that proving and building both programs takes.
+# The processor minutes that proving and building the program takes.
 PROOF_MINUTES = 45
 NO_KIT = "the command rt of the Rattle kit isn't on PATH"
 FAILED = 3
@@ -121,7 +121,7 @@ def in_words(seconds: float) -> str:
 
 
 def prove() -> None:
-    """Proves and builds the programs, unless current ones are there."""
+    """Proves and builds the program, unless a current one is there."""
     started = time.time()
     left = [it for it in PROGRAMS if not products.find(kit.programs(it)[0], it)]
     if left and not shutil.which("rt"):
@@ -132,7 +132,7 @@ def prove() -> None:
         before = {it: products.sums(it) for it in left}
         with products.proved(left, lambda line: say(f"{in_words(time.time() - started)}: {line}")) as copy:
             if not copy:
-                stop("the programs aren't built")
+                stop("the program isn't built")
             for it in left:
                 if products.sums(it) != before[it]:
                     stop("the sources changed meanwhile: run this again")

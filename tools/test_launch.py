@@ -172,7 +172,7 @@ def printed(*words: str) -> str:
 
 
 class Help(unittest.TestCase):
-    """The help of ./dwarf_list and that of an installed one have each command of the programs' usage lines."""
+    """The help of ./dwarf_list and that of an installed one have each command of the program's usage line."""
 
     def test_commands(self) -> None:
         listed = re.findall(r"^  ([a-z-]+ (?:OFFSET|N|le\|be))  ", printed(LAUNCHER, "--help"), re.M)
