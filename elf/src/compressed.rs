@@ -5,7 +5,7 @@ use flate2::{Decompress, FlushDecompress, Status};
 use object::elf::ELFCOMPRESS_ZLIB;
 use std::io::Read;
 
-/// A section may inflate to so many bytes, or to so many times its compressed ones if that is more.
+/// A section may inflate to this many bytes, or to this many times its compressed ones if that is more.
 const INFLATED_BYTES: u64 = 1 << 28;
 const INFLATED_TIMES: u64 = 64;
 /// At most this many bytes are inflated at a time.

@@ -20,7 +20,7 @@ pub const STRTAB: u32 = 3;
 pub const RELA: u32 = 4;
 pub const NOTE: u32 = 7;
 
-/// Numbers of these sizes in bytes, one after the other.
+/// Consecutive numbers of these sizes in bytes.
 pub fn numbers(is_big: bool, fields: &[(u64, usize)]) -> Vec<u8> {
     let mut bytes = Vec::new();
     for (value, size) in fields {
