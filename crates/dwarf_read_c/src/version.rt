@@ -6,7 +6,7 @@ ghost use Rattle.dwarf_read_c.specs.Version.{library_version};
 
 use crate::room::put;
 
-// tools/static-library builds an unproved library with another text.
+// tools/examples compares it with the file VERSION.
 const VERSION: &str = "0.4.0";
 
 /// Writes the version of the library, such as `0.4.0`, to the front of `version`, without a zero
