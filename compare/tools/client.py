@@ -154,9 +154,11 @@ def copy(gimli: str, folder: str, is_patched: bool) -> None:
     put(f"{gimli}/README.md", f"{folder}/README.md")
     if is_patched:
         write(BUILD.replace("FOLDER", f"{OUT}/lib"), f"{folder}/build.rs")
-        of_crate = [f"{CRATE}/src/{it}.rs" for it in ("heap", "proved", "sys")]
-        for path in (f"{PACKAGE}/client/calls.rs", f"{PACKAGE}/src/room.rs", *of_crate):
+        for path in (f"{PACKAGE}/client/calls.rs", f"{PACKAGE}/src/room.rs"):
             put(path, f"{folder}/src/{os.path.basename(path)}")
+        for it in ("heap", "proved", "sys"):
+            # The crate's own tests aren't gimli's.
+            write(kit.text_of(f"{CRATE}/src/{it}.rs").partition("\n#[cfg(test)]\n")[0], f"{folder}/src/{it}.rs")
         for path in kit.files_below(f"{CRATE}/proved"):
             put(path, f"{folder}/proved/{os.path.basename(path)}")
 
