@@ -214,7 +214,13 @@ int main(int argc, char **argv) {
     }
     struct bytes section = {NULL, 0};
     int status;
-    if (!read_input(&section)) {
+    bool is_read = read_input(&section);
+    if (ferror(stdin)) {
+        perror("error: standard input");
+        free(section.items);
+        return 1;
+    }
+    if (!is_read) {
         struct dwarf_fault fault = {DWARF_OUT_OF_MEMORY, 0};
         status = failed(&fault);
     } else if (strcmp(argv[1], "abbrev") == 0) {

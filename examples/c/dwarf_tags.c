@@ -6,7 +6,7 @@
 #include <inttypes.h>
 #include <stdio.h>
 
-/* Reads all of standard input. Returns null if memory runs out. */
+/* Reads standard input up to its end, or to an error. Returns null if memory runs out. */
 static uint8_t *read_input(size_t *len) {
     uint8_t *bytes = NULL;
     size_t room = 0, count;
@@ -44,6 +44,11 @@ int main(void) {
     struct dwarf_table table;
     size_t len, offset = 0;
     uint8_t *section = read_input(&len);
+    if (ferror(stdin)) {
+        perror("error: standard input");
+        free(section);
+        return 1;
+    }
     uint32_t status = section != NULL ? DWARF_OK : DWARF_OUT_OF_MEMORY;
     while (status == DWARF_OK && offset < len) {
         status = dwarf_table_load(section, len, offset, &table, &fault);

@@ -98,7 +98,10 @@ fn tables_of_a_package_count_from_its_contributions() {
     let row = [(0, 12), (0, 1), (0, 16)];
     for (data, why) in [
         (index(&[&row], 9, &[1, 3, 6]), "section 4 .debug_cu_index has the unknown version 9, and isn't read"),
-        (index(&[&row], 5, &[1, 3, 6])[..39].to_vec(), "section 4 .debug_cu_index is too short for its 0 slots and 1 rows, and isn't read"),
+        (
+            index(&[&row], 5, &[1, 3, 6])[..39].to_vec(),
+            "section 4 .debug_cu_index is too short for its 0 slots and 1 rows, and isn't read",
+        ),
         (index(&[&[]], 5, &[]), "section 4 .debug_cu_index has no columns, and isn't read"),
         (
             index(&[&row], 5, &[1, 3, 6]),
