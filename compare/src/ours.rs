@@ -231,8 +231,8 @@ fn asked(reader: u32, question: &Question) -> Asked {
 }
 
 /// The readers that are asked now and then: slices whose byte order is their type's or known at run time, and the
-/// readers of `crates/dwarf_uses`.
-const READERS: [&str; 4] = ["EndianSlice<BigEndian>", "EndianSlice<RunTimeEndian>", OWNED, "SharedReader"];
+/// reader of `crates/dwarf_uses`.
+const READERS: [&str; 3] = ["EndianSlice<BigEndian>", "EndianSlice<RunTimeEndian>", OWNED];
 const OWNED: &str = "OwnedReader";
 
 /// What each of them finds that doesn't find the same.

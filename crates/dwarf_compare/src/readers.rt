@@ -7,11 +7,11 @@ use dwarf_read_core::{
     DebugStrOffset, DebugStrOffsets, DebugStrOffsetsBase, DebugStrOffsetsIndex, EndianSlice,
     Format, LittleEndian, Reader, ReaderOffset, Result, RunTimeEndian,
 };
-use dwarf_uses::{OwnedReader, SharedReader};
+use dwarf_uses::OwnedReader;
 use std::alloc::Global;
 
 /// The request of a call. `reader` is 0 for a slice whose byte order is its type's, 1 for a slice
-/// that has it at run time, 2 for [`OwnedReader`], and otherwise [`SharedReader`].
+/// that has it at run time, and otherwise [`OwnedReader`].
 #[repr(C)]
 #[derive(Clone, Copy)]
 pub struct Asked {
@@ -70,14 +70,10 @@ fn by_reader(mem: Global, section: &[u8], asked: Asked, found: &mut Found) -> Re
         (0, 0) => read(mem, EndianSlice::new(section, LittleEndian), asked, found),
         (0, _) => read(mem, EndianSlice::new(section, BigEndian), asked, found),
         (1, _) => read(mem, EndianSlice::new(section, order), asked, found),
-        (2, _) => {
+        _ => {
             let bytes = Vec::from_slice(mem, section)?;
             let input = OwnedReader::new(mem, bytes, order, u8::MAX)?;
             read(mem, input, asked, found)
-        }
-        _ => {
-            let bytes = Vec::from_slice(mem, section)?;
-            read(mem, SharedReader::new(bytes, order)?, asked, found)
         }
     }
 }

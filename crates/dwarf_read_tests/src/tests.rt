@@ -23,7 +23,6 @@ mod examples;
 mod names;
 mod owned;
 mod sections;
-mod shared;
 mod string_offset_sets;
 mod strings;
 mod tables;

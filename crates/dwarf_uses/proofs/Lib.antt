@@ -1,3 +1,3 @@
 pub mod Addresses
+pub mod CutBytes
 pub mod Lengths
-pub mod Shared

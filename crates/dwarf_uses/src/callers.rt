@@ -28,6 +28,24 @@ pub fn tag_of(table: &Abbreviations, code: u64) -> Option<DwTag>
     Some(table.get(code)?.tag())
 }
 
+/// Returns the tag that code 1 declares in the first table of a `.debug_abbrev` section.
+///
+/// # Errors
+///
+/// Those of [`DebugAbbrev::abbreviations`].
+pub fn first_tag(mem: Global, bytes: &[u8]) -> Result<Option<DwTag>>
+    ensures ok { IfOk result (λ tag. (table : Table)
+        × Answer (section_of bytes.now false) 0 (Ok table)
+        × (option_map (λ tag. tag.0) tag
+        ≡ option_map (λ declaration. declaration.tag) (finite.get table.by_code 1))) }
+    ensures err { IfErr result
+        (λ e. e ≢ Error.OutOfMemory → Answer (section_of bytes.now false) 0 (Err e)) }
+{
+    let section = DebugAbbrev::new(bytes, LittleEndian);
+    let table = section.abbreviations(mem, DebugAbbrevOffset(0))?;
+    Ok(tag_of(&table, 1))
+}
+
 /// Returns the tables of a `.debug_abbrev` section, from the first to the last.
 ///
 /// # Errors

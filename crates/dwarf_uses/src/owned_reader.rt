@@ -10,8 +10,8 @@
 //! - `clone_is_free`, which says whether a clone can't fail; here it can, so it is `false`;
 //! - ghost fields for what holds of every reader of the type, and `within`, which shows from them
 //!   that positions stay below 2^64 and lengths are offsets;
-//! - a lemma if a contract doesn't follow by itself. Here `truncate` needs one: dropping m bytes of
-//!   the first m + n leaves the first n of what remains after m bytes are dropped.
+//! - a lemma if a contract doesn't follow by itself. Here `truncate` needs one, which
+//!   `proofs/CutBytes.antt` says in words.
 
 ghost use Rattle.std.specs.Prelude.{◌≡◌, ◌+◌, ◌-◌, ◌≤◌, ◌<◌, ◌^◌, length, take, drop, All, false, IfOk, IfErr};
 ghost use Rattle.std.proofs.Common.{arith, length-drop};
@@ -160,7 +160,7 @@ impl Reader for OwnedReader {
         self.bytes.truncate(self.start);
     }
 
-    #[tactic(auto, using(crate::proofs::Shared::part_steps))]
+    #[tactic(auto, using(crate::proofs::CutBytes::cut_steps))]
     fn truncate(&mut self, len: u32) -> Result<()> {
         if self.rest().len() < len as usize {
             return Err(Error::UnexpectedEof(self.offset_id()));

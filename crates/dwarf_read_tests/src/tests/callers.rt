@@ -5,10 +5,12 @@ use super::{check_bytes, little, same};
 use dwarf_read_core::constants::{DW_TAG_compile_unit, DwTag};
 use dwarf_read_core::{
     Abbreviations, AddrHeader, DebugAbbrev, DebugAbbrevOffset, DebugAddr, DebugStr,
-    DebugStrOffsets, DebugStrOffsetsBase, DebugStrOffsetsIndex, Format, Reader, ReaderOffset,
-    Result,
+    DebugStrOffsets, DebugStrOffsetsBase, DebugStrOffsetsIndex, Error, Format, Reader,
+    ReaderOffset, Result,
 };
-use dwarf_uses::callers::{addresses_in, all_tables, string_by_index, table_lengths, tag_of};
+use dwarf_uses::callers::{
+    addresses_in, all_tables, first_tag, string_by_index, table_lengths, tag_of,
+};
 use dwarf_uses::calling::read_core::table_text;
 use dwarf_uses::parts::{clone_is_equal, split_ten};
 use std::alloc::Global;
@@ -53,12 +55,15 @@ fn check_lengths<R: Reader<Offset = usize>>(
 // A declaration and a code of value 0, one more such code, and two declarations.
 const THREE_TABLES: &[u8] = b"\x01\x11\0\0\0\0\0\x01\x11\0\0\0\x02\x11\0\0\0";
 
-// Bytes, the lengths of their tables, and the outcome: after the table of one unit a number is cut.
+// Bytes, the tag of code 1 in the first of their tables, the lengths of all, and the outcome: after
+// the table of one unit a number is cut.
 #[rattlefmt::skip]
-static ALL: &[(&[u8], &[usize], Result<()>)] = &[
-    (THREE_TABLES, &[1, 0, 2], Ok(())),
-    (UNIT, &[], Err(eof!(9))),
-    (b"", &[], Ok(())),
+static ALL: &[(&[u8], Result<Option<DwTag>>, &[usize], Result<()>)] = &[
+    (THREE_TABLES, Ok(Some(DW_TAG_compile_unit)), &[1, 0, 2], Ok(())),
+    (UNIT, Ok(Some(DW_TAG_compile_unit)), &[], Err(eof!(9))),
+    (b"\x02\x11\0\0\0\0", Ok(None), &[1], Ok(())),
+    (b"\x01\0", Err(Error::AbbreviationTagZero), &[], Err(Error::AbbreviationTagZero)),
+    (b"", Ok(None), &[], Ok(())),
 ];
 
 // Ends the test unless the tables of a section have these lengths.
@@ -82,7 +87,8 @@ fn check_walks<R: Reader<Offset = usize>>(rt: &impl Abort, mem: Global, unit: R,
 #[test]
 fn tables_are_walked(rt: HostRuntime) {
     check_walks(&rt, rt.alloc(), little(UNIT), little(THREE));
-    for (bytes, wanted, outcome) in ALL {
+    for (bytes, tag, wanted, outcome) in ALL {
+        same(&rt, first_tag(rt.alloc(), bytes), *tag, bytes);
         let checked = check_all(&rt, rt.alloc(), bytes, wanted);
         same(&rt, checked, *outcome, bytes);
     }

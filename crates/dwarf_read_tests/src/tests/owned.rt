@@ -12,7 +12,7 @@ use dwarf_read_core::{
     DebugStrOffsets, DebugStrOffsetsBase, DebugStrOffsetsIndex, EndianSlice, Error, LittleEndian,
     Reader, ReaderOffset, Result, RunTimeEndian, Section, read_u8_array,
 };
-use dwarf_uses::{OwnedReader, SharedReader};
+use dwarf_uses::OwnedReader;
 use std::alloc::Global;
 use std::iter::once;
 use std::process::Abort;
@@ -30,8 +30,6 @@ fn constants_tell_of_clones(rt: HostRuntime) {
     same(&rt, of_slices, true, "slices");
     let of_owned = <OwnedReader as Reader>::CLONE_IS_FREE;
     same(&rt, of_owned, false, "owned bytes");
-    let of_shared = <SharedReader as Reader>::CLONE_IS_FREE;
-    same(&rt, of_shared, false, "shared bytes");
 }
 
 // Ends the test where the strings one and two aren't there, or one has a clone.
