@@ -34,7 +34,7 @@ class Pages(unittest.TestCase):
 
     def test_check(self) -> None:
         """The check fails for a line of any of these, and for a page that isn't what would be written."""
-        names = ("misnamed", "without_row", "absent", "misplaced", "without_caller", "unlisted", "undeclared")
+        names = ("misnamed", "without_row", "absent", "misplaced", "without_caller", "private", "unlisted")
         other = "crates/dwarf_read_core/CALLING.md isn't what tools/api would write"
         for faulty in (*names, "text_of"):
             self.put("text_of", lambda crate, text: text)
@@ -93,10 +93,6 @@ class Pages(unittest.TestCase):
         self.put("QUOTED", {**api.QUOTED, "dwarf_read_core": "DebugStr::get_str DebugStr::get_str"})
         self.assertEqual([*api.misnamed()], ["QUOTED in tools/api has DebugStr::get_str of dwarf_read_core twice"])
 
-    def test_crate_without_a_quoted_call(self) -> None:
-        self.put("QUOTED", {it: names for it, names in api.QUOTED.items() if it != "dwarf_unit_core"})
-        self.assertEqual([*api.misnamed()], ["QUOTED in tools/api has no call of dwarf_unit_core"])
-
     def test_page_with_a_wrong_name_is_not_written(self) -> None:
         self.put("QUOTED", {**api.QUOTED, "dwarf_read_core": "DebugStr::get"})
         said = io.StringIO()
@@ -139,20 +135,21 @@ class Pages(unittest.TestCase):
         lines = ["ensures ok { OnOk result", "    (self.new ≡ self.old) }"]
         self.assertEqual(api.clause(lines), ["  ensures ok: OnOk result", "      (S' ≡ S)"])
 
-    def test_lemmas_that_cannot_be_cited(self) -> None:
-        wanted = (
-            "crates/dwarf_read_core/CALLING.md lists proofs.public.Item, "
-            "which crates/dwarf_read_core/proofs/public.antt doesn't declare"
-        )
-        self.assertEqual([*api.undeclared([("dwarf_read_core", "public.Item")])], [wanted])
+    def test_lemmas_that_a_page_lists(self) -> None:
+        page = kit.text_of(f"{kit.ROOT}/crates/dwarf_read_core/CALLING.md")
+        for old, new in (("`proofs.public.Items`", "`proofs.public.Item`"), ("`proofs.public.Readings`", "readings")):
+            self.assertEqual(page.count(old), 1)
+            names = sorted({old, new} - {"readings"})
+            wanted = [f"crates/dwarf_read_core/CALLING.md and proofs/public.antt differ in {it[1:-1]}" for it in names]
+            self.assertEqual([*api.unlisted([("dwarf_read_core", page.replace(old, new))])], wanted)
 
     def test_lemma_that_is_not_offered(self) -> None:
         own = "use Rattle.dwarf_read_core.proofs.contributions.Contributions.{set_more}\n"
-        listed = "use Rattle.dwarf_reader_core.proofs.public.Once.{one_unless}\n"
+        offered = "use Rattle.dwarf_reader_core.proofs.public.Once.{one_unless}\n"
         other = "pub use Rattle.dwarf_reader_core.proofs.leb.Bits\n"
-        planted = ("dwarf_read_core", "planted.antt", own + listed + other)
-        wanted = ["planted.antt cites proofs.leb.Bits, which crates/dwarf_reader_core/CALLING.md doesn't list"]
-        self.assertEqual([*api.unlisted([planted])], wanted)
+        planted = ("dwarf_read_core", "planted.antt", own + offered + other)
+        wanted = ["planted.antt cites proofs.leb.Bits, which dwarf_reader_core doesn't offer"]
+        self.assertEqual([*api.private([planted])], wanted)
 
 
 if __name__ == "__main__":

@@ -27,7 +27,7 @@ use Rattle.dwarf_code_core.specs.DwUt.{unit_type_names}
 use Rattle.dwarf_code_core.specs.DwVirtuality.{virtuality_names}
 use Rattle.dwarf_code_core.specs.DwVis.{visibility_names}
 use Rattle.dwarf_code_core.specs.GdbIndexSymbolKind.{gdb_index_symbol_kind_names}
-use Rattle.dwarf_const_core.proofs.Search.{distinct_from_rising}
+use Rattle.dwarf_const_core.proofs.public.Search.{distinct_from_rising}
 use Rattle.dwarf_code_core.proofs.laws.names_are_distinct.Goals as goal
 
 pub returns-clause-accessibility : goal.returns-clause-accessibility

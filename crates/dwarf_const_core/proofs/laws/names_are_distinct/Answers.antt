@@ -6,7 +6,7 @@ use Rattle.dwarf_const_core.specs.DwIdx.{index_attribute_names}
 use Rattle.dwarf_const_core.specs.DwLang.{language_names}
 use Rattle.dwarf_const_core.specs.DwLnct.{line_content_names}
 use Rattle.dwarf_const_core.specs.DwTag.{tag_names}
-use Rattle.dwarf_const_core.proofs.Search.{distinct_from_rising}
+use Rattle.dwarf_const_core.proofs.public.Search.{distinct_from_rising}
 use Rattle.dwarf_const_core.proofs.laws.names_are_distinct.Goals as goal
 
 pub returns-clause-attribute : goal.returns-clause-attribute

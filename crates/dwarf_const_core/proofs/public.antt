@@ -1,0 +1,2 @@
+-- What the crates above may cite.
+pub mod Search
