@@ -26,9 +26,6 @@ fn main() {
     }
     let folder = env::var("COMPARE_LIB").expect("COMPARE_LIB names the folder of the static library");
     println!("cargo:rustc-link-search=native={folder}");
-    // Nothing names what is in it. It moves all other code.
-    println!("cargo:rerun-if-changed={folder}/libin_front.a");
-    println!("cargo:rustc-link-lib=static:+whole-archive=in_front");
     println!("cargo:rerun-if-changed={folder}/libdwarf_compare.a");
     println!("cargo:rustc-link-lib=static=dwarf_compare");
 }

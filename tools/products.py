@@ -1,5 +1,5 @@
-"""Keeps what is built of the sources, so that it isn't built again: programs, programs of tests, a static library, and
-the assembler files of the library for C.
+"""Keeps what is built of the sources, so that it isn't built again: programs, programs of tests, and the code of static
+libraries as assembler files.
 
 Each is kept outside the checkout, in ${XDG_CACHE_HOME:-~/.cache}, under a checksum of its sources and of the kit. So it
 is current as long as they are, whatever the times of files say, and another checkout finds it too. A copy is in the
@@ -23,10 +23,12 @@ import kit
 
 # How many products are kept. Those that nothing took for the longest time go first.
 MOST_KEPT = 40
-# The crate whose code is in assembler files, their folder, and the targets that they are for.
+# The crate whose code is in assembler files of the repository, their folder, and the targets that they are for.
 ASSEMBLED = "dwarf_read_c"
 FILES = f"{kit.ROOT}/rust/proved"
 TARGETS = {"x86_64": "x86_64-unknown-linux-gnu", "aarch64": "aarch64-unknown-linux-gnu"}
+# The static libraries whose code is kept, each with its targets.
+LIBRARIES = {ASSEMBLED: [*TARGETS], "dwarf_compare": ["x86_64"]}
 # Takes the place of the kit's clang. It compiles as asked, and then makes an assembler file of the same code. Without
 # comments, since a line that begins with # is for the preprocessor; and .addrsig is unknown to the assembler of GNU.
 CLANG = """#!/bin/sh
@@ -80,11 +82,6 @@ def place_of_copy(path: str, of_sources: str) -> str:
     version = kit.version() if shutil.which("rt") else kit.KIT
     key = hashlib.sha256(f"{version}\n{of_sources}".encode()).hexdigest()
     return f"{cache()}/{os.path.basename(path)}-{key[:32]}"
-
-
-def static_library(crate: str) -> str:
-    """Where the static library of a crate is once it is built."""
-    return f"{kit.ROOT}/crates/{crate}/out/lib{crate}.a"
 
 
 def copy(source: str, target: str) -> None:
@@ -168,16 +165,6 @@ def build(crate: str, root: str, of_sources: str, words: Sequence[str], tell: Ca
     return True
 
 
-def put_library(crate: str, root: str, of_sources: str, tell: Callable[[str], object]) -> Optional[str]:
-    """Proves, builds and keeps the static library of a crate. Returns where it is, or None if something goes wrong."""
-    path = static_library(crate)
-    tell(f"proving {crate}, and building {os.path.basename(path)}")
-    with tempfile.TemporaryDirectory(prefix="library-") as room:
-        made = f"{room}/library.a"
-        words = ["-o", made, "--toolchain", f"{kit.load_rt().KIT}/toolchain"]
-        return put(made, path, of_sources) if build(crate, root, of_sources, words, tell) else None
-
-
 def toolchain_with(script: str, folder: str) -> str:
     """Makes a folder of links to the files of the kit's toolchain, with a script instead of its clang. Returns where
     it is."""
@@ -197,16 +184,16 @@ def with_own_labels(code: str) -> str:
     return "".join(it if it.startswith(TEXT) else LABEL.sub(".Ldwarf_read_", it) for it in lines)
 
 
-def put_assembler(name: str, root: str, of_sources: str, tell: Callable[[str], object]) -> Optional[str]:
-    """Proves the library for C for a target, and keeps its code as assembler. Returns where it is kept, or None if
+def put_assembler(crate: str, name: str, root: str, of_sources: str, tell: Callable[[str], object]) -> Optional[str]:
+    """Proves a static library for a target, and keeps its code as assembler. Returns where it is kept, or None if
     something goes wrong."""
-    tell(f"proving {ASSEMBLED} for {TARGETS[name]}")
+    tell(f"proving {crate} for {TARGETS[name]}")
     with tempfile.TemporaryDirectory(prefix="assembler-") as room:
         made = f"{room}/{name}.s"
         clang = shlex.quote(f"{kit.load_rt().KIT}/toolchain/bin/clang")
         toolchain = toolchain_with(CLANG.format(clang=clang, made=shlex.quote(made)), f"{room}/toolchain")
         words = ["--target", TARGETS[name], "-o", f"{room}/library.a", "--toolchain", toolchain]
-        if not build(ASSEMBLED, root, of_sources, words, tell):
+        if not build(crate, root, of_sources, words, tell):
             return None
         kit.put(made, with_own_labels(kit.text_of(made)))
         kept = place_of_copy(f"{name}.s", of_sources)

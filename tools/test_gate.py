@@ -113,18 +113,17 @@ class Judging(unittest.TestCase):
             self.assertEqual(now.failed, failed, said)
 
     def test_libraries(self) -> None:
-        """What is linked is built in the checkout if `rt ci` left its own libraries there, and none is missing."""
+        """The code of the static libraries is made in the checkout if `rt ci` left its own libraries there, and none is
+        missing."""
         every = [*kit.CRATES]
-        # The crates with a library before `rt ci` and after it, and whether the static library and the code for each
-        # assembler file are then built.
+        # The crates with a library before `rt ci` and after it, and whether the code is then made.
         rows = [([], every, True), (every[:1], every, False), ([], every[1:], False), ([], [], False)]
         for before, after, is_built in rows:
             now = gate.Gate("")
-            names = ("place_of_copy", "find", "put_library", "put_assembler")
+            names = ("place_of_copy", "put_assembler")
             with tempfile.TemporaryDirectory() as root, mock.patch.object(kit, "ROOT", root), mock.patch.multiple(
                 gate, read_bodies=mock.DEFAULT, judge_proofs=mock.DEFAULT, keep_programs=mock.DEFAULT
             ), mock.patch.multiple(gate.products, sums=str, code_of=str, **dict.fromkeys(names, mock.DEFAULT)) as made:
-                made["find"].return_value = None
                 made["place_of_copy"].return_value = f"{root}/nothing"
                 for it in before:
                     os.makedirs(f"{root}/crates/{it}/out/rlib")
@@ -136,8 +135,9 @@ class Judging(unittest.TestCase):
 
                 with mock.patch.object(now, "step", prove):
                     self.assertTrue(gate.prove(now, 0))
-            built = [it.args[0] for name in ("put_assembler", "put_library") for it in made[name].call_args_list]
-            wanted = [*gate.products.TARGETS, *gate.LIBRARIES] if is_built else []
+            built = [it.args[:2] for it in made["put_assembler"].call_args_list]
+            of_targets = gate.products.LIBRARIES.items()
+            wanted = [(crate, it) for crate, targets in of_targets for it in targets] if is_built else []
             self.assertEqual((built, now.failed), (wanted, 0), (before, after))
 
     def test_steps_of_the_page(self) -> None:

@@ -1,4 +1,5 @@
-"""Tests of pages: that each link leads somewhere in the repository, and that lists, names and examples fit the sources."""
+"""Tests of pages: that each link leads somewhere in the repository, that lists, names and examples fit the sources, and
+that numbers are those that were measured."""
 import glob
 import os
 import re
@@ -6,7 +7,9 @@ import sys
 import unittest
 
 sys.dont_write_bytecode = True
+sys.path.insert(1, f"{os.path.dirname(os.path.dirname(os.path.realpath(__file__)))}/compare/tools")
 import kit
+import measured
 
 PAGES = ("*.md", "docs/*.md", "rust/*.md", "crates/*/*.md")
 FENCED = re.compile(r"^```.*?^```", re.M | re.S)
@@ -38,7 +41,42 @@ def of_kind(page: str, kind: str) -> list[str]:
     return re.findall(rf"^```{kind}\n(.*?)^```$", kit.text_of(f"{kit.ROOT}/{page}"), re.M | re.S)
 
 
+# A ratio in a text, such as 0.57, and neither a version nor a part of one.
+RATIO = re.compile(r"(?<![\d.])(?<!gimli )\d\.\d\d(?![\d.])")
+
+
+def unmeasured(page: str, file: str) -> list[str]:
+    """The rows with a number and the ratios of a page with this text that the file of measurements doesn't have."""
+    rows = set(measured.rows_of(file).items())
+    of_page = measured.rows_of(page)
+    found = [row for place, row in of_page.items() if re.search(r"\d", row) and (place, row) not in rows]
+    prose = measured.TABLE.sub("", page)
+    return found + [it for it in RATIO.findall(prose) if it != "1.00" and it not in RATIO.findall(file)]
+
+
 class Pages(unittest.TestCase):
+    def test_numbers(self) -> None:
+        """The numbers of BENCHMARKS and the ratios of README's section on speed are those that `tools/compare` wrote."""
+        file = kit.text_of(measured.FILE)
+        speed = kit.text_of(f"{kit.ROOT}/README.md").partition("\n## Speed\n")[2].partition("\n## ")[0]
+        self.assertEqual(unmeasured(kit.text_of(measured.PAGE), file), [])
+        self.assertEqual(unmeasured(speed, file), [])
+
+    def test_stale_numbers(self) -> None:
+        head = "| times | gimli | here |\n|---|---|---|\n"
+        file = f"## `tools/compare time`\n\n{head}| one | 5.0 | 2.5, 0.50 |\n| two | 4.0 | 1.0, 0.25 |\n"
+        rows = [
+            (f"In 0.25 of gimli 0.27:\n\n{head}| two | 4.0 | 1.0, 0.25 |\n", []),
+            (f"{head}| two | 4.0 | 2.0, 0.50 |\n", ["| two | 4.0 | 2.0, 0.50 |"]),
+            (f"{head}| three | 4.0 | 1.0, 0.25 |\n", ["| three | 4.0 | 1.0, 0.25 |"]),
+            (f"{head.replace('times', 'counts')}| one | 5.0 | 2.5, 0.50 |\n", ["| one | 5.0 | 2.5, 0.50 |"]),
+            ("In 0.51 to 0.25 of its time.", ["0.51"]),
+        ]
+        for page, wanted in rows:
+            self.assertEqual(unmeasured(page, file), wanted, page)
+        new = measured.rows_of(f"{head}| two | 4.0 | 3.0, 0.75 |\n")
+        self.assertEqual(unmeasured(measured.put_rows(rows[0][0], new), file), ["| two | 4.0 | 3.0, 0.75 |"])
+
     def test_links(self) -> None:
         for page in [it for pattern in PAGES for it in glob.glob(f"{kit.ROOT}/{pattern}")]:
             self.assertEqual(dead(page, kit.text_of(page)), [], page)

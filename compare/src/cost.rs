@@ -36,13 +36,8 @@ pub fn nanos_of(call: &dyn Fn() -> u64, milliseconds: u64) -> f64 {
     }
 }
 
-/// How many bytes the pages have that are first touched while a call runs. The system allocates a page then, and counts
-/// a minor fault. A page that is freed and allocated once more counts twice. Before the call, free pages are given
-/// back, and pages of 2 MB are switched off, so that each has 4,096 bytes.
-pub fn touched_bytes(call: &dyn Fn() -> u64) -> i64 {
-    const PR_SET_THP_DISABLE: c_int = 41;
-    assert_eq!(unsafe { prctl(PR_SET_THP_DISABLE, 1, 0, 0, 0) }, 0);
-    unsafe { malloc_trim(0) };
+/// How many pages are first touched while a call runs. The system gives each then, and counts a minor fault.
+pub fn page_faults(call: &dyn Fn() -> u64) -> i64 {
     let faults = || {
         let mut usage = [0; 18];
         assert_eq!(unsafe { getrusage(0, &mut usage) }, 0);
@@ -50,6 +45,16 @@ pub fn touched_bytes(call: &dyn Fn() -> u64) -> i64 {
         usage[8]
     };
     let before = faults();
-    call();
-    (faults() - before) * 4096
+    hidden(call());
+    faults() - before
+}
+
+/// How many bytes the pages have that are first touched while a call runs. A page that is freed and allocated once more
+/// counts twice. Before the call, free pages are given back, and pages of 2 MB are switched off, so that each has 4,096
+/// bytes.
+pub fn touched_bytes(call: &dyn Fn() -> u64) -> i64 {
+    const PR_SET_THP_DISABLE: c_int = 41;
+    assert_eq!(unsafe { prctl(PR_SET_THP_DISABLE, 1, 0, 0, 0) }, 0);
+    unsafe { malloc_trim(0) };
+    page_faults(call) * 4096
 }

@@ -94,7 +94,7 @@ pub fn demand(section: &[u8]) -> Result<(), String> {
                 return Err(format!("{name}: gimli has {}, and the library {}", gimli.2, ours.2));
             }
             println!(
-                "| {name} | {threads} | {:.3} s, {} | {:.3} s, {} | {:.2} |",
+                "| {name}, threads: {threads} | {:.3} s | {} | {:.3} s | {} | {:.2} |",
                 gimli.0,
                 gimli.1,
                 ours.0,

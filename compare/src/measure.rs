@@ -5,7 +5,7 @@
 //! the crate for Rust. What fills a cache from units is left out, since units belong to gimli's upper layers, and so are
 //! written numbers, which another feature has.
 
-use crate::cost::{hidden, nanos_of, touched_bytes};
+use crate::cost::{hidden, nanos_of, page_faults, touched_bytes};
 use crate::made::{made_sets, put_signed, put_unsigned, shaped_table, Random};
 use crate::plain;
 use crate::room::Room;
@@ -466,7 +466,8 @@ fn turns(workload: &Workload) -> String {
 }
 
 /// Prints a line of each workload: its name, its operations, and if it is timed the nanoseconds of an operation of
-/// either side, and the lower quartile, the median and the upper quartile of the ratios of neighbouring turns.
+/// either side, the lower quartile, the median and the upper quartile of the ratios of neighbouring turns, and the page
+/// faults of either side.
 pub fn measure(all: &[Workload], what: Measured) -> Result<(), String> {
     for workload in all {
         let (name, operations) = (&workload.name, workload.operations);
@@ -482,7 +483,8 @@ pub fn measure(all: &[Workload], what: Measured) -> Result<(), String> {
             return Err(format!("{name}: gimli's sum is {gimli}, and the library's {ours}"));
         }
         if let Measured::Time = what {
-            println!("{name}\t{operations}\t{}", turns(workload));
+            let faults = [page_faults(&workload.gimli), page_faults(&workload.ours)];
+            println!("{name}\t{operations}\t{}\t{}\t{}", turns(workload), faults[0], faults[1]);
         } else {
             gimli_counted(workload);
             ours_counted(workload);

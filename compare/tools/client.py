@@ -15,7 +15,7 @@ from collections.abc import Sequence
 
 import checks
 import kit
-from common import CRATE, DEBIAN, OUT, PACKAGE, Failed, Missing, files_by_default, link_library, must, need, put
+from common import CRATE, DEBIAN, OUT, PACKAGE, Failed, Missing, files_by_default, must, need, put, put_library
 from common import put_sections, run
 
 MANIFEST = """[package]
@@ -235,7 +235,7 @@ def client(given: argparse.Namespace) -> int:
     gimli = source("gimli")
     if not gimli.endswith("gimli-0.27.0"):
         raise Missing(f"the patch is for gimli 0.27.0, and Debian's here is {os.path.basename(gimli)}")
-    link_library()
+    put_library(f"{OUT}/lib")
     folders = [f"{OUT}/client/gimli", f"{OUT}/client/patched"]
     for folder in folders:
         copy(gimli, folder, folder is folders[1])

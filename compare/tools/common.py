@@ -1,11 +1,11 @@
 """What the commands of `tools/compare` share: errors, other programs, the program that compares, and sections."""
-import contextlib
 import filecmp
 import os
 import re
 import shutil
 import subprocess
 import sys
+import tempfile
 from collections.abc import Sequence
 from typing import Any, Optional
 
@@ -18,6 +18,10 @@ OUT = f"{PACKAGE}/out"
 DEBIAN = "/usr/share/cargo/registry"
 # How long cargo may try to reach crates.io.
 FETCH_SECONDS = 120
+# What keeps jumps off the borders of 32 bytes: of the assembler, which then adds instructions that do nothing, as the
+# compiler of Rust does.
+ALIGNED_CODE = ("-Wa,-mbranches-within-32B-boundaries,-malign-branch-prefix-size=0",)
+ALIGNED_CRATES = "-C llvm-args=-x86-branches-within-32B-boundaries"
 SECTIONS = (
     *("debug_info", "debug_types", "debug_abbrev"),
     *("debug_str", "debug_line_str", "debug_addr", "debug_str_offsets"),
@@ -77,33 +81,25 @@ def put(source: str, target: str) -> None:
         shutil.copyfile(source, target)
 
 
-def put_in_front(count: int) -> None:
-    """Makes the library that the linker puts before all other code: this many bytes, which nothing calls."""
-    source, made, library = f"{OUT}/in_front_{count}.s", f"{OUT}/in_front.o", f"{OUT}/in_front.a"
-    # The linker of GNU puts .text.unlikely first, and the R keeps it from leaving the section out.
-    text = f'.section .text.unlikely.in_front, "axR", @progbits\n.balign 64\n.skip {64 + count}, 0x90\n'
-    kit.put(source, text + '.section .note.GNU-stack, "", @progbits\n')
-    must([os.environ.get("CC", "cc"), "-c", source, "-o", made], f"{source} isn't assembled")
-    with contextlib.suppress(OSError):
-        os.unlink(library)
-    must(["ar", "rcsD", library, made], f"the library of {source} isn't made")
-    put(library, f"{OUT}/lib/libin_front.a")
-
-
-def link_library() -> None:
-    """Proves and builds the library of dwarf_compare, unless it is current, and puts it where cargo finds it."""
-    crate = "dwarf_compare"
-    path = products.static_library(crate)
+def put_library(folder: str, flags: Sequence[str] = ()) -> None:
+    """Assembles the proved code of dwarf_compare with these flags, and puts its library into a folder for the linker.
+    If the code isn't kept, it is proved and made."""
+    crate, target = "dwarf_compare", "x86_64"
+    of_sources = products.code_of(crate)
+    code = products.place_of_copy(f"{target}.s", of_sources)
     # Commands that run side by side need the same library.
     with products.in_turn(crate):
-        if not products.find(path, crate):
+        if not os.path.isfile(code):
             if not (shutil.which("rt") and shutil.which("rattle")):
                 raise Missing("there is no rt: CONTRIBUTING.md names the kit that has it")
-            of_sources = products.sums(crate)
             with products.libraries(crate, say) as copy:
-                if not copy or not products.put_library(crate, copy, of_sources, say):
-                    raise Failed(f"the static library of {crate} isn't built")
-    put(path, f"{OUT}/lib/libdwarf_compare.a")
+                if not copy or not products.put_assembler(crate, target, copy, of_sources, say):
+                    raise Failed(f"the code of {crate} isn't made")
+    with tempfile.TemporaryDirectory(prefix="compare-") as work:
+        made, library = f"{work}/{crate}.o", f"{work}/lib{crate}.a"
+        must([os.environ.get("CC", "cc"), "-c", *flags, "-x", "assembler", code, "-o", made], f"{code} isn't assembled")
+        must(["ar", "rcsD", library, made], f"the library of {crate} isn't made")
+        put(library, f"{folder}/lib{crate}.a")
 
 
 def copy_crate() -> None:
@@ -152,21 +148,22 @@ def sources_of_gimli(is_debian: bool) -> tuple[str, list[str]]:
     return f"{OUT}/debian", ["--offline", *(word for it in replaced for word in ("--config", it))]
 
 
-def build(is_debian: bool, in_front: int = 0) -> str:
-    """Builds the program that compares, and returns where it is. This many bytes of code come before the library."""
+def build(is_debian: bool, is_aligned: bool = False) -> str:
+    """Builds the program that compares, and returns where it is: as a compiler builds it, or on both sides with jumps
+    kept off the borders of 32 bytes."""
     need("cargo", "cargo")
     need(os.environ.get("CC", "cc"), "gcc")
     need("objcopy", "binutils")
     copy_crate()
     folder, words = sources_of_gimli(is_debian)
-    link_library()
-    put_in_front(in_front)
-    # The processor that the kit compiles for, and the linker that puts a library in front.
-    flags = os.environ.get("RUSTFLAGS", "") + " -C target-cpu=x86-64-v2 -C link-arg=-fuse-ld=bfd"
-    environment = {**os.environ, "COMPARE_LIB": f"{OUT}/lib", "RUSTFLAGS": flags.strip()}
-    words = ["cargo", "build", "--quiet", "--release", "--target-dir", f"{folder}/target", *words]
+    library, target = (f"{OUT}/aligned", f"{folder}/aligned") if is_aligned else (f"{OUT}/lib", f"{folder}/target")
+    put_library(library, ALIGNED_CODE if is_aligned else ())
+    # The processor that the kit compiles for.
+    flags = f"{os.environ.get('RUSTFLAGS', '')} -C target-cpu=x86-64-v2 {ALIGNED_CRATES if is_aligned else ''}"
+    environment = {**os.environ, "COMPARE_LIB": library, "RUSTFLAGS": flags.strip()}
+    words = ["cargo", "build", "--quiet", "--release", "--target-dir", target, *words]
     must(words, "the program that compares isn't built", cwd=folder, env=environment)
-    return f"{folder}/target/release/compare"
+    return f"{target}/release/compare"
 
 
 def files_by_default(program: str) -> list[str]:

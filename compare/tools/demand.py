@@ -4,6 +4,7 @@ import tempfile
 
 from common import Missing, build, debug_file_of_libc, must, sections
 from measure import what_ran
+from measured import table, tell
 
 
 def demand(given: argparse.Namespace) -> int:
@@ -13,9 +14,7 @@ def demand(given: argparse.Namespace) -> int:
     if not path:
         raise Missing("there is no debug file of the C library: `apt-get install libc6-dbg` installs it")
     with tempfile.TemporaryDirectory(prefix="compare-") as work:
-        words = sections(path, work)
+        words = sections(path, f"{work}/sections")
         rows = must([program, "--demand", *words], "tables aren't measured").splitlines()
-    print(f"gimli {must([program, '--gimli'], 'the program is another one')}; {what_ran()}; {rows[0]}\n")
-    heads = ["tables", "threads", "gimli", "here", "ratio"]
-    print("\n".join([f"| {' | '.join(heads)} |", "|---" * len(heads) + "|", *rows[1:]]))
-    return 0
+    heads = ["tables", "gimli", "page faults", "here", "page faults", "ratio"]
+    return tell(given, "demand", f"{what_ran(program)}; {rows[0]}", table(heads, rows[1:]))

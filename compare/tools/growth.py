@@ -45,7 +45,7 @@ def growth(given: argparse.Namespace) -> int:
     """Prints the tables of `growth`."""
     need("valgrind", "valgrind")
     program = build(given.debian)
-    print(f"gimli {must([program, '--gimli'], 'the program is another one')}; {what_ran()}")
+    print(what_ran(program))
     print_table("ns", COUNTS, program, timed)
     # 100 declarations take so few pages that one more or less is a large part of them.
     print_table("bytes of touched pages", COUNTS[1:], program, touched)

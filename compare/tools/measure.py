@@ -3,39 +3,55 @@ import argparse
 import os
 import re
 import shutil
-import statistics
 import subprocess
 import tempfile
 from collections.abc import Iterator, Sequence
 
 import kit
 from common import Failed, build, must, need, run, sections
+from measured import table, tell
 
 # The C library copies a large block by one instruction that valgrind counts once a byte. With this setting it copies by
 # moves of 32 bytes, as it does small blocks.
 COUNTED_COPIES = {"GLIBC_TUNABLES": "glibc.cpu.x86_rep_movsb_threshold=1073741824"}
-# A processor runs the same code faster or slower by where it lies, so the library is timed after that many bytes.
-PLACES = (0, 16, 32, 48)
+# The C library gives freed memory back, or doesn't, by what was freed before, which times the system. With these
+# settings it keeps the memory of inputs that are made.
+KEPT_MEMORY = {"GLIBC_TUNABLES": "glibc.malloc.mmap_threshold=1073741824:glibc.malloc.trim_threshold=1073741824"}
+# A jump in a disassembly, to a place that the code names: where it is, and its bytes.
+JUMP = re.compile(r"^ *([0-9a-f]+):\t((?:[0-9a-f]{2} )+) *\tj(?!\S* +\*)", re.M)
 
 
-def what_ran() -> str:
-    """The processor, and the compiler of gimli's side."""
+def what_ran(program: str) -> str:
+    """The version of gimli, the processor, and the compiler of gimli's side."""
     model = re.search(r"^model name\s*: (.*)$", kit.text_of("/proc/cpuinfo"), re.M)
-    return f"{model[1] if model else 'a processor without a name'}; {run(['rustc', '--version'])[0]}"
+    gimli = must([program, "--gimli"], "the program is another one")
+    return f"gimli {gimli}; {model[1] if model else 'a processor without a name'}; {run(['rustc', '--version'])[0]}"
 
 
-def timed(is_debian: bool, words: Sequence[str]) -> Iterator[str]:
-    """The rows of the table of `time`: means of the places, and the least and the greatest ratio."""
-    found: dict[str, list[tuple[float, float, float]]] = {}
-    for place in PLACES:
-        said = must([build(is_debian, place), "--time", *words], "it can't be timed")
-        for line in said.splitlines():
-            name, _, gimli, here, _, middle, _ = line.split("\t")
-            found.setdefault(name, []).append((float(gimli), float(here), float(middle)))
-    for name, rows in found.items():
-        gimli, here, ratio = (statistics.mean(it) for it in zip(*rows))
-        ratios = [middle for _, _, middle in rows]
-        yield f"| {name} | {gimli:.1f} | {here:.1f} | {ratio:.2f} | {min(ratios):.2f} to {max(ratios):.2f} |"
+def at_borders(disassembled: str) -> tuple[int, int]:
+    """How many jumps to a known place end at a border of 32 bytes or cross one, and how many there are."""
+    jumps = [(int(place, 16), len(code.split())) for place, code in JUMP.findall(disassembled)]
+    return sum(place // 32 != (place + size) // 32 for place, size in jumps), len(jumps)
+
+
+def build_aligned(is_debian: bool) -> str:
+    """Builds the program that compares with jumps off the borders of 32 bytes, and sees that they are."""
+    program = build(is_debian, True)
+    found, all_jumps = at_borders(must(["objdump", "-dw", program], f"{program} isn't disassembled"))
+    # What comes as an object has some. By chance one jump in eight is there.
+    if found * 200 > all_jumps:
+        raise Failed(f"{found} of {all_jumps} jumps are at borders of 32 bytes: the compilers here don't move them")
+    return program
+
+
+def timed(program: str, words: Sequence[str]) -> Iterator[str]:
+    """The rows of the table of `time`, for files with the page faults of one call."""
+    how = {} if words else {"env": {**os.environ, **KEPT_MEMORY}}
+    for line in must([program, "--time", *words], "it can't be timed", **how).splitlines():
+        name, _, gimli, here, low, middle, high, *faults = line.split("\t")
+        cells = [name, f"{float(gimli):.1f}", f"{float(here):.1f}", f"{float(middle):.2f}"]
+        cells.append(f"{float(low):.2f} to {float(high):.2f}")
+        yield f"| {' | '.join(cells + faults if words else cells)} |"
 
 
 def counted(program: str, words: Sequence[str]) -> Iterator[tuple[str, float, float]]:
@@ -86,21 +102,16 @@ def own_files(program: str, folder: str) -> list[str]:
 
 def measure(is_timed: bool, given: argparse.Namespace) -> int:
     """Prints the table of `time` or of `count`."""
-    if not is_timed:
-        need("valgrind", "valgrind")
-    program = build(given.debian)
-    what = must([program, "--gimli"], "the program is another one")
+    need(*(("objdump", "binutils") if is_timed else ("valgrind", "valgrind")))
+    program = build_aligned(given.debian) if is_timed else build(given.debian)
     with tempfile.TemporaryDirectory(prefix="compare-") as work:
         files = given.files
         if given.elf and not files:
-            files = own_files(program, work)
-        words = []
-        for i, path in enumerate(files):
-            words += sections(path, f"{work}/{i}")
-        rows = list(timed(given.debian, words) if is_timed else counted_rows(program, words))
-    print(f"gimli {what}; {what_ran()}\n")
-    heads = ["nanoseconds of one operation", "gimli", "here", "ratio", "at four places"]
-    if not is_timed:
-        heads = ["instructions of one operation", *heads[1:4]]
-    print("\n".join([f"| {' | '.join(heads)} |", "|---" * len(heads) + "|", *rows]))
-    return 0
+            files = own_files(build(given.debian), work)
+        words = [word for i, path in enumerate(files) for word in sections(path, f"{work}/{i}")]
+        rows = list(timed(program, words) if is_timed else counted_rows(program, words))
+    heads = ["instructions of one operation", "gimli", "here", "ratio"]
+    if is_timed:
+        heads = ["nanoseconds of one operation", *heads[1:], "middle half"]
+        heads += ["gimli's page faults", "here"] if words else []
+    return tell(given, "time" if is_timed else "count", what_ran(program), table(heads, rows))

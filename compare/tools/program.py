@@ -13,6 +13,7 @@ import kit
 import products
 from common import Failed, build, must, say
 from measure import what_ran
+from measured import table, tell
 
 BYTES = 20_000_000
 TURNS = 9
@@ -118,10 +119,7 @@ def program(given: argparse.Namespace) -> int:
     for tool, package in (("readelf", "binutils"), ("llvm-dwarfdump", "llvm")):
         if not shutil.which(tool):
             say(f"{tool} is left out: `apt-get install {package}` installs it")
-    print(f"gimli {must([built, '--gimli'], 'the program is another one')}; {what_ran()}\n")
     heads = ["listing", "gimli", "here", "ratio", "middle half", "readelf", "llvm-dwarfdump"]
-    print(f"| {' | '.join(heads)} |\n{'|---' * len(heads)}|", flush=True)
     with tempfile.TemporaryDirectory(prefix="compare-") as work:
-        for listing in LISTINGS:
-            print(row_of(listing.name, time_all(listing, built, work)), flush=True)
-    return 0
+        rows = [row_of(it.name, time_all(it, built, work)) for it in LISTINGS]
+    return tell(given, "program", what_ran(built), table(heads, rows))
