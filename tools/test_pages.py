@@ -111,6 +111,15 @@ class Pages(unittest.TestCase):
         self.assertGreater(len(named), 100)
         self.assertEqual(sorted(named - known - {*kit.CRATES}), [])
 
+    def test_lines_of_the_headline(self) -> None:
+        """README and docs/DEFINITIONS.md say about how many lines the definitions of the headline have, and the second has
+        the command that counts them."""
+        pages = ("README.md", "docs/DEFINITIONS.md")
+        said = [int(it) for page in pages for it in re.findall(r"about (\d+)\s+lines", kit.text_of(f"{kit.ROOT}/{page}"))]
+        counted = int(kit.run(["sh", "-c", of_kind(pages[1], "sh")[0]], cwd=kit.ROOT).stdout)
+        self.assertEqual([it for it in said if abs(it - counted) <= 5], said, counted)
+        self.assertEqual(len(said), len(pages))
+
 
 if __name__ == "__main__":
     unittest.main()
