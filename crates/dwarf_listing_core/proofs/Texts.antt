@@ -7,7 +7,8 @@ use Rattle.dwarf_listing_core.proofs.OneText.{one_image}
 
 -- a number has exactly one line
 pub one_number : (k : Kind) (number : Number k) → HasOne (IsShortest k number) → HasOne (ListsNumber k number)
-one_number k number has = one_image (λ bytes. Ok (line (hex_text bytes))) has (λ bytes shortest. (bytes, shortest, refl)) from
+one_number k number has =
+    one_image (λ bytes. Ok (line (hex_text bytes))) has (λ bytes shortest. (bytes, shortest, refl)) from
   where
     from : (listed : Result (List ℕ) Error) → ListsNumber k number listed
         → (bytes : List ℕ) × IsShortest k number bytes × (listed ≡ Ok (line (hex_text bytes)))

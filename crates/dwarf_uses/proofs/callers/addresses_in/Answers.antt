@@ -1,6 +1,6 @@
 use Rattle.std.proofs.Common.{◌++◌, ◌∷◌, [], Ok, Err, map, subst}
 use Rattle.std.proofs.lemmas.Result.{err_from_is_err_and}
-use Rattle.dwarf_read_core.specs.Entries.{RepresentsAddresses}
+use Rattle.dwarf_read_core.specs.Entries.{Entries, RepresentsAddresses}
 use Rattle.dwarf_uses.proofs.Addresses.{error_is_item}
 use Rattle.dwarf_uses.proofs.callers.addresses_in.Goals as goal
 
@@ -13,4 +13,5 @@ returns-in_err-address-clause-err g c =
     rw (p.1, p.2) (λ memory.
     let item = error_is_item _ _ _ memory c.in_err-address.ensures.first in
     let items = c.loop-entries.invariant _ item in
-    (found, subst (λ entries. RepresentsAddresses entries (map (λ n. Ok n) found ++ Err e ∷ [])) c.in_ok-entries.ensures.ok items))
+    let are : Entries → Type 0 = λ entries. RepresentsAddresses entries (map (λ n. Ok n) found ++ Err e ∷ []) in
+    (found, subst are c.in_ok-entries.ensures.ok items))
