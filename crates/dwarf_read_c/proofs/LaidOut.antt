@@ -1,17 +1,16 @@
 -- Rows and attributes that are laid out are declarations, and stay laid out with one more.
-use Rattle.std.proofs.Common.{append_assoc, All, ◌==◌, get_or, take-append-drop}
-use Rattle.std.proofs.lemmas.List.{length-map, map-append, take_more, drop-append-le, take-append-le, take_all, nil_from_length}
+use Rattle.std.proofs.Common.{append_assoc, All, ◌==◌}
+use Rattle.std.proofs.lemmas.List.{length-map, drop-append-le, take-append-le, take_all, nil_from_length}
 use Rattle.std.proofs.lemmas.List.Concat.{length-flat_map}
-use Rattle.std.proofs.lemmas.List.Sums.{sum_by-cons}
-use Rattle.std.proofs.lemmas.List.Elements.{All-nil, All-cons, All-weaker, All-same, All-append, All-head, All-drop}
+use Rattle.std.proofs.lemmas.List.Elements.{All-append}
 use Rattle.dwarf_read_core.specs.Equality.{HasValueByForm}
 use Rattle.dwarf_read_core.specs.Grammar.{Specification, attribute_count, by_code_of}
 use Rattle.dwarf_read_c.specs.Laid.{AreLaid, AreRising, all_attributes, declaration_from, laid_out, last_code}
 use Rattle.dwarf_read_c.specs.Tables.{attribute_of, attributes_in, bit_of}
 use Rattle.dwarf_read_c.specs.declared.tables.DwarfAbbreviation.{DwarfAbbreviation}
-use Rattle.dwarf_read_c.proofs.RisingCodes.{rising-front, rising-push, rising-values}
+use Rattle.dwarf_read_c.proofs.RisingCodes.{rising-push, rising-values}
 use Rattle.dwarf_read_c.proofs.WrittenTables.{attributes_count, laid_next, length-values}
-use Rattle.dwarf_read_c.proofs.Common.{◌≡◌, ◌∙◌, Bool, true, false, ℕ, ◌+◌, ◌<◌, ◌≤◌, List, [], ◌∷◌, ◌++◌, length, take, drop, map, refl, sym, ap, subst, arith, common_steps, length-append, length-drop, abbreviation_of, laid_from, Declaration, len, values}
+use Rattle.dwarf_read_c.proofs.Common.{◌≡◌, ◌∙◌, Bool, true, false, ℕ, ◌+◌, ◌<◌, List, [], ◌∷◌, ◌++◌, length, take, drop, map, refl, sym, ap, subst, arith, common_steps, length-append, length-drop, abbreviation_of, laid_from, Declaration, len, values}
 
 -- what is after a list is what is appended to it
 rest_after : {X : Type 0} (before after : List X) → drop (length before) (before ++ after) ≡ after
@@ -110,71 +109,6 @@ laid_more attributes rows d is above valued =
     rw (more_rows attributes rows d is, more_attributes attributes rows d is)
     (laid_of (laid_out attributes rows ++ d ∷ []) (rising-push 0 (laid_out attributes rows) d is.rising above)
     (rw (← more_attributes attributes rows d is) all))
-
--- a row whose attributes end at a number of attributes, at most
-abbrev EndsBy : ℕ → DwarfAbbreviation → Type 0
-EndsBy n row = row.first_attribute + row.attribute_count ≤ n
-
--- the attributes of each row end within those of all
-ends_within : (first : ℕ) (ds : List Declaration)
-    → All (EndsBy (first + attributes_count ds)) (laid_from first ds)
-ends_within first [] = All-nil (EndsBy (first + attributes_count []))
-ends_within first (d ∷ ds) =
-    let more : attributes_count (d ∷ ds) ≡ length d.attributes + attributes_count ds =
-    sum_by-cons (λ (d : Declaration). length d.attributes) d ds in
-    let next = first + length d.attributes in
-    let own : EndsBy (first + attributes_count (d ∷ ds)) (abbreviation_of first d) = omega (arith, more) in
-    let later : (row : DwarfAbbreviation) → EndsBy (next + attributes_count ds) row
-    → EndsBy (first + attributes_count (d ∷ ds)) row = λ row le. omega (arith, more, le) in
-    All-cons (EndsBy (first + attributes_count (d ∷ ds))) (abbreviation_of first d) (laid_from next ds) own
-    (All-weaker (EndsBy (next + attributes_count ds)) (EndsBy (first + attributes_count (d ∷ ds))) later
-    (laid_from next ds) (ends_within next ds))
-
--- the attributes of a row end within those that are laid out
-laid_within : (attributes : List Specification) (rows before after : List DwarfAbbreviation)
-    (row : DwarfAbbreviation) → AreLaid attributes rows → rows ≡ before ++ row ∷ after
-    → EndsBy (length attributes) row
-laid_within attributes rows before after row is parts =
-    let ds = laid_out attributes rows in
-    let counted : length attributes ≡ 0 + attributes_count ds =
-    omega (arith, ap length is.lists, counted_attributes ds) in
-    let all : All (EndsBy (length attributes)) (before ++ row ∷ after) =
-    All-same (EndsBy (length attributes)) (before ++ row ∷ after) (laid_from 0 ds) (sym parts ∙ is.heads)
-    (rw counted (ends_within 0 ds)) in
-    let rest : All (EndsBy (length attributes)) (row ∷ after) =
-    subst (All (EndsBy (length attributes))) (rest_after before (row ∷ after))
-    (All-drop (EndsBy (length attributes)) (length before) (before ++ row ∷ after) all) in
-    All-head (EndsBy (length attributes)) row after rest
-
--- what is known of a row at an index, and of the declarations before it
-pub record RowAt (attributes : List Specification) (rows : List DwarfAbbreviation) (i : ℕ) (row : DwarfAbbreviation) :
-    Type 0 where
-  pub within : row.first_attribute + row.attribute_count ≤ length attributes
-  pub rising : AreRising 0 (laid_out attributes (take i rows))
-  pub above : last_code 0 (laid_out attributes (take i rows)) < row.code
-  pub next : laid_out attributes (take (i + 1) rows)
-      ≡ laid_out attributes (take i rows) ++ declaration_from attributes row ∷ []
-
--- the row at an index of rows that are laid out
-pub row_at : (attributes : List Specification) (rows : List DwarfAbbreviation) (i : ℕ) (none : DwarfAbbreviation)
-    → AreLaid attributes rows → i < length rows → RowAt attributes rows i (get_or rows i none)
-row_at attributes rows i none is within =
-    let row = get_or rows i none in
-    let more : take (i + 1) rows ≡ take i rows ++ row ∷ [] = take_more rows i none within in
-    let parts : rows ≡ take i rows ++ row ∷ drop (i + 1) rows =
-    sym (take-append-drop (i + 1) rows) ∙ ap (λ (front : List DwarfAbbreviation). front ++ drop (i + 1) rows) more
-    ∙ append_assoc (take i rows) (row ∷ []) (drop (i + 1) rows) in
-    let declared : laid_out attributes rows ≡ laid_out attributes (take i rows)
-    ++ declaration_from attributes row ∷ laid_out attributes (drop (i + 1) rows) =
-    ap (laid_out attributes) parts ∙ map-append (declaration_from attributes) (take i rows) (row ∷ drop (i + 1) rows) in
-    let front = rising-front 0 (laid_out attributes (take i rows)) (laid_out attributes (drop (i + 1) rows))
-    (declaration_from attributes row) (subst (AreRising 0) declared is.rising) in
-    record {
-      within = laid_within attributes rows (take i rows) (drop (i + 1) rows) row is parts;
-      rising = front.0;
-      above = front.1;
-      next = ap (laid_out attributes) more ∙ map-append (declaration_from attributes) (take i rows) (row ∷ []);
-    }
 
 -- the attributes of declarations, as C sees them
 pub shown_attributes : (ds : List Declaration) → attributes_in ds ≡ map attribute_of (all_attributes ds)

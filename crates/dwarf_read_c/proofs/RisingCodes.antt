@@ -42,12 +42,6 @@ pub rising-push : (below : ℕ) (ds : List Declaration) (d : Declaration) → Ar
 rising-push below [] d h above = (above, tt)
 rising-push below (x ∷ ds) d h above = (h.0, rising-push x.code ds d h.1 above)
 
--- of rising codes the first rise, and the next is above these
-pub rising-front : (below : ℕ) (ds more : List Declaration) (d : Declaration) → AreRising below (ds ++ d ∷ more)
-    → AreRising below ds × (last_code below ds < d.code)
-rising-front below [] more d h = (tt, h.0)
-rising-front below (x ∷ ds) more d h = let front = rising-front x.code ds more d h.1 in ((h.0, front.0), front.1)
-
 -- rising codes compare as greater than any number up to the bound
 rising-greater : (k below : ℕ) (ds : List Declaration) → k ≤ below → AreRising below ds
     → AllByRecursion (λ y. nat_cmp k y ≡ Less) (keys_of (map (λ d. (d.code, d)) ds))

@@ -1,14 +1,13 @@
 -- The table that is kept in either form.
 use Rattle.dwarf_read_core.specs.Codes.{close_from}
-use Rattle.dwarf_read_core.specs.Grammar.{ByCode, Table, by_code_of, closed}
-use Rattle.dwarf_read_c.specs.declared.kept.Declared.{Declared}
-use Rattle.dwarf_read_c.specs.declared.kept.Declared.TheVariants.{Rising, Any}
+use Rattle.dwarf_read_core.specs.Grammar.{Table, by_code_of, closed}
 use Rattle.dwarf_read_c.specs.declared.kept.Kept.{Kept}
+use Rattle.dwarf_read_c.specs.declared.kept.Kept.TheVariants.{Rising, Any}
+use Rattle.dwarf_read_c.specs.declared.kept.RisingTable.{RisingTable}
 
--- the declarations by their codes
-abbrev pub declared_by_code : Declared → ByCode
-declared_by_code (Rising ds) = by_code_of ds
-declared_by_code (Any t) = t.by_code
+abbrev pub rising_table : RisingTable → Table
+rising_table kept = closed (by_code_of kept.rising) (close_from kept.closed_by_null)
 
 abbrev pub kept_table : Kept → Table
-kept_table kept = closed (declared_by_code kept.declared) (close_from kept.closed_by_null)
+kept_table (Rising kept) = rising_table kept
+kept_table (Any t) = t

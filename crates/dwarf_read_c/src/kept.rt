@@ -1,19 +1,17 @@
-//! What a table is read into: the arrays of C, or a table with any codes.
+//! What a table is read into: the arrays of C if its codes rise, or a table with any codes.
 
-ghost use Rattle.std.specs.Prelude.{◌≡◌, ◌≢◌, ◌↔◌, ◌<◌, ◌≤◌, ◌^◌, ◌==◌, [], true, false, length, map, All, IsTrue, IfOk, IfErr, OnOk};
+ghost use Rattle.std.specs.Prelude.{◌≡◌, ◌↔◌, ◌<◌, ◌≤◌, ◌^◌, [], false, length, map, IsTrue, OnOk};
 ghost use Rattle.std.specs.Vec.{vec_len, vec_capacity};
-ghost use Rattle.dwarf_read_core.specs.Equality.{HasValueByForm};
 ghost use Rattle.std.specs.FinMap as finite;
-ghost use Rattle.dwarf_read_core.specs.Grammar.{attribute_count, by_code_of, by_end, closed};
-ghost use Rattle.dwarf_read_c.specs.Kept.{kept_table};
+ghost use Rattle.dwarf_read_core.specs.Grammar.{attribute_count, by_code_of};
+ghost use Rattle.dwarf_read_c.specs.Kept.{kept_table, rising_table};
 ghost use Rattle.dwarf_read_c.specs.Laid.{last_code};
 ghost use Rattle.dwarf_read_c.specs.Room.{Fills};
 ghost use Rattle.dwarf_read_c.specs.Tables.{abbreviations_of, attribute_of, attributes_in, attributes_of, laid_from, measure_of};
 
 use crate::tables::{DwarfAbbreviation, DwarfAttributeSpec, DwarfMeasure};
 use dwarf_read_core::{
-    AbbreviationSink, Abbreviations, AttributeSpecification, DW_CHILDREN_yes, DwChildren, DwTag,
-    Error, Result,
+    AbbreviationDeclaration, AbbreviationSink, Abbreviations, AttributeSpecification, Error, Result,
 };
 use std::alloc::{AllocError, Global};
 use std::marker::Model;
@@ -62,29 +60,22 @@ impl Rising {
     // Adds an abbreviation whose code is above all others.
     fn push(
         &mut self,
-        code: u64,
-        tag: DwTag,
-        has_children: DwChildren,
-        attributes: &[AttributeSpecification],
+        declaration: &AbbreviationDeclaration<'_>,
     ) -> std::result::Result<(), AllocError>
-        requires above { last_code 0 self.old < code }
-        requires valued { All HasValueByForm attributes.now }
-        ensures new { OnOk result (finite.contains_key (by_code_of self.old) code ≡ false) }
+        requires { last_code 0 self.old < declaration.now.code }
+        ensures new { OnOk result
+            (finite.contains_key (by_code_of self.old) declaration.now.code ≡ false) }
         ensures ok { OnOk result (by_code_of self.new
-            ≡ finite.insert (by_code_of self.old) code (record {
-              code = code;
-              tag = tag.0;
-              children = has_children.0 == 1;
-              attributes = attributes.now;
-            })) }
+            ≡ finite.insert (by_code_of self.old) declaration.now.code declaration.now) }
     {
         make_room(&mut self.abbreviations, &mut self.attributes)?;
+        let attributes = declaration.attributes();
         let first_attribute = self.attributes.len();
         self.attributes.extend_from_slice(attributes)?;
         self.abbreviations.push_reserved(DwarfAbbreviation {
-            code,
-            tag: tag.0,
-            has_children: u8::from(has_children == DW_CHILDREN_yes),
+            code: declaration.code(),
+            tag: declaration.tag().0,
+            has_children: u8::from(declaration.has_children()),
             first_attribute,
             attribute_count: attributes.len(),
         });
@@ -112,25 +103,6 @@ impl Rising {
         abbreviations[..count].copy_from_slice(&self.abbreviations);
         fill_each(&self.attributes, &mut attributes[..attribute_count]);
     }
-
-    // Returns the same abbreviations as a table to which any codes can be added.
-    fn to_table(&self) -> Result<Abbreviations>
-        ensures ok { IfOk result (λ table. table ≡ closed (by_code_of self.now) by_end) }
-        ensures err { IfErr result (λ e. e ≢ Error.OutOfMemory → ⊥) }
-    {
-        let mut table = Abbreviations::empty(*self.attributes.allocator());
-        for abbreviation in &self.abbreviations {
-            let end = abbreviation.first_attribute + abbreviation.attribute_count;
-            add(
-                &mut table,
-                abbreviation.code,
-                DwTag(abbreviation.tag),
-                DwChildren(abbreviation.has_children),
-                &self.attributes[abbreviation.first_attribute..end],
-            )?;
-        }
-        Ok(table)
-    }
 }
 
 // For how many more abbreviations there is room at least when there is none for the next one, and
@@ -157,45 +129,67 @@ fn make_room(
     Ok(())
 }
 
-// The abbreviations of a table that is read.
+// A table whose codes rise.
 #[derive(Drop)]
-pub(crate) enum Declared {
-    Rising(Rising),
-    Any(Abbreviations),
-}
-
-// A table that is read.
-#[derive(Drop)]
-pub(crate) struct Kept {
-    declared: Declared,
+pub(crate) struct RisingTable {
+    rising: Rising,
     closed_by_null: bool,
 }
 
-impl Kept {
-    // Returns the table with no abbreviations.
-    pub(crate) fn empty(mem: Global) -> Kept
-        ensures { kept_table result ≡ closed finite.empty by_end }
-    {
-        Kept {
-            declared: Declared::Rising(Rising::new(mem)),
+impl AbbreviationSink for RisingTable {
+    ghost table = { rising_table };
+
+    fn new(mem: Global) -> RisingTable {
+        RisingTable {
+            rising: Rising::new(mem),
             closed_by_null: false,
         }
     }
 
+    // A code that doesn't rise is refused by `OutOfMemory`, the one error that says nothing of the
+    // section. Then the table is to be read in the other form of `Kept`.
+    fn declare(&mut self, declaration: &AbbreviationDeclaration<'_>) -> Result<()> {
+        if self.rising.is_above(declaration.code()) {
+            Ok(self.rising.push(declaration)?)
+        } else {
+            Err(Error::OutOfMemory)
+        }
+    }
+
+    fn close(&mut self) {
+        self.closed_by_null = true;
+    }
+}
+
+// A table that is read: with codes that rise, or with any.
+#[derive(Drop)]
+pub(crate) enum Kept {
+    Rising(RisingTable),
+    Any(Abbreviations),
+}
+
+impl Kept {
     // Returns how large the table is, and that it ends there.
     pub(crate) fn measure(&self, end: usize) -> DwarfMeasure
         requires { attribute_count (kept_table self.now).by_code < 2 ^ 64 }
         ensures { result ≡ measure_of (kept_table self.now) end }
     {
-        let (abbreviations, attributes) = match &self.declared {
-            Declared::Rising(rising) => rising.counts(),
-            Declared::Any(table) => (table.len(), attribute_count(table)),
-        };
-        DwarfMeasure {
-            abbreviations,
-            attributes,
-            end,
-            closed_by_null: u8::from(self.closed_by_null),
+        match self {
+            Kept::Rising(table) => {
+                let (abbreviations, attributes) = table.rising.counts();
+                DwarfMeasure {
+                    abbreviations,
+                    attributes,
+                    end,
+                    closed_by_null: u8::from(table.closed_by_null),
+                }
+            }
+            Kept::Any(table) => DwarfMeasure {
+                abbreviations: table.len(),
+                attributes: attribute_count(table),
+                end,
+                closed_by_null: u8::from(table.closed_by_null()),
+            },
         }
     }
 
@@ -212,66 +206,11 @@ impl Kept {
             abbreviations.old abbreviations.new }
         ensures filled { Fills (attributes_of (kept_table self.now)) attributes.old attributes.new }
     {
-        match &self.declared {
-            Declared::Rising(rising) => rising.fill(abbreviations, attributes),
-            Declared::Any(table) => fill(table, abbreviations, attributes),
+        match self {
+            Kept::Rising(table) => table.rising.fill(abbreviations, attributes),
+            Kept::Any(table) => fill(table, abbreviations, attributes),
         }
     }
-}
-
-impl AbbreviationSink for Kept {
-    ghost table = { kept_table };
-
-    fn declare(
-        &mut self,
-        code: u64,
-        tag: DwTag,
-        has_children: DwChildren,
-        attributes: &[AttributeSpecification],
-    ) -> Result<()> {
-        match &mut self.declared {
-            Declared::Rising(rising) if rising.is_above(code) => {
-                Ok(rising.push(code, tag, has_children, attributes)?)
-            }
-            Declared::Rising(rising) => {
-                let mut table = rising.to_table()?;
-                add(&mut table, code, tag, has_children, attributes)?;
-                self.declared = Declared::Any(table);
-                Ok(())
-            }
-            Declared::Any(table) => add(table, code, tag, has_children, attributes),
-        }
-    }
-
-    fn close(&mut self) {
-        self.closed_by_null = true;
-    }
-}
-
-// Adds an abbreviation to a table with any codes. It is out of line, so that it is compiled once.
-#[inline(never)]
-fn add(
-    table: &mut Abbreviations,
-    code: u64,
-    tag: DwTag,
-    has_children: DwChildren,
-    attributes: &[AttributeSpecification],
-) -> Result<()>
-    requires nonzero { 0 < code }
-    requires valued { All HasValueByForm attributes.now }
-    ensures new { OnOk result (finite.contains_key table.old.by_code code ≡ false) }
-    ensures ok { OnOk result (table.new ≡ closed
-        (finite.insert table.old.by_code code (record {
-          code = code;
-          tag = tag.0;
-          children = has_children.0 == 1;
-          attributes = attributes.now;
-        })) table.old.close) }
-    ensures repeated { IfErr result (λ e. e ≢ Error.OutOfMemory
-        → (finite.contains_key table.old.by_code code ≡ true)
-        × (e ≡ Error.DuplicateAbbreviationCode code)) }
-{
-    table.declare(code, tag, has_children, attributes)
 }
 
 // Returns how many attributes the abbreviations of a table have together.

@@ -11,10 +11,10 @@ ghost use Rattle.dwarf_read_c.specs.Room.{Fills};
 ghost use Rattle.dwarf_read_c.specs.Sections.{section_of};
 ghost use Rattle.dwarf_read_c.specs.Tables.{LacksRoom, Measures, abbreviations_of, attributes_of, measure_of};
 
-use crate::kept::Kept;
+use crate::kept::{Kept, RisingTable};
 use crate::status::{DWARF_NO_ROOM, DWARF_OK};
 use dwarf_fault::{DwarfFault, reject};
-use dwarf_read_core::{DebugAbbrev, DebugAbbrevOffset, Error, LittleEndian};
+use dwarf_read_core::{DebugAbbrev, DebugAbbrevOffset, Error, LittleEndian, RunTimeEndian};
 use std::alloc::Global;
 
 /// How large an abbreviation table is, where it ends, and what closes it.
@@ -163,13 +163,18 @@ fn table_at(mem: Global, section: &[u8], offset: usize) -> Result<(Kept, usize),
         → IsErrOf result Error.OutOfMemory → ⊥ }
     ensures counted { IfOk result (λ r. attribute_count (kept_table r.0).by_code < 2 ^ 64) }
 {
-    let section = DebugAbbrev::new(section, LittleEndian);
-    let (table, end) = section.abbreviations_into(
-        mem,
-        DebugAbbrevOffset(offset),
-        Kept::empty(mem),
-    )?;
-    Ok((table, end.0))
+    let offset = DebugAbbrevOffset(offset);
+    match DebugAbbrev::new(section, LittleEndian).abbreviations_into::<RisingTable>(mem, offset) {
+        Ok((table, end)) => Ok((Kept::Rising(table), end.0)),
+        // Memory ran out, or the codes don't rise. The reader has another type, so that the compiler
+        // inlines the parser of either form.
+        Err(Error::OutOfMemory) => {
+            let section = DebugAbbrev::new(section, RunTimeEndian::Little);
+            let (table, end) = section.abbreviations_and_end(mem, offset)?;
+            Ok((Kept::Any(table), end.0))
+        }
+        Err(error) => Err(error),
+    }
 }
 
 // Writes the measure of a table that ends there, and its abbreviations and attributes to the front

@@ -33,10 +33,10 @@ pub use dwarf_base_core::{
 
 // Readers, sections and tables, and the errors of reading.
 pub use read::{
-    Abbreviation, AbbreviationSink, Abbreviations, AbbreviationsCache, AbbreviationsCacheStrategy,
-    AbbreviationsIter, AddrEntryIter, AddrHeader, AddrHeaderIter, AddressSize,
-    AttributeSpecification, ContributionHeader, ContributionHeaderIter, DebugAbbrev, DebugAddr,
-    DebugLineStr, DebugStr, DebugStrOffsets, EndianSlice, Error, HeaderFields, Reader,
+    Abbreviation, AbbreviationDeclaration, AbbreviationSink, Abbreviations, AbbreviationsCache,
+    AbbreviationsCacheStrategy, AbbreviationsIter, AddrEntryIter, AddrHeader, AddrHeaderIter,
+    AddressSize, AttributeSpecification, ContributionHeader, ContributionHeaderIter, DebugAbbrev,
+    DebugAddr, DebugLineStr, DebugStr, DebugStrOffsets, EndianSlice, Error, HeaderFields, Reader,
     ReaderAddress, ReaderOffset, ReaderOffsetId, Result, Section, StoreOnHeap, StrOffsetsEntryIter,
     StrOffsetsHeader, StrOffsetsHeaderIter, UnitOffset, read_u8_array,
 };

@@ -10,8 +10,8 @@ mod section;
 mod str;
 
 pub use abbrev::{
-    Abbreviation, AbbreviationSink, Abbreviations, AbbreviationsCache, AbbreviationsCacheStrategy,
-    AbbreviationsIter, AttributeSpecification, DebugAbbrev,
+    Abbreviation, AbbreviationDeclaration, AbbreviationSink, Abbreviations, AbbreviationsCache,
+    AbbreviationsCacheStrategy, AbbreviationsIter, AttributeSpecification, DebugAbbrev,
 };
 pub use addr::{AddrEntryIter, AddrHeader, AddrHeaderIter, AddressSize, DebugAddr};
 pub use contributions::{ContributionHeader, ContributionHeaderIter, HeaderFields};

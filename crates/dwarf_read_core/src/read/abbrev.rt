@@ -5,27 +5,26 @@
 //! whether it has children, and which attributes follow in which forms.
 
 ghost use Rattle.std.specs.Prelude.{◌≡◌, ℕ, List, Ok, Err, IfOk, IfErr};
-ghost use Rattle.std.specs.FinMap as finite;
 ghost use Rattle.std.specs.Fn.{CalledAt, TakesAt};
 ghost use Rattle.dwarf_base_core.specs.declared.common.SectionId.TheVariants.{DebugAbbrev as debug_abbrev};
 ghost use Rattle.dwarf_reader_core.specs.Appended.{followed_by};
 ghost use Rattle.dwarf_reader_core.specs.Input.{end_of};
 ghost use Rattle.dwarf_reader_core.specs.Slice.{input_of};
 ghost use Rattle.dwarf_read_core.specs.Answer.{Answer, Answers, AnswersStrictly, FitsIn, IsFinal, IsStrictlyFinal, SparesMemory, TableEndsAt};
-ghost use Rattle.dwarf_read_core.specs.Grammar.{by_end, closed};
 
 use super::section::Section;
 use dwarf_base_core::{
     DebugAbbrevOffset, Endianity, Error, ReaderOffset, ReaderOffsetId, Result, SectionId,
 };
 use dwarf_reader_core::{EndianSlice, Reader};
-use sink::parse;
+use parse::parse;
 use std::alloc::Global;
 
 mod abbreviation;
 mod attribute;
 mod cache;
 mod others;
+mod parse;
 mod sink;
 mod table;
 #[cfg(test)]
@@ -34,7 +33,7 @@ mod tests;
 pub use abbreviation::Abbreviation;
 pub use attribute::AttributeSpecification;
 pub use cache::{AbbreviationsCache, AbbreviationsCacheStrategy};
-pub use sink::AbbreviationSink;
+pub use sink::{AbbreviationDeclaration, AbbreviationSink};
 pub use table::{Abbreviations, AbbreviationsIter};
 
 /// The `.debug_abbrev` section (DWARF 5, 7.5.3): consecutive tables of abbreviations.
@@ -151,29 +150,26 @@ impl<R: Reader> DebugAbbrev<R> {
         ensures memory { let section = R.view (debug_abbrev_reader self.now) in
             SparesMemory R.clone_is_free section (R.Offset.value offset.0) result }
     {
-        let table = Abbreviations::empty(mem);
-        let (mut abbreviations, end) = self.abbreviations_into(mem, offset, table)?;
+        let (mut abbreviations, end) = self.abbreviations_into::<Abbreviations>(mem, offset)?;
         abbreviations.trim();
         Ok((abbreviations, end))
     }
 
-    /// Reads the table of abbreviations at `offset` into `table`, which has no abbreviations yet, and
-    /// returns it with the offset of its end.
+    /// Returns the table of abbreviations at `offset` in a form of the caller's own, and the offset
+    /// of its end.
     ///
     /// This is [`abbreviations_and_end`](Self::abbreviations_and_end) for a program that keeps tables
     /// in a form of its own: see [`AbbreviationSink`].
     ///
     /// # Errors
     ///
-    /// Those of [`abbreviations`](Self::abbreviations). `OutOfMemory` if `table` returns that, too.
+    /// Those of [`abbreviations`](Self::abbreviations). `OutOfMemory` if the table returns that, too.
     #[inline]
     pub fn abbreviations_into<T: AbbreviationSink>(
         &self,
         mem: Global,
         offset: DebugAbbrevOffset<R::Offset>,
-        table: T,
     ) -> Result<(T, DebugAbbrevOffset<R::Offset>)>
-        requires { T.table table ≡ closed finite.empty by_end }
         ensures answer { let section = R.view (debug_abbrev_reader self.now) in
             IfOk result (λ r. Answer section (R.Offset.value offset.0) (Ok (T.table r.0))) }
         ensures end { let section = R.view (debug_abbrev_reader self.now) in
@@ -191,7 +187,7 @@ impl<R: Reader> DebugAbbrev<R> {
         input.skip(offset.0)?;
         // Only the parser refers to this one, so that the compiler keeps it in registers.
         let mut input = input;
-        let table = parse(mem, &mut input, table)?;
+        let table: T = parse(mem, &mut input)?;
         Ok((table, DebugAbbrevOffset(len - input.len())))
     }
 

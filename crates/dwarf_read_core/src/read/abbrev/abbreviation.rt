@@ -77,20 +77,15 @@ impl Eq for Abbreviation {
 }
 
 impl Abbreviation {
-    pub(super) fn new(
-        code: u64,
-        tag: DwTag,
-        has_children: DwChildren,
-        attributes: Attributes,
-    ) -> Abbreviation
+    pub(super) fn new(head: Head, attributes: Attributes) -> Abbreviation
         requires { All HasValueByForm attributes.items }
-        ensures { result ≡ record {
-          code = code;
-          tag = tag.0;
-          children = has_children.0 == 1;
-          attributes = attributes.items;
-        } }
+        ensures { result ≡ with_attributes head attributes.items }
     {
+        let Head {
+            code,
+            tag,
+            has_children,
+        } = head;
         Abbreviation {
             code,
             tag,
@@ -188,7 +183,7 @@ impl Abbreviation {
 }
 
 // A declaration without its attributes, which are in a collector.
-#[derive(Clone, Copy)]
+#[derive(Clone, Copy, Debug)]
 pub(super) struct Head {
     pub(super) code: u64,
     pub(super) tag: DwTag,

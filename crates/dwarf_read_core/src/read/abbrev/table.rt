@@ -1,19 +1,15 @@
-//! Tables of abbreviations: how they are read, and how an abbreviation is found by its code.
+//! Tables of abbreviations, and how an abbreviation is found by its code.
 
-ghost use Rattle.std.specs.Prelude.{◌≡◌, ◌≢◌, ◌↔◌, ◌<◌, ◌∷◌, ◌++◌, [], ℕ, List, true, false, IsTrue, IsOk, IfOk, IfErr, IfSome, OnOk, OnErr, Ok, None, option_copied, ⊤};
+ghost use Rattle.std.specs.Prelude.{◌≡◌, ◌≢◌, ◌↔◌, ◌<◌, ◌∷◌, ◌++◌, [], true, false, IsTrue, IsOk, IfOk, IfErr, IfSome, OnOk, OnErr, option_copied, ⊤};
 ghost use Rattle.std.specs.FinMap as finite;
 ghost use Rattle.std.specs.Iterator.{YieldsFirstRef, item_count};
-ghost use Rattle.dwarf_reader_core.specs.Input.{end_of};
-ghost use Rattle.dwarf_read_core.specs.Grammar.{IsTableBefore, by_end, is_by_null};
-ghost use Rattle.dwarf_read_core.specs.Reading.{ReturnsUnlessOutOfMemory, declaration_at, table_in};
+ghost use Rattle.dwarf_read_core.specs.Grammar.{by_end, is_by_null};
 
 use super::abbreviation::Abbreviation;
-use super::attribute::{AttributeSpecification, Attributes};
+use super::attribute::Attributes;
 use super::others::{Others, OthersIter};
-use super::sink::AbbreviationSink;
+use super::sink::{AbbreviationDeclaration, AbbreviationSink};
 use dwarf_base_core::{Error, Result};
-use dwarf_code_core::children::DwChildren;
-use dwarf_const_core::tag::DwTag;
 use std::alloc::{AllocError, Global};
 use std::marker::Model;
 use std::slice;
@@ -174,17 +170,15 @@ impl Abbreviations {
 impl AbbreviationSink for Abbreviations {
     ghost table = { λ t. t };
 
+    fn new(mem: Global) -> Self {
+        Abbreviations::empty(mem)
+    }
+
     // It is inlined, so that the parser keeps the parts of an abbreviation in registers.
     #[inline(always)]
-    fn declare(
-        &mut self,
-        code: u64,
-        tag: DwTag,
-        has_children: DwChildren,
-        attributes: &[AttributeSpecification],
-    ) -> Result<()> {
-        let attributes = Attributes::from_slice(*self.vec.allocator(), attributes)?;
-        self.insert(Abbreviation::new(code, tag, has_children, attributes))
+    fn declare(&mut self, declaration: &AbbreviationDeclaration<'_>) -> Result<()> {
+        let attributes = Attributes::from_slice(*self.vec.allocator(), declaration.attributes)?;
+        self.insert(Abbreviation::new(declaration.head, attributes))
     }
 
     fn close(&mut self) {

@@ -7,7 +7,7 @@ ghost use Rattle.dwarf_read_core.specs.Equality.{HasValueByForm};
 use super::DebugAbbrev;
 use super::abbreviation::{Abbreviation, Head};
 use super::attribute::{AttributeSpecification, Attributes, Collector};
-use super::sink::parse;
+use super::parse::parse;
 use super::table::Abbreviations;
 use dwarf_base_core::{DebugAbbrevOffset, Error, LittleEndian, Result};
 use dwarf_code_core::children::{DW_CHILDREN_no, DW_CHILDREN_yes, DwChildren};
@@ -24,7 +24,12 @@ fn declared(code: u64, attributes: Attributes) -> Abbreviation
     requires { All HasValueByForm attributes.items }
     ensures { result.code ≡ code }
 {
-    Abbreviation::new(code, DW_TAG_compile_unit, DW_CHILDREN_no, attributes)
+    let head = Head {
+        code,
+        tag: DW_TAG_compile_unit,
+        has_children: DW_CHILDREN_no,
+    };
+    Abbreviation::new(head, attributes)
 }
 
 // A table of declarations with these codes, added one by one.
@@ -213,7 +218,7 @@ fn tables_are_parsed_up_to_code_0(rt: HostRuntime) -> std::result::Result<(), Fa
     let bytes =
         b"\x01\x02\x03\x04\x02\x2e\0\x03\x08\0\0\x01\x11\x01\x25\x0e\x13\x05\0\0\0\x05\x06\x07\x08";
     let input = &mut slice(&bytes[4..]);
-    let table = parse(rt.alloc(), input, Abbreviations::empty(rt.alloc()))?;
+    let table = parse::<_, Abbreviations>(rt.alloc(), input)?;
     assert_eq!(rt;
         (table.len(), input.slice()),
         (2, b"\x05\x06\x07\x08".as_slice())
@@ -231,11 +236,7 @@ static PLACES: &[(&[u8], usize)] = &[
 #[test]
 fn five_attributes_stay_in_place(rt: HostRuntime) -> std::result::Result<(), Fail> {
     for (bytes, count) in PLACES {
-        let table = parse(
-            rt.alloc(),
-            &mut slice(bytes),
-            Abbreviations::empty(rt.alloc()),
-        )?;
+        let table = parse::<_, Abbreviations>(rt.alloc(), &mut slice(bytes))?;
         let found = table.get(1).ok_or("no declaration")?;
         let place = (found.attributes.len(), found.attributes.spilled());
         assert_eq!(rt; place, (*count, *count > 5));

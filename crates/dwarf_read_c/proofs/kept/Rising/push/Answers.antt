@@ -11,12 +11,7 @@ use Rattle.dwarf_read_c.proofs.kept.Rising.push.Goals as goal
 
 -- the abbreviation that is added
 abbrev added : goal.After-push_reserved → Declaration
-added c = record {
-  code = c.args.code;
-  tag = c.args.tag.0;
-  children = c.args.has_children.0 == 1;
-  attributes = c.args.attributes.now;
-}
+added c = c.args.declaration.now
 
 -- the byte of a `bool` is its bit
 byte-bit : (b : Bool) → bool_byte b ≡ bit_of b
@@ -30,15 +25,15 @@ rows c = grind (arith, byte-bit)
 
 -- its attributes are after the others
 lists : (c : goal.After-push_reserved) → c.extend_from_slice.new.self.items
-    ≡ c.self.inside.attributes.items ++ c.args.attributes.now
+    ≡ c.self.inside.attributes.items ++ (added c).attributes
 lists c = grind arith
 
 pub invariant_of-self-2 : goal.invariant_of-self-2
 invariant_of-self-2 c =
-    let above : last_code 0 (laid_out c.self.inside.attributes.items c.self.inside.abbreviations.items) < c.args.code =
-    rw c.self.view_is c.requires.above in
+    let above : last_code 0 (laid_out c.self.inside.attributes.items c.self.inside.abbreviations.items) < (added c).code =
+    rw c.self.view_is c.requires in
     let laid = laid_more c.self.inside.attributes.items c.self.inside.abbreviations.items (added c) c.self.invariant above
-    c.requires.valued in
+    (rw c.attributes-attributes.ensures.list at c.attributes-attributes.ensures.valued) in
     subst (λ (rows : List DwarfAbbreviation). AreLaid c.extend_from_slice.new.self.items rows) (sym (rows c))
     (subst (λ (attributes : List Specification). AreLaid attributes (c.self.inside.abbreviations.items
     ++ abbreviation_of (length c.self.inside.attributes.items) (added c) ∷ [])) (sym (lists c)) laid)
@@ -51,5 +46,5 @@ returns-clause-ok c =
 
 pub returns-clause-new : goal.returns-clause-new
 returns-clause-new c =
-    let fresh = rising-fresh c.args.code _ c.self.invariant.rising in
+    let fresh = rising-fresh (added c).code _ c.self.invariant.rising in
     grind (arith, fresh)

@@ -2,7 +2,7 @@ use Rattle.dwarf_read_core.proofs.Common.{arith, rules, ◌≡◌, ◌≢◌, []
 use Rattle.dwarf_read_core.proofs.tables.ReadingTables.{declaration-coded, table_fails, table_goes_on, table_repeats, table_steps}
 use Rattle.dwarf_read_core.proofs.tables.TablesAreRead.{begins_with_none, begins_with_read, begins_before_null, begins_before_end}
 use Rattle.dwarf_read_core.specs.Heads.{with_attributes}
-use Rattle.dwarf_read_core.proofs.read.abbrev.sink.parse.Goals as goal
+use Rattle.dwarf_read_core.proofs.read.abbrev.parse.parse.Goals as goal
 
 pub returns-in_err-head-clause-ends : goal.returns-in_err-head-clause-ends
 returns-in_err-head-clause-ends g c = grind (arith, table_steps, declaration-coded)
@@ -23,8 +23,9 @@ returns-in_err-declare-clause-read g c =
     let loop = c.declarations in
     let some : (g.R.Reader.view loop.input).bytes ≢ [] = search rules in
     let d = with_attributes c.in-Some.head c.parse.new.collector in
+    let declared : c.new-declaration.result ≡ d = rw c.in_ok-as_slice.ensures at c.new-declaration.ensures in
     gives_err _ _ c.from_residual-in_err-declare.ensures.1 (λ memory.
-    let r = c.in_err-declare.ensures.repeated memory in
+    let r = rw declared at (c.in_err-declare.ensures.repeated memory) in
     rw r.1 (sym loop.invariant.read ∙ table_repeats _ _ _ d _ (declaration-coded _ _ some
     ∙ rw (loop.invariant.same_end, c.in-Some.is) at c.in_ok-head.ensures.read) r.0))
 
@@ -59,9 +60,10 @@ declarations-preserved g c =
     let d = with_attributes c.in-Some.head c.parse.new.collector in
     let next = declaration-coded _ _ some
     ∙ rw (loop.invariant.same_end, c.in-Some.is) at c.in_ok-head.ensures.read in
-    let fresh = c.in_ok-declare.ensures.new in
+    let declared : c.new-declaration.result ≡ d = rw c.in_ok-as_slice.ensures at c.new-declaration.ensures in
+    let fresh = rw declared at c.in_ok-declare.ensures.new in
     let more : (g.T.AbbreviationSink.table c.declare.new.self).by_code ≡ insert t.by_code d.code d =
-    rw c.in_ok-as_slice.ensures at c.in_ok-declare.ensures.ok in
+    rw declared at c.in_ok-declare.ensures.ok in
     record {
       read = rw more (sym (table_goes_on _ _ _ d _ next fresh) ∙ loop.invariant.read);
       begins = rw more (begins_with_read _ d loop.invariant.begins next fresh);
@@ -73,7 +75,7 @@ declarations-preserved g c =
 pub declarations-smaller : goal.declarations-smaller
 declarations-smaller g c = grind (arith, table_steps, declaration-coded)
 
-pub declare-requires-clause-valued : goal.declare-requires-clause-valued
-declare-requires-clause-valued g c =
+pub new-declaration-requires-clause-valued : goal.new-declaration-requires-clause-valued
+new-declaration-requires-clause-valued g c =
     let valued = rw c.in-Some.is at c.in_ok-head.ensures.valued in
     rw c.in_ok-as_slice.ensures valued
