@@ -152,8 +152,5 @@ pub collected_push : (overflow scratch : List Specification) (n : ℕ) (s : Spec
 collected_push overflow scratch n s short =
     rw (take_more_set scratch n s short) (sym (append_assoc overflow (take n scratch) (s ∷ [])))
 
--- how the attributes that are collected change with one more
-pub ruleset collected_steps = (collected_push, append-nil)
-
 -- how the attributes so far change with the next specification
 pub ruleset attribute_steps = (front-goes_on, front-ends, front-fails, front-begins, specification_shorter)

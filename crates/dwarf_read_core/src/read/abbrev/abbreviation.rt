@@ -4,7 +4,7 @@ ghost use Rattle.std.specs.Prelude.{◌≡◌, ◌==◌, ◌≤◌, ◌<◌, ℕ
 ghost use Rattle.std.specs.Cmp.{partial_equiv_from_equiv};
 ghost use Rattle.dwarf_reader_core.specs.Input.{end_of};
 ghost use Rattle.dwarf_read_core.specs.Equality.{HasValueByForm, same_declaration, same_declaration_equiv};
-ghost use Rattle.dwarf_read_core.specs.Reading.{ReturnsUnlessOutOfMemory, tag_at, children_at, attributes_in, declared_at, coded_at};
+ghost use Rattle.dwarf_read_core.specs.Reading.{ReturnsUnlessOutOfMemory, tag_at, children_at, declared_at, coded_at};
 ghost use Rattle.dwarf_read_core.specs.Heads.{with_attributes};
 
 use super::attribute::{AttributeSpecification, Attributes, Collector};
@@ -164,22 +164,6 @@ impl Abbreviation {
             Err(Error::InvalidAbbreviationChildren(value))
         }
     }
-
-    // Reads the attributes of a declaration.
-    #[tactic(auto, using(crate::proofs::tables::ReadingAttributes::attribute_steps))]
-    fn parse_attributes<R: Reader>(input: &mut R, collector: &mut Collector) -> Result<()>
-        ensures read { ReturnsUnlessOutOfMemory
-            (λ _. (collector.new, (R.view input.new).bytes)) result
-            (attributes_in (end_of (R.view input.old)) (R.view input.old).bytes) }
-        ensures same_end { OnOk result (end_of (R.view input.new) ≡ end_of (R.view input.old)) }
-    {
-        collector.clear();
-        // The label names the loop in its proof.
-        'attributes: while let Some(attribute) = AttributeSpecification::parse(input)? {
-            collector.push(attribute)?;
-        }
-        Ok(())
-    }
 }
 
 // A declaration without its attributes, which are in a collector.
@@ -207,7 +191,7 @@ impl Head {
     {
         let tag = Abbreviation::parse_tag(input)?;
         let has_children = Abbreviation::parse_has_children(input)?;
-        Abbreviation::parse_attributes(input, collector)?;
+        collector.parse_attributes(input)?;
         Ok(Head {
             code,
             tag,

@@ -4,7 +4,7 @@ ghost use Rattle.std.specs.Prelude.{◌≡◌, ◌↔◌, ◌∷◌, ◌++◌, [
 ghost use Rattle.dwarf_reader_core.specs.Input.{end_of};
 ghost use Rattle.dwarf_read_core.specs.Forms.{form_size};
 ghost use Rattle.dwarf_read_core.specs.Grammar.{implicit_const};
-ghost use Rattle.dwarf_read_core.specs.Reading.{ReturnsUnlessOutOfMemory, specification_at};
+ghost use Rattle.dwarf_read_core.specs.Reading.{ReturnsUnlessOutOfMemory, attributes_in, specification_at};
 
 use dwarf_base_core::{Encoding, Error, Result};
 use dwarf_const_core::attribute::{DW_AT_null, DwAt};
@@ -208,30 +208,26 @@ impl Collector {
         }
     }
 
-    pub(super) fn clear(&mut self)
-        ensures { self.new ≡ [] }
+    // Reads the attributes of a declaration, in place of those of another one.
+    #[tactic(auto, using(crate::proofs::tables::ReadingAttributes::attribute_steps))]
+    pub(super) fn parse_attributes<R: Reader>(&mut self, input: &mut R) -> Result<()>
+        ensures read { ReturnsUnlessOutOfMemory (λ _. (self.new, (R.view input.new).bytes)) result
+            (attributes_in (end_of (R.view input.old)) (R.view input.old).bytes) }
+        ensures same_end { OnOk result (end_of (R.view input.new) ≡ end_of (R.view input.old)) }
     {
         self.overflow.clear();
-        self.len = 0;
-    }
-
-    // It is inlined, so that `len` stays in a register.
-    #[inline(always)]
-    #[tactic(auto, using(crate::proofs::tables::ReadingAttributes::collected_steps))]
-    pub(super) fn push(
-        &mut self,
-        attribute: AttributeSpecification,
-    ) -> std::result::Result<(), AllocError>
-        ensures { OnOk result (self.new ≡ self.old ++ attribute ∷ []) }
-    {
-        if self.len == SCRATCH_LEN {
-            spill(&mut self.overflow, &self.scratch[..self.len])?;
-            self.scratch[0] = attribute;
-            self.len = 1;
-            return Ok(());
+        // It is counted in a variable of its own, which stays in a register.
+        let mut len = 0;
+        // The label names the loop in its proof.
+        'attributes: while let Some(attribute) = AttributeSpecification::parse(input)? {
+            if len == SCRATCH_LEN {
+                spill(&mut self.overflow, &self.scratch)?;
+                len = 0;
+            }
+            self.scratch[len] = attribute;
+            len += 1;
         }
-        self.scratch[self.len] = attribute;
-        self.len += 1;
+        self.len = len;
         Ok(())
     }
 
