@@ -4,6 +4,7 @@ use Rattle.dwarf_read_core.specs.Headers.{AddressHeaderAt}
 use Rattle.dwarf_read_core.specs.Items.{AreItems, no_items, value_first, only_error}
 use Rattle.dwarf_read_core.specs.Contributions.{HasContribution}
 use Rattle.dwarf_read_core.proofs.public.Entries.{size-positive}
+use Rattle.dwarf_read_core.proofs.public.Headers.{address_header-sized}
 use Rattle.dwarf_listing_core.proofs.OneText.{one_after, one_joined}
 
 -- items have exactly one text or error if each value has
@@ -42,4 +43,5 @@ one_section listing sets entries lists =
 -- the address size of a set of addresses is above 0
 pub address_size : {greatest : ℕ} (old : Remaining) (s : Set ℕ) → HasContribution AddressHeaderAt greatest old s
     → 0 < s.header
-address_size old s has = size-positive s.header has.said.sized
+address_size {greatest} old s has =
+    size-positive s.header (address_header-sized greatest s.format _ _ _ has.said)

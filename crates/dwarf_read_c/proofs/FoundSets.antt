@@ -3,11 +3,13 @@ use Rattle.std.proofs.lemmas.List.{length-take}
 use Rattle.dwarf_read_core.specs.Contributions.{HasContribution, HasNoContributionAt, contribution_size, contributions_from}
 use Rattle.dwarf_read_core.specs.Entries.{AreNumbers, Entries}
 use Rattle.dwarf_read_core.specs.Format.{initial_length_size, word_size}
-use Rattle.dwarf_read_core.specs.Headers.{Header, IsHeader, four_bytes}
+use Rattle.dwarf_read_core.specs.Headers.{Header}
+use Rattle.dwarf_read_core.specs.declared.Format.{Format}
+use Rattle.dwarf_read_core.proofs.public.MissingFields.{HasSizes}
 use Rattle.dwarf_read_core.proofs.public.InitialLengths.{length_taken}
 use Rattle.dwarf_read_core.proofs.public.Entries.{numbers_counted}
 use Rattle.dwarf_read_c.specs.declared.sets.DwarfSet.{DwarfSet}
-use Rattle.dwarf_read_c.proofs.Common.{◌≡◌, ◌∙◌, Bool, true, ℕ, ◌+◌, ◌-◌, ◌/◌, ◌<◌, ◌≤◌, ◌^◌, length, drop, sym, ap, subst, arith, ◌⊎◌, inl, inr, length-drop, Error, CloneRanOutOfMemory, Input, after, Contribution, take, TellsSet, set_from}
+use Rattle.dwarf_read_c.proofs.Common.{◌≡◌, ◌∙◌, Bool, true, ℕ, List, ◌+◌, ◌-◌, ◌/◌, ◌<◌, ◌≤◌, ◌^◌, length, drop, sym, ap, subst, arith, ◌⊎◌, inl, inr, length-drop, Error, CloneRanOutOfMemory, Input, after, Contribution, take, TellsSet, set_from}
 use Rattle.dwarf_read_c.specs.Sets.{shown}
 
 -- what is known of a set at an offset
@@ -19,13 +21,13 @@ pub record FoundSet {H : Type 0} (header : Header H) (section : Input) (offset :
   pub rest : length s.entries.bytes ≡ s.unit_length - 4
 
 -- a set at an offset ends within the section, and its entries are what follows the four bytes of its header
-pub set_found : {H : Type 0} {header : Header H} {section : Input} {offset : ℕ} {s : Contribution H}
-    → IsHeader 4 four_bytes header → section.position ≡ 0
+pub set_found : {H : Type 0} {header : Header H} {section : Input} {offset : ℕ} {s : Contribution H} {sizes : List ℕ}
+    → ((format : Format) → HasSizes sizes 4 (header (2 ^ 64 - 1) format)) → section.position ≡ 0
     → HasContribution header (2 ^ 64 - 1) (contributions_from offset section) s → FoundSet header section offset s
-set_found {section = section} {offset} {s} is_header starts has =
+set_found {section = section} {offset} {s} has_sizes starts has =
     let rest = after offset section in
     let whole = length-drop offset section.bytes in
-    let part = is_header.sized _ _ _ has.said in
+    let part = (has_sizes s.format).takes _ _ _ has.said in
     let long = length-take s.unit_length (drop (initial_length_size s.format) rest.bytes) in
     let unit = length-drop (initial_length_size s.format) rest.bytes in
     let entries = ap (λ (i : Input). length i.bytes) part.left in

@@ -1,18 +1,18 @@
 -- The errors that a call for C can return have numbers of their own.
-use Rattle.dwarf_read_core.specs.declared.Error.TheVariants.{OutOfMemory}
+use Rattle.dwarf_read_core.specs.declared.Error.TheVariants.{OutOfMemory, UnknownUnitType, UnknownVersion, UnsupportedSegmentSize}
 use Rattle.dwarf_read_core.specs.declared.Format.{Format}
 use Rattle.std.specs.Prelude.{◌==◌, ◌&&◌, nat_le}
-use Rattle.dwarf_read_core.specs.Faults.{is_number_size}
+use Rattle.dwarf_read_core.specs.Format.{word_size}
 use Rattle.dwarf_read_core.specs.Answer.{Answers, IsFirstError}
-use Rattle.dwarf_read_core.specs.Headers.{AddressHeaderAt, HasNoVersion, Header, StringOffsetsHeaderAt}
+use Rattle.dwarf_read_core.specs.Headers.{AddressHeaderAt, Header, StringOffsetsHeaderAt, VersionRead}
+use Rattle.dwarf_read_core.specs.Readings.{AddressSizeRead, Choice, Given, Mapped, NumberRead, Reading, Required, Then, WordRead}
 use Rattle.dwarf_read_core.specs.InitialLength.{HasNoLength}
 use Rattle.dwarf_read_core.specs.Contributions.{contribution_cut, contribution_faulty, contribution_headless, contribution_outside, contribution_unmeasured}
 use Rattle.dwarf_read_core.specs.Strings.{string_past_end, string_unended}
 use Rattle.dwarf_read_core.specs.Words.{Slot, HasNoPlace, no_base, no_distance, no_place, WordAt, word_unplaced, word_cut, word_too_great, AddressAt, address_unplaced, address_unsized, address_cut}
-use Rattle.dwarf_unit_core.specs.Fields.{address_size, before_5, from_5, offset, own_fields, type_fields, unit_fields}
-use Rattle.dwarf_unit_core.specs.Layout.{Layout, says, lacks, field, ◌>>=◌, HasNoFields, unsupported, field_cut, later_field}
+use Rattle.dwarf_unit_core.specs.Fields.{before_5, from_5, own_fields, type_fields, unit_header}
 use Rattle.dwarf_read_c.specs.Units.{header_in, type_before_5}
-use Rattle.dwarf_read_c.proofs.Common.{◌≢◌, Bool, true, false, if◌then◌else◌, ℕ, List, Err, arith, Error, Input, Kind, StringAt, error_number, IsKnown, HasNoNumber, HasNoContributionAt}
+use Rattle.dwarf_read_c.proofs.Common.{◌≢◌, Bool, true, false, ℕ, List, Ok, Err, inl, inr, arith, Error, Input, Kind, StringAt, error_number, IsKnown, HasNoNumber, HasNoContributionAt}
 
 -- the error of bytes that begin with no number has a number of its own
 pub known_number : {k : Kind} {bytes : List ℕ} {e : Error} → HasNoNumber k bytes e → IsKnown e
@@ -44,6 +44,58 @@ known_address greatest s section e (address_unplaced absent) = known_place absen
 known_address greatest s section e (address_unsized placed other) = omega arith
 known_address greatest s section e (address_cut placed size cut) = omega arith
 
+-- ---- readings
+
+-- each error of a reading has a number of its own
+record HasKnown {A : Type 0} (At : Reading A) : Type 0 where
+  known : (old new : Input) (e : Error) → At old (Err e, new) → IsKnown e
+
+-- a number
+known_read : (n : ℕ) → HasKnown (NumberRead n)
+known_read n = record { known = λ old new e short. rw short.fault (omega arith) }
+
+-- a word of a size that is an offset
+known_offset : (greatest n : ℕ) → HasKnown (WordRead greatest n)
+known_offset greatest n = record { known = λ old new e is. grind arith }
+
+-- a size of addresses
+known_size : HasKnown AddressSizeRead
+known_size = record { known = λ old new e is. grind arith }
+
+-- a value has no error
+known_value : {A : Type 0} (x : A) → HasKnown (Given (Ok x))
+known_value x = record { known = λ old new e is. absurd (grind arith) }
+
+-- an error that is given has its own number
+known_given : {A : Type 0} (e : Error) → IsKnown e → HasKnown {A = A} (Given (Err e))
+known_given e is_known = record { known = λ old new other is. grind arith }
+
+-- and so has that of a test
+known_required : (holds : Bool) (e : Error) → IsKnown e → HasKnown (Required holds e)
+known_required true e is_known = known_value tt
+known_required false e is_known = known_given e is_known
+
+-- those of one of two readings
+known_choice : {A : Type 0} {One Other : Reading A} (holds : Bool) → HasKnown One → HasKnown Other
+    → HasKnown (Choice holds One Other)
+known_choice true one other = one
+known_choice false one other = other
+
+module _ {A B : Type 0} where
+  -- those of a function of a reading's value
+  known_mapped : (f : A → B) (At : Reading A) → HasKnown At → HasKnown (Mapped f At)
+  known_mapped f At read = record { known = read.known }
+
+  -- those of two consecutive readings
+  known_then : (At : Reading A) (Next : A → Reading B) → HasKnown At → ((x : A) → HasKnown (Next x))
+      → HasKnown (Then At Next)
+  known_then At Next first next = record {
+    known = λ old new e is. elim is [
+      | inl is ↦ first.known old new e is
+      | inr is ↦ (next is.0).known is.1 new e is.3
+    ];
+  }
+
 -- ---- sets
 
 -- the error of bytes without an initial length has a number of its own
@@ -52,111 +104,87 @@ known_length absent = grind arith
 
 -- the error in place of a set has a number of its own, if each error of the header has
 known_set : {H : Type 0} {header : Header H} {greatest : ℕ} {section : Input} {offset : ℕ} {e : Error}
-    → ((greatest : ℕ) (format : Format) (unit : Input) (e : Error) → header greatest format unit (Err e) → IsKnown e)
-    → HasNoContributionAt header greatest section offset e → IsKnown e
+    → ((format : Format) → HasKnown (header greatest format)) → HasNoContributionAt header greatest section offset e → IsKnown e
 known_set law (contribution_outside past) = omega arith
 known_set law (contribution_faulty within (contribution_unmeasured none)) = known_length none
 known_set law (contribution_faulty within (contribution_cut measured short)) = omega arith
-known_set law (contribution_faulty within (contribution_headless measured enough none)) = law _ _ _ _ none
+known_set law (contribution_faulty within (contribution_headless measured enough none)) = (law _).known _ _ _ none
 
 -- the error in place of version 5 has a number of its own
-known_version : {unit : Input} {e : Error} → HasNoVersion unit e → IsKnown e
-known_version absent = grind arith
+known_version : HasKnown VersionRead
+known_version =
+    known_then _ _ (known_read 2)
+    (λ version. known_required (version == 5) (UnknownVersion version) (omega arith))
 
 -- the error in place of a set of addresses has a number of its own
 pub known_address_set :
     {greatest : ℕ} {section : Input} {offset : ℕ} {e : Error}
     → HasNoContributionAt AddressHeaderAt greatest section offset e → IsKnown e
-known_address_set absent = known_set known absent
-  where
-    known : (greatest : ℕ) (format : Format) (unit : Input) (e : Error) → AddressHeaderAt greatest format unit (Err e)
-        → IsKnown e
-    known greatest format unit e none = grind (arith, known_version)
+known_address_set absent =
+    known_set (λ format.
+    known_then _ _ known_version (λ five.
+    known_then _ _ known_size (λ size.
+    known_then _ _ (known_read 1) (λ segment.
+    known_then _ _ (known_required (segment == 0) (UnsupportedSegmentSize segment) (omega arith)) (λ flat.
+    known_value size))))) absent
 
 -- the error in place of a set of string offsets has a number of its own
 pub known_str_offset_set :
     {greatest : ℕ} {section : Input} {offset : ℕ} {e : Error}
     → HasNoContributionAt StringOffsetsHeaderAt greatest section offset e → IsKnown e
-known_str_offset_set absent = known_set known absent
-  where
-    known : (greatest : ℕ) (format : Format) (unit : Input) (e : Error)
-        → StringOffsetsHeaderAt greatest format unit (Err e)
-        → IsKnown e
-    known greatest format unit e none = grind (arith, known_version)
+known_str_offset_set absent =
+    known_set (λ format.
+    known_then _ _ known_version (λ five. known_then _ _ (known_read 2) (λ padding. known_value tt))) absent
 
 -- ---- units
 
--- the errors of what a layout doesn't support have numbers of their own
-data LacksKnown {A : Type 0} : Layout A → Type 0 where
-  known_says : {x : A} → LacksKnown (says x)
-  known_lacks : {e : Error} → IsKnown e → LacksKnown (lacks e)
-  known_field : {n : ℕ} {next : ℕ → Layout A} → ((number : ℕ) → LacksKnown (next number)) → LacksKnown (field n next)
-
--- then each error in place of its fields has one
-known_fields : {A : Type 0} {layout : Layout A} {old : Input} {e : Error} → LacksKnown layout
-    → HasNoFields layout old e → IsKnown e
-known_fields (known_lacks known) unsupported = known
-known_fields known (field_cut short) = omega arith
-known_fields (known_field known) (later_field {number = number} taken none) = known_fields (known number) none
-
--- so do those of a layout and then the next
-known_both : {A B : Type 0} {layout : Layout A} (next : A → Layout B) → LacksKnown layout
-    → ((x : A) → LacksKnown (next x)) → LacksKnown (layout >>= next)
-known_both next (known_says {x = x}) after = after x
-known_both next (known_lacks known) after = known_lacks known
-known_both next (known_field known) after = known_field (λ number. known_both next (known number) after)
-
--- and those of the layout that a test picks
-known_picked : {A : Type 0} (test : Bool) {one other : Layout A} → LacksKnown one → LacksKnown other
-    → LacksKnown (if test then one else other)
-known_picked true known known_other = known
-known_picked false known known_other = known_other
-
 module _ (greatest : ℕ) (format : Format) where
-  known_offset : LacksKnown (offset greatest format)
-  known_offset = known_field (λ x. known_picked (nat_le x greatest) known_says (known_lacks (omega arith)))
+  -- the error of the fields of a type has a number of its own
+  known_type : HasKnown (type_fields greatest format)
+  known_type =
+      known_then _ _ (known_read 8) (λ signature.
+      known_then _ _ (known_offset greatest (word_size format)) (λ place. known_value _))
 
-  known_size : LacksKnown address_size
-  known_size = known_field (λ size. known_picked (is_number_size size) known_says (known_lacks (omega arith)))
-
-  known_type : LacksKnown (type_fields greatest format)
-  known_type = known_field (λ signature. known_both _ known_offset (λ place. known_says))
-
-  known_own : (code : ℕ) → LacksKnown (own_fields greatest format code)
+  -- so has that of the fields that only units of one type have
+  known_own : (code : ℕ) → HasKnown (own_fields greatest format code)
   known_own code =
-      known_picked (code == 1) known_says (
-      known_picked (code == 2) (known_both _ known_type (λ t. known_says)) (
-      known_picked (code == 3) known_says (
-      known_picked (code == 4) (known_field (λ id. known_says)) (
-      known_picked (code == 5) (known_field (λ id. known_says)) (
-      known_picked (code == 6) (known_both _ known_type (λ t. known_says)) (known_lacks (omega arith)))))))
+      known_choice (code == 1) (known_value _) (
+      known_choice (code == 2) (known_mapped _ _ known_type) (
+      known_choice (code == 3) (known_value _) (
+      known_choice (code == 4) (known_mapped _ _ (known_read 8)) (
+      known_choice (code == 5) (known_mapped _ _ (known_read 8)) (
+      known_choice (code == 6) (known_mapped _ _ known_type)
+      (known_given (UnknownUnitType (record { 0 = code })) (omega arith)))))))
 
-  known_before_5 : (code version : ℕ) → LacksKnown (before_5 greatest format code version)
+  -- that of the fields after a version before 5
+  known_before_5 : (code version : ℕ) → HasKnown (before_5 greatest format code version)
   known_before_5 code version =
-      known_both _ known_offset (λ table.
-      known_both _ known_size (λ size.
-      known_both _ (known_own code) (λ kind. known_says)))
+      known_then _ _ (known_offset greatest (word_size format)) (λ table.
+      known_then _ _ known_size (λ size.
+      known_then _ _ (known_own code) (λ kind. known_value _)))
 
-  known_from_5 : LacksKnown (from_5 greatest format)
+  -- that of the fields after version 5
+  known_from_5 : HasKnown (from_5 greatest format)
   known_from_5 =
-      known_field (λ code.
-      known_both _ known_size (λ size.
-      known_both _ known_offset (λ table.
-      known_both _ (known_own code) (λ kind. known_says))))
+      known_then _ _ (known_read 1) (λ code.
+      known_then _ _ known_size (λ size.
+      known_then _ _ (known_offset greatest (word_size format)) (λ table.
+      known_then _ _ (known_own code) (λ kind. known_value _))))
 
-  known_unit_fields : (code : ℕ) → LacksKnown (unit_fields greatest format code)
-  known_unit_fields code =
-      known_field (λ version.
-      known_picked (nat_le 2 version && nat_le version 4) (known_before_5 code version)
-      (known_picked (version == 5) known_from_5 (known_lacks (omega arith))))
+  -- and that of all fields
+  known_unit_header : (code : ℕ) → HasKnown (unit_header code greatest format)
+  known_unit_header code =
+      known_then _ _ (known_read 2) (λ version.
+      known_choice (version == 5) known_from_5 (
+      known_choice (nat_le 2 version && nat_le version 4) (known_before_5 code version)
+      (known_given (UnknownVersion version) (omega arith))))
 
 -- the error in place of a unit has a number of its own
 pub known_unit :
     (is_types : Bool) {greatest : ℕ} {section : Input} {offset : ℕ} {e : Error}
     → HasNoContributionAt (header_in is_types) greatest section offset e → IsKnown e
-known_unit is_types absent =
-    known_set (λ greatest format unit e none. known_fields (known_unit_fields greatest format (type_before_5 is_types)) none)
-    absent
+known_unit is_types {greatest} absent =
+    known_set (λ format. known_unit_header greatest format (type_before_5 is_types)) absent
 
 -- ---- tables
 

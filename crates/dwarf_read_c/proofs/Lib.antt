@@ -2,6 +2,7 @@ pub mod Common
 pub mod AttributeIndexes
 pub mod AbsentNumbers
 pub mod FoundStrings
+pub mod FoundUnits
 pub mod WrittenTables
 pub mod FoundSets
 pub mod OneUnit

@@ -69,7 +69,7 @@ pub record HasContribution {H : Type 0} (header : Header H) (greatest : ℕ) (re
   pub measured : HasLength greatest remaining.rest s.format s.unit_length
       (after (initial_length_size s.format) remaining.rest)
   pub within : contribution_size s ≤ length remaining.rest.bytes
-  pub said : header greatest s.format (unit_of s remaining.rest) (Ok (s.header, s.entries))
+  pub said : header greatest s.format (unit_of s remaining.rest) (Ok s.header, s.entries)
 
 -- an input doesn't begin with a contribution: it has no initial length, too few bytes after that, or no header there
 pub data HasNoContribution {H : Type 0} (header : Header H) (greatest : ℕ) (input : Input) : Error → Type 0 where
@@ -78,8 +78,9 @@ pub data HasNoContribution {H : Type 0} (header : Header H) (greatest : ℕ) (in
   contribution_cut : {format : Format} {n : ℕ} {mid : Input} → HasLength greatest input format n mid
       → length mid.bytes < n
       → HasNoContribution header greatest input (eof_here mid)
-  contribution_headless : {format : Format} {n : ℕ} {mid : Input} {e : Error} → HasLength greatest input format n mid
-      → n ≤ length mid.bytes → header greatest format (first n mid) (Err e) → HasNoContribution header greatest input e
+  contribution_headless : {format : Format} {n : ℕ} {mid left : Input} {e : Error}
+      → HasLength greatest input format n mid → n ≤ length mid.bytes
+      → header greatest format (first n mid) (Err e, left) → HasNoContribution header greatest input e
 
 -- the result for the first of the contributions that remain: the contribution, or the error that there is none
 abbrev pub ContributionAt : {H : Type 0} → Header H → ℕ → Remaining → Result (Contribution H) Error → Type 0

@@ -26,7 +26,7 @@ ghost use Rattle.dwarf_read_core.specs.Entries.{AreNumbers, Entries, EntryAt, Re
 ghost use Rattle.dwarf_reader_core.specs.Headers.{IsHeader};
 ghost use Rattle.dwarf_read_core.specs.Items.{least_taken};
 ghost use Rattle.dwarf_read_core.specs.Ranges.{RangeAt};
-ghost use Rattle.dwarf_read_core.specs.Contributions.{Remaining, Contribution, ContributionAtOffset, RepresentsContributions, followed_remaining};
+ghost use Rattle.dwarf_read_core.specs.Contributions.{Remaining, Contribution, ContributionAtOffset, HasContribution, RepresentsContributions, contribution_size, followed_remaining};
 ghost use Rattle.dwarf_read_core.specs.Strings.{StringAt};
 ghost use Rattle.dwarf_read_core.specs.Words.{AddressAt, Slot, WordAt, distance, slot_offset};
 
@@ -36,7 +36,8 @@ pub use dwarf_code_core::laws::{names_are_distinct, negate_ra_state_is_window_sa
 pub use dwarf_const_core::laws::names_are_distinct as names_of_two_bytes_are_distinct;
 pub use dwarf_reader_core::laws::{
     bad_bytes_stay_bad, exactly_one_outcome, exactly_one_read, exactly_one_shortest,
-    missing_bytes_of_headers, no_encoding_begins_another, written_is_read,
+    headers_of_sets_have_four_bytes, missing_bytes_of_headers, no_encoding_begins_another,
+    written_is_read,
 };
 
 /// Every section has exactly one result at every offset: a table, or the first error.
@@ -280,15 +281,15 @@ pub fn appended_bytes_change_no_address()
 {}
 
 /// The bytes that remain of a section have exactly one list of contributions of each kind, and then
-/// at most one error. So the list ends: a contribution has at least four bytes and those of its
-/// header, and an error takes up at least one byte.
+/// at most one error. So the list ends: a contribution has its initial length and as many bytes as
+/// that says, and an error takes up at least one byte.
 pub fn exactly_one_list_of_contributions<R: Reader, H: HeaderFields<R>>()
     ensures one { (greatest : ℕ) (remaining : Remaining)
         → HasOne (RepresentsContributions H.header greatest remaining) }
     ensures bound { (greatest : ℕ) (remaining : Remaining)
         (items : List (Result (Contribution H.Said) Error))
         → RepresentsContributions H.header greatest remaining items
-        → sum_by (least_taken (4 + H.LEAST_BYTES)) items ≤ length remaining.rest.bytes }
+        → sum_by (least_taken contribution_size) items ≤ length remaining.rest.bytes }
 {
     H::law();
 }
@@ -302,10 +303,11 @@ pub fn exactly_one_contribution_at_an_offset<R: Reader, H: HeaderFields<R>>()
     H::law();
 }
 
-/// Bytes have exactly one header of each kind, or exactly one error in place of it. What a header
-/// says determines how many bytes it has, and these are at least as many as its kind says.
+/// Bytes and a format have exactly one header of each kind, or exactly one error in place of it, and
+/// after either what follows some of the bytes remains. Appended bytes change it only if bytes were
+/// missing, and then the position in the `UnexpectedEof` is that of what remains.
 pub fn exactly_one_header<R: Reader, H: HeaderFields<R>>()
-    ensures { IsHeader H.LEAST_BYTES H.size H.header }
+    ensures { IsHeader H.header }
 {
     H::law();
 }
@@ -329,16 +331,18 @@ pub fn missing_bytes_of_contributions<R: Reader, H: HeaderFields<R>>()
         → IsCutIn section (offset ∷ initial_length_size format ∷ n ∷ []) e }
 {}
 
-/// Each contribution of a list is where its offset says: its entries are the part of the section
-/// after its initial length and its header, up to its end.
+/// Each contribution of a list is where its offset says: the bytes there begin with it. Its entries
+/// are the part of the section after its initial length and its header, up to its end.
 pub fn contributions_are_at_their_offsets<R: Reader, H: HeaderFields<R>>()
     ensures { (greatest : ℕ) (remaining : Remaining)
         (items : List (Result (Contribution H.Said) Error)) (index : ℕ) (s : Contribution H.Said)
         → RepresentsContributions H.header greatest remaining items
         → slice_get items index ≡ Some (Ok s)
-        → (far : ℕ) × (s.offset ≡ remaining.offset + far) × RangeAt remaining.rest
-        (far + initial_length_size s.format + H.size s.format s.header)
-        (s.unit_length - H.size s.format s.header) (Ok s.entries) }
+        → (far of_header of_entries : ℕ) × (s.offset ≡ remaining.offset + far)
+        × HasContribution H.header greatest
+        (record { offset = s.offset; rest = after far remaining.rest }) s
+        × (s.unit_length ≡ of_header + of_entries) × RangeAt remaining.rest
+        (far + initial_length_size s.format + of_header) of_entries (Ok s.entries) }
 {
     H::law();
 }
@@ -361,7 +365,7 @@ pub fn exactly_one_list_of_addresses()
     ensures one { (entries : Entries) → 0 < entries.width → HasOne (RepresentsAddresses entries) }
     ensures bound { (entries : Entries) (items : List (Result ℕ Error))
         → RepresentsAddresses entries items
-        → sum_by (least_taken entries.width) items ≤ length entries.rest.bytes }
+        → sum_by (least_taken (λ _. entries.width)) items ≤ length entries.rest.bytes }
 {}
 
 /// The bytes that remain of a set have exactly one list of string offsets, and then at most one
@@ -372,7 +376,7 @@ pub fn exactly_one_list_of_string_offsets()
         → HasOne (RepresentsStringOffsets greatest entries) }
     ensures bound { (greatest : ℕ) (entries : Entries) (items : List (Result ℕ Error))
         → RepresentsStringOffsets greatest entries items
-        → sum_by (least_taken entries.width) items ≤ length entries.rest.bytes }
+        → sum_by (least_taken (λ _. entries.width)) items ≤ length entries.rest.bytes }
 {}
 
 /// The first contribution stays the first when bytes are appended. So does a first error, unless it

@@ -1,5 +1,5 @@
 -- Readings: what a call reads at the front of an input, and what remains then.
-use Rattle.std.specs.Prelude.{◌≡◌, ◌≢◌, ◌<◌, ◌≤◌, ℕ, ℤ, ⊤, List, Result, Ok, Err, ◌⊎◌, IsTrue}
+use Rattle.std.specs.Prelude.{◌≡◌, ◌≢◌, ◌<◌, ◌≤◌, ℕ, ℤ, ⊤, Bool, true, false, List, Result, Ok, Err, ◌⊎◌, IsTrue, if◌then◌else◌}
 use Rattle.dwarf_base_core.specs.declared.error.Error.{Error}
 use Rattle.dwarf_reader_core.specs.Appended.{followed_by}
 use Rattle.dwarf_reader_core.specs.Faults.{HasNoByte, IsTooShort, IsUnsupportedAddressSize, ReadsNoAddress, ReadsNoOffset, ReadsNoWord, eof, is_number_size}
@@ -90,6 +90,20 @@ Then {A = A} At Next old (Ok y, new) = (x : A) × (mid : Input) × At old (Ok x,
 Then {A = A} At Next old (Err e, new) =
     At old (Err e, new) ⊎ ((x : A) × (mid : Input) × At old (Ok x, mid) × Next x mid (Err e, new))
 
+-- the same, as `do` has it: `x ← At` on a line, and the next reading below
+infixl 10 ◌>>=◌
+abbrev pub ◌>>=◌ : {A B : Type 0} → Reading A → (A → Reading B) → Reading B
+At >>= Next = Then At Next
+
+-- a test that has to hold; if it doesn't, the result is this error
+abbrev pub Required : Bool → Error → Reading ⊤
+Required holds e = Given (if holds then Ok tt else Err e)
+
+-- one reading if a test holds, and else the other
+abbrev pub Choice : {A : Type 0} → Bool → Reading A → Reading A → Reading A
+Choice true One Other old read = One old read
+Choice false One Other old read = Other old read
+
 -- ---- what holds of each
 
 -- a value, or an error other than `UnexpectedEof`
@@ -97,10 +111,11 @@ abbrev pub IsSettled : {A : Type 0} → Result A Error → Type 0
 IsSettled result = (position : ℕ) → result ≢ Err (eof position)
 
 -- the next bytes decide everything: each input has exactly one result, and exactly one input remains; appended bytes
--- change a result only where bytes were missing, and are all that is added to what remains; and where bytes are missing,
--- the reading stops at their position
+-- change a result only where bytes were missing, and are all that is added to what remains; where bytes are missing, the
+-- reading stops at their position; and what remains is what follows some of the bytes
 pub record IsRead {A : Type 0} (At : Reading A) : Type 0 where
   pub one : (old : Input) → HasOne (At old)
   pub more : (old new : Input) (result : Result A Error) (more : List ℕ) → At old (result, new) → IsSettled result
       → At (followed_by old more) (result, followed_by new more)
   pub missing : (old new : Input) (position : ℕ) → At old (Err (eof position), new) → position ≡ new.position
+  pub taken : (old new : Input) (result : Result A Error) → At old (result, new) → (n : ℕ) × Takes n old new

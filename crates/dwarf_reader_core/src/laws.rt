@@ -1,10 +1,11 @@
 //! Laws of the definitions that the contracts cite.
 
-ghost use Rattle.std.specs.Prelude.{◌≡◌, ◌≤◌, ◌↔◌, ◌++◌, ℕ, List, [], ◌∷◌, Err, length, IsTrue};
+ghost use Rattle.std.specs.Prelude.{◌≡◌, ◌≤◌, ◌↔◌, ◌++◌, ℕ, List, [], ◌∷◌, Ok, Err, length, IsTrue};
+ghost use Rattle.dwarf_base_core.specs.declared.common.Format.{Format};
 ghost use Rattle.dwarf_base_core.specs.declared.error.Error.{Error};
-ghost use Rattle.dwarf_reader_core.specs.Input.{Input};
+ghost use Rattle.dwarf_reader_core.specs.Input.{Input, Takes};
 ghost use Rattle.dwarf_reader_core.specs.Faults.{IsCutIn, eof};
-ghost use Rattle.dwarf_reader_core.specs.Headers.{AddressFieldsAt, StringOffsetsFieldsAt};
+ghost use Rattle.dwarf_reader_core.specs.Headers.{AddressHeaderAt, StringOffsetsHeaderAt};
 ghost use Rattle.dwarf_reader_core.specs.InitialLength.{LengthAt};
 ghost use Rattle.dwarf_reader_core.specs.Leb128.{unsigned64, unsigned16, signed64, HasNumber, HasOutcome, IsEncoding, IsMalformed, Kind, Number, is_in_range, limit};
 ghost use Rattle.dwarf_reader_core.specs.Once.{HasOne};
@@ -52,21 +53,31 @@ pub fn written_is_read()
 
 /// An `UnexpectedEof` in place of a header or an initial length is that of the first field that isn't
 /// there whole, at the position where the field begins.
-#[tactic(auto, using(crate::proofs::public::MissingFields::missing_fields))]
+#[tactic(auto, using(crate::proofs::public::Headers::missing_fields))]
 pub fn missing_bytes_of_headers()
-    ensures address { (unit : Input) (position : ℕ) → AddressFieldsAt unit (Err (eof position))
+    ensures address { (greatest : ℕ) (format : Format) (unit new : Input) (position : ℕ)
+        → AddressHeaderAt greatest format unit (Err (eof position), new)
         → IsCutIn unit (2 ∷ 1 ∷ 1 ∷ []) (eof position) }
-    ensures string_offsets { (unit : Input) (position : ℕ)
-        → StringOffsetsFieldsAt unit (Err (eof position))
+    ensures string_offsets { (greatest : ℕ) (format : Format) (unit new : Input) (position : ℕ)
+        → StringOffsetsHeaderAt greatest format unit (Err (eof position), new)
         → IsCutIn unit (2 ∷ 2 ∷ []) (eof position) }
     ensures initial_length { (greatest : ℕ) (old new : Input) (position : ℕ)
         → LengthAt greatest old (Err (eof position), new)
         → IsCutIn old (4 ∷ 8 ∷ []) (eof position) }
 {}
 
+/// The header of a set has four bytes.
+#[tactic(auto, using(crate::proofs::public::Headers::four_bytes))]
+pub fn headers_of_sets_have_four_bytes()
+    ensures address { (greatest : ℕ) (format : Format) (unit rest : Input) (size : ℕ)
+        → AddressHeaderAt greatest format unit (Ok size, rest) → Takes 4 unit rest }
+    ensures string_offsets { (greatest : ℕ) (format : Format) (unit rest : Input)
+        → StringOffsetsHeaderAt greatest format unit (Ok tt, rest) → Takes 4 unit rest }
+{}
+
 /// What a call reads is determined by the bytes: there is exactly one result, and exactly one input
-/// remains, after an error, too. Appended bytes change it only if bytes were missing, and then the
-/// position in the `UnexpectedEof` is that of what remains.
+/// remains, after an error, too: what follows some of the bytes. Appended bytes change it only if
+/// bytes were missing, and then the position in the `UnexpectedEof` is that of what remains.
 #[tactic(auto, using(crate::proofs::public::Readings::readings))]
 pub fn exactly_one_read()
     ensures skip { (n : ℕ) → IsRead (SkipRead n) }

@@ -1,5 +1,2 @@
-pub mod Layouts
-pub mod FieldReads
-pub mod HeaderReads
-pub mod HeaderSizes
+pub mod UnitHeaders
 pub mod UnitResults

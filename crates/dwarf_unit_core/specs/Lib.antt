@@ -1,4 +1,3 @@
-pub mod Layout
 pub mod Fields
 pub mod Seen
 pub mod Sections

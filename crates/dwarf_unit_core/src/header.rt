@@ -1,8 +1,7 @@
 //! What the header of a unit says after its initial length (DWARF 5, 7.5.1).
 
-ghost use Rattle.std.specs.Prelude.{◌≡◌, ◌≤◌, IfOk, IfErr, IsTrue};
+ghost use Rattle.std.specs.Prelude.{◌≡◌, IfOk, IfErr, Ok, Err};
 ghost use Rattle.dwarf_unit_core.specs.Fields.{before_5, from_5, own_fields, type_fields, unit_fields};
-ghost use Rattle.dwarf_unit_core.specs.Layout.{HasFields, HasNoFields};
 ghost use Rattle.dwarf_unit_core.specs.Seen.{seen_fields, seen_type};
 
 use dwarf_read_core::{
@@ -56,21 +55,19 @@ pub(crate) fn parse_fields<R: Reader>(
     format: Format,
     code: DwUt,
 ) -> Result<UnitFields<R::Offset>>
-    ensures ok { let layout = unit_fields R.Offset.GREATEST format code.0 in IfOk result
-        (λ x. HasFields layout (R.view unit.old) (seen_fields R.Offset.value x) (R.view unit.new)) }
-    ensures err { let layout = unit_fields R.Offset.GREATEST format code.0 in IfErr result
-        (λ e. HasNoFields layout (R.view unit.old) e) }
+    ensures ok { IfOk result
+        (λ x. unit_fields R.Offset.GREATEST format code.0 (R.view unit.old)
+        (Ok (seen_fields R.Offset.value x), R.view unit.new)) }
+    ensures err { IfErr result
+        (λ e. unit_fields R.Offset.GREATEST format code.0 (R.view unit.old)
+        (Err e, R.view unit.new)) }
     ensures order { R.order unit.new ≡ R.order unit.old }
 {
     let version = unit.read_u16()?;
-    if version < 2 {
-        Err(Error::UnknownVersion(u64::from(version)))
-    } else if version <= 4 {
-        parse_before_5(unit, format, code, version)
-    } else if version == 5 {
-        parse_from_5(unit, format)
-    } else {
-        Err(Error::UnknownVersion(u64::from(version)))
+    match version {
+        5 => parse_from_5(unit, format),
+        2..=4 => parse_before_5(unit, format, code, version),
+        _ => Err(Error::UnknownVersion(u64::from(version))),
     }
 }
 
@@ -81,10 +78,12 @@ fn parse_before_5<R: Reader>(
     code: DwUt,
     version: u16,
 ) -> Result<UnitFields<R::Offset>>
-    ensures ok { let layout = before_5 R.Offset.GREATEST format code.0 version in IfOk result
-        (λ x. HasFields layout (R.view unit.old) (seen_fields R.Offset.value x) (R.view unit.new)) }
-    ensures err { let layout = before_5 R.Offset.GREATEST format code.0 version in IfErr result
-        (λ e. HasNoFields layout (R.view unit.old) e) }
+    ensures ok { IfOk result
+        (λ x. before_5 R.Offset.GREATEST format code.0 version (R.view unit.old)
+        (Ok (seen_fields R.Offset.value x), R.view unit.new)) }
+    ensures err { IfErr result
+        (λ e. before_5 R.Offset.GREATEST format code.0 version (R.view unit.old)
+        (Err e, R.view unit.new)) }
     ensures order { R.order unit.new ≡ R.order unit.old }
 {
     let abbrev_offset = unit.read_offset(format)?;
@@ -100,10 +99,12 @@ fn parse_before_5<R: Reader>(
 
 // The fields after version 5.
 fn parse_from_5<R: Reader>(unit: &mut R, format: Format) -> Result<UnitFields<R::Offset>>
-    ensures ok { let layout = from_5 R.Offset.GREATEST format in IfOk result
-        (λ x. HasFields layout (R.view unit.old) (seen_fields R.Offset.value x) (R.view unit.new)) }
-    ensures err { let layout = from_5 R.Offset.GREATEST format in IfErr result
-        (λ e. HasNoFields layout (R.view unit.old) e) }
+    ensures ok { IfOk result
+        (λ x. from_5 R.Offset.GREATEST format (R.view unit.old)
+        (Ok (seen_fields R.Offset.value x), R.view unit.new)) }
+    ensures err { IfErr result
+        (λ e. from_5 R.Offset.GREATEST format (R.view unit.old)
+        (Err e, R.view unit.new)) }
     ensures order { R.order unit.new ≡ R.order unit.old }
 {
     let code = unit.read_u8()?;
@@ -124,10 +125,12 @@ fn parse_own_fields<R: Reader>(
     format: Format,
     code: DwUt,
 ) -> Result<UnitType<R::Offset>>
-    ensures ok { let layout = own_fields R.Offset.GREATEST format code.0 in IfOk result
-        (λ x. HasFields layout (R.view unit.old) (seen_type R.Offset.value x) (R.view unit.new)) }
-    ensures err { let layout = own_fields R.Offset.GREATEST format code.0 in IfErr result
-        (λ e. HasNoFields layout (R.view unit.old) e) }
+    ensures ok { IfOk result
+        (λ x. own_fields R.Offset.GREATEST format code.0 (R.view unit.old)
+        (Ok (seen_type R.Offset.value x), R.view unit.new)) }
+    ensures err { IfErr result
+        (λ e. own_fields R.Offset.GREATEST format code.0 (R.view unit.old)
+        (Err e, R.view unit.new)) }
     ensures order { R.order unit.new ≡ R.order unit.old }
 {
     match code {
@@ -164,10 +167,12 @@ fn parse_type_fields<R: Reader>(
     unit: &mut R,
     format: Format,
 ) -> Result<(DebugTypeSignature, UnitOffset<R::Offset>)>
-    ensures ok { let layout = type_fields R.Offset.GREATEST format in IfOk result
-        (λ x. HasFields layout (R.view unit.old) (x.0.0, R.Offset.value x.1.0) (R.view unit.new)) }
-    ensures err { let layout = type_fields R.Offset.GREATEST format in IfErr result
-        (λ e. HasNoFields layout (R.view unit.old) e) }
+    ensures ok { IfOk result
+        (λ x. type_fields R.Offset.GREATEST format (R.view unit.old)
+        (Ok (x.0.0, R.Offset.value x.1.0), R.view unit.new)) }
+    ensures err { IfErr result
+        (λ e. type_fields R.Offset.GREATEST format (R.view unit.old)
+        (Err e, R.view unit.new)) }
     ensures order { R.order unit.new ≡ R.order unit.old }
 {
     let signature = unit.read_u64()?;

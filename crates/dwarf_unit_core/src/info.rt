@@ -8,7 +8,7 @@ ghost use Rattle.dwarf_read_core.specs.Faults.{CloneRanOutOfMemory};
 ghost use Rattle.dwarf_read_core.specs.Items.{GivesFirst, StaysFirst};
 ghost use Rattle.dwarf_read_core.specs.Lookups.{Stays, UnlessCloneRanOut};
 ghost use Rattle.dwarf_read_core.specs.Slice.{input_of};
-ghost use Rattle.dwarf_unit_core.specs.Fields.{compile_unit, header_size, unit_header};
+ghost use Rattle.dwarf_unit_core.specs.Fields.{compile_unit, unit_header};
 ghost use Rattle.dwarf_unit_core.specs.Seen.{seen_fields, seen_unit};
 ghost use Rattle.dwarf_unit_core.specs.declared.header.UnitFields.{UnitFields};
 
@@ -131,12 +131,6 @@ impl<R: Reader> HeaderFields<R> for InfoFields<R::Offset> {
     ghost said = { λ fields. seen_fields R.Offset.value fields.0 };
 
     ghost header = { unit_header compile_unit };
-
-    ghost size = { header_size };
-
-    ghost LEAST_BYTES = { 7 };
-
-    const LEAST_BYTES: u64 = 7;
 
     const NAME: &'static str = "UnitHeader";
 

@@ -7,7 +7,7 @@ ghost use Rattle.dwarf_read_core.specs.Contributions.{RepresentsContributions, R
 ghost use Rattle.dwarf_read_core.specs.Faults.{CloneRanOutOfMemory};
 ghost use Rattle.dwarf_read_core.specs.Items.{GivesFirst, StaysFirst};
 ghost use Rattle.dwarf_read_core.specs.Slice.{input_of};
-ghost use Rattle.dwarf_unit_core.specs.Fields.{type_unit, header_size, unit_header};
+ghost use Rattle.dwarf_unit_core.specs.Fields.{type_unit, unit_header};
 ghost use Rattle.dwarf_unit_core.specs.Seen.{seen_fields, seen_unit};
 ghost use Rattle.dwarf_unit_core.specs.declared.header.UnitFields.{UnitFields};
 
@@ -100,12 +100,6 @@ impl<R: Reader> HeaderFields<R> for TypesFields<R::Offset> {
     ghost said = { λ fields. seen_fields R.Offset.value fields.0 };
 
     ghost header = { unit_header type_unit };
-
-    ghost size = { header_size };
-
-    ghost LEAST_BYTES = { 7 };
-
-    const LEAST_BYTES: u64 = 7;
 
     const NAME: &'static str = "UnitHeader";
 

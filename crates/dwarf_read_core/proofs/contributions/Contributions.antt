@@ -2,7 +2,6 @@
 -- of it is it.
 use Rattle.dwarf_read_core.proofs.Common.{◌≡◌, ◌≢◌, ◌∙◌, ℕ, ◌+◌, ◌-◌, ◌<◌, ◌≤◌, List, [], ◌∷◌, length, Result, Ok, Err, refl, sym, ap, subst, arith, Bool, ◌⊎◌, inl, inr, cases_lt, sum_by, length-append, length-drop, take-append-le, drop-append-le, Error, CloneRanOutOfMemory, eof_here, IsTooShort, Input, after, first, Takes, HasOne, IsNotEof, followed_by, ComesFirst, least_taken, Contribution, Remaining, RepresentsContributions, followed_remaining, rest-length, takes-both}
 use Rattle.std.specs.Prelude.{if◌then◌else◌, nat_lt}
-use Rattle.std.proofs.lemmas.List.{length-take}
 use Rattle.dwarf_base_core.specs.declared.common.Format.{Format}
 use Rattle.dwarf_base_core.specs.Format.{initial_length_size}
 use Rattle.dwarf_reader_core.specs.InitialLength.{HasLength, LengthAt}
@@ -21,10 +20,10 @@ abbrev contributions_at : ℕ → Input → Remaining
 contributions_at offset rest = record { offset = offset; rest = rest }
 
 -- the result for a contribution at an offset, of a format and a length, by the result for its header
-abbrev contribution_said : {H : Type 0} → ℕ → Format → ℕ → Result (H × Input) Error → Result (Contribution H) Error
-contribution_said offset format n (Ok x) =
-    Ok (record { offset = offset; format = format; unit_length = n; header = x.0; entries = x.1 })
-contribution_said offset format n (Err e) = Err e
+abbrev contribution_said : {H : Type 0} → ℕ → Format → ℕ → Result H Error × Input → Result (Contribution H) Error
+contribution_said offset format n (Ok x, left) =
+    Ok (record { offset = offset; format = format; unit_length = n; header = x; entries = left })
+contribution_said offset format n (Err e, left) = Err e
 
 -- ---- what a reader reads of a contribution
 
@@ -39,18 +38,18 @@ module _ {H : Type 0} (header : Header H) {greatest : ℕ} {old : Input} {format
   -- an initial length, a part of that length, and a header in it are a contribution; if the header is an error, so is
   -- the contribution
   pub said_read : (offset : ℕ) {unit new : Input} → unit ≡ first n following → Takes n following new
-      → (r : Result (H × Input) Error) → header greatest format unit r
+      → (r : Result H Error × Input) → header greatest format unit r
       → ContributionAt header greatest (contributions_at offset old) (contribution_said offset format n r)
-  said_read offset is taken (Ok x) said =
+  said_read offset is taken (Ok x, left) said =
       let front = length_taken measured in
       record {
         here = refl;
         measured = subst (HasLength greatest old format n) front.left measured;
         within = (takes-both front taken).enough;
-        said = subst (λ (i : Input). header greatest format i (Ok x)) (is ∙ ap (first n) front.left) said;
+        said = subst (λ (i : Input). header greatest format i (Ok x, left)) (is ∙ ap (first n) front.left) said;
       }
-  said_read offset is taken (Err e) lacks =
-      contribution_headless measured taken.enough (subst (λ (i : Input). header greatest format i (Err e)) is lacks)
+  said_read offset is taken (Err e, left) lacks =
+      contribution_headless measured taken.enough (subst (λ (i : Input). header greatest format i (Err e, left)) is lacks)
 
   -- what a reader returns without a part of that length is the error of the contribution, or memory ran out
   pub unit_cut_read : (is_free : Bool) {e : Error} {new : Input}
@@ -65,14 +64,13 @@ module _ {H : Type 0} (header : Header H) {greatest : ℕ} {old : Input} {format
 abbrev Length : Type 0
 Length = Result (Format × ℕ) Error × Input
 
-module _ {H : Type 0} {header : Header H} {least : ℕ} {size : Format → H → ℕ} (is_header : IsHeader least size header)
-    (greatest : ℕ) where
+module _ {H : Type 0} {header : Header H} (is_header : IsHeader header) (greatest : ℕ) where
   -- the result for a contribution at an offset by the result for its initial length
   abbrev contribution_of : ℕ → Length → Result (Contribution H) Error
   contribution_of offset (Err e, new) = Err e
   contribution_of offset (Ok (format, n), mid) =
       if nat_lt (length mid.bytes) n then Err (eof_here mid) else
-      contribution_said offset format n (is_header.one greatest format (first n mid)).0
+      contribution_said offset format n ((is_header greatest format).one (first n mid)).0
 
   module _ (offset : ℕ) (format : Format) (n : ℕ) (mid : Input) where
     -- a contribution whose part is cut is the error
@@ -80,14 +78,14 @@ module _ {H : Type 0} {header : Header H} {least : ℕ} {size : Format → H →
     contribution_cut-is short = grind arith
 
     -- a contribution that isn't is what its header says
-    contribution_said-is : n ≤ length mid.bytes → (r : Result (H × Input) Error)
+    contribution_said-is : n ≤ length mid.bytes → (r : Result H Error × Input)
         → header greatest format (first n mid) r
         → contribution_said offset format n r ≡ contribution_of offset (Ok (format, n), mid)
     contribution_said-is enough r has =
         let whole : contribution_said offset format n
-        (is_header.one greatest format (first n mid)).0 ≡ contribution_of offset (Ok (format, n), mid) =
+        ((is_header greatest format).one (first n mid)).0 ≡ contribution_of offset (Ok (format, n), mid) =
         grind arith in
-        ap (contribution_said offset format n) ((is_header.one greatest format (first n mid)).2 r has) ∙ whole
+        ap (contribution_said offset format n) (((is_header greatest format).one (first n mid)).2 r has) ∙ whole
 
   module _ (remaining : Remaining) where
     -- each result for the initial length gives the same result for the first contribution
@@ -103,13 +101,13 @@ module _ {H : Type 0} {header : Header H} {least : ℕ} {size : Format → H →
     contribution-is (Ok s) has =
         let long = length-drop (initial_length_size s.format) remaining.rest.bytes in
         (λ i. Ok (record s { offset = has.here i }))
-        ∙ contribution_said-is _ _ _ _ (omega (arith, long, has.within)) (Ok (s.header, s.entries)) has.said
+        ∙ contribution_said-is _ _ _ _ (omega (arith, long, has.within)) (Ok s.header, s.entries) has.said
         ∙ contribution_of-one (Ok (s.format, s.unit_length), _) has.measured
     contribution-is (Err e) (contribution_unmeasured {new = new} lacks) = contribution_of-one (Err e, new) lacks
     contribution-is (Err e) (contribution_cut {format = f} {n = n} {mid = mid} measured short) =
         contribution_cut-is _ _ _ _ short ∙ contribution_of-one (Ok (f, n), mid) measured
-    contribution-is (Err e) (contribution_headless {format = f} {n = n} {mid = mid} measured enough lacks) =
-        contribution_said-is _ _ _ _ enough (Err e) lacks ∙ contribution_of-one (Ok (f, n), mid) measured
+    contribution-is (Err e) (contribution_headless {format = f} {n = n} {mid = mid} {left = left} measured enough lacks) =
+        contribution_said-is _ _ _ _ enough (Err e, left) lacks ∙ contribution_of-one (Ok (f, n), mid) measured
 
     -- there is a result for the first contribution
     contribution_some : (x : Length) → LengthAt greatest remaining.rest x
@@ -119,7 +117,7 @@ module _ {H : Type 0} {header : Header H} {least : ℕ} {size : Format → H →
         elim (cases_lt (length mid.bytes) n) [
           | inl short ↦ (Err (eof_here mid), contribution_cut measured short)
           | inr enough ↦
-              let one = is_header.one greatest format (first n mid) in
+              let one = (is_header greatest format).one (first n mid) in
               let taken : Takes n mid (after n mid) = record { enough = enough; left = refl } in (
                 contribution_said remaining.offset format n one.0,
                 said_read header measured remaining.offset refl taken one.0 one.1,
@@ -133,38 +131,33 @@ module _ {H : Type 0} {header : Header H} {least : ℕ} {size : Format → H →
         let some = contribution_some measured.0 measured.1 in
         (some.0, some.1, λ other is. contribution-is other is ∙ sym (contribution-is some.0 some.1))
 
-  -- a contribution has at least the four bytes of its length, and those of its header
+  -- a contribution has its initial length, and as many bytes as that says
   contribution_least : TakesLeast (λ (h : Remaining). h.rest) (ContributionAt header greatest) after_contribution
-      (4 + least)
+      contribution_size
   contribution_least = record {
-    by = λ remaining s has. let unit = is_header.sized _ _ _ has.said in
-        omega (
-          arith,
-          has.within,
-          unit.enough,
-          is_header.at_least _ _ _ has.said,
-          length-drop {A = ℕ},
-          length-take {A = ℕ},
-          initial_length_size-least,
-        );
+    by = λ remaining s has. omega (arith, has.within, length-drop (contribution_size s) remaining.rest.bytes);
   }
+
+  -- so it has bytes
+  contribution_size-positive : (s : Contribution H) → 1 ≤ contribution_size s
+  contribution_size-positive s = omega (arith, initial_length_size-least s.format)
 
   -- the bytes that remain have exactly one list of contributions
   pub contributions_exactly_one : (remaining : Remaining) → HasOne (RepresentsContributions header greatest remaining)
   contributions_exactly_one remaining =
-      items-exactly_one contribution_exactly_one contribution_least (omega arith) remaining
+      items-exactly_one contribution_exactly_one contribution_least contribution_size-positive remaining
 
   -- contributions consume no more bytes than there are
   pub contributions_bounded : (remaining : Remaining) (items : List (Result (Contribution H) Error))
       → RepresentsContributions header greatest remaining items
-      → sum_by (least_taken (4 + least)) items ≤ length remaining.rest.bytes
+      → sum_by (least_taken contribution_size) items ≤ length remaining.rest.bytes
   contributions_bounded remaining items are = items-bounded contribution_least are
 
   -- ---- appended bytes
 
   -- what is said in a part of the bytes stays the result for the contribution when others are appended
   said_kept : (more : List ℕ) (remaining : Remaining) {format : Format} {n : ℕ} {mid : Input}
-      → HasLength greatest remaining.rest format n mid → n ≤ length mid.bytes → (r : Result (H × Input) Error)
+      → HasLength greatest remaining.rest format n mid → n ≤ length mid.bytes → (r : Result H Error × Input)
       → header greatest format (first n mid) r
       → ContributionAt header greatest (followed_remaining more remaining)
       (contribution_said remaining.offset format n r)
@@ -181,7 +174,7 @@ module _ {H : Type 0} {header : Header H} {least : ℕ} {size : Format → H →
   contribution_kept more {remaining} {s} has =
       let long = length-drop (initial_length_size s.format) remaining.rest.bytes in
       let kept =
-      said_kept more remaining has.measured (omega (arith, long, has.within)) (Ok (s.header, s.entries)) has.said in
+      said_kept more remaining has.measured (omega (arith, long, has.within)) (Ok s.header, s.entries) has.said in
       record { here = has.here; measured = kept.measured; within = kept.within; said = kept.said }
 
   -- they still don't, with the same error, unless bytes are missing
@@ -191,8 +184,8 @@ module _ {H : Type 0} {header : Header H} {least : ℕ} {size : Format → H →
   no_contribution_kept more (contribution_unmeasured lacks) settled =
       contribution_unmeasured (no_length-more more lacks settled)
   no_contribution_kept more (contribution_cut {mid = mid} measured short) settled = absurd (settled mid.position refl)
-  no_contribution_kept more {old} {e} (contribution_headless measured enough lacks) settled =
-      said_kept more (contributions_at 0 old) measured enough (Err e) lacks
+  no_contribution_kept more {old} {e} (contribution_headless {left = left} measured enough lacks) settled =
+      said_kept more (contributions_at 0 old) measured enough (Err e, left) lacks
 
   -- the first contribution stays the first when bytes are appended
   pub contribution_more : (remaining : Remaining) (s : Contribution H)
@@ -202,7 +195,7 @@ module _ {H : Type 0} {header : Header H} {least : ℕ} {size : Format → H →
       → (rest : List (Result (Contribution H) Error)) × (others ≡ Ok s ∷ rest)
   contribution_more remaining s items others more are has =
       let there = first-is are in
-      let first = item-first contribution_exactly_one contribution_least (omega arith) _ _
+      let first = item-first contribution_exactly_one contribution_least contribution_size-positive _ _
       (bytes-still_some _ more there.0) (contribution_kept more there.1) refl in
       (first.0.0, items-same contribution_exactly_one has (first.1 first.0.0 first.0.1))
 
@@ -253,7 +246,7 @@ module _ {H : Type 0} {header : Header H} {least : ℕ} {size : Format → H →
     -- a contribution that is read is the first item
     pub contribution_first : ComesFirst (RepresentsContributions header greatest) (contributions_at offset rest) (Ok s)
         (contributions_at place left)
-    contribution_first = item-first contribution_exactly_one contribution_least (omega arith) _ _ some is_there remains
+    contribution_first = item-first contribution_exactly_one contribution_least contribution_size-positive _ _ some is_there remains
 
     -- a contribution that is read stays the first item when bytes are appended
     pub contribution_stays : (more : List ℕ) → ComesFirst (RepresentsContributions header greatest)
@@ -263,13 +256,10 @@ module _ {H : Type 0} {header : Header H} {least : ℕ} {size : Format → H →
         let cut : followed_by (after (contribution_size s) rest) more ≡ after (contribution_size s)
         (followed_by rest more) =
         grind (arith, drop-append-le, taken.enough) in
-        item-first contribution_exactly_one contribution_least (omega arith) _ _ (bytes-still_some rest.bytes more some)
+        item-first contribution_exactly_one contribution_least contribution_size-positive _ _ (bytes-still_some rest.bytes more some)
         (contribution_kept more is_there)
         (ap (followed_remaining more) remains ∙ λ i. contributions_at (offset + contribution_size s) (cut i))
 
-  -- a contribution that a reader read has at least four bytes and those of its header
-  pub contribution_bound : {remaining : Remaining} {s : Contribution H} {new : Input}
-      → HasContribution header greatest remaining s
-      → Takes (contribution_size s) remaining.rest new → length new.bytes + (4 + least) ≤ length remaining.rest.bytes
-  contribution_bound {remaining} {s} {new} has taken =
-      omega (arith, contribution_least.by remaining s has, ap (λ (i : Input). length i.bytes) taken.left)
+-- as many bytes fewer remain as a contribution that is taken has
+pub contribution_bound : {n : ℕ} {old new : Input} → Takes n old new → length new.bytes + n ≡ length old.bytes
+contribution_bound {n} {old} {new} taken = omega (arith, rest-length n old new taken, taken.enough)

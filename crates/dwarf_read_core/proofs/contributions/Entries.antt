@@ -29,7 +29,7 @@ module _ (fits : ℕ → Bool) (width : ℕ) where
       (λ over. (Err UnsupportedOffset, entry_too_great taken over, λ other is. grind arith)))
 
   -- an entry has as many bytes as its width
-  entry_least : TakesLeast (λ (i : Input). i) (EntryAt fits width) (λ _ i. after width i) width
+  entry_least : TakesLeast (λ (i : Input). i) (EntryAt fits width) (λ _ i. after width i) (λ x. width)
   entry_least = record { by = λ old x has. omega (arith, has.number.enough, length-drop width old.bytes) }
 
 -- the entries of a width that an input has
@@ -40,11 +40,11 @@ module _ (fits : ℕ → Bool) where
   -- the bytes that remain have exactly one list of numbers
   pub numbers_exactly_one : (entries : Entries) → 0 < entries.width → HasOne (AreNumbers fits entries)
   numbers_exactly_one entries positive =
-      items-exactly_one (entry_exactly_one fits entries.width) (entry_least fits entries.width) positive entries.rest
+      items-exactly_one (entry_exactly_one fits entries.width) (entry_least fits entries.width) (λ x. positive) entries.rest
 
   -- numbers consume no more bytes than there are
   pub numbers_bounded : (entries : Entries) (items : List (Result ℕ Error)) → AreNumbers fits entries items
-      → sum_by (least_taken entries.width) items ≤ length entries.rest.bytes
+      → sum_by (least_taken (λ _. entries.width)) items ≤ length entries.rest.bytes
   numbers_bounded entries items are = items-bounded (entry_least fits entries.width) are
 
   module _ (width : ℕ) (old new : Input) (some : old.bytes ≢ []) where
@@ -52,7 +52,7 @@ module _ (fits : ℕ → Bool) where
     pub number_first : {x : ℕ} → 0 < width → TakesNumber width old x new → IsTrue (fits x)
         → ComesFirst (AreNumbers fits) (entries_in width old) (Ok x) (entries_in width new)
     number_first {x} positive takes fit =
-        item-first (entry_exactly_one fits width) (entry_least fits width) positive old new some
+        item-first (entry_exactly_one fits width) (entry_least fits width) (λ x. positive) old new some
         (record { number = subst (TakesNumber width old x) takes.left takes; fitting = fit }) takes.left
 
     -- an error in place of a number is the first item, after which nothing remains

@@ -16,19 +16,20 @@ pub same_of_one : {A : Type 0} {P : A → Type 0} {x y : A} → HasOne P → P x
 same_of_one {x = x} {y} one p q = one.2 x p ∙ sym (one.2 y q)
 
 module _ {S A : Type 0} (rest : S → Input) (Is : S → Result A Error → Type 0) (following : A → S → S) where
-  -- each value has at least n bytes
-  pub record TakesLeast (n : ℕ) : Type 0 where
-    pub by : (old : S) (x : A) → Is old (Ok x) → length (rest (following x old)).bytes + n ≤ length (rest old).bytes
+  -- each value has at least as many bytes as `count` says
+  pub record TakesLeast (count : A → ℕ) : Type 0 where
+    pub by : (old : S) (x : A) → Is old (Ok x)
+        → length (rest (following x old)).bytes + count x ≤ length (rest old).bytes
 
 module _ {S A : Type 0} {rest : S → Input} {Is : S → Result A Error → Type 0} {following : A → S → S} where
   -- items consume no more bytes than there are
-  pub items-bounded : {n : ℕ} → TakesLeast rest Is following n → {old : S} {items : List (Result A Error)}
-      → AreItems rest Is following old items → sum_by (least_taken n) items ≤ length (rest old).bytes
+  pub items-bounded : {count : A → ℕ} → TakesLeast rest Is following count → {old : S} {items : List (Result A Error)}
+      → AreItems rest Is following old items → sum_by (least_taken count) items ≤ length (rest old).bytes
   items-bounded least (no_items e) = omega arith
-  items-bounded {n} least (value_first {now = old} {x = x} {items = items} some is others) =
-      rw (sum_by-cons (least_taken n) (Ok x) items) (omega (arith, items-bounded least others, least.by old x is))
-  items-bounded {n} least (only_error {now = old} {e = e} some is) =
-      rw (sum_by-cons (least_taken n) (Err e) []) (omega (arith, bytes-some (rest old).bytes some))
+  items-bounded {count} least (value_first {now = old} {x = x} {items = items} some is others) =
+      rw (sum_by-cons (least_taken count) (Ok x) items) (omega (arith, items-bounded least others, least.by old x is))
+  items-bounded {count} least (only_error {now = old} {e = e} some is) =
+      rw (sum_by-cons (least_taken count) (Err e) []) (omega (arith, bytes-some (rest old).bytes some))
 
   module _ (one : (old : S) → HasOne (Is old)) where
     -- two lists of items of the same bytes are equal
@@ -58,7 +59,7 @@ module _ {S A : Type 0} {rest : S → Input} {Is : S → Result A Error → Type
         (([], no_items empty), λ others has. rw (← items-same (no_items empty) has) (only_error some is))
 
     -- ---- if each value has at least one byte
-    module _ {n : ℕ} (least : TakesLeast rest Is following n) (positive : 1 ≤ n) where
+    module _ {count : A → ℕ} (least : TakesLeast rest Is following count) (positive : (x : A) → 1 ≤ count x) where
       -- bytes have a list of items, by induction on a number above their length
       items-some : (steps : ℕ) (old : S) → length (rest old).bytes < steps
           → (items : List (Result A Error)) × AreItems rest Is following old items
@@ -72,7 +73,7 @@ module _ {S A : Type 0} {rest : S → Input} {Is : S → Result A Error → Type
           go again [] empty r is = ([], no_items empty)
           go again (b ∷ bytes) full (Err e) is = (Err e ∷ [], only_error (λ empty. cc) is)
           go again (b ∷ bytes) full (Ok x) is =
-              let others = again (following x old) (omega (arith, least.by old x is, positive, few)) in
+              let others = again (following x old) (omega (arith, least.by old x is, positive x, few)) in
               (Ok x ∷ others.0, value_first (λ empty. cc) is others.1)
 
       -- bytes have exactly one list of items

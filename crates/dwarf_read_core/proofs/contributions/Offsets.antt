@@ -1,6 +1,5 @@
 -- A section has exactly one result for the contribution at an offset, which stays with more bytes appended.
 use Rattle.dwarf_read_core.proofs.Common.{◌≡◌, ℕ, ◌<◌, ◌≤◌, List, length, Result, Ok, Err, refl, subst, arith, Bool, IfOk, IfErr, ◌⊎◌, inl, inr, length-append, length-drop, drop-append-le, Error, CloneRanOutOfMemory, eof_here, IsTooShort, Input, after, Takes, HasOne, IsNotEof, followed_by, Contribution}
-use Rattle.dwarf_base_core.specs.declared.common.Format.{Format}
 use Rattle.dwarf_reader_core.proofs.public.Once.{one_unless}
 use Rattle.dwarf_reader_core.specs.Headers.{Header, IsHeader}
 use Rattle.dwarf_read_core.specs.Contributions.{HasContribution, HasNoContribution, HasNoContributionAt, ContributionAt, ContributionAtOffset, contribution_faulty, contribution_outside, contributions_from}
@@ -59,8 +58,7 @@ module _ {H : Type 0} (header : Header H) (greatest : ℕ) (section : Input) (of
   contribution_at-faulty is_free (Err e) takes (inr want) = inr want
 
 -- a section has exactly one result for the contribution at an offset
-pub contribution_at-exactly_one : {H : Type 0} {header : Header H} {least : ℕ} {size : Format → H → ℕ}
-    → IsHeader least size header → (greatest : ℕ) (section : Input) (offset : ℕ)
+pub contribution_at-exactly_one : {H : Type 0} {header : Header H} → IsHeader header → (greatest : ℕ) (section : Input) (offset : ℕ)
     → HasOne (ContributionAtOffset header greatest section offset)
 contribution_at-exactly_one is_header greatest section offset =
     one_unless (length section.bytes) offset (Err (eof_here section)) contribution_outside
@@ -77,8 +75,7 @@ after-followed : (section : Input) (offset : ℕ) (more : List ℕ) → offset �
 after-followed section offset more within = grind (arith, drop-append-le)
 
 -- the result for the contribution at an offset, unless it is an `UnexpectedEof`, stays when bytes are appended
-pub contribution_at-more : {H : Type 0} {header : Header H} {least : ℕ} {size : Format → H → ℕ}
-    → IsHeader least size header → (greatest : ℕ) (section : Input) (offset : ℕ) (more : List ℕ)
+pub contribution_at-more : {H : Type 0} {header : Header H} → IsHeader header → (greatest : ℕ) (section : Input) (offset : ℕ) (more : List ℕ)
     → (r : Result (Contribution H) Error) → ContributionAtOffset header greatest section offset r → IfErr r IsNotEof
     → ContributionAtOffset header greatest (followed_by section more) offset r
 contribution_at-more {header = header} is_header greatest section offset more (Ok s) has settled =

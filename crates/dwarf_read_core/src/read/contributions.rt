@@ -4,7 +4,7 @@
 //! and sets of lists (7.28 and 7.29) have the same form: a crate that reads them says what their
 //! headers have after the length, by [`HeaderFields`], and gets the rest from here.
 
-ghost use Rattle.std.specs.Prelude.{◌≡◌, ◌+◌, ◌≤◌, ◌⊎◌, ℕ, [], Result, Ok, Err, true, length, IfOk, IfErr, IfSome, OnOk, OnErr};
+ghost use Rattle.std.specs.Prelude.{◌≡◌, ◌+◌, ◌≤◌, ◌⊎◌, ℕ, [], Result, Ok, Err, true, length, IfOk, IfErr, IfSome, OnErr};
 ghost use Rattle.std.specs.Result.{result_transpose};
 ghost use Rattle.dwarf_reader_core.specs.Faults.{CloneRanOutOfMemory};
 ghost use Rattle.dwarf_base_core.specs.declared.common.Format.{Format};
@@ -37,18 +37,8 @@ pub trait HeaderFields<R: Reader>: fmt::Debug + Copy + Drop {
 
     ghost said: { Self → Said };
 
-    // For a greatest offset and a format: which bytes begin with a header, what it says, and which
-    // bytes remain; or their error.
-    ghost header: { ℕ → Format → Input → Result (Said × Input) Error → Type 0 };
-
-    // How many bytes a header has.
-    ghost size: { Format → Said → ℕ };
-
-    // The least number of bytes that a header has.
-    ghost LEAST_BYTES: { ℕ };
-
-    /// The least number of bytes of the header that follow the contribution's length.
-    const LEAST_BYTES: u64;
+    // For a greatest offset and a format: what is read of a header.
+    ghost header: { ℕ → Format → Input → Result Said Error × Input → Type 0 };
 
     /// The name of the kind's header, with which its debug text begins.
     const NAME: &'static str;
@@ -62,16 +52,15 @@ pub trait HeaderFields<R: Reader>: fmt::Debug + Copy + Drop {
     fn parse(unit: &mut R, format: Format) -> Result<Self>
         ensures ok { IfOk result
             (λ fields. header R.Offset.GREATEST format (R.view unit.old)
-            (Ok (said fields, R.view unit.new))) }
+            (Ok (said fields), R.view unit.new)) }
         ensures err { IfErr result
-            (λ e. header R.Offset.GREATEST format (R.view unit.old) (Err e)) }
+            (λ e. header R.Offset.GREATEST format (R.view unit.old) (Err e, R.view unit.new)) }
         ensures order { R.order unit.new ≡ R.order unit.old };
 
-    /// Says a law of the kind by its contract, and does nothing: bytes have exactly one header or
-    /// error, what a header says determines how many bytes it has, and these are at least
-    /// [`LEAST_BYTES`](Self::LEAST_BYTES).
+    /// Says a law of the kind by its contract, and does nothing: the bytes and their format
+    /// determine the fields or the error, and what remains.
     fn law()
-        ensures { IsHeader LEAST_BYTES size header };
+        ensures { IsHeader header };
 }
 
 /// The contributions that remain of a section, each by its header.
@@ -149,7 +138,8 @@ impl<R: Reader, H: HeaderFields<R>> ContributionHeaderIter<R, H> {
         ensures failed { OnErr result ((R.view self.new.rest).bytes ≡ []) }
         ensures bound { let old = (R.view self.old.rest).bytes in
             IfOk result (λ item. IfSome item
-            (λ _. length (R.view self.new.rest).bytes + (4 + H.LEAST_BYTES) ≤ length old)) }
+            (λ header. length (R.view self.new.rest).bytes
+            + contribution_size (seen_as H.said R.view header) ≡ length old)) }
         ensures some { OnErr result (1 ≤ length (R.view self.old.rest).bytes) }
         ensures entries_order { let order = R.order self.old.rest in
             IfOk result (λ item. IfSome item (λ header. R.order header.entries ≡ order)) }
@@ -335,13 +325,10 @@ impl<R: Reader, H: HeaderFields<R>> ContributionHeader<R, H> {
         ensures err { IfErr result
             (λ e. HasNoContribution H.header R.Offset.GREATEST (R.view input.old) e
             ⊎ CloneRanOutOfMemory R.clone_is_free e) }
-        ensures bound { let old = (R.view input.old).bytes in
-            OnOk result (length (R.view input.new).bytes + (4 + H.LEAST_BYTES) ≤ length old) }
         ensures entries_order { IfOk result
             (λ header. R.order header.entries ≡ R.order input.old) }
         ensures order { R.order input.new ≡ R.order input.old }
     {
-        H::law();
         let (length, format) = input.read_initial_length()?;
         let mut unit = input.split(length)?;
         let fields = H::parse(&mut unit, format)?;

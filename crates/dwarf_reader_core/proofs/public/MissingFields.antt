@@ -1,11 +1,21 @@
 -- Each `UnexpectedEof` is that of the first of consecutive fields that isn't there whole.
-use Rattle.dwarf_reader_core.proofs.Common.{◌≡◌, ◌∙◌, ℕ, ◌+◌, ◌<◌, ◌≤◌, List, [], ◌∷◌, length, Err, refl, sym, ap, arith, inl, inr, length-drop, eof, Error, Input, after}
+use Rattle.dwarf_reader_core.proofs.Common.{◌≡◌, ◌≢◌, ◌∙◌, ℕ, ◌+◌, ◌<◌, ◌≤◌, Bool, true, false, List, [], ◌∷◌, length, Result, Ok, Err, refl, sym, subst, ap, arith, inl, inr, length-drop, eof, Error, Input, after, Takes}
 use Rattle.dwarf_base_core.specs.declared.error.Error.TheVariants.{UnexpectedEof}
+use Rattle.dwarf_reader_core.specs.Appended.{IsNotEof}
 use Rattle.dwarf_reader_core.specs.Faults.{IsCutIn}
-use Rattle.dwarf_reader_core.specs.Headers.{AddressFieldsAt, HasNoAddressHeader, HasNoStringOffsetsHeader, HasNoVersion, StringOffsetsFieldsAt, address_size_cut, address_size_unknown, address_unversioned, offsets_unversioned, padding_cut, segment_size_cut, segment_size_unknown, version_cut, version_unknown}
+use Rattle.dwarf_reader_core.specs.Readings.{AddressSizeRead, Given, NumberRead, Reading, Required, Then}
+use Rattle.dwarf_reader_core.proofs.public.Consuming.{after-zero, takes-both}
 use Rattle.dwarf_reader_core.specs.InitialLength.{HasNoLength, LengthAt, eight_cut, four_cut, reserved, too_great}
 
--- ---- positions
+-- ---- errors
+
+-- a value is no error
+pub ok-settled : {A : Type 0} {x : A} {e : Error} → ◌≡◌ {A = Result A Error} (Ok x) (Err e) → ⊥
+ok-settled same = grind arith
+
+-- errors of equal results are equal
+pub err-equal : {A : Type 0} {e f : Error} → ◌≡◌ {A = Result A Error} (Err e) (Err f) → e ≡ f
+err-equal same = grind arith
 
 -- the position in an `UnexpectedEof`
 abbrev position_in : Error → ℕ
@@ -47,32 +57,74 @@ cut_third input one two three sizes position enough short there =
     (cut_second (after one input) two three sizes position (omega (arith, long, enough))
     (omega (arith, long, enough, short)) (omega (arith, there)))
 
--- ---- headers and initial lengths
+-- ---- readings of consecutive fields
 
--- a header is cut in its version
-version_is_cut : (unit : Input) (sizes : List ℕ) {e : Error} → HasNoVersion unit e → (position : ℕ) → e ≡ eof position
-    → IsCutIn unit (2 ∷ sizes) (eof position)
-version_is_cut unit sizes (version_cut short) position same =
-    cut_here unit 2 sizes position short (sym (eof-same same))
-version_is_cut unit sizes (version_unknown enough is other) position same = absurd (grind arith)
+-- a value has n bytes, and bytes that are missing are those of the first of fields of these sizes that isn't there whole
+pub record HasSizes {A : Type 0} (sizes : List ℕ) (n : ℕ) (At : Reading A) : Type 0 where
+  pub takes : (old new : Input) (x : A) → At old (Ok x, new) → Takes n old new
+  pub cut : (old new : Input) (position : ℕ) → At old (Err (eof position), new) → IsCutIn old sizes (eof position)
 
--- a header of addresses, or in one of its sizes
-addresses_cut : (unit : Input) {e : Error} → HasNoAddressHeader unit e → (position : ℕ) → e ≡ eof position
-    → IsCutIn unit (2 ∷ 1 ∷ 1 ∷ []) (eof position)
-addresses_cut unit (address_unversioned none) position same = version_is_cut unit (1 ∷ 1 ∷ []) none position same
-addresses_cut unit (address_size_cut has short) position same =
-    cut_second unit 2 1 (1 ∷ []) position has.enough short (sym (eof-same same))
-addresses_cut unit (address_size_unknown has enough is other) position same = absurd (grind arith)
-addresses_cut unit (segment_size_cut has sized short) position same =
-    cut_third unit 2 1 1 [] position (omega (arith, short)) (omega (arith, short)) (sym (eof-same same))
-addresses_cut unit (segment_size_unknown has sized enough is other) position same = absurd (grind arith)
+-- a number of n bytes is one field
+pub number-sizes : (n : ℕ) → HasSizes (n ∷ []) n (NumberRead n)
+number-sizes n = record {
+  takes = λ old new x is. record { enough = is.enough; left = is.left };
+  cut = λ old new position short. cut_here old n [] position short.short (eof-same short.fault);
+}
 
--- a header of string offsets, or in its padding
-offsets_cut : (unit : Input) {e : Error} → HasNoStringOffsetsHeader unit e → (position : ℕ) → e ≡ eof position
-    → IsCutIn unit (2 ∷ 2 ∷ []) (eof position)
-offsets_cut unit (offsets_unversioned none) position same = version_is_cut unit (2 ∷ []) none position same
-offsets_cut unit (padding_cut has short) position same =
-    cut_second unit 2 2 [] position has.enough short (sym (eof-same same))
+-- so is a size of addresses
+pub address_size-sizes : HasSizes (1 ∷ []) 1 AddressSizeRead
+address_size-sizes = record {
+  takes = λ old new x is. record { enough = is.0.enough; left = is.0.left };
+  cut = λ old new position is. elim is [
+    | inl short ↦ cut_here old 1 [] position short.short (eof-same short.fault)
+    | inr other ↦ absurd (grind (arith, other.fault))
+  ];
+}
+
+-- a result that is given has no field
+pub given-sizes : {A : Type 0} (result : Result A Error) → ((position : ℕ) → result ≢ Err (eof position))
+    → HasSizes [] 0 (Given result)
+given-sizes result settled = record {
+  takes = λ old new x is. record { enough = omega arith; left = grind (arith, after-zero) };
+  cut = λ old new position is. absurd (settled position (sym (ap (λ r. r.0) is)));
+}
+
+-- nor has a value
+pub value-sizes : {A : Type 0} (x : A) → HasSizes [] 0 (Given (Ok x))
+value-sizes x = given-sizes (Ok x) (λ position. ok-settled)
+
+-- nor a test
+pub required-sizes : (holds : Bool) (e : Error) → IsNotEof e → HasSizes [] 0 (Required holds e)
+required-sizes true e settled = value-sizes tt
+required-sizes false e settled = given-sizes (Err e) (λ position same. settled position (err-equal same))
+
+module _ {A B : Type 0} {At : Reading A} {Next : A → Reading B} {sizes : List ℕ} {n : ℕ} where
+  -- the fields after a first one are cut where it ends
+  pub field-sizes : {size : ℕ} → HasSizes (size ∷ []) size At → ((x : A) → HasSizes sizes n (Next x))
+      → HasSizes (size ∷ sizes) (size + n) (Then At Next)
+  field-sizes {size} first others = record {
+    takes = λ old new y is. takes-both (first.takes old is.1 is.0 is.2) ((others is.0).takes is.1 new y is.3);
+    cut = λ old new position is. elim is [
+      | inl is ↦ elim (first.cut old new position is) [ inl short ↦ inl short | inr cut ↦ absurd cut.2 ]
+      | inr is ↦ inr (is.1, first.takes old is.1 is.0 is.2, (others is.0).cut is.1 new position is.3)
+    ];
+  }
+
+  -- the fields after a reading without bytes are those of both
+  pub test-sizes : HasSizes [] 0 At → ((x : A) → HasSizes sizes n (Next x)) → HasSizes sizes n (Then At Next)
+  test-sizes first others = record {
+    takes = λ old new y is.
+        let same = (first.takes old is.1 is.0 is.2).left ∙ after-zero old in
+        subst (λ (i : Input). Takes n i new) same ((others is.0).takes is.1 new y is.3);
+    cut = λ old new position is. elim is [
+      | inl is ↦ absurd (first.cut old new position is)
+      | inr is ↦
+          let same = (first.takes old is.1 is.0 is.2).left ∙ after-zero old in
+          subst (λ (i : Input). IsCutIn i sizes (eof position)) same ((others is.0).cut is.1 new position is.3)
+    ];
+  }
+
+-- ---- initial lengths
 
 -- an initial length, in its first four bytes or in the next eight
 length_cut : (greatest : ℕ) (old new : Input) {e : Error} → HasNoLength greatest old e new → (position : ℕ)
@@ -88,20 +140,7 @@ length_cut greatest old new (eight_cut {mid = mid} four short) position same =
     )
 length_cut greatest old new (too_great four eight over) position same = absurd (grind arith)
 
--- the bytes of a header of addresses are cut in one of its fields
-pub address_header_cut : (unit : Input) (position : ℕ) → AddressFieldsAt unit (Err (eof position))
-    → IsCutIn unit (2 ∷ 1 ∷ 1 ∷ []) (eof position)
-address_header_cut unit position is = addresses_cut unit is position refl
-
--- those of a header of string offsets, too
-pub offsets_header_cut : (unit : Input) (position : ℕ) → StringOffsetsFieldsAt unit (Err (eof position))
-    → IsCutIn unit (2 ∷ 2 ∷ []) (eof position)
-offsets_header_cut unit position is = offsets_cut unit is position refl
-
--- and those of an initial length
+-- the bytes of an initial length are cut in one of its fields
 pub initial_length_cut : (greatest : ℕ) (old new : Input) (position : ℕ)
     → LengthAt greatest old (Err (eof position), new) → IsCutIn old (4 ∷ 8 ∷ []) (eof position)
 initial_length_cut greatest old new position is = length_cut greatest old new is position refl
-
--- where the bytes of headers and initial lengths are cut
-pub ruleset missing_fields = (address_header_cut, offsets_header_cut, initial_length_cut)

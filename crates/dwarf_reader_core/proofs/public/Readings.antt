@@ -1,7 +1,7 @@
 -- Each reading has exactly one result, which appended bytes change only where bytes were missing; and so has each
 -- reading that is made of others.
 use Rattle.std.specs.Prelude.{if◌then◌else◌, nat_le, nat_lt, ◌≢◌}
-use Rattle.dwarf_reader_core.proofs.Common.{Bool, true, ◌≡◌, ◌∙◌, ℕ, ℤ, ⊤, ◌≤◌, false, List, length, take, Result, Ok, Err, refl, sym, ap, inl, inr, arith, HasNoByte, HasOutcome, IsEncoding, NoneIsLast, IsTooShort, Kind, Number, Outcome, Value, End, Bad, limit, unsigned64, Error, Input, after, eof, eof_here, first, TakesString, length-append, take-append-le, drop-append-le}
+use Rattle.dwarf_reader_core.proofs.Common.{Bool, true, ◌≡◌, ◌∙◌, ◌+◌, ℕ, ℤ, ⊤, ◌≤◌, false, List, length, take, Result, Ok, Err, refl, sym, ap, inl, inr, arith, HasNoByte, HasOutcome, IsEncoding, NoneIsLast, IsTooShort, Kind, Number, Outcome, Value, End, Bad, limit, unsigned64, Error, Input, after, eof, eof_here, first, Takes, TakesNumber, TakesString, length-append, take-append-le, drop-append-le}
 use Rattle.dwarf_base_core.specs.Number.{signed_number}
 use Rattle.dwarf_base_core.specs.declared.common.Format.{Format}
 use Rattle.dwarf_base_core.specs.declared.error.Error.TheVariants.{BadUnsignedLeb128, UnsupportedAddressSize, UnsupportedOffset, UnsupportedOffsetSize}
@@ -9,31 +9,37 @@ use Rattle.dwarf_reader_core.specs.Appended.{followed_by}
 use Rattle.dwarf_reader_core.specs.Faults.{is_number_size}
 use Rattle.dwarf_reader_core.specs.InitialLength.{HasNoLength, LengthAt, eight_cut, four_cut, reserved, too_great}
 use Rattle.dwarf_reader_core.specs.Leb128.{ReadsNumber, overflow_error}
-use Rattle.dwarf_reader_core.specs.Readings.{AddressRead, AddressSizeRead, BoundedRead, EncodingRead, Given, IsRead, IsSettled, Leb128Read, Mapped, NumberRead, OffsetRead, PartRead, Reading, SignedRead, SkipRead, StringRead, Then, WordRead}
+use Rattle.dwarf_reader_core.specs.Readings.{AddressRead, AddressSizeRead, BoundedRead, Choice, EncodingRead, Given, IsRead, IsSettled, Leb128Read, Mapped, NumberRead, OffsetRead, PartRead, Reading, Required, SignedRead, SkipRead, StringRead, Then, WordRead}
 use Rattle.dwarf_reader_core.proofs.leb.Outcomes.{encoding-not_none, encoding_or_none, length-same, malformed-long, outcome-exactly_one}
 use Rattle.dwarf_reader_core.proofs.public.BadNumbers.{bad_more}
-use Rattle.dwarf_reader_core.proofs.public.Consuming.{front, front-cut, front-taken, number_more, takes-more}
-use Rattle.dwarf_reader_core.proofs.public.InitialLengths.{length_more, lengths_exactly_one, no_length-more}
-use Rattle.dwarf_reader_core.proofs.public.MissingFields.{eof-same}
+use Rattle.dwarf_reader_core.proofs.public.Consuming.{after-zero, front, front-cut, front-taken, number_more, takes-both, takes-more}
+use Rattle.dwarf_reader_core.proofs.public.InitialLengths.{length_more, length_taken, lengths_exactly_one, no_length-more}
+use Rattle.dwarf_reader_core.proofs.public.MissingFields.{eof-same, err-equal, ok-settled}
 use Rattle.dwarf_reader_core.proofs.public.Once.{one_unless}
 use Rattle.dwarf_reader_core.proofs.public.Strings.{string_not_none, string_taken-more, string_taken_once, string_taken_or_none}
 
 -- ---- results
-
--- a value is no error
-ok-settled : {A : Type 0} {x : A} {e : Error} → ◌≡◌ {A = Result A Error} (Ok x) (Err e) → ⊥
-ok-settled same = grind arith
-
--- errors of equal results are equal
-err-equal : {A : Type 0} {e f : Error} → ◌≡◌ {A = Result A Error} (Err e) (Err f) → e ≡ f
-err-equal same = grind arith
 
 -- equal errors are equal as results of another type
 err-same : {A B : Type 0} {e f : Error} → ◌≡◌ {A = Result A Error} (Err e) (Err f)
     → ◌≡◌ {A = Result B Error} (Err e) (Err f)
 err-same same = grind arith
 
--- ---- readings made of others
+-- ---- bytes that are taken
+
+-- no byte is taken where the input remains
+none-taken : (old new : Input) → new ≡ old → (n : ℕ) × Takes n old new
+none-taken old new same = (0, record { enough = omega arith; left = same ∙ sym (after-zero old) })
+
+-- the bytes of a number are taken
+number-taken : {n x : ℕ} {old new : Input} → TakesNumber n old x new → (m : ℕ) × Takes m old new
+number-taken {n} takes = (n, record { enough = takes.enough; left = takes.left })
+
+-- and those of two steps
+both-taken : {old mid new : Input} → (m : ℕ) × Takes m old mid → (n : ℕ) × Takes n mid new → (k : ℕ) × Takes k old new
+both-taken first second = (first.0 + second.0, takes-both first.1 second.1)
+
+-- ---- readings without bytes
 
 -- no byte is read for a result that is given
 pub given-is : {A : Type 0} (result : Result A Error) → ((position : ℕ) → result ≡ Err (eof position) → ⊥)
@@ -42,7 +48,35 @@ given-is result settled = record {
   one = λ old. ((result, old), refl, λ other is. is);
   more = λ old new other more is fine. ap (λ r. (r.0, followed_by r.1 more)) is;
   missing = λ old new position is. absurd (settled position (sym (ap (λ r. r.0) is)));
+  taken = λ old new result is. none-taken old new (ap (λ r. r.1) is);
 }
+
+-- nor for a value
+pub value-is : {A : Type 0} (x : A) → IsRead (Given (Ok x))
+value-is x = given-is (Ok x) (λ position. ok-settled)
+
+-- nor for a test
+pub required-is : (holds : Bool) (e : Error) → ((position : ℕ) → e ≢ eof position) → IsRead (Required holds e)
+required-is true e settled = value-is tt
+required-is false e settled = given-is (Err e) (λ position same. settled position (err-equal same))
+
+-- one of two readings is a reading
+pub choice-is : {A : Type 0} {One Other : Reading A} (holds : Bool) → IsRead One → IsRead Other
+    → IsRead (Choice holds One Other)
+choice-is true one other = one
+choice-is false one other = other
+
+-- ---- what is read, step by step
+
+-- a test that holds is passed
+pub required-ok : {holds : Bool} {old : Input} (e : Error) → holds ≡ true → Required holds e old (Ok tt, old)
+required-ok e passes = rw passes refl
+
+-- one that doesn't is the error
+pub required-err : {holds : Bool} {e : Error} {old : Input} → holds ≡ false → Required holds e old (Err e, old)
+required-err fails = rw fails refl
+
+-- ---- readings made of others
 
 module _ {A B : Type 0} (f : A → B) where
   -- the result of a function of a reading's value
@@ -74,6 +108,12 @@ module _ {A B : Type 0} (f : A → B) where
     mapped-more read old new (Err e) more is settled =
         read.more old new (Err e) more is (λ position same. settled position (err-same same))
 
+    -- it takes the bytes of the reading
+    mapped-taken : IsRead At → (old new : Input) (result : Result B Error) → Mapped f At old (result, new)
+        → (n : ℕ) × Takes n old new
+    mapped-taken read old new (Ok y) is = read.taken old new (Ok is.0) is.2
+    mapped-taken read old new (Err e) is = read.taken old new (Err e) is
+
     -- a function of a reading's value is a reading
     pub mapped-is : IsRead At → IsRead (Mapped f At)
     mapped-is read = record {
@@ -81,6 +121,7 @@ module _ {A B : Type 0} (f : A → B) where
           (mapped_result one.0, mapped-some old one.0 one.1, mapped-only old one.0 one.2);
       more = mapped-more read;
       missing = λ old new position is. read.missing old new position is;
+      taken = mapped-taken read;
     }
 
 module _ {A B : Type 0} (At : Reading A) (Next : A → Reading B) (first_read : IsRead At)
@@ -138,6 +179,14 @@ module _ {A B : Type 0} (At : Reading A) (Next : A → Reading B) (first_read : 
   then-missing old new position (inl is) = first_read.missing old new position is
   then-missing old new position (inr is) = (next_read is.0).missing is.1 new position is.3
 
+  -- the bytes of both are taken
+  then-taken : (old new : Input) (result : Result B Error) → Then At Next old (result, new) → (n : ℕ) × Takes n old new
+  then-taken old new (Ok y) is =
+      both-taken (first_read.taken old is.1 (Ok is.0) is.2) ((next_read is.0).taken is.1 new (Ok y) is.3)
+  then-taken old new (Err e) (inl is) = first_read.taken old new (Err e) is
+  then-taken old new (Err e) (inr is) =
+      both-taken (first_read.taken old is.1 (Ok is.0) is.2) ((next_read is.0).taken is.1 new (Err e) is.3)
+
   -- two consecutive readings are a reading
   pub then-is : IsRead (Then At Next)
   then-is = record {
@@ -145,6 +194,7 @@ module _ {A B : Type 0} (At : Reading A) (Next : A → Reading B) (first_read : 
         (then_result one.0, then-some old one.0 one.1, then-only old one.0 one.2);
     more = then-more;
     missing = then-missing;
+    taken = then-taken;
   }
 
 -- ---- readings with the results of others
@@ -158,6 +208,7 @@ same-is to from read = record {
       to (followed_by old more) (result, followed_by new more)
       (read.more old new result more (from old (result, new) is) settled);
   missing = λ old new position is. read.missing old new position (from old (Err (eof position), new) is);
+  taken = λ old new result is. read.taken old new result (from old (result, new) is);
 }
 
 -- a value if a test holds, and else an error, for which no byte is read
@@ -167,7 +218,7 @@ CheckedRead holds x e = Given (if holds then Ok x else Err e)
 -- that is a reading, if the error isn't that of missing bytes
 pub checked-is : {A : Type 0} (holds : Bool) (x : A) (e : Error) → ((position : ℕ) → e ≢ eof position)
     → IsRead (CheckedRead holds x e)
-checked-is true x e settled = given-is (Ok x) (λ position. ok-settled)
+checked-is true x e settled = value-is x
 checked-is false x e settled = given-is (Err e) (λ position same. settled position (err-equal same))
 
 -- ---- bytes and numbers
@@ -180,6 +231,12 @@ short-missing n old new position short = eof-same short.fault ∙ ap (λ (i : In
 -- bytes that are missing leave a result open
 short-open : {A : Type 0} {n : ℕ} {old new : Input} {e : Error} → IsTooShort n old e new → IsSettled {A = A} (Err e) → ⊥
 short-open {A = A} {old = old} short settled = settled old.position (ap (λ f. let r : Result A Error = Err f in r) short.fault)
+
+-- its bytes are taken
+part-taken : (n : ℕ) (old new : Input) (result : Result Input Error) → PartRead n old (result, new)
+    → (m : ℕ) × Takes m old new
+part-taken n old new (Ok part) is = (n, is.1)
+part-taken n old new (Err e) short = none-taken old new short.left
 
 -- appended bytes change it only where bytes were missing
 part-more : (n : ℕ) (old new : Input) (result : Result Input Error) (more : List ℕ) → PartRead n old (result, new)
@@ -199,7 +256,14 @@ part-is n = record {
       ));
   more = part-more n;
   missing = short-missing n;
+  taken = part-taken n;
 }
+
+-- its bytes are taken
+number_read-taken : (n : ℕ) (old new : Input) (result : Result ℕ Error) → NumberRead n old (result, new)
+    → (m : ℕ) × Takes m old new
+number_read-taken n old new (Ok x) takes = number-taken takes
+number_read-taken n old new (Err e) short = none-taken old new short.left
 
 -- appended bytes change it only where bytes were missing
 number-more : (n : ℕ) (old new : Input) (result : Result ℕ Error) (more : List ℕ) → NumberRead n old (result, new)
@@ -215,6 +279,7 @@ number-is n = record {
       (λ enough. ((Ok (front n old), after n old), front-taken n old enough, λ other is. grind arith));
   more = number-more n;
   missing = short-missing n;
+  taken = number_read-taken n;
 }
 
 module _ (n : ℕ) where
@@ -362,6 +427,12 @@ string-more old new (Ok string) more is settled = string_taken-more more is
 string-more old new (Err e) more is settled =
     absurd (settled old.position (ap (λ f. let r : Result Input Error = Err f in r) is.0.fault))
 
+-- a string is taken with its zero byte
+string-taken : (old new : Input) (result : Result Input Error) → StringRead old (result, new)
+    → (n : ℕ) × Takes n old new
+string-taken old new (Ok string) is = (is.len + 1, record { enough = omega (arith, is.ends.within); left = is.left })
+string-taken old new (Err e) is = none-taken old new is.1
+
 -- a string is a reading
 pub string-is : IsRead StringRead
 string-is = record {
@@ -371,6 +442,7 @@ string-is = record {
   ];
   more = string-more;
   missing = λ old new position is. eof-same is.0.fault ∙ ap (λ (i : Input). i.position) (sym is.1);
+  taken = string-taken;
 }
 
 -- ---- LEB128 numbers
@@ -434,6 +506,14 @@ module _ (k : Kind) where
   leb-missing old new position (inl cut) = eof-same cut.fault
   leb-missing old new position (inr is) = let fault = is.fault in absurd (grind arith)
 
+  -- its bytes are taken; all of them, if its last byte is missing; and of a bad number, as many as the limit
+  leb-taken : (old new : Input) (result : Result (Number k) Error) → Leb128Read k old (result, new)
+      → (n : ℕ) × Takes n old new
+  leb-taken old new (Ok x) is = (is.len, record { enough = is.has.enough; left = is.left })
+  leb-taken old new (Err e) (inl cut) = (length old.bytes, record { enough = omega arith; left = cut.left })
+  leb-taken old new (Err e) (inr is) =
+      (limit k, record { enough = malformed-long k old.bytes is.bad; left = is.left })
+
   -- a LEB128 number is a reading
   pub leb128-is : IsRead (Leb128Read k)
   leb128-is = record {
@@ -441,6 +521,7 @@ module _ (k : Kind) where
         (leb_result old one.0, leb-some old one.0 one.1, leb-only old one.0 one.2);
     more = leb-more;
     missing = leb-missing;
+    taken = leb-taken;
   }
 
 module _ (bound : ℕ) where
@@ -492,6 +573,12 @@ encoding-none : (old : Input) → NoneIsLast old.bytes → (other : Result ⊤ E
 encoding-none old none (Ok done, new) is = absurd (encoding-not_none old.bytes is.len is.enough is.encoding none)
 encoding-none old none (Err e, new) is = rw (is.fault, is.left) refl
 
+-- its bytes are taken, or all of them
+encoding-taken : (old new : Input) (result : Result ⊤ Error) → EncodingRead old (result, new)
+    → (n : ℕ) × Takes n old new
+encoding-taken old new (Ok done) is = (is.len, record { enough = is.enough; left = is.left })
+encoding-taken old new (Err e) is = (length old.bytes, record { enough = omega arith; left = is.left })
+
 -- an encoding that is skipped is a reading
 pub encoding-is : IsRead EncodingRead
 encoding-is = record {
@@ -509,6 +596,7 @@ encoding-is = record {
   ];
   more = encoding-more;
   missing = λ old new position is. eof-same is.fault;
+  taken = encoding-taken;
 }
 
 -- ---- initial lengths
@@ -531,12 +619,27 @@ length_at-missing greatest old new position (eight_cut {mid = mid} four short) s
     short-missing 8 mid new position (rw same at short)
 length_at-missing greatest old new position (too_great four eight over) same = absurd (grind arith)
 
+-- its bytes are taken, or those of a first part that can't begin one
+no_length-taken : {greatest : ℕ} {old new : Input} {e : Error} → HasNoLength greatest old e new
+    → (n : ℕ) × Takes n old new
+no_length-taken {old = old} {new} (four_cut short) = none-taken old new short.left
+no_length-taken (reserved takes high other) = number-taken takes
+no_length-taken {new = new} (eight_cut {mid = mid} four short) =
+    both-taken (number-taken four) (none-taken mid new short.left)
+no_length-taken (too_great four eight over) = both-taken (number-taken four) (number-taken eight)
+
+length_at-taken : (greatest : ℕ) (old new : Input) (result : Result (Format × ℕ) Error)
+    → LengthAt greatest old (result, new) → (n : ℕ) × Takes n old new
+length_at-taken greatest old new (Ok x) is = (_, length_taken is)
+length_at-taken greatest old new (Err e) is = no_length-taken is
+
 -- an initial length is a reading
 pub initial_length-is : (greatest : ℕ) → IsRead (LengthAt greatest)
 initial_length-is greatest = record {
   one = lengths_exactly_one greatest;
   more = length_at-more greatest;
   missing = λ old new position is. length_at-missing greatest old new position is refl;
+  taken = length_at-taken greatest;
 }
 
 -- what each call reads

@@ -5,7 +5,7 @@ ghost use Rattle.std.specs.Result.{result_transpose};
 ghost use Rattle.dwarf_reader_core.specs.Faults.{CloneRanOutOfMemory};
 ghost use Rattle.dwarf_read_core.specs.Entries.{RepresentsStringOffsets};
 ghost use Rattle.dwarf_read_core.specs.Items.{GivesFirst};
-ghost use Rattle.dwarf_reader_core.specs.Headers.{StringOffsetsHeaderAt, four_bytes};
+ghost use Rattle.dwarf_reader_core.specs.Headers.{StringOffsetsHeaderAt};
 ghost use Rattle.dwarf_read_core.specs.Contributions.{seen_by, string_offsets_of};
 
 use crate::read::contributions::{
@@ -37,12 +37,6 @@ impl<R: Reader> HeaderFields<R> for () {
     ghost said = { λ none. none };
 
     ghost header = { StringOffsetsHeaderAt };
-
-    ghost size = { four_bytes };
-
-    ghost LEAST_BYTES = { 4 };
-
-    const LEAST_BYTES: u64 = 4;
 
     const NAME: &'static str = "StrOffsetsHeader";
 

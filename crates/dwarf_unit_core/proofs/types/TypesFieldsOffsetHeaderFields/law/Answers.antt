@@ -1,5 +1,5 @@
 use Rattle.dwarf_unit_core.specs.Fields.{type_unit}
-use Rattle.dwarf_unit_core.proofs.HeaderSizes.{unit_header-is}
+use Rattle.dwarf_unit_core.proofs.UnitHeaders.{unit_header-is}
 use Rattle.dwarf_unit_core.proofs.types.TypesFieldsOffsetHeaderFields.law.Goals as goal
 
 pub returns : goal.returns

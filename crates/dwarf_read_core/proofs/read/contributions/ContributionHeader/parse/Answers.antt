@@ -1,7 +1,7 @@
 use Rattle.dwarf_read_core.proofs.Common.{Ok, Err, inl}
 use Rattle.dwarf_read_core.specs.Contributions.{contribution_unmeasured}
 use Rattle.dwarf_reader_core.proofs.public.Results.{propagated-err}
-use Rattle.dwarf_read_core.proofs.contributions.Contributions.{said_read, contribution_bound, contribution_taken, unit_cut_read}
+use Rattle.dwarf_read_core.proofs.contributions.Contributions.{said_read, contribution_taken, unit_cut_read}
 use Rattle.dwarf_read_core.proofs.read.contributions.ContributionHeader.parse.Goals as goal
 
 pub returns-in_err-length-clause-err : goal.returns-in_err-length-clause-err
@@ -16,17 +16,13 @@ returns-in_err-unit-clause-err g c =
 pub returns-in_err-fields-clause-err : goal.returns-in_err-fields-clause-err
 returns-in_err-fields-clause-err g c =
     propagated-err _ _ c.from_residual-in_err-fields.ensures.1
-    (inl (said_read _ c.in_ok-length.ensures.ok 0 c.in_ok-unit.ensures.part c.in_ok-unit.ensures.ok (Err _)
+    (inl (said_read _ c.in_ok-length.ensures.ok 0 c.in_ok-unit.ensures.part c.in_ok-unit.ensures.ok (Err _, _)
     c.in_err-fields.ensures.err))
 
 pub returns-clause-ok : goal.returns-clause-ok
 returns-clause-ok g c =
-    said_read _ c.in_ok-length.ensures.ok _ c.in_ok-unit.ensures.part c.in_ok-unit.ensures.ok (Ok _)
+    said_read _ c.in_ok-length.ensures.ok _ c.in_ok-unit.ensures.part c.in_ok-unit.ensures.ok (Ok _, _)
     c.in_ok-fields.ensures.ok
 
 pub returns-clause-taken : goal.returns-clause-taken
 returns-clause-taken g c = contribution_taken c.in_ok-length.ensures.ok c.in_ok-unit.ensures.ok
-
-pub returns-clause-bound : goal.returns-clause-bound
-returns-clause-bound g c =
-    contribution_bound c.law.ensures _ (returns-clause-ok g c) (returns-clause-taken g c)
