@@ -1,4 +1,5 @@
 -- Proofs about contributions, their headers and entries, and the iterators over them.
+pub mod EqualHeaders
 pub mod ItemLists
 pub mod IteratorsEnd
 pub mod Contributions

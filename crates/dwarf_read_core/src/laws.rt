@@ -20,13 +20,13 @@ ghost use Rattle.dwarf_read_core.specs.Answer.{Answer, IsFinal, IsStrictlyFinal,
 ghost use Rattle.dwarf_read_core.specs.Cache.{KeepsAnswers, NamesOffsets, least_count};
 ghost use Rattle.dwarf_read_core.specs.declared.read.abbrev.cache.AbbreviationsCacheStrategy.{AbbreviationsCacheStrategy};
 ghost use Rattle.dwarf_read_core.specs.declared.read.abbrev.cache.AbbreviationsCacheStrategy.TheVariants.{Duplicates, All as AllOffsets};
-ghost use Rattle.dwarf_read_core.specs.Equality.{HasValueByForm, same_declaration};
+ghost use Rattle.dwarf_read_core.specs.Equality.{HasValueByForm, same_contribution, same_declaration};
 ghost use Rattle.dwarf_read_core.specs.Grammar.{Declaration, Table, children_byte, implicit_const};
 ghost use Rattle.dwarf_read_core.specs.Entries.{AreNumbers, Entries, EntryAt, RepresentsAddresses, RepresentsStringOffsets};
 ghost use Rattle.dwarf_reader_core.specs.Headers.{IsHeader};
 ghost use Rattle.dwarf_read_core.specs.Items.{least_taken};
 ghost use Rattle.dwarf_read_core.specs.Ranges.{RangeAt};
-ghost use Rattle.dwarf_read_core.specs.Contributions.{Remaining, Contribution, ContributionAtOffset, HasContribution, RepresentsContributions, contribution_size, followed_remaining};
+ghost use Rattle.dwarf_read_core.specs.Contributions.{Remaining, Contribution, ContributionAtOffset, ContributionOf, HasContribution, RepresentsContributions, contribution_size, followed_remaining};
 ghost use Rattle.dwarf_read_core.specs.Strings.{StringAt};
 ghost use Rattle.dwarf_read_core.specs.Words.{AddressAt, Slot, WordAt, distance, slot_offset};
 
@@ -162,6 +162,15 @@ pub fn grammar_has_names()
 pub fn equality_is_of_declarations()
     ensures { (a b : Declaration) → All HasValueByForm a.attributes
         → All HasValueByForm b.attributes → IsTrue (same_declaration a b) ↔ (a ≡ b) }
+{}
+
+/// The headers of two contributions are equal exactly if their offsets, lengths and formats are, and
+/// what they say and their entries are by their own `==`.
+#[tactic(auto, using(crate::proofs::contributions::EqualHeaders::same_contribution_is_equality))]
+pub fn equality_is_of_contributions<R: Reader + PartialEq, H: HeaderFields<R> + Eq>()
+    ensures { (a b : ContributionOf H R) → IsTrue (same_contribution H.eq R.eq a b)
+        ↔ (a.offset ≡ b.offset) × (a.unit_length ≡ b.unit_length) × (a.format ≡ b.format)
+        × IsTrue (H.eq a.header b.header) × IsTrue (R.eq a.entries b.entries) }
 {}
 
 /// No table has code 0, and each declaration is found by its own code.
