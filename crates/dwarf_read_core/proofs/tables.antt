@@ -1,5 +1,6 @@
 -- Proofs about abbreviation tables.
 pub mod ReadingNumbers
+pub mod ReadingPairs
 pub mod ReadingSpecifications
 pub mod ReadingAttributes
 pub mod ReadingIsSound

@@ -6,6 +6,7 @@ use Rattle.dwarf_base_core.specs.declared.error.Error.{Error}
 use Rattle.dwarf_base_core.specs.declared.error.Error.TheVariants.{AbbreviationTagZero, InvalidAbbreviationChildren, AttributeNameZero, AttributeFormZero, DuplicateAbbreviationCode, UnexpectedEof}
 use Rattle.dwarf_reader_core.specs.Leb128.{Kind, Number, unsigned64, unsigned16, signed64, limit, value, is_in_range, overflow_error}
 use Rattle.dwarf_reader_core.specs.Faults.{eof}
+use Rattle.dwarf_reader_core.specs.Readings.{Leb128Read, Mapped, Reading, Then}
 use Rattle.dwarf_read_core.specs.Grammar.{Specification, Declaration, implicit_const, ByCode, Table, closed, Close, by_null, by_end, is_by_null}
 use Rattle.dwarf_read_core.specs.Lookups.{UnlessOutOfMemory}
 
@@ -64,6 +65,10 @@ specification_at end bytes = do
   if name.0 == 0 then (if form.0 == 0 then Ok
       (None, form.1) else Err AttributeNameZero) else if form.0 == 0 then Err AttributeFormZero else
       (value_at end form.0 form.1 >>= λ value. Ok (Some (specification_of name.0 form.0 value.0), value.1))
+
+-- a reader reads two numbers of 16 bits
+abbrev pub PairRead : Reading (ℕ × ℕ)
+PairRead = Then (Leb128Read unsigned16) (λ name. Mapped (λ form. (name, form)) (Leb128Read unsigned16))
 
 abbrev pub and_others : Option Specification → List ℕ → Result (List Specification × List ℕ) Error
     → Result (List Specification × List ℕ) Error

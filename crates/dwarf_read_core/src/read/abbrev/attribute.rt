@@ -1,10 +1,10 @@
 //! The attributes of abbreviations, the sizes of their forms, and where attributes are collected.
 
-ghost use Rattle.std.specs.Prelude.{◌≡◌, ◌↔◌, ◌∷◌, ◌++◌, [], IsSome, IfOk, OnOk};
+ghost use Rattle.std.specs.Prelude.{◌≡◌, ◌↔◌, ◌∷◌, ◌++◌, [], Ok, Err, IsSome, IfSome, IfNone, IfOk, IfErr, OnOk};
 ghost use Rattle.dwarf_reader_core.specs.Input.{end_of};
 ghost use Rattle.dwarf_read_core.specs.Forms.{form_size};
 ghost use Rattle.dwarf_read_core.specs.Grammar.{implicit_const};
-ghost use Rattle.dwarf_read_core.specs.Reading.{ReturnsUnlessOutOfMemory, attributes_in, specification_at};
+ghost use Rattle.dwarf_read_core.specs.Reading.{PairRead, ReturnsUnlessOutOfMemory, attributes_in, specification_at};
 
 use dwarf_base_core::{Encoding, Error, Result};
 use dwarf_const_core::attribute::{DW_AT_null, DwAt};
@@ -16,7 +16,7 @@ use dwarf_const_core::form::{
     DW_FORM_ref1, DW_FORM_ref2, DW_FORM_ref4, DW_FORM_ref8, DW_FORM_sec_offset, DW_FORM_strp,
     DW_FORM_strp_sup, DW_FORM_strx1, DW_FORM_strx2, DW_FORM_strx3, DW_FORM_strx4, DwForm,
 };
-use dwarf_reader_core::Reader;
+use dwarf_reader_core::{Reader, read_u8_array};
 use smallvec::SmallVec;
 use std::alloc::{AllocError, Global};
 use std::default::MadeWith;
@@ -124,8 +124,8 @@ impl AttributeSpecification {
             (specification_at (end_of (R.view input.old)) (R.view input.old).bytes) }
         ensures same_end { OnOk result (end_of (R.view input.new) ≡ end_of (R.view input.old)) }
     {
-        let name = DwAt(input.read_uleb128_u16()?);
-        let form = DwForm(input.read_uleb128_u16()?);
+        let (name, form) = read_pair(input)?;
+        let (name, form) = (DwAt(name), DwForm(form));
         match (name, form) {
             (DW_AT_null, DW_FORM_null) => Ok(None),
             (DW_AT_null, _) => Err(Error::AttributeNameZero),
@@ -137,6 +137,44 @@ impl AttributeSpecification {
             (_, _) => Ok(Some(AttributeSpecification::new(name, form, None))),
         }
     }
+}
+
+// Reads the number of a name and the number of its form.
+#[inline(always)]
+fn read_pair<R: Reader>(input: &mut R) -> Result<(u16, u16)>
+    ensures ok { IfOk result (λ pair. PairRead (R.view input.old) (Ok pair, R.view input.new)) }
+    ensures err { IfErr result (λ e. PairRead (R.view input.old) (Err e, R.view input.new)) }
+{
+    if let Some(pair) = read_short_pair(input) {
+        return Ok(pair);
+    }
+    let name = input.read_uleb128_u16()?;
+    let form = input.read_uleb128_u16()?;
+    Ok((name, form))
+}
+
+// Reads them if each has one byte, as most do: then one test finds that both are there. It looks
+// ahead by a clone, so it reads nothing if a clone can fail.
+#[inline(always)]
+fn read_short_pair<R: Reader>(input: &mut R) -> Option<(u16, u16)>
+    ensures some { IfSome result
+        (λ pair. PairRead (R.view input.old) (Ok pair, R.view input.new)) }
+    ensures none { IfNone result (R.view input.new ≡ R.view input.old) }
+{
+    if !input.is_clone_free() {
+        return None;
+    }
+    let Ok(mut ahead) = input.try_clone() else {
+        return None;
+    };
+    let Ok(pair) = read_u8_array::<R, 2>(&mut ahead) else {
+        return None;
+    };
+    if pair[0] >= 128 || pair[1] >= 128 {
+        return None;
+    }
+    *input = ahead;
+    Some((u16::from(pair[0]), u16::from(pair[1])))
 }
 
 #[inline]
