@@ -5,8 +5,8 @@ use Rattle.std.specs.Prelude.{slice_get}
 use Rattle.std.proofs.lemmas.List.{length-map}
 use Rattle.dwarf_read_core.specs.Grammar.{Table}
 use Rattle.dwarf_read_c.specs.Tables.{abbreviation_of, abbreviations_of, attribute_of, attributes_in, attributes_of, laid_from}
-use Rattle.dwarf_read_c.specs.declared.tables.DwarfAbbreviation.{DwarfAbbreviation}
-use Rattle.dwarf_read_c.specs.declared.tables.DwarfAttributeSpec.{DwarfAttributeSpec}
+use Rattle.dwarf_read_c.specs.declared.rows.DwarfAbbreviation.{DwarfAbbreviation}
+use Rattle.dwarf_read_c.specs.declared.rows.DwarfAttributeSpec.{DwarfAttributeSpec}
 use Rattle.dwarf_read_c.proofs.LaidOut.{part_after}
 
 -- the attributes of a declaration, as C sees them

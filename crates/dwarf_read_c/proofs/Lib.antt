@@ -10,3 +10,4 @@ pub mod KnownErrors
 pub mod FamilyBounds
 pub mod RisingCodes
 pub mod LaidOut
+pub mod PlacedRows

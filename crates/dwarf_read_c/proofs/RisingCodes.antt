@@ -1,5 +1,5 @@
--- Declarations whose codes rise are the values of their map, in order.
-use Rattle.std.proofs.Common.{Some}
+-- Rows whose codes rise are declarations in the order of their map.
+use Rattle.std.proofs.Common.{Some, append_assoc, get_or, take-append-drop}
 use Rattle.std.specs.FinMap.{contains_key, insert}
 use Rattle.std.specs.List.{AllByRecursion}
 unfoldable use Rattle.std.specs.List.Sorted.{IsStrictlySortedBy}
@@ -7,54 +7,79 @@ use Rattle.std.specs.Map.{keys_of}
 use Rattle.std.specs.Ordering.{nat_cmp}
 use Rattle.std.specs.Prelude.{slice_get}
 use Rattle.std.proofs.lemmas.Bool.Decides.{nat_tests}
+use Rattle.std.proofs.lemmas.List.{take_more}
 use Rattle.std.proofs.Common.{Less}
 use Rattle.dwarf_read_core.specs.Grammar.{Declares, by_code_of, Specification}
 use Rattle.dwarf_read_core.proofs.public.Tables.{entries_kept, fresh_code, table_push}
 use Rattle.dwarf_read_c.specs.Laid.{AreRising, last_code, laid_out}
-use Rattle.dwarf_read_c.specs.declared.tables.DwarfAbbreviation.{DwarfAbbreviation}
-use Rattle.dwarf_read_c.proofs.Common.{◌≡◌, ◌∙◌, false, ℕ, ◌-◌, ◌<◌, ◌≤◌, inl, inr, List, [], ◌∷◌, ◌++◌, length, map, refl, ap, arith, values, Declaration}
+use Rattle.dwarf_read_c.specs.declared.rows.DwarfAbbreviation.{DwarfAbbreviation}
+use Rattle.dwarf_read_c.proofs.Common.{◌≡◌, ◌∙◌, false, ℕ, ◌+◌, ◌-◌, ◌<◌, ◌≤◌, inl, inr, List, [], ◌∷◌, ◌++◌, length, map, take, drop, refl, sym, ap, subst, arith, values, Declaration}
 
 -- the last of rising codes is the greatest, and at least as great as the bound
-last-greatest : (below : ℕ) (ds : List Declaration) → AreRising below ds → below ≤ last_code below ds
+last-greatest : (below : ℕ) (rows : List DwarfAbbreviation) → AreRising below rows → below ≤ last_code below rows
 last-greatest below [] h = omega arith
-last-greatest below (d ∷ ds) h = omega (arith, last-greatest d.code ds h.1, h.0)
+last-greatest below (a ∷ rows) h = omega (arith, last-greatest a.code rows h.1, h.0)
 
 -- no declaration has a code above the last
-rising-undeclared : (below code : ℕ) (ds : List Declaration) → AreRising below ds → last_code below ds < code
-    → Declares ds code → ⊥
-rising-undeclared below code [] h above declares = declares
-rising-undeclared below code (d ∷ ds) h above (inl same) = omega (arith, last-greatest d.code ds h.1, above, same)
-rising-undeclared below code (d ∷ ds) h above (inr later) = rising-undeclared d.code code ds h.1 above later
+rising-undeclared : (attributes : List Specification) (below code : ℕ) (rows : List DwarfAbbreviation)
+    → AreRising below rows → last_code below rows < code → Declares (laid_out attributes rows) code → ⊥
+rising-undeclared attributes below code [] h above declares = declares
+rising-undeclared attributes below code (a ∷ rows) h above (inl same) =
+    omega (arith, last-greatest a.code rows h.1, above, same)
+rising-undeclared attributes below code (a ∷ rows) h above (inr later) =
+    rising-undeclared attributes a.code code rows h.1 above later
 
 -- the map of declarations whose codes rise lacks a code above the last
-pub rising-fresh : (code : ℕ) (ds : List Declaration) → AreRising 0 ds → last_code 0 ds < code
-    → contains_key (by_code_of ds) code ≡ false
-rising-fresh code ds h above = fresh_code ds code (rising-undeclared 0 code ds h above)
+pub rising-fresh : (attributes : List Specification) (code : ℕ) (rows : List DwarfAbbreviation) → AreRising 0 rows
+    → last_code 0 rows < code → contains_key (by_code_of (laid_out attributes rows)) code ≡ false
+rising-fresh attributes code rows h above =
+    fresh_code (laid_out attributes rows) code (rising-undeclared attributes 0 code rows h above)
 
 -- one more declaration with a code above the last is an insertion into the map
-pub rising-inserted : (ds : List Declaration) (d : Declaration) → AreRising 0 ds → last_code 0 ds < d.code
-    → by_code_of (ds ++ d ∷ []) ≡ insert (by_code_of ds) d.code d
-rising-inserted ds d h above = table_push ds d (rising-undeclared 0 d.code ds h above)
+pub rising-inserted : (attributes : List Specification) (rows : List DwarfAbbreviation) (d : Declaration)
+    → AreRising 0 rows → last_code 0 rows < d.code → by_code_of (laid_out attributes rows ++ d ∷ [])
+    ≡ insert (by_code_of (laid_out attributes rows)) d.code d
+rising-inserted attributes rows d h above =
+    table_push (laid_out attributes rows) d (rising-undeclared attributes 0 d.code rows h above)
 
 -- codes still rise with one more above the last
-pub rising-push : (below : ℕ) (ds : List Declaration) (d : Declaration) → AreRising below ds
-    → last_code below ds < d.code → AreRising below (ds ++ d ∷ [])
-rising-push below [] d h above = (above, tt)
-rising-push below (x ∷ ds) d h above = (h.0, rising-push x.code ds d h.1 above)
+pub rising-push : (below : ℕ) (rows : List DwarfAbbreviation) (a : DwarfAbbreviation) → AreRising below rows
+    → last_code below rows < a.code → AreRising below (rows ++ a ∷ [])
+rising-push below [] a h above = (above, tt)
+rising-push below (x ∷ rows) a h above = (h.0, rising-push x.code rows a h.1 above)
+
+-- of rising codes the first rise, and the next is above these
+pub rising-front : (below : ℕ) (rows more : List DwarfAbbreviation) (a : DwarfAbbreviation)
+    → AreRising below (rows ++ a ∷ more) → AreRising below rows × (last_code below rows < a.code)
+rising-front below [] more a h = (tt, h.0)
+rising-front below (x ∷ rows) more a h = let front = rising-front x.code rows more a h.1 in ((h.0, front.0), front.1)
+
+-- of rising codes those before an index rise, and that of the row at the index is above these
+pub rising-at : (rows : List DwarfAbbreviation) (i : ℕ) (none : DwarfAbbreviation) → AreRising 0 rows → i < length rows
+    → AreRising 0 (take i rows) × (last_code 0 (take i rows) < (get_or rows i none).code)
+rising-at rows i none rising within =
+    let row = get_or rows i none in
+    let parts : rows ≡ take i rows ++ row ∷ drop (i + 1) rows =
+    sym (take-append-drop (i + 1) rows)
+    ∙ ap (λ (front : List DwarfAbbreviation). front ++ drop (i + 1) rows) (take_more rows i none within)
+    ∙ append_assoc (take i rows) (row ∷ []) (drop (i + 1) rows) in
+    rising-front 0 (take i rows) (drop (i + 1) rows) row (subst (AreRising 0) parts rising)
 
 -- rising codes compare as greater than any number up to the bound
-rising-greater : (k below : ℕ) (ds : List Declaration) → k ≤ below → AreRising below ds
-    → AllByRecursion (λ y. nat_cmp k y ≡ Less) (keys_of (map (λ d. (d.code, d)) ds))
-rising-greater k below [] le h = tt
-rising-greater k below (d ∷ ds) le h =
-    (grind (arith, nat_tests, h.0), rising-greater k d.code ds (omega (arith, h.0)) h.1)
+rising-greater : (attributes : List Specification) (k below : ℕ) (rows : List DwarfAbbreviation) → k ≤ below
+    → AreRising below rows
+    → AllByRecursion (λ y. nat_cmp k y ≡ Less) (keys_of (map (λ d. (d.code, d)) (laid_out attributes rows)))
+rising-greater attributes k below [] le h = tt
+rising-greater attributes k below (a ∷ rows) le h =
+    (grind (arith, nat_tests, h.0), rising-greater attributes k a.code rows (omega (arith, h.0)) h.1)
 
 -- declarations whose codes rise are sorted as entries
-rising-sorted : (below : ℕ) (ds : List Declaration) → AreRising below ds
-    → IsStrictlySortedBy nat_cmp (keys_of (map (λ d. (d.code, d)) ds))
+rising-sorted : (attributes : List Specification) (below : ℕ) (rows : List DwarfAbbreviation) → AreRising below rows
+    → IsStrictlySortedBy nat_cmp (keys_of (map (λ d. (d.code, d)) (laid_out attributes rows)))
 unfolding IsStrictlySortedBy
-rising-sorted below [] h = tt
-rising-sorted below (d ∷ ds) h = (rising-greater d.code d.code ds (omega arith) h.1, rising-sorted d.code ds h.1)
+rising-sorted attributes below [] h = tt
+rising-sorted attributes below (a ∷ rows) h =
+    (rising-greater attributes a.code a.code rows (omega arith) h.1, rising-sorted attributes a.code rows h.1)
 
 -- the values of entries with their codes are the declarations
 values-again : (ds : List Declaration) → map (λ (e : ℕ × Declaration). e.1) (map (λ d. (d.code, d)) ds) ≡ ds
@@ -62,15 +87,16 @@ values-again [] = refl
 values-again (d ∷ ds) = ap (λ (ds : List Declaration). d ∷ ds) (values-again ds)
 
 -- declarations whose codes rise are the values of their map
-pub rising-values : (ds : List Declaration) → AreRising 0 ds → values (by_code_of ds) ≡ ds
-rising-values ds h =
-    ap (map (λ (e : ℕ × Declaration). e.1)) (entries_kept (map (λ d. (d.code, d)) ds) (rising-sorted 0 ds h)) ∙ values-again ds
+pub rising-values : (attributes : List Specification) (rows : List DwarfAbbreviation) → AreRising 0 rows
+    → values (by_code_of (laid_out attributes rows)) ≡ laid_out attributes rows
+rising-values attributes rows h =
+    let ds = laid_out attributes rows in
+    ap (map (λ (e : ℕ × Declaration). e.1))
+    (entries_kept (map (λ d. (d.code, d)) ds) (rising-sorted attributes 0 rows h)) ∙ values-again ds
 
 -- the last code of rows is that of the last row
-pub last-code-of-row : (below : ℕ) (attributes : List Specification) (rows : List DwarfAbbreviation)
-    (row : DwarfAbbreviation) → slice_get rows (length rows - 1) ≡ Some row
-    → last_code below (laid_out attributes rows) ≡ row.code
-last-code-of-row below attributes [] row found = absurd cc
-last-code-of-row below attributes (r ∷ []) row found = grind arith
-last-code-of-row below attributes (r ∷ s ∷ rows) row found =
-    last-code-of-row r.code attributes (s ∷ rows) row (grind (arith, found))
+pub last-code-of-row : (below : ℕ) (rows : List DwarfAbbreviation) (row : DwarfAbbreviation)
+    → slice_get rows (length rows - 1) ≡ Some row → last_code below rows ≡ row.code
+last-code-of-row below [] row found = absurd cc
+last-code-of-row below (r ∷ []) row found = grind arith
+last-code-of-row below (r ∷ s ∷ rows) row found = last-code-of-row r.code (s ∷ rows) row (grind (arith, found))

@@ -6,7 +6,7 @@ use Rattle.std.proofs.lemmas.List.Sums.{sum_by-cons}
 use Rattle.dwarf_read_core.specs.Answer.{FitsIn}
 use Rattle.dwarf_read_core.specs.Grammar.{Table, attribute_count}
 use Rattle.dwarf_read_c.specs.Tables.{LacksRoom, measure_of}
-use Rattle.dwarf_read_c.specs.declared.tables.DwarfAbbreviation.{DwarfAbbreviation}
+use Rattle.dwarf_read_c.specs.declared.rows.DwarfAbbreviation.{DwarfAbbreviation}
 use Rattle.dwarf_read_c.proofs.Common.{◌≡◌, ℕ, suc, ◌+◌, ◌-◌, ◌/◌, ◌<◌, ◌≤◌, inl, inr, List, [], ◌∷◌, ◌++◌, length, refl, sym, ap, ◌∙◌, arith, sum_by, take, common_steps, entries, len, values, len-entries, Input, Declaration, ByCode, abbreviation_of, laid_from}
 
 -- how many attributes declarations have together

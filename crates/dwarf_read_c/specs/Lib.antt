@@ -4,7 +4,6 @@ pub mod Room
 pub mod Sections
 pub mod Tables
 pub mod Laid
-pub mod Kept
 pub mod Names
 pub mod Families
 pub mod Forms

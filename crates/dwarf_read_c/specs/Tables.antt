@@ -5,9 +5,9 @@ use Rattle.std.specs.List.{flat_map}
 use Rattle.dwarf_read_core.specs.Input.{Input}
 use Rattle.dwarf_read_core.specs.Answer.{TableEndsAt}
 use Rattle.dwarf_read_core.specs.Grammar.{Declaration, Specification, Table, attribute_count, is_by_null}
-use Rattle.dwarf_read_c.specs.declared.tables.DwarfAbbreviation.{DwarfAbbreviation}
-use Rattle.dwarf_read_c.specs.declared.tables.DwarfAttributeSpec.{DwarfAttributeSpec}
-use Rattle.dwarf_read_c.specs.declared.tables.DwarfMeasure.{DwarfMeasure}
+use Rattle.dwarf_read_c.specs.declared.rows.DwarfAbbreviation.{DwarfAbbreviation}
+use Rattle.dwarf_read_c.specs.declared.rows.DwarfAttributeSpec.{DwarfAttributeSpec}
+use Rattle.dwarf_read_c.specs.declared.rows.DwarfMeasure.{DwarfMeasure}
 
 -- 1 for true, and 0 for false
 abbrev pub bit_of : Bool → ℕ

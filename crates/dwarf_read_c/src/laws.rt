@@ -14,7 +14,7 @@ ghost use Rattle.dwarf_read_c.specs.Sections.{offset_size};
 ghost use Rattle.dwarf_read_c.specs.Tables.{Measures, abbreviation_of, abbreviations_of, attribute_of, attributes_of};
 ghost use Rattle.dwarf_read_c.specs.Units.{TellsUnit, header_in};
 ghost use Rattle.dwarf_read_c.specs.declared.units.DwarfUnit.{DwarfUnit};
-ghost use Rattle.dwarf_read_c.specs.declared.tables.DwarfAbbreviation.{DwarfAbbreviation};
+ghost use Rattle.dwarf_read_c.specs.declared.rows.DwarfAbbreviation.{DwarfAbbreviation};
 
 use dwarf_fault::{DwarfFault, error_of};
 use dwarf_read_core::laws::{exactly_one_contribution_at_an_offset, exactly_one_end};

@@ -19,6 +19,7 @@ pub mod laws;
 pub mod names;
 pub mod numbers;
 pub mod room;
+pub mod rows;
 pub mod sections;
 pub mod sets;
 pub mod status;

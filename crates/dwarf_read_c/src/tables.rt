@@ -6,57 +6,16 @@ ghost use Rattle.dwarf_read_core.specs.Answer.{Answer, Answers, FitsIn, TableEnd
 ghost use Rattle.dwarf_fault.specs.Fault.{error_number};
 ghost use Rattle.dwarf_read_core.specs.Grammar.{Table, attribute_count};
 ghost use Rattle.dwarf_read_c.specs.Fault.{Rejects};
-ghost use Rattle.dwarf_read_c.specs.Kept.{kept_table};
 ghost use Rattle.dwarf_read_c.specs.Room.{Fills};
 ghost use Rattle.dwarf_read_c.specs.Sections.{section_of};
 ghost use Rattle.dwarf_read_c.specs.Tables.{LacksRoom, Measures, abbreviations_of, attributes_of, measure_of};
 
-use crate::kept::{Kept, RisingTable};
+use crate::kept::Kept;
+use crate::rows::{DwarfAbbreviation, DwarfAttributeSpec, DwarfMeasure};
 use crate::status::{DWARF_NO_ROOM, DWARF_OK};
 use dwarf_fault::{DwarfFault, reject};
-use dwarf_read_core::{DebugAbbrev, DebugAbbrevOffset, Error, LittleEndian, RunTimeEndian};
+use dwarf_read_core::{DebugAbbrev, DebugAbbrevOffset, Error, LittleEndian};
 use std::alloc::Global;
-
-/// How large an abbreviation table is, where it ends, and what closes it.
-#[repr(C)]
-#[derive(Clone, Copy)]
-pub struct DwarfMeasure {
-    /// How many abbreviations the table declares.
-    pub abbreviations: usize,
-    /// How many attributes they have together.
-    pub attributes: usize,
-    /// The offset after the code of value 0 that closes the table, or the section's length.
-    pub end: usize,
-    /// 1 if a code of value 0 closes the table, and 0 if the section's end does.
-    pub closed_by_null: u8,
-}
-
-/// An abbreviation.
-#[repr(C)]
-#[derive(Clone, Copy)]
-pub struct DwarfAbbreviation {
-    /// Its code, which entries refer to. It is not 0.
-    pub code: u64,
-    /// The tag of the entries.
-    pub tag: u16,
-    /// 1 if an entry is followed by its children, and 0 otherwise.
-    pub has_children: u8,
-    /// Where its attributes begin among those of the table.
-    pub first_attribute: usize,
-    /// How many attributes it has.
-    pub attribute_count: usize,
-}
-
-/// An attribute of an abbreviation.
-#[repr(C)]
-#[derive(Clone, Copy)]
-pub struct DwarfAttributeSpec {
-    pub name: u16,
-    pub form: u16,
-    /// The value that is in the table itself, if the form is `DW_FORM_implicit_const`. It is 0 for
-    /// all other forms.
-    pub implicit_const: i64,
-}
 
 /// Measures the table at `offset` of `.debug_abbrev`: how many abbreviations and attributes it has,
 /// where it ends, and what closes it.
@@ -151,30 +110,18 @@ pub extern "C" fn dwarf_table_read_0_3(
     }
 }
 
-// Returns the table at an offset, and where it ends. Its attributes can be counted in a `usize`.
+// Returns the table at an offset, and where it ends.
 fn table_at(mem: Global, section: &[u8], offset: usize) -> Result<(Kept, usize), Error>
     ensures answer { let s = section_of section.now false in
-        IfOk result (λ r. Answer s offset (Ok (kept_table r.0))
-        × TableEndsAt s offset (kept_table r.0) r.1) }
+        IfOk result (λ r. Answer s offset (Ok r.0) × TableEndsAt s offset r.0 r.1) }
     ensures err { IfErr result (λ e. Answers (Err e) (section_of section.now false) offset) }
-    ensures bound { IfOk result
-        (λ r. FitsIn (section_of section.now false) offset (kept_table r.0)) }
+    ensures bound { IfOk result (λ r. FitsIn (section_of section.now false) offset r.0) }
     ensures memory { TakesNoMemory (section_of section.now false) offset
         → IsErrOf result Error.OutOfMemory → ⊥ }
-    ensures counted { IfOk result (λ r. attribute_count (kept_table r.0).by_code < 2 ^ 64) }
 {
-    let offset = DebugAbbrevOffset(offset);
-    match DebugAbbrev::new(section, LittleEndian).abbreviations_into::<RisingTable>(mem, offset) {
-        Ok((table, end)) => Ok((Kept::Rising(table), end.0)),
-        // Memory ran out, or the codes don't rise. The reader has another type, so that the compiler
-        // inlines the parser of either form.
-        Err(Error::OutOfMemory) => {
-            let section = DebugAbbrev::new(section, RunTimeEndian::Little);
-            let (table, end) = section.abbreviations_and_end(mem, offset)?;
-            Ok((Kept::Any(table), end.0))
-        }
-        Err(error) => Err(error),
-    }
+    let section = DebugAbbrev::new(section, LittleEndian);
+    let (table, end) = section.abbreviations_into(mem, DebugAbbrevOffset(offset))?;
+    Ok((table, end.0))
 }
 
 // Writes the measure of a table that ends there, and its abbreviations and attributes to the front
@@ -186,11 +133,10 @@ fn put_table(
     attributes: &mut [DwarfAttributeSpec],
     measure: &mut DwarfMeasure,
 ) -> u32
-    requires { attribute_count (kept_table table.now).by_code < 2 ^ 64 }
-    ensures measured { measure.new ≡ measure_of (kept_table table.now) end }
+    ensures measured { measure.new ≡ measure_of table.now end }
     ensures filled { result ≡ DWARF_OK
-        → Fills (abbreviations_of (kept_table table.now)) abbreviations.old abbreviations.new
-        × Fills (attributes_of (kept_table table.now)) attributes.old attributes.new }
+        → Fills (abbreviations_of table.now) abbreviations.old abbreviations.new
+        × Fills (attributes_of table.now) attributes.old attributes.new }
     ensures full { result ≢ DWARF_OK → (result ≡ DWARF_NO_ROOM)
         × LacksRoom measure.new (length abbreviations.old) (length attributes.old)
         × (abbreviations.new ≡ abbreviations.old) × (attributes.new ≡ attributes.old) }

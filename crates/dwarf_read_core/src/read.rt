@@ -19,6 +19,7 @@ pub use dwarf_base_core::{
     Error, ReaderAddress, ReaderOffset, ReaderOffsetId, Result, StoreOnHeap, UnitOffset,
 };
 pub use dwarf_reader_core::{EndianSlice, Reader, read_u8_array};
+pub use key::Key;
 pub use section::Section;
 pub use str::{
     DebugLineStr, DebugStr, DebugStrOffsets, StrOffsetsEntryIter, StrOffsetsHeader,

@@ -57,7 +57,7 @@ len_is [] h = len-empty nat_cmp Declaration
 len_is (d ∷ ds) h = grind (arith, (len-insert {X = Declaration} nat_cmp_total), fresh_code, (len_is ds h.1))
 
 -- the map of declarations with distinct codes has as many attributes as the declarations together
-count_is : (ds : List Declaration) → AreDistinct ds
+pub count_is : (ds : List Declaration) → AreDistinct ds
     → attribute_count (by_code_of ds) ≡ sum_by (λ d. length d.attributes) ds
 count_is [] h = ap total (nil_from_length _ (sym (len-entries (by_code_of [])) ∙ len-empty nat_cmp Declaration))
 count_is (d ∷ ds) h =

@@ -8,12 +8,13 @@ use std::cmp::Ordering;
 use std::fmt;
 use std::marker::Model;
 
-/// A number as the key of an ordered map, in the order of numbers.
+/// A number as the key of an ordered map, in the order of numbers, for whoever keeps tables by their
+/// codes.
 ///
 /// `BTreeMap` scans a node while the searched key is greater. So `cmp` tests that first, and
 /// inlines nothing else. The comparison of plain numbers tests their equality first.
 #[derive(Clone, Copy, PartialEq, Eq, PartialOrd)]
-pub(crate) struct Key(pub u64);
+pub struct Key(pub u64);
 
 impl Model for Key {
     ghost use Rattle.std.specs.Prelude.{ℕ};

@@ -1,6 +1,5 @@
 use Rattle.dwarf_read_c.proofs.Common.{arith, refl}
 use Rattle.dwarf_read_c.proofs.WrittenTables.{rooms-enough}
-use Rattle.dwarf_read_c.specs.Kept.{kept_table}
 use Rattle.dwarf_read_c.proofs.tables.dwarf_table_read_0_3.Goals as goal
 
 pub returns-in-Ok-clause-room : goal.returns-in-Ok-clause-room
@@ -14,11 +13,11 @@ returns-in-Ok-clause-read c =
     let answer = c.in-Ok.ensures.answer in
     λ ok.
     let filled = c.put_table.ensures.filled ok in
-    (kept_table c.in-Ok.table, answer.0, (c.in-Ok.end, answer.1, c.put_table.ensures.measured), filled.0, filled.1)
+    (c.in-Ok.table, answer.0, (c.in-Ok.end, answer.1, c.put_table.ensures.measured), filled.0, filled.1)
 
 pub returns-in-Ok-clause-full : goal.returns-in-Ok-clause-full
 returns-in-Ok-clause-full c =
     let answer = c.in-Ok.ensures.answer in
     λ no_room.
     let full = c.put_table.ensures.full (grind arith) in
-    (kept_table c.in-Ok.table, answer.0, (c.in-Ok.end, answer.1, c.put_table.ensures.measured), full.1, refl)
+    (c.in-Ok.table, answer.0, (c.in-Ok.end, answer.1, c.put_table.ensures.measured), full.1, refl)

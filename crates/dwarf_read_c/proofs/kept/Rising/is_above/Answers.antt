@@ -1,9 +1,0 @@
-use Rattle.dwarf_read_c.proofs.Common.{arith}
-use Rattle.dwarf_read_c.proofs.RisingCodes.{last-code-of-row}
-use Rattle.dwarf_read_c.proofs.kept.Rising.is_above.Goals as goal
-
-pub returns-in-Some : goal.returns-in-Some
-returns-in-Some c =
-    let row = last-code-of-row 0 c.self.inside.attributes.items c.self.inside.abbreviations.items c.in-Some.last.now
-    (grind (arith, c.in-Some.last-is)) in
-    grind (arith, row)
