@@ -8,7 +8,7 @@ ghost use Rattle.dwarf_listing_core.specs.Sets.{ListsAddresses, ListsStringOffse
 ghost use Rattle.dwarf_listing_core.specs.Tables.{ListsStrictTable, ListsTable};
 ghost use Rattle.dwarf_listing_core.specs.Text.{IsText, Lists};
 
-use dwarf_read_core::{AddressSize, EndianSlice, RunTimeEndian, laws};
+use dwarf_read_core::{AddressSize, EndianSlice, NoFields, RunTimeEndian, laws};
 
 /// Every section has exactly one listing of each kind, at each offset or in each byte order: a
 /// text, or its first error.
@@ -25,7 +25,7 @@ pub fn exactly_one_listing()
     laws::exactly_one_strict_answer();
     laws::exactly_one_list_of_contributions::<EndianSlice<'static, RunTimeEndian>, AddressSize>();
     laws::exactly_one_list_of_addresses();
-    laws::exactly_one_list_of_contributions::<EndianSlice<'static, RunTimeEndian>, ()>();
+    laws::exactly_one_list_of_contributions::<EndianSlice<'static, RunTimeEndian>, NoFields>();
     laws::exactly_one_list_of_string_offsets();
 }
 

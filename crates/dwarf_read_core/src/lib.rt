@@ -36,9 +36,9 @@ pub use read::{
     Abbreviation, AbbreviationDeclaration, AbbreviationSink, Abbreviations, AbbreviationsCache,
     AbbreviationsCacheStrategy, AbbreviationsIter, AddrEntryIter, AddrHeader, AddrHeaderIter,
     AddressSize, AttributeSpecification, ContributionHeader, ContributionHeaderIter, DebugAbbrev,
-    DebugAddr, DebugLineStr, DebugStr, DebugStrOffsets, EndianSlice, Error, HeaderFields, Reader,
-    ReaderAddress, ReaderOffset, ReaderOffsetId, Result, Section, StoreOnHeap, StrOffsetsEntryIter,
-    StrOffsetsHeader, StrOffsetsHeaderIter, UnitOffset, read_u8_array,
+    DebugAddr, DebugLineStr, DebugStr, DebugStrOffsets, EndianSlice, Error, HeaderFields, NoFields,
+    Reader, ReaderAddress, ReaderOffset, ReaderOffsetId, Result, Section, StoreOnHeap,
+    StrOffsetsEntryIter, StrOffsetsHeader, StrOffsetsHeaderIter, UnitOffset, read_u8_array,
 };
 
 // tools/constants writes the names of constants in the lists below.

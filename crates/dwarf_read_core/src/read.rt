@@ -22,6 +22,6 @@ pub use dwarf_reader_core::{EndianSlice, Reader, read_u8_array};
 pub use key::Key;
 pub use section::Section;
 pub use str::{
-    DebugLineStr, DebugStr, DebugStrOffsets, StrOffsetsEntryIter, StrOffsetsHeader,
+    DebugLineStr, DebugStr, DebugStrOffsets, NoFields, StrOffsetsEntryIter, StrOffsetsHeader,
     StrOffsetsHeaderIter,
 };

@@ -1,5 +1,5 @@
 -- The name and the form of an attribute, which are read together.
-use Rattle.dwarf_read_core.proofs.Common.{arith, refl, sym, ap, ◌≡◌, ◌==◌, ◌∙◌, ℕ, ◌<◌, ◌≤◌, List, [], ◌∷◌, length, take, Option, Some, None, Result, Ok, Err, Error, AttributeNameZero, AttributeFormZero, inl, inr, Input, end_of, ReadsNumber, Specification, ◌>>=◌, number_at, value_at, specification_of, specification_at, cond}
+use Rattle.dwarf_read_core.proofs.Common.{arith, refl, sym, ap, ◌≡◌, ◌==◌, ◌∙◌, ℕ, ◌<◌, List, [], ◌∷◌, take, Option, Some, None, Result, Ok, Err, Error, AttributeNameZero, AttributeFormZero, inl, inr, Input, end_of, ReadsNumber, Specification, ◌>>=◌, number_at, value_at, specification_of, specification_at}
 use Rattle.std.specs.Prelude.{slice_index, if◌then◌else◌}
 use Rattle.dwarf_reader_core.specs.Input.{Takes, after}
 use Rattle.dwarf_reader_core.specs.Leb128.{unsigned16}

@@ -371,19 +371,6 @@ impl<R: Reader, H: HeaderFields<R>> ContributionHeader<R, H> {
         self.fields
     }
 
-    /// Returns a reader of the entries.
-    ///
-    /// # Errors
-    ///
-    /// `OutOfMemory` if a clone of the reader runs out of memory.
-    pub fn entries_reader(&self) -> Result<R>
-        ensures ok { IfOk result (λ entries. R.view entries ≡ R.view self.now.entries) }
-        ensures order { IfOk result (λ entries. R.order entries ≡ R.order self.now.entries) }
-        ensures err { IfErr result (CloneRanOutOfMemory R.clone_is_free) }
-    {
-        self.entries.try_clone()
-    }
-
     /// Returns the reader of the entries, which isn't cloned.
     pub fn into_entries(self) -> R
         ensures { result ≡ self.entries }

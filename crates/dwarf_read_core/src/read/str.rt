@@ -21,7 +21,7 @@ use dwarf_base_core::{
     Format, Result, SectionId,
 };
 use dwarf_reader_core::{EndianSlice, Reader};
-pub use offsets::{StrOffsetsEntryIter, StrOffsetsHeader, StrOffsetsHeaderIter};
+pub use offsets::{NoFields, StrOffsetsEntryIter, StrOffsetsHeader, StrOffsetsHeaderIter};
 
 /// The `.debug_str` section (DWARF 5, 7.5.5): strings, each ended by a zero byte.
 #[derive(Debug, Default, Clone, Copy, Drop)]

@@ -25,13 +25,25 @@ use std::marker::Model;
 ///     }
 /// }
 /// ```
-pub type StrOffsetsHeaderIter<R> = ContributionHeaderIter<R, ()>;
+pub type StrOffsetsHeaderIter<R> = ContributionHeaderIter<R, NoFields>;
 
 /// The header of a set of string offsets, and the offsets that follow it. The header says nothing
 /// after its version.
-pub type StrOffsetsHeader<R> = ContributionHeader<R, ()>;
+pub type StrOffsetsHeader<R> = ContributionHeader<R, NoFields>;
 
-impl<R: Reader> HeaderFields<R> for () {
+/// What the header of a set of string offsets says after its version: nothing.
+#[derive(Clone, Copy, Debug, PartialEq, Eq)]
+pub struct NoFields;
+
+impl Model for NoFields {
+    ghost Value = { Unit {0} };
+
+    ghost view = { λ _. tt };
+
+    ghost inverse = { λ _. record {} };
+}
+
+impl<R: Reader> HeaderFields<R> for NoFields {
     ghost Said = { Unit {0} };
 
     ghost said = { λ none. none };
@@ -40,13 +52,13 @@ impl<R: Reader> HeaderFields<R> for () {
 
     const NAME: &'static str = "StrOffsetsHeader";
 
-    fn parse(unit: &mut R, _format: Format) -> Result<()> {
+    fn parse(unit: &mut R, _format: Format) -> Result<NoFields> {
         let version = unit.read_u16()?;
         if version != VERSION {
             return Err(Error::UnknownVersion(u64::from(version)));
         }
         let _padding = unit.read_u16()?;
-        Ok(())
+        Ok(NoFields)
     }
 
     fn law() {}

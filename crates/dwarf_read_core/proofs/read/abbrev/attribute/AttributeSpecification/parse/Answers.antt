@@ -1,5 +1,5 @@
 use Rattle.dwarf_read_core.proofs.Common.{refl, rules, arith, ◌≡◌, ◌==◌, true, false, implicit_const, value_at, gives_err}
-use Rattle.dwarf_read_core.proofs.tables.ReadingNumbers.{number_not_read, number_read, number_steps}
+use Rattle.dwarf_read_core.proofs.tables.ReadingNumbers.{number_not_read, number_steps}
 use Rattle.dwarf_read_core.proofs.tables.ReadingPairs.{pair-end_stays, specification-of_no_pair, specification-of_pair}
 use Rattle.dwarf_read_core.proofs.read.abbrev.attribute.AttributeSpecification.parse.Goals as goal
 
