@@ -7,7 +7,7 @@ ghost use Rattle.dwarf_read_core.specs.Cache.{IsFaithful, answer_of};
 ghost use Rattle.dwarf_read_core.specs.Grammar.{Table};
 ghost use Rattle.dwarf_read_core.specs.Input.{Input, section_of};
 ghost use Rattle.dwarf_read_core.specs.Leb128.{unsigned16, TakesNoEncoding, ReadsNumber, ReadsNoNumber, TakesEncoding};
-ghost use Rattle.dwarf_compare.specs.Sections.{tag_in};
+ghost use Rattle.dwarf_compare.specs.Tags.{tag_in};
 ghost use Rattle.dwarf_fault.specs.Fault.{Reports};
 
 use dwarf_fault::{DwarfFault, reject};

@@ -1,4 +1,4 @@
--- When two abbreviations, or the headers of two sets, are equal.
+-- When two abbreviations, or the headers of two contributions, are equal.
 use Rattle.std.specs.Prelude.{◌≡◌, ◌↔◌, Bool, ◌==◌, pos, unwrap_or, IsSome}
 use Rattle.std.specs.Bool.{beq}
 use Rattle.std.specs.Cmp.{IsEquivalence, IsPartialEquivalence, partial_equiv_from_equiv, and_equiv, and_per, on_equiv, on_per, nat_eq_equiv, int_eq_equiv, bool_eq_equiv}

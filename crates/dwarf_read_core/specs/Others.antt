@@ -1,4 +1,4 @@
--- The abbreviations of a table whose codes don't count up from 1. No public clause about a result cites this file.
+-- Declarations by their places, in the order of their codes. No public clause about a result cites this file.
 use Rattle.std.specs.Prelude.{◌≡◌, ℕ, ◌<◌, false, if◌then◌else◌, Option, Some, None, List, [], map, length, slice_index_or}
 use Rattle.std.specs.BTreeMap.{is_at}
 use Rattle.std.specs.List.{All}

@@ -1,4 +1,4 @@
--- How fields represent an abbreviation and its parts. No public clause about a result cites this file.
+-- How fields represent a table, an abbreviation and its parts. No public clause about a result cites this file.
 use Rattle.std.specs.Prelude.{◌≡◌, ◌≢◌, ◌<◌, ◌≤◌, ℕ, suc, ℤ, pos, Bool, true, false, List, [], ◌∷◌, ◌++◌, length, Some, None, unwrap_or, if◌then◌else◌, ◌==◌, refl}
 use Rattle.std.specs.BTreeMap.{is_at}
 use Rattle.std.specs.FinMap.{from_entries}

@@ -1,4 +1,4 @@
--- What the headers of sets say, after the length of the set (DWARF 5, 7.26 and 7.27).
+-- What a header after an initial length is, and what those of sets say (DWARF 5, 7.26 and 7.27).
 use Rattle.std.specs.Prelude.{ℕ, ⊤, ◌==◌, Ok}
 use Rattle.dwarf_base_core.specs.declared.common.Format.{Format}
 use Rattle.dwarf_base_core.specs.declared.error.Error.TheVariants.{UnknownVersion, UnsupportedSegmentSize}

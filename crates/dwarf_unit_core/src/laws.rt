@@ -1,4 +1,4 @@
-//! Laws of units: each function has one as its contract, and does nothing.
+//! The laws of contributions, which hold for units.
 
 pub use dwarf_read_core::laws::{
     appended_bytes_change_no_contribution, contributions_are_at_their_offsets,

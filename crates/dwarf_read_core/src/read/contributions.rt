@@ -1,4 +1,4 @@
-//! Contributions: the consecutive parts of a section, each of which one unit adds, with a header.
+//! Contributions: the consecutive parts of a section, each with a header.
 //!
 //! Sets of string offsets (DWARF 5, 7.26) and of addresses (7.27) are contributions. Units (7.5.1)
 //! and sets of lists (7.28 and 7.29) have the same form: a crate that reads them says what their
@@ -30,7 +30,7 @@ pub(super) const VERSION: u16 = 5;
 ///
 /// [`ContributionHeader`] and [`ContributionHeaderIter`] read each kind by its fields. The field of
 /// a set of addresses is an [`AddressSize`](super::AddressSize), and a set of string offsets has
-/// none, `()`. Fields may hold offsets of the reader.
+/// none ([`NoFields`](super::NoFields)). Fields may hold offsets of the reader.
 pub trait HeaderFields<R: Reader>: fmt::Debug + Copy + Drop {
     // What the fields say, with each offset as its number.
     ghost Said: { Type 0 };

@@ -628,6 +628,7 @@ no_length-taken {new = new} (eight_cut {mid = mid} four short) =
     both-taken (number-taken four) (none-taken mid new short.left)
 no_length-taken (too_great four eight over) = both-taken (number-taken four) (number-taken eight)
 
+-- an initial length, or the error in place of one, takes some of the bytes
 length_at-taken : (greatest : ℕ) (old new : Input) (result : Result (Format × ℕ) Error)
     → LengthAt greatest old (result, new) → (n : ℕ) × Takes n old new
 length_at-taken greatest old new (Ok x) is = (_, length_taken is)

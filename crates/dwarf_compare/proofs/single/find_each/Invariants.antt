@@ -1,5 +1,5 @@
 use Rattle.std.proofs.Common.{◌≡◌, map, take}
-use Rattle.dwarf_compare.specs.Sections.{tag_in}
+use Rattle.dwarf_compare.specs.Tags.{tag_in}
 use Rattle.dwarf_compare.proofs.single.find_each.Given as goal
 
 -- the tags so far are in front

@@ -1,4 +1,4 @@
--- The tag of a code in a table.
+-- The tags of codes in a table.
 use Rattle.std.specs.Prelude.{ℕ, Option, None, Some}
 use Rattle.std.specs.FinMap.{get}
 use Rattle.dwarf_read_core.specs.Grammar.{Declaration, Table}
