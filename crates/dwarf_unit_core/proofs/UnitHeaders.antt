@@ -21,39 +21,39 @@ module _ (greatest : ℕ) (format : Format) where
   -- the signature and the offset of a type
   type-is : IsRead (type_fields greatest format)
   type-is =
-      then-is _ _ (number-is 8) (λ signature.
-      then-is _ _ (word-is greatest (word_size format)) (λ place. value-is (signature, place)))
+      then-is (number-is 8) (λ signature.
+      then-is (word-is greatest (word_size format)) (λ place. value-is (signature, place)))
 
   -- the fields that only units of one type have
   own-is : (code : ℕ) → IsRead (own_fields greatest format code)
   own-is code =
       choice-is (code == 1) (value-is _) (
-      choice-is (code == 2) (mapped-is _ _ type-is) (
+      choice-is (code == 2) (mapped-is type-is) (
       choice-is (code == 3) (value-is _) (
-      choice-is (code == 4) (mapped-is _ _ (number-is 8)) (
-      choice-is (code == 5) (mapped-is _ _ (number-is 8)) (
-      choice-is (code == 6) (mapped-is _ _ type-is)
+      choice-is (code == 4) (mapped-is (number-is 8)) (
+      choice-is (code == 5) (mapped-is (number-is 8)) (
+      choice-is (code == 6) (mapped-is type-is)
       (given-is (Err (UnknownUnitType (record { 0 = code }))) (λ position same. grind arith)))))))
 
   -- the fields after a version before 5
   before_5-is : (code version : ℕ) → IsRead (before_5 greatest format code version)
   before_5-is code version =
-      then-is _ _ (word-is greatest (word_size format)) (λ table.
-      then-is _ _ address_size-is (λ size.
-      then-is _ _ (own-is code) (λ kind. value-is _)))
+      then-is (word-is greatest (word_size format)) (λ table.
+      then-is address_size-is (λ size.
+      then-is (own-is code) (λ kind. value-is _)))
 
   -- the fields after version 5
   from_5-is : IsRead (from_5 greatest format)
   from_5-is =
-      then-is _ _ (number-is 1) (λ code.
-      then-is _ _ address_size-is (λ size.
-      then-is _ _ (word-is greatest (word_size format)) (λ table.
-      then-is _ _ (own-is code) (λ kind. value-is _))))
+      then-is (number-is 1) (λ code.
+      then-is address_size-is (λ size.
+      then-is (word-is greatest (word_size format)) (λ table.
+      then-is (own-is code) (λ kind. value-is _))))
 
 -- all fields
 pub unit_header-is : (code : ℕ) → IsHeader (unit_header code)
 unit_header-is code greatest format =
-    then-is _ _ (number-is 2) (λ version.
+    then-is (number-is 2) (λ version.
     choice-is (version == 5) (from_5-is greatest format) (
     choice-is (nat_le 2 version && nat_le version 4) (before_5-is greatest format code version)
     (given-is (Err (UnknownVersion version)) (λ position same. grind arith))))
@@ -111,9 +111,9 @@ module _ {A : Type 0} where
   choice-least false one other = other
 
 -- two consecutive readings have the bytes of both
-then-least : {A B : Type 0} {m n : ℕ} (At : Reading A) (Next : A → Reading B) → HasLeast m At
+then-least : {A B : Type 0} {m n : ℕ} {At : Reading A} {Next : A → Reading B} → HasLeast m At
     → ((x : A) → HasLeast n (Next x)) → HasLeast (m + n) (Then At Next)
-then-least At Next first next = record {
+then-least first next = record {
   least = λ old new y is. omega (arith, first.least old is.1 is.0 is.2, (next is.0).least is.1 new y is.3);
 }
 
@@ -121,22 +121,22 @@ module _ (greatest : ℕ) (format : Format) where
   -- the fields after a version before 5 have five
   before_5-least : (code version : ℕ) → HasLeast 5 (before_5 greatest format code version)
   before_5-least code version =
-      then-least _ _ (word-least greatest format) (λ table.
-      then-least _ _ size-least (λ size.
-      read-least (then-is _ _ (own-is greatest format code) (λ kind. value-is _))))
+      then-least (word-least greatest format) (λ table.
+      then-least size-least (λ size.
+      read-least (then-is (own-is greatest format code) (λ kind. value-is _))))
 
   -- those after version 5 have six
   from_5-least : HasLeast 6 (from_5 greatest format)
   from_5-least =
-      then-least _ _ (number-least 1) (λ code.
-      then-least _ _ size-least (λ size.
-      then-least _ _ (word-least greatest format) (λ table.
-      read-least (then-is _ _ (own-is greatest format code) (λ kind. value-is _)))))
+      then-least (number-least 1) (λ code.
+      then-least size-least (λ size.
+      then-least (word-least greatest format) (λ table.
+      read-least (then-is (own-is greatest format code) (λ kind. value-is _)))))
 
 -- and all have seven
 pub unit_header-least : (code greatest : ℕ) (format : Format) → HasLeast 7 (unit_header code greatest format)
 unit_header-least code greatest format =
-    then-least _ _ (number-least 2) (λ version.
+    then-least (number-least 2) (λ version.
     choice-least (version == 5) (fewer-least (omega arith) (from_5-least greatest format)) (
     choice-least (nat_le 2 version && nat_le version 4) (before_5-least greatest format code version)
     (error-least 5 (UnknownVersion version))))

@@ -14,21 +14,21 @@ use Rattle.dwarf_reader_core.proofs.public.Readings.{address_size-is, number-is,
 -- the version of a set is a reading
 pub version-is : IsRead VersionRead
 version-is =
-    then-is _ _ (number-is 2) (λ version. required-is (version == 5) (UnknownVersion version) (λ position same. grind arith))
+    then-is (number-is 2) (λ version. required-is (version == 5) (UnknownVersion version) (λ position same. grind arith))
 
 -- the header of a set of addresses is one
 pub address_header : IsHeader AddressHeaderAt
 address_header greatest format =
-    then-is _ _ version-is (λ known.
-    then-is _ _ address_size-is (λ size.
-    then-is _ _ (number-is 1) (λ segment.
-    then-is _ _ (required-is (segment == 0) (UnsupportedSegmentSize segment) (λ position same. grind arith)) (λ flat.
+    then-is version-is (λ known.
+    then-is address_size-is (λ size.
+    then-is (number-is 1) (λ segment.
+    then-is (required-is (segment == 0) (UnsupportedSegmentSize segment) (λ position same. grind arith)) (λ flat.
     value-is size))))
 
 -- so is that of a set of string offsets
 pub string_offsets_header : IsHeader StringOffsetsHeaderAt
 string_offsets_header greatest format =
-    then-is _ _ version-is (λ known. then-is _ _ (number-is 2) (λ padding. value-is tt))
+    then-is version-is (λ known. then-is (number-is 2) (λ padding. value-is tt))
 
 -- a version that is read is passed if it is 5
 pub version-known : {old mid : Input} {version : ℕ} → TakesNumber 2 old version mid → version ≡ 5

@@ -84,7 +84,7 @@ module _ {A B : Type 0} (f : A → B) where
   mapped_result (Ok x, new) = (Ok (f x), new)
   mapped_result (Err e, new) = (Err e, new)
 
-  module _ (At : Reading A) where
+  module _ {At : Reading A} (read : IsRead At) where
     -- it is a result
     mapped-some : (old : Input) (r : Result A Error × Input) → At old r → Mapped f At old (mapped_result r)
     mapped-some old (Ok x, new) is = (x, refl, is)
@@ -100,31 +100,30 @@ module _ {A B : Type 0} (f : A → B) where
     mapped-only old r only (Err e, new) is = ap mapped_result (only (Err e, new) is)
 
     -- appended bytes change it where they change the reading
-    mapped-more : IsRead At → (old new : Input) (result : Result B Error) (more : List ℕ)
-        → Mapped f At old (result, new) → IsSettled result
-        → Mapped f At (followed_by old more) (result, followed_by new more)
-    mapped-more read old new (Ok y) more is settled =
+    mapped-more : (old new : Input) (result : Result B Error) (more : List ℕ) → Mapped f At old (result, new)
+        → IsSettled result → Mapped f At (followed_by old more) (result, followed_by new more)
+    mapped-more old new (Ok y) more is settled =
         (is.0, is.1, read.more old new (Ok is.0) more is.2 (λ position. ok-settled))
-    mapped-more read old new (Err e) more is settled =
+    mapped-more old new (Err e) more is settled =
         read.more old new (Err e) more is (λ position same. settled position (err-same same))
 
     -- it takes the bytes of the reading
-    mapped-taken : IsRead At → (old new : Input) (result : Result B Error) → Mapped f At old (result, new)
+    mapped-taken : (old new : Input) (result : Result B Error) → Mapped f At old (result, new)
         → (n : ℕ) × Takes n old new
-    mapped-taken read old new (Ok y) is = read.taken old new (Ok is.0) is.2
-    mapped-taken read old new (Err e) is = read.taken old new (Err e) is
+    mapped-taken old new (Ok y) is = read.taken old new (Ok is.0) is.2
+    mapped-taken old new (Err e) is = read.taken old new (Err e) is
 
-    -- a function of a reading's value is a reading
-    pub mapped-is : IsRead At → IsRead (Mapped f At)
-    mapped-is read = record {
-      one = λ old. let one = read.one old in
-          (mapped_result one.0, mapped-some old one.0 one.1, mapped-only old one.0 one.2);
-      more = mapped-more read;
-      missing = λ old new position is. read.missing old new position is;
-      taken = mapped-taken read;
-    }
+-- a function of a reading's value is a reading
+pub mapped-is : {A B : Type 0} {f : A → B} {At : Reading A} → IsRead At → IsRead (Mapped f At)
+mapped-is {f = f} read = record {
+  one = λ old. let one = read.one old in
+      (mapped_result f one.0, mapped-some f read old one.0 one.1, mapped-only f read old one.0 one.2);
+  more = mapped-more f read;
+  missing = λ old new position is. read.missing old new position is;
+  taken = mapped-taken f read;
+}
 
-module _ {A B : Type 0} (At : Reading A) (Next : A → Reading B) (first_read : IsRead At)
+module _ {A B : Type 0} {At : Reading A} {Next : A → Reading B} (first_read : IsRead At)
     (next_read : (x : A) → IsRead (Next x)) where
   -- the result of the second reading, or the error of the first
   abbrev then_result : Result A Error × Input → Result B Error × Input
@@ -295,7 +294,7 @@ module _ (n : ℕ) where
 
   -- n bytes that are skipped are a reading
   pub skip-is : IsRead (SkipRead n)
-  skip-is = same-is skip-to skip-from (mapped-is (λ x. tt) (NumberRead n) (number-is n))
+  skip-is = same-is skip-to skip-from (mapped-is (number-is n))
 
   -- the signed number that n bytes are
   signed-to : (old : Input) (r : Result ℤ Error × Input) → Mapped (signed_number n) (NumberRead n) old r
@@ -311,7 +310,7 @@ module _ (n : ℕ) where
 
   -- a signed number of n bytes is a reading
   pub signed-is : IsRead (SignedRead n)
-  signed-is = same-is signed-to signed-from (mapped-is (signed_number n) (NumberRead n) (number-is n))
+  signed-is = same-is signed-to signed-from (mapped-is (number-is n))
 
 -- ---- offsets and addresses
 
@@ -334,7 +333,7 @@ module _ (greatest n : ℕ) where
   pub word-is : IsRead (WordRead greatest n)
   word-is =
       same-is word-to word-from
-      (then-is (NumberRead n) _ (number-is n) (λ x. checked-is _ x UnsupportedOffset (λ position same. grind arith)))
+      (then-is (number-is n) (λ x. checked-is _ x UnsupportedOffset (λ position same. grind arith)))
 
 module _ (size : ℕ) where
   -- a number of a size that is checked
@@ -357,33 +356,31 @@ module _ (size : ℕ) where
   pub address-is : IsRead (AddressRead size)
   address-is =
       same-is address-to address-from
-      (then-is _ (λ checked. NumberRead size)
-      (checked-is _ size (UnsupportedAddressSize size) (λ position same. grind arith)) (λ checked. number-is size))
+      (then-is (checked-is _ size (UnsupportedAddressSize size) (λ position same. grind arith)) (λ checked. number-is size))
 
-  module _ (greatest : ℕ) where
-    -- a word of a size that is checked
-    abbrev CheckedOffsetRead : Reading ℕ
-    CheckedOffsetRead =
-        Then (CheckedRead (is_number_size size) size (UnsupportedOffsetSize size)) (λ checked. WordRead greatest size)
+module _ (greatest size : ℕ) where
+  -- a word of a size that is checked
+  abbrev CheckedOffsetRead : Reading ℕ
+  CheckedOffsetRead =
+      Then (CheckedRead (is_number_size size) size (UnsupportedOffsetSize size)) (λ checked. WordRead greatest size)
 
-    -- what it reads is an offset of a size
-    offset-to : (old : Input) (r : Result ℕ Error × Input) → CheckedOffsetRead old r → OffsetRead greatest size old r
-    offset-to old (Ok x, new) is = grind arith
-    offset-to old (Err e, new) is = grind arith
+  -- what it reads is an offset of a size
+  offset-to : (old : Input) (r : Result ℕ Error × Input) → CheckedOffsetRead old r → OffsetRead greatest size old r
+  offset-to old (Ok x, new) is = grind arith
+  offset-to old (Err e, new) is = grind arith
 
-    -- and an offset of a size is what it reads
-    offset-from : (old : Input) (r : Result ℕ Error × Input) → OffsetRead greatest size old r → CheckedOffsetRead old r
-    offset-from old (Ok x, new) is = (size, old, rw is.1 refl, (is.0, is.2))
-    offset-from old (Err e, new) (inl none) = inl (rw (none.none, none.fault, none.left) refl)
-    offset-from old (Err e, new) (inr is) = inr (size, old, rw is.0 refl, is.1)
+  -- and an offset of a size is what it reads
+  offset-from : (old : Input) (r : Result ℕ Error × Input) → OffsetRead greatest size old r → CheckedOffsetRead old r
+  offset-from old (Ok x, new) is = (size, old, rw is.1 refl, (is.0, is.2))
+  offset-from old (Err e, new) (inl none) = inl (rw (none.none, none.fault, none.left) refl)
+  offset-from old (Err e, new) (inr is) = inr (size, old, rw is.0 refl, is.1)
 
-    -- an offset of a size is a reading
-    pub offset-is : IsRead (OffsetRead greatest size)
-    offset-is =
-        same-is offset-to offset-from
-        (then-is _ (λ checked. WordRead greatest size)
-        (checked-is _ size (UnsupportedOffsetSize size) (λ position same. grind arith))
-        (λ checked. word-is greatest size))
+  -- an offset of a size is a reading
+  pub offset-is : IsRead (OffsetRead greatest size)
+  offset-is =
+      same-is offset-to offset-from
+      (then-is (checked-is _ size (UnsupportedOffsetSize size) (λ position same. grind arith))
+      (λ checked. word-is greatest size))
 
 -- a byte that is checked to be a size of addresses
 abbrev CheckedSizeRead : Reading ℕ
@@ -403,8 +400,7 @@ size-from old (Err e, new) is = grind arith
 pub address_size-is : IsRead AddressSizeRead
 address_size-is =
     same-is size-to size-from
-    (then-is (NumberRead 1) _ (number-is 1)
-    (λ x. checked-is _ x (UnsupportedAddressSize x) (λ position same. grind arith)))
+    (then-is (number-is 1) (λ x. checked-is _ x (UnsupportedAddressSize x) (λ position same. grind arith)))
 
 -- ---- strings
 
@@ -543,8 +539,7 @@ module _ (bound : ℕ) where
   pub bounded-is : IsRead (BoundedRead bound)
   bounded-is =
       same-is bounded-to bounded-from
-      (then-is (Leb128Read unsigned64) _ (leb128-is unsigned64)
-      (λ x. checked-is _ x BadUnsignedLeb128 (λ position same. grind arith)))
+      (then-is (leb128-is unsigned64) (λ x. checked-is _ x BadUnsignedLeb128 (λ position same. grind arith)))
 
 -- appended bytes change an encoding only where its last byte was missing
 encoding-more : (old new : Input) (result : Result ⊤ Error) (more : List ℕ) → EncodingRead old (result, new)
