@@ -36,7 +36,7 @@ pub fn nanos_of(call: &dyn Fn() -> u64, milliseconds: u64) -> f64 {
     }
 }
 
-/// How many pages are first touched while a call runs. The system gives each then, and counts a minor fault.
+/// How many pages are first touched while a call runs. The system makes each one then, and counts a minor fault.
 pub fn page_faults(call: &dyn Fn() -> u64) -> i64 {
     let faults = || {
         let mut usage = [0; 18];

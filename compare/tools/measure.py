@@ -14,8 +14,8 @@ from measured import table, tell
 # The C library copies a large block by one instruction that valgrind counts once a byte. With this setting it copies by
 # moves of 32 bytes, as it does small blocks.
 COUNTED_COPIES = {"GLIBC_TUNABLES": "glibc.cpu.x86_rep_movsb_threshold=1073741824"}
-# The C library gives freed memory back, or doesn't, by what was freed before, which times the system. With these
-# settings it keeps the memory of inputs that are made.
+# Whether the C library gives freed memory back to the system depends on what was freed before, and would be measured,
+# too. With these settings the library keeps the memory of inputs that are made.
 KEPT_MEMORY = {"GLIBC_TUNABLES": "glibc.malloc.mmap_threshold=1073741824:glibc.malloc.trim_threshold=1073741824"}
 # A jump in a disassembly, to a place that the code names: where it is, and its bytes.
 JUMP = re.compile(r"^ *([0-9a-f]+):\t((?:[0-9a-f]{2} )+) *\tj(?!\S* +\*)", re.M)
@@ -38,7 +38,8 @@ def build_aligned(is_debian: bool) -> str:
     """Builds the program that compares with jumps off the borders of 32 bytes, and sees that they are."""
     program = build(is_debian, True)
     found, all_jumps = at_borders(must(["objdump", "-dw", program], f"{program} isn't disassembled"))
-    # What comes as an object has some. By chance one jump in eight is there.
+    # Some are left in objects that were compiled before, such as the C library's. One jump in eight is at a border by
+    # chance.
     if found * 200 > all_jumps:
         raise Failed(f"{found} of {all_jumps} jumps are at borders of 32 bytes: the compilers here don't move them")
     return program

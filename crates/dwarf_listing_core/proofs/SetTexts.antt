@@ -2,20 +2,21 @@
 use Rattle.dwarf_listing_core.proofs.Common.{◌-◌, ◌^◌, ◌<◌, ◌∷◌, ℕ, List, [], Result, Ok, Err, refl, Error, Input, HasOne, Remaining, Set, ListsItems, SetListing, HasSets, ListsLine, ListsSection, ListsSet}
 use Rattle.dwarf_read_core.specs.Headers.{AddressHeaderAt}
 use Rattle.dwarf_read_core.specs.Items.{AreItems, no_items, value_first, only_error}
-use Rattle.dwarf_read_core.specs.Contributions.{HasContribution}
+use Rattle.dwarf_read_core.specs.Contributions.{ContributionAt}
+use Rattle.dwarf_read_core.proofs.public.Contributions.{contribution_parts}
 use Rattle.dwarf_read_core.proofs.public.Entries.{size-positive}
 use Rattle.dwarf_read_core.proofs.public.Headers.{address_header-sized}
 use Rattle.dwarf_listing_core.proofs.OneText.{one_after, one_joined}
 
 -- items have exactly one text or error if each value has
 one_of_items : {S A : Type 0} (Lists : A → Result (List ℕ) Error → Type 0) {rest : S → Input}
-    {Is : S → Result A Error → Type 0} {following : A → S → S} {old : S} {items : List (Result A Error)}
-    → ((old : S) (x : A) → Is old (Ok x) → HasOne (Lists x)) → AreItems rest Is following old items
+    {At : S → Result A Error × S → Type 0} {old : S} {items : List (Result A Error)}
+    → ((old new : S) (x : A) → At old (Ok x, new) → HasOne (Lists x)) → AreItems rest At old items
     → HasOne (ListsItems Lists items)
 one_of_items Lists law (no_items empty) = (Ok [], refl, λ other h. h)
 one_of_items Lists law (only_error {e = e} some h) = (Err e, refl, λ other h. h)
-one_of_items Lists law (value_first {now = old} {x = x} some first others) =
-    one_after (law old x first) (λ own lists. one_joined own (one_of_items Lists law others))
+one_of_items Lists law (value_first {now = old} {new = new} {x = x} some first others) =
+    one_after (law old new x first) (λ own lists. one_joined own (one_of_items Lists law others))
 
 -- lines have exactly one text or error
 one_of_lines : (line_of : ℕ → List ℕ) (items : List (Result ℕ Error)) → HasOne (ListsItems (ListsLine line_of) items)
@@ -33,15 +34,16 @@ one_set listing s entries =
 
 -- a section has exactly one text or error if it has exactly one list of sets, and each set one list of entries
 pub one_section : {H : Type 0} (listing : SetListing H) (sets : Remaining)
-    → ((old : Remaining) (s : Set H) → HasContribution listing.header (2 ^ 64 - 1) old s
+    → ((old new : Remaining) (s : Set H) → ContributionAt listing.header (2 ^ 64 - 1) old (Ok s, new)
     → HasOne (listing.represents (listing.entries s)))
     → HasOne (HasSets listing sets) → HasOne (ListsSection listing sets)
 one_section listing sets entries lists =
     one_after lists (λ items are.
-    one_of_items (ListsSet listing) (λ old s has. one_set listing s (entries old s has)) are)
+    one_of_items (ListsSet listing) (λ old new s is. one_set listing s (entries old new s is)) are)
 
 -- the address size of a set of addresses is above 0
-pub address_size : {greatest : ℕ} (old : Remaining) (s : Set ℕ) → HasContribution AddressHeaderAt greatest old s
-    → 0 < s.header
-address_size {greatest} old s has =
-    size-positive s.header (address_header-sized greatest s.format _ _ _ has.said)
+pub address_size : {greatest : ℕ} (old new : Remaining) (s : Set ℕ)
+    → ContributionAt AddressHeaderAt greatest old (Ok s, new) → 0 < s.header
+address_size {greatest} old new s is =
+    let parts = contribution_parts AddressHeaderAt greatest old.offset old.rest s new.rest is.0 in
+    size-positive s.header (address_header-sized greatest s.format _ _ _ parts.said)

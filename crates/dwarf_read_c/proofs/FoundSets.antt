@@ -1,20 +1,21 @@
 -- What is written for C describes the set that is at an offset.
 use Rattle.std.proofs.lemmas.List.{length-take}
-use Rattle.dwarf_read_core.specs.Contributions.{HasContribution, HasNoContributionAt, contribution_size, contributions_from}
-use Rattle.dwarf_read_core.specs.Entries.{AreNumbers, Entries}
+use Rattle.dwarf_read_core.specs.Contributions.{ContributionAtOffset, contribution_size}
+use Rattle.dwarf_read_core.specs.Entries.{Entries, RepresentsAddresses}
 use Rattle.dwarf_read_core.specs.Format.{initial_length_size, word_size}
 use Rattle.dwarf_read_core.specs.Headers.{Header}
 use Rattle.dwarf_read_core.specs.declared.Format.{Format}
 use Rattle.dwarf_read_core.proofs.public.MissingFields.{HasSizes}
+use Rattle.dwarf_read_core.proofs.public.Contributions.{contribution_at-within, contribution_parts}
 use Rattle.dwarf_read_core.proofs.public.InitialLengths.{length_taken}
-use Rattle.dwarf_read_core.proofs.public.Entries.{numbers_counted}
+use Rattle.dwarf_read_core.proofs.public.Entries.{addresses_counted}
 use Rattle.dwarf_read_c.specs.declared.sets.DwarfSet.{DwarfSet}
-use Rattle.dwarf_read_c.proofs.Common.{◌≡◌, ◌∙◌, Bool, true, ℕ, List, ◌+◌, ◌-◌, ◌/◌, ◌<◌, ◌≤◌, ◌^◌, length, drop, sym, ap, subst, arith, ◌⊎◌, inl, inr, length-drop, Error, CloneRanOutOfMemory, Input, after, Contribution, take, TellsSet, set_from}
+use Rattle.dwarf_read_c.proofs.Common.{◌≡◌, ◌∙◌, Bool, true, ℕ, List, Ok, ◌+◌, ◌-◌, ◌/◌, ◌<◌, ◌≤◌, ◌^◌, length, sym, ap, subst, arith, ◌⊎◌, inl, inr, length-drop, Error, CloneRanOutOfMemory, Input, Contribution, take, TellsSet, set_from}
 use Rattle.dwarf_read_c.specs.Sets.{shown}
 
 -- what is known of a set at an offset
 pub record FoundSet {H : Type 0} (header : Header H) (section : Input) (offset : ℕ) (s : Contribution H) : Type 0 where
-  pub has : HasContribution header (2 ^ 64 - 1) (contributions_from offset section) s
+  pub has : ContributionAtOffset header (2 ^ 64 - 1) section offset (Ok s)
   pub within : offset + initial_length_size s.format + s.unit_length ≤ length section.bytes
   pub four : 4 ≤ s.unit_length
   pub first : s.entries.position ≡ offset + initial_length_size s.format + 4
@@ -23,30 +24,30 @@ pub record FoundSet {H : Type 0} (header : Header H) (section : Input) (offset :
 -- a set at an offset ends within the section, and its entries are what follows the four bytes of its header
 pub set_found : {H : Type 0} {header : Header H} {section : Input} {offset : ℕ} {s : Contribution H} {sizes : List ℕ}
     → ((format : Format) → HasSizes sizes 4 (header (2 ^ 64 - 1) format)) → section.position ≡ 0
-    → HasContribution header (2 ^ 64 - 1) (contributions_from offset section) s → FoundSet header section offset s
-set_found {section = section} {offset} {s} has_sizes starts has =
-    let rest = after offset section in
-    let whole = length-drop offset section.bytes in
-    let part = (has_sizes s.format).takes _ _ _ has.said in
-    let long = length-take s.unit_length (drop (initial_length_size s.format) rest.bytes) in
-    let unit = length-drop (initial_length_size s.format) rest.bytes in
+    → ContributionAtOffset header (2 ^ 64 - 1) section offset (Ok s) → FoundSet header section offset s
+set_found {header = header} {offset = offset} {s = s} has_sizes starts has =
+    let rest = has.read.1 in
+    let skipped = has.read.2 in
+    let parts = contribution_parts header (2 ^ 64 - 1) offset rest s has.new has.read.3 in
+    let front = length_taken parts.measured in
+    let part = (has_sizes s.format).takes _ _ _ parts.said in
+    let unit = length-take s.unit_length parts.mid.bytes in
+    let cut = length-drop 4 (take s.unit_length parts.mid.bytes) in
     let entries = ap (λ (i : Input). length i.bytes) part.left in
-    let cut = length-drop 4 (take s.unit_length (drop (initial_length_size s.format) rest.bytes)) in
     let place = ap (λ (i : Input). i.position) part.left in
-    let front = length_taken has.measured in
+    let mid = ap (λ (i : Input). i.position) front.left in
+    let start = ap (λ (i : Input). i.position) skipped.left in
     record {
       has = has;
-      within = omega (arith, whole, has.within, front.enough);
-      four = omega (arith, part.enough, long);
-      first = omega (arith, starts, place);
-      rest = omega (arith, entries, cut, long, unit, has.within);
+      within = omega (arith, contribution_at-within has);
+      four = omega (arith, part.enough, unit);
+      first = omega (arith, starts, place, mid, start);
+      rest = omega (arith, entries, cut, unit, parts.taken.enough);
     }
 
 -- if clones can't fail, the error is that of the section
-pub set_absent : {H : Type 0} {header : Header H} {section : Input} {offset : ℕ} {e : Error} {is_free : Bool}
-    → is_free ≡ true
-    → HasNoContributionAt header (2 ^ 64 - 1) section offset e ⊎ CloneRanOutOfMemory is_free e
-    → HasNoContributionAt header (2 ^ 64 - 1) section offset e
+pub set_absent : {Lacks : Type 0} {e : Error} {is_free : Bool} → is_free ≡ true → Lacks ⊎ CloneRanOutOfMemory is_free e
+    → Lacks
 set_absent free (inl lacks) = lacks
 set_absent free (inr want) = let costs = want.costs in absurd (cc)
 
@@ -72,7 +73,7 @@ set_reported {offset = offset} {s} {reported} entries_of width positive entries 
       })
           ∙ ap (λ (e : Entries). shown s e (offset + contribution_size s)) (sym entries);
       counted = λ items are.
-          let count = numbers_counted (record { width = width; rest = s.entries }) items positive
-          (subst (λ (e : Entries). AreNumbers (λ x. true) e items) entries are) in
+          let count = addresses_counted (record { width = width; rest = s.entries }) items positive
+          (subst (λ (e : Entries). RepresentsAddresses e items) entries are) in
           ap (λ (told : DwarfSet). told.entry_count) fields ∙ ap (λ n. n / width) (sym found.rest) ∙ sym count;
     }

@@ -5,14 +5,14 @@ use Rattle.std.specs.Prelude.{◌==◌, ◌&&◌, nat_le}
 use Rattle.dwarf_read_core.specs.Format.{word_size}
 use Rattle.dwarf_read_core.specs.Answer.{Answers, IsFirstError}
 use Rattle.dwarf_read_core.specs.Headers.{AddressHeaderAt, Header, StringOffsetsHeaderAt, VersionRead}
-use Rattle.dwarf_read_core.specs.Readings.{AddressSizeRead, Choice, Given, Mapped, NumberRead, Reading, Required, Then, WordRead}
-use Rattle.dwarf_read_core.specs.InitialLength.{HasNoLength}
-use Rattle.dwarf_read_core.specs.Contributions.{contribution_cut, contribution_faulty, contribution_headless, contribution_outside, contribution_unmeasured}
+use Rattle.dwarf_read_core.specs.Readings.{AddressSizeRead, Choice, Given, Mapped, NumberRead, PartRead, Reading, Required, SkipRead, Then, Within, WordRead}
+use Rattle.dwarf_read_core.specs.InitialLength.{LengthAt}
+use Rattle.dwarf_read_core.specs.Contributions.{ContributionAtOffset, ContributionFrom}
 use Rattle.dwarf_read_core.specs.Strings.{string_past_end, string_unended}
 use Rattle.dwarf_read_core.specs.Words.{Slot, HasNoPlace, no_base, no_distance, no_place, WordAt, word_unplaced, word_cut, word_too_great, AddressAt, address_unplaced, address_unsized, address_cut}
 use Rattle.dwarf_unit_core.specs.Fields.{before_5, from_5, own_fields, type_fields, unit_header}
 use Rattle.dwarf_read_c.specs.Units.{header_in, type_before_5}
-use Rattle.dwarf_read_c.proofs.Common.{◌≢◌, Bool, true, false, ℕ, List, Ok, Err, inl, inr, arith, Error, Input, Kind, StringAt, error_number, IsKnown, HasNoNumber, HasNoContributionAt}
+use Rattle.dwarf_read_c.proofs.Common.{◌≢◌, Bool, true, false, ℕ, List, Ok, Err, inl, inr, arith, Error, Input, Kind, StringAt, error_number, IsKnown, HasNoNumber}
 
 -- the error of bytes that begin with no number has a number of its own
 pub known_number : {k : Kind} {bytes : List ℕ} {e : Error} → HasNoNumber k bytes e → IsKnown e
@@ -53,6 +53,14 @@ record HasKnown {A : Type 0} (At : Reading A) : Type 0 where
 -- a number
 known_read : (n : ℕ) → HasKnown (NumberRead n)
 known_read n = record { known = λ old new e short. rw short.fault (omega arith) }
+
+-- bytes that are skipped
+known_skip : (n : ℕ) → HasKnown (SkipRead n)
+known_skip n = record { known = λ old new e short. rw short.fault (omega arith) }
+
+-- a part of the bytes
+known_part : (n : ℕ) → HasKnown (PartRead n)
+known_part n = record { known = λ old new e short. rw short.fault (omega arith) }
 
 -- a word of a size that is an offset
 known_offset : (greatest n : ℕ) → HasKnown (WordRead greatest n)
@@ -99,16 +107,24 @@ module _ {A B : Type 0} where
 -- ---- sets
 
 -- the error of bytes without an initial length has a number of its own
-known_length : {greatest : ℕ} {old new : Input} {e : Error} → HasNoLength greatest old e new → IsKnown e
-known_length absent = grind arith
+known_length : (greatest : ℕ) → HasKnown (LengthAt greatest)
+known_length greatest = record { known = λ old new e absent. grind arith }
 
 -- the error in place of a set has a number of its own, if each error of the header has
 known_set : {H : Type 0} {header : Header H} {greatest : ℕ} {section : Input} {offset : ℕ} {e : Error}
-    → ((format : Format) → HasKnown (header greatest format)) → HasNoContributionAt header greatest section offset e → IsKnown e
-known_set law (contribution_outside past) = omega arith
-known_set law (contribution_faulty within (contribution_unmeasured none)) = known_length none
-known_set law (contribution_faulty within (contribution_cut measured short)) = omega arith
-known_set law (contribution_faulty within (contribution_headless measured enough none)) = (law _).known _ _ _ none
+    → ((format : Format) → HasKnown (header greatest format))
+    → ContributionAtOffset header greatest section offset (Err e) → IsKnown e
+known_set {header = header} {greatest} {section} {offset} {e} law at = set.known section at.new e at.read
+  where
+    within : (unit : Input) (format : Format) → HasKnown (Within unit (header greatest format))
+    within unit format = record { known = λ old new e is. (law format).known unit is.0 e is.1 }
+
+    set : HasKnown (ContributionFrom header greatest offset)
+    set =
+        known_then (SkipRead offset) _ (known_skip offset) (λ skipped.
+        known_then _ _ (known_length greatest) (λ size.
+        known_then _ _ (known_part size.1) (λ unit.
+        known_then _ _ (within unit size.0) (λ said. known_value _))))
 
 -- the error in place of version 5 has a number of its own
 known_version : HasKnown VersionRead
@@ -117,9 +133,8 @@ known_version =
     (λ version. known_required (version == 5) (UnknownVersion version) (omega arith))
 
 -- the error in place of a set of addresses has a number of its own
-pub known_address_set :
-    {greatest : ℕ} {section : Input} {offset : ℕ} {e : Error}
-    → HasNoContributionAt AddressHeaderAt greatest section offset e → IsKnown e
+pub known_address_set : {greatest : ℕ} {section : Input} {offset : ℕ} {e : Error}
+    → ContributionAtOffset AddressHeaderAt greatest section offset (Err e) → IsKnown e
 known_address_set absent =
     known_set (λ format.
     known_then _ _ known_version (λ five.
@@ -129,9 +144,8 @@ known_address_set absent =
     known_value size))))) absent
 
 -- the error in place of a set of string offsets has a number of its own
-pub known_str_offset_set :
-    {greatest : ℕ} {section : Input} {offset : ℕ} {e : Error}
-    → HasNoContributionAt StringOffsetsHeaderAt greatest section offset e → IsKnown e
+pub known_str_offset_set : {greatest : ℕ} {section : Input} {offset : ℕ} {e : Error}
+    → ContributionAtOffset StringOffsetsHeaderAt greatest section offset (Err e) → IsKnown e
 known_str_offset_set absent =
     known_set (λ format.
     known_then _ _ known_version (λ five. known_then _ _ (known_read 2) (λ padding. known_value tt))) absent
@@ -180,9 +194,8 @@ module _ (greatest : ℕ) (format : Format) where
       (known_given (UnknownVersion version) (omega arith))))
 
 -- the error in place of a unit has a number of its own
-pub known_unit :
-    (is_types : Bool) {greatest : ℕ} {section : Input} {offset : ℕ} {e : Error}
-    → HasNoContributionAt (header_in is_types) greatest section offset e → IsKnown e
+pub known_unit : (is_types : Bool) {greatest : ℕ} {section : Input} {offset : ℕ} {e : Error}
+    → ContributionAtOffset (header_in is_types) greatest section offset (Err e) → IsKnown e
 known_unit is_types {greatest} absent =
     known_set (λ format. known_unit_header greatest format (type_before_5 is_types)) absent
 

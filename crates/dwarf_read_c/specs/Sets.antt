@@ -1,12 +1,12 @@
 -- A set of addresses or of string offsets at an offset of a section, as C sees it.
-use Rattle.std.specs.Prelude.{◌≡◌, ℕ, ◌+◌, ◌-◌, ◌/◌, ◌≤◌, ◌^◌, true, List, Result, length, count_by, is_ok}
+use Rattle.std.specs.Prelude.{◌≡◌, ℕ, ◌+◌, ◌-◌, ◌/◌, ◌≤◌, ◌^◌, List, Result, Ok, length, count_by, is_ok}
 use Rattle.dwarf_read_core.specs.declared.Error.{Error}
 use Rattle.dwarf_read_core.specs.declared.Format.{Format}
-use Rattle.dwarf_read_core.specs.Entries.{AreNumbers, Entries}
+use Rattle.dwarf_read_core.specs.Entries.{Entries, RepresentsAddresses}
 use Rattle.dwarf_read_core.specs.Format.{initial_length_size, word_size}
 use Rattle.dwarf_read_core.specs.Headers.{Header}
 use Rattle.dwarf_read_core.specs.Input.{Input}
-use Rattle.dwarf_read_core.specs.Contributions.{Contribution, HasContribution, contribution_size, contributions_from}
+use Rattle.dwarf_read_core.specs.Contributions.{Contribution, ContributionAtOffset, contribution_size}
 use Rattle.dwarf_read_c.specs.declared.sets.DwarfSet.{DwarfSet}
 
 -- a set as C sees it, with its entries and where the next set may begin. Only whole entries are counted
@@ -26,9 +26,9 @@ pub record TellsSet {H : Type 0} (header : Header H) (entries_of : Contribution 
     (offset : ℕ) (reported : DwarfSet) : Type 0 where
   pub s : Contribution H
   pub within : offset ≤ length section.bytes
-  pub has : HasContribution header (2 ^ 64 - 1) (contributions_from offset section) s
+  pub has : ContributionAtOffset header (2 ^ 64 - 1) section offset (Ok s)
   pub fields : reported ≡ shown s (entries_of s) (offset + contribution_size s)
-  pub counted : (items : List (Result ℕ Error)) → AreNumbers (λ x. true) (entries_of s) items
+  pub counted : (items : List (Result ℕ Error)) → RepresentsAddresses (entries_of s) items
       → reported.entry_count ≡ count_by is_ok items
 
 -- a set whose header has four bytes, by its offset, format, length and size of entries

@@ -1,6 +1,6 @@
 -- A unit at an offset of a section, as C sees it.
-use Rattle.std.specs.Prelude.{◌≡◌, ℕ, ◌+◌, ◌-◌, ◌≤◌, ◌^◌, Bool, length, if◌then◌else◌}
-use Rattle.dwarf_read_core.specs.Contributions.{Contribution, HasContribution, contribution_size, contributions_from}
+use Rattle.std.specs.Prelude.{◌≡◌, ℕ, ◌+◌, ◌-◌, ◌≤◌, ◌^◌, Bool, length, if◌then◌else◌, Ok}
+use Rattle.dwarf_read_core.specs.Contributions.{Contribution, ContributionAtOffset, contribution_size}
 use Rattle.dwarf_read_core.specs.Format.{word_size}
 use Rattle.dwarf_read_core.specs.Headers.{Header}
 use Rattle.dwarf_read_core.specs.Input.{Input}
@@ -65,5 +65,5 @@ pub record TellsUnit (header : Header (UnitFields ℕ)) (section : Input) (offse
     Type 0 where
   pub unit : Contribution (UnitFields ℕ)
   pub within : offset ≤ length section.bytes
-  pub has : HasContribution header (2 ^ 64 - 1) (contributions_from offset section) unit
+  pub has : ContributionAtOffset header (2 ^ 64 - 1) section offset (Ok unit)
   pub fields : reported ≡ shown_unit unit (offset + contribution_size unit)

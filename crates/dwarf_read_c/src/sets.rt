@@ -1,9 +1,9 @@
 //! Sets of addresses (DWARF 5, 7.27) and of string offsets (7.26).
 
-ghost use Rattle.std.specs.Prelude.{◌≡◌, ◌≢◌, ◌↔◌, ◌+◌, ◌-◌, ◌<◌, ◌≤◌, ◌^◌, true, length, IfOk, IfErr};
+ghost use Rattle.std.specs.Prelude.{◌≡◌, ◌≢◌, ◌↔◌, ◌+◌, ◌-◌, ◌<◌, ◌≤◌, ◌^◌, true, length, Err, IfOk, IfErr};
 ghost use Rattle.dwarf_read_core.specs.Format.{initial_length_size};
 ghost use Rattle.dwarf_read_core.specs.Headers.{AddressHeaderAt, StringOffsetsHeaderAt};
-ghost use Rattle.dwarf_read_core.specs.Contributions.{HasNoContributionAt, addresses_of, string_offsets_of};
+ghost use Rattle.dwarf_read_core.specs.Contributions.{ContributionAtOffset, addresses_of, string_offsets_of};
 ghost use Rattle.dwarf_read_c.specs.Fault.{Rejects};
 ghost use Rattle.dwarf_read_c.specs.Sections.{section_of};
 ghost use Rattle.dwarf_read_c.specs.Sets.{TellsSet, set_from};
@@ -68,7 +68,8 @@ pub extern "C" fn dwarf_address_set_0_3(
     ensures end_fault { result ≡ DWARF_END → fault.new ≡ fault.old }
     ensures rejected { let s = section_of section.now is_big in
         result ≢ DWARF_OK → result ≢ DWARF_END
-        → Rejects (HasNoContributionAt AddressHeaderAt (2 ^ 64 - 1) s offset) result fault.new }
+        → Rejects (λ e. ContributionAtOffset AddressHeaderAt (2 ^ 64 - 1) s offset (Err e))
+        result fault.new }
     ensures no_set { result ≢ DWARF_OK → set.new ≡ set.old }
     ensures no_fault { result ≡ DWARF_OK → fault.new ≡ fault.old }
 {
@@ -110,8 +111,8 @@ pub extern "C" fn dwarf_str_offset_set_0_3(
     ensures end_fault { result ≡ DWARF_END → fault.new ≡ fault.old }
     ensures rejected { let s = section_of section.now is_big in
         result ≢ DWARF_OK → result ≢ DWARF_END
-        → Rejects (HasNoContributionAt StringOffsetsHeaderAt (2 ^ 64 - 1) s offset) result
-        fault.new }
+        → Rejects (λ e. ContributionAtOffset StringOffsetsHeaderAt (2 ^ 64 - 1) s offset (Err e))
+        result fault.new }
     ensures no_set { result ≢ DWARF_OK → set.new ≡ set.old }
     ensures no_fault { result ≡ DWARF_OK → fault.new ≡ fault.old }
 {
@@ -134,7 +135,7 @@ fn address_set_at<R: Reader<Offset = usize>>(section: R, offset: usize) -> Resul
     ensures found { let s = R.view section in
         IfOk result (TellsSet AddressHeaderAt addresses_of s offset) }
     ensures err { let s = R.view section in
-        IfErr result (HasNoContributionAt AddressHeaderAt (2 ^ 64 - 1) s offset) }
+        IfErr result (λ e. ContributionAtOffset AddressHeaderAt (2 ^ 64 - 1) s offset (Err e)) }
 {
     let header = AddrHeader::at(&section, offset)?;
     let (length, encoding) = (header.length(), header.encoding());
@@ -150,8 +151,8 @@ fn str_offset_set_at<R: Reader<Offset = usize>>(
     requires clones { R.clone_is_free ≡ true }
     ensures found { let s = R.view section in
         IfOk result (TellsSet StringOffsetsHeaderAt string_offsets_of s offset) }
-    ensures err { let s = R.view section in
-        IfErr result (HasNoContributionAt StringOffsetsHeaderAt (2 ^ 64 - 1) s offset) }
+    ensures err { let s = R.view section in let header = StringOffsetsHeaderAt in
+        IfErr result (λ e. ContributionAtOffset header (2 ^ 64 - 1) s offset (Err e)) }
 {
     let header = StrOffsetsHeader::at(&section, offset)?;
     let (length, format) = (header.length(), header.format());

@@ -1,7 +1,7 @@
 //! The headers of units (DWARF 5, 7.5.1).
 
-ghost use Rattle.std.specs.Prelude.{◌≡◌, ◌≢◌, ◌↔◌, ◌+◌, ◌-◌, ◌<◌, ◌^◌, true, false, length, IfOk, IfErr};
-ghost use Rattle.dwarf_read_core.specs.Contributions.{HasNoContributionAt};
+ghost use Rattle.std.specs.Prelude.{◌≡◌, ◌≢◌, ◌↔◌, ◌+◌, ◌-◌, ◌<◌, ◌^◌, true, false, length, Err, IfOk, IfErr};
+ghost use Rattle.dwarf_read_core.specs.Contributions.{ContributionAtOffset};
 ghost use Rattle.dwarf_read_core.specs.Format.{initial_length_size, word_size};
 ghost use Rattle.dwarf_read_c.specs.Fault.{Rejects};
 ghost use Rattle.dwarf_read_c.specs.Sections.{section_of};
@@ -76,7 +76,7 @@ pub extern "C" fn dwarf_unit_header(
     ensures end_fault { result ≡ DWARF_END → fault.new ≡ fault.old }
     ensures rejected { let s = section_of section.now is_big in
         result ≢ DWARF_OK → result ≢ DWARF_END
-        → Rejects (HasNoContributionAt (header_in is_types) (2 ^ 64 - 1) s offset)
+        → Rejects (λ e. ContributionAtOffset (header_in is_types) (2 ^ 64 - 1) s offset (Err e))
         result fault.new }
     ensures no_unit { result ≢ DWARF_OK → unit.new ≡ unit.old }
     ensures no_fault { result ≡ DWARF_OK → fault.new ≡ fault.old }
@@ -105,7 +105,7 @@ fn info_unit_at<R: Reader<Offset = usize>>(section: R, offset: usize) -> Result<
     ensures found { let s = R.view section in
         IfOk result (TellsUnit (header_in false) s offset) }
     ensures err { let s = R.view section in
-        IfErr result (HasNoContributionAt (header_in false) (2 ^ 64 - 1) s offset) }
+        IfErr result (λ e. ContributionAtOffset (header_in false) (2 ^ 64 - 1) s offset (Err e)) }
 {
     let header = ContributionHeader::<R, InfoFields<usize>>::at(&section, offset)?;
     let (format, length, fields) = (header.format(), header.length(), header.fields().0);
@@ -119,7 +119,7 @@ fn types_unit_at<R: Reader<Offset = usize>>(section: R, offset: usize) -> Result
     ensures found { let s = R.view section in
         IfOk result (TellsUnit (header_in true) s offset) }
     ensures err { let s = R.view section in
-        IfErr result (HasNoContributionAt (header_in true) (2 ^ 64 - 1) s offset) }
+        IfErr result (λ e. ContributionAtOffset (header_in true) (2 ^ 64 - 1) s offset (Err e)) }
 {
     let header = ContributionHeader::<R, TypesFields<usize>>::at(&section, offset)?;
     let (format, length, fields) = (header.format(), header.length(), header.fields().0);

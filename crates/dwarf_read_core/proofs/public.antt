@@ -10,6 +10,7 @@ pub use Rattle.dwarf_reader_core.proofs.public.MissingFields
 pub use Rattle.dwarf_reader_core.proofs.public.Readings
 pub mod Results
 pub mod Items
+pub mod Contributions
 pub mod Entries
 pub mod Lookups
 pub mod Tables

@@ -1,13 +1,14 @@
 -- Contributions: the consecutive parts of a section, each with a header. Sets of string offsets (DWARF 5, 7.26) and of
 -- addresses (7.27) are contributions, and so are units (7.5.1).
-use Rattle.std.specs.Prelude.{◌≡◌, ℕ, ◌+◌, ◌<◌, ◌≤◌, List, length, Result, Ok, Err}
+use Rattle.std.specs.Prelude.{◌≡◌, ℕ, ◌+◌, ◌⊎◌, Bool, List, length, Result, Ok, Err}
 use Rattle.dwarf_base_core.specs.declared.common.Format.{Format}
 use Rattle.dwarf_base_core.specs.declared.error.Error.{Error}
 use Rattle.dwarf_base_core.specs.Format.{initial_length_size, word_size}
 use Rattle.dwarf_reader_core.specs.Appended.{followed_by}
-use Rattle.dwarf_reader_core.specs.Faults.{eof_here}
-use Rattle.dwarf_reader_core.specs.InitialLength.{HasLength, HasNoLength}
-use Rattle.dwarf_reader_core.specs.Input.{Input, after, first}
+use Rattle.dwarf_reader_core.specs.Faults.{CloneRanOutOfMemory}
+use Rattle.dwarf_reader_core.specs.InitialLength.{LengthAt}
+use Rattle.dwarf_reader_core.specs.Input.{Input}
+use Rattle.dwarf_reader_core.specs.Readings.{Given, PartRead, Reading, SkipRead, Within, ◌>>=◌}
 use Rattle.dwarf_read_core.specs.Entries.{Entries}
 use Rattle.dwarf_reader_core.specs.Headers.{Header}
 use Rattle.dwarf_read_core.specs.Items.{AreItems}
@@ -57,67 +58,55 @@ remaining_of input remaining = record { offset = remaining.offset; rest = input 
 abbrev pub contribution_size : {H : Type 0} → Contribution H → ℕ
 contribution_size s = initial_length_size s.format + s.unit_length
 
--- the part of an input that a contribution's initial length measures: the header and the entries
-abbrev pub unit_of : {H : Type 0} → Contribution H → Input → Input
-unit_of s input = first s.unit_length (after (initial_length_size s.format) input)
+-- the contribution at the front of an input, which begins at this offset of a section: an initial length, and as many
+-- bytes as that says, which are a header and the entries
+abbrev pub ContributionRead : {H : Type 0} → Header H → ℕ → ℕ → Reading (Contribution H)
+ContributionRead header greatest offset = do
+  size ← LengthAt greatest
+  unit ← PartRead size.1
+  said ← Within unit (header greatest size.0)
+  Given (Ok (record {
+    offset = offset;
+    format = size.0;
+    unit_length = size.1;
+    header = said.0;
+    entries = said.1;
+  }))
 
--- what remains begins with this contribution, at its offset: an initial length, and as many bytes as that says, which
--- are a header and the entries
-pub record HasContribution {H : Type 0} (header : Header H) (greatest : ℕ) (remaining : Remaining)
-    (s : Contribution H) : Type 0 where
-  pub here : s.offset ≡ remaining.offset
-  pub measured : HasLength greatest remaining.rest s.format s.unit_length
-      (after (initial_length_size s.format) remaining.rest)
-  pub within : contribution_size s ≤ length remaining.rest.bytes
-  pub said : header greatest s.format (unit_of s remaining.rest) (Ok s.header, s.entries)
+-- no contribution is read: none is there, or memory for a reader of its part ran out, after its initial length
+abbrev pub ReadsNoContribution : {H : Type 0} → Header H → ℕ → Bool → ℕ → Input → Error → Input → Type 0
+ReadsNoContribution header greatest clone_is_free offset old e new =
+    ContributionRead header greatest offset old (Err e, new)
+    ⊎ (CloneRanOutOfMemory clone_is_free e × (size : Format × ℕ) × LengthAt greatest old (Ok size, new))
 
--- an input doesn't begin with a contribution: it has no initial length, too few bytes after that, or no header there
-pub data HasNoContribution {H : Type 0} (header : Header H) (greatest : ℕ) (input : Input) : Error → Type 0 where
-  contribution_unmeasured : {e : Error} {new : Input} → HasNoLength greatest input e new
-      → HasNoContribution header greatest input e
-  contribution_cut : {format : Format} {n : ℕ} {mid : Input} → HasLength greatest input format n mid
-      → length mid.bytes < n
-      → HasNoContribution header greatest input (eof_here mid)
-  contribution_headless : {format : Format} {n : ℕ} {mid left : Input} {e : Error}
-      → HasLength greatest input format n mid → n ≤ length mid.bytes
-      → header greatest format (first n mid) (Err e, left) → HasNoContribution header greatest input e
-
--- the result for the first of the contributions that remain: the contribution, or the error that there is none
-abbrev pub ContributionAt : {H : Type 0} → Header H → ℕ → Remaining → Result (Contribution H) Error → Type 0
-ContributionAt header greatest remaining (Ok s) = HasContribution header greatest remaining s
-ContributionAt header greatest remaining (Err e) = HasNoContribution header greatest remaining.rest e
-
--- the contributions of a section from an offset on
-abbrev pub contributions_from : ℕ → Input → Remaining
-contributions_from offset section = record { offset = offset; rest = after offset section }
-
--- no contribution is at an offset of a section: it is past the end, or the bytes from there on don't begin with a
--- contribution
-pub data HasNoContributionAt {H : Type 0} (header : Header H) (greatest : ℕ) (section : Input) (offset : ℕ) :
-    Error → Type 0 where
-  contribution_outside : length section.bytes < offset
-      → HasNoContributionAt header greatest section offset (eof_here section)
-  contribution_faulty : {e : Error} → offset ≤ length section.bytes
-      → HasNoContribution header greatest (after offset section) e
-      → HasNoContributionAt header greatest section offset e
+-- the contribution at an offset of a section
+abbrev pub ContributionFrom : {H : Type 0} → Header H → ℕ → ℕ → Reading (Contribution H)
+ContributionFrom header greatest offset = do
+  _ ← SkipRead offset
+  ContributionRead header greatest offset
 
 -- the result for the contribution at an offset of a section: the contribution, or the error that there is none
-abbrev pub ContributionAtOffset : {H : Type 0} → Header H → ℕ → Input → ℕ → Result (Contribution H) Error → Type 0
-ContributionAtOffset header greatest section offset (Ok s) =
-    HasContribution header greatest (contributions_from offset section) s
-ContributionAtOffset header greatest section offset (Err e) = HasNoContributionAt header greatest section offset e
+pub record ContributionAtOffset {H : Type 0} (header : Header H) (greatest : ℕ) (section : Input) (offset : ℕ)
+    (result : Result (Contribution H) Error) : Type 0 where
+  pub new : Input
+  pub read : ContributionFrom header greatest offset section (result, new)
 
--- the contributions that remain after the first
-abbrev pub after_contribution : {H : Type 0} → Contribution H → Remaining → Remaining
-after_contribution s remaining =
-    record { offset = remaining.offset + contribution_size s; rest = after (contribution_size s) remaining.rest }
+-- where the contributions that remain end, in bytes from the section's start
+abbrev pub end_of_remaining : Remaining → ℕ
+end_of_remaining remaining = remaining.offset + length remaining.rest.bytes
+
+-- the first of the contributions that remain, and those that remain after it, which end where all end
+abbrev pub ContributionAt : {H : Type 0} → Header H → ℕ → Remaining → Result (Contribution H) Error × Remaining → Type 0
+ContributionAt header greatest old (result, new) =
+    ContributionRead header greatest old.offset old.rest (result, new.rest)
+    × (end_of_remaining new ≡ end_of_remaining old)
 
 -- the items of the contributions that remain are consecutive contributions at their offsets, up to the end of the bytes
 -- or one error
 abbrev pub RepresentsContributions : {H : Type 0} → Header H → ℕ → Remaining → List (Result (Contribution H) Error)
     → Type 0
 RepresentsContributions header greatest remaining items =
-    AreItems (λ (h : Remaining). h.rest) (ContributionAt header greatest) after_contribution remaining items
+    AreItems (λ (h : Remaining). h.rest) (ContributionAt header greatest) remaining items
 
 -- the items of the contributions that remain of a reader
 abbrev pub RepresentsContributionsOf : {H R : Type 0} → (R → Input) → Header H → ℕ → RemainingOf R

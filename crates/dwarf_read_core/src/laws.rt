@@ -15,6 +15,7 @@ ghost use Rattle.dwarf_base_core.specs.declared.common.Format.{Format};
 ghost use Rattle.dwarf_reader_core.specs.Faults.{IsCutIn, eof, is_number_size};
 ghost use Rattle.dwarf_reader_core.specs.InitialLength.{HasLength};
 ghost use Rattle.dwarf_reader_core.specs.Once.{HasOne};
+ghost use Rattle.dwarf_reader_core.specs.Readings.{IsDecided, NumberRead, WordRead};
 ghost use Rattle.dwarf_reader_core.specs.Appended.{followed_by, IsNotEof, IsShortestFront};
 ghost use Rattle.dwarf_read_core.specs.Answer.{Answer, IsFinal, IsStrictlyFinal, IsTableError, StrictAnswer, TableEndsAt, unterminated};
 ghost use Rattle.dwarf_read_core.specs.Cache.{KeepsAnswers, NamesOffsets, least_count};
@@ -22,11 +23,11 @@ ghost use Rattle.dwarf_read_core.specs.declared.read.abbrev.cache.AbbreviationsC
 ghost use Rattle.dwarf_read_core.specs.declared.read.abbrev.cache.AbbreviationsCacheStrategy.TheVariants.{Duplicates, All as AllOffsets};
 ghost use Rattle.dwarf_read_core.specs.Equality.{HasValueByForm, same_contribution, same_declaration};
 ghost use Rattle.dwarf_read_core.specs.Grammar.{Declaration, Table, children_byte, implicit_const};
-ghost use Rattle.dwarf_read_core.specs.Entries.{AreNumbers, Entries, EntryAt, RepresentsAddresses, RepresentsStringOffsets};
+ghost use Rattle.dwarf_read_core.specs.Entries.{Entries, RepresentsAddresses, RepresentsStringOffsets};
 ghost use Rattle.dwarf_reader_core.specs.Headers.{IsHeader};
 ghost use Rattle.dwarf_read_core.specs.Items.{least_taken};
 ghost use Rattle.dwarf_read_core.specs.Ranges.{RangeAt};
-ghost use Rattle.dwarf_read_core.specs.Contributions.{Remaining, Contribution, ContributionAtOffset, ContributionOf, HasContribution, RepresentsContributions, contribution_size, followed_remaining};
+ghost use Rattle.dwarf_read_core.specs.Contributions.{Remaining, Contribution, ContributionAtOffset, ContributionOf, ContributionRead, RepresentsContributions, contribution_size, followed_remaining};
 ghost use Rattle.dwarf_read_core.specs.Strings.{StringAt};
 ghost use Rattle.dwarf_read_core.specs.Words.{AddressAt, Slot, WordAt, distance, slot_offset};
 
@@ -303,6 +304,15 @@ pub fn exactly_one_list_of_contributions<R: Reader, H: HeaderFields<R>>()
     H::law();
 }
 
+/// The next bytes decide a contribution of each kind: an input begins with exactly one, or with
+/// exactly one error in place of it, and after either what follows some of the bytes remains.
+/// Appended bytes change it only if bytes were missing.
+pub fn exactly_one_contribution<R: Reader, H: HeaderFields<R>>()
+    ensures { (greatest offset : ℕ) → IsDecided (ContributionRead H.header greatest offset) }
+{
+    H::law();
+}
+
 /// A section has exactly one result for a contribution of each kind at every offset: the
 /// contribution, or an error.
 pub fn exactly_one_contribution_at_an_offset<R: Reader, H: HeaderFields<R>>()
@@ -312,9 +322,10 @@ pub fn exactly_one_contribution_at_an_offset<R: Reader, H: HeaderFields<R>>()
     H::law();
 }
 
-/// Bytes and a format have exactly one header of each kind, or exactly one error in place of it, and
-/// after either what follows some of the bytes remains. Appended bytes change it only if bytes were
-/// missing, and then the position in the `UnexpectedEof` is that of what remains.
+/// The next bytes and a format decide a header of each kind: there is exactly one, or exactly one
+/// error in place of it, and after either what follows some of the bytes remains. Appended bytes
+/// change it only if bytes were missing, and then the position in the `UnexpectedEof` is that of
+/// what remains.
 pub fn exactly_one_header<R: Reader, H: HeaderFields<R>>()
     ensures { IsHeader H.header }
 {
@@ -324,10 +335,12 @@ pub fn exactly_one_header<R: Reader, H: HeaderFields<R>>()
 /// An `UnexpectedEof` in place of an entry is that of its bytes. The error in place of a contribution
 /// that begins past the section's end, or that the end cuts, is that of the first part that isn't
 /// there whole: the bytes before its offset, its initial length, and the bytes that this measures.
-#[tactic(auto, using(crate::proofs::contributions::MissingBytes::missing))]
 pub fn missing_bytes_of_contributions<R: Reader, H: HeaderFields<R>>()
-    ensures entry { (fits : ℕ → Bool) (width : ℕ) (input : Input) (position : ℕ)
-        → EntryAt fits width input (Err (eof position))
+    ensures address { (width : ℕ) (input new : Input) (position : ℕ)
+        → NumberRead width input (Err (eof position), new)
+        → IsCutIn input (width ∷ []) (eof position) }
+    ensures string_offset { (greatest width : ℕ) (input new : Input) (position : ℕ)
+        → WordRead greatest width input (Err (eof position), new)
         → IsCutIn input (width ∷ []) (eof position) }
     ensures outside { (greatest : ℕ) (section : Input) (offset : ℕ) (e : Error)
         → length section.bytes < offset
@@ -348,8 +361,8 @@ pub fn contributions_are_at_their_offsets<R: Reader, H: HeaderFields<R>>()
         → RepresentsContributions H.header greatest remaining items
         → slice_get items index ≡ Some (Ok s)
         → (far of_header of_entries : ℕ) × (s.offset ≡ remaining.offset + far)
-        × HasContribution H.header greatest
-        (record { offset = s.offset; rest = after far remaining.rest }) s
+        × ((new : Input)
+        × ContributionRead H.header greatest s.offset (after far remaining.rest) (Ok s, new))
         × (s.unit_length ≡ of_header + of_entries) × RangeAt remaining.rest
         (far + initial_length_size s.format + of_header) of_entries (Ok s.entries) }
 {
@@ -357,11 +370,17 @@ pub fn contributions_are_at_their_offsets<R: Reader, H: HeaderFields<R>>()
 }
 
 /// The entry of a set with an index is the number of the bytes at its place, or the error there. As
-/// many entries are numbers as fit into the bytes, unless one is too great for an offset.
+/// many entries are addresses as fit into the bytes.
 pub fn entries_are_numbers()
-    ensures at { (fits : ℕ → Bool) (entries : Entries) (items : List (Result ℕ Error)) (index : ℕ)
-        → AreNumbers fits entries items → IfSome (slice_get items index)
-        (EntryAt fits entries.width (after (index * entries.width) entries.rest)) }
+    ensures address { (entries : Entries) (items : List (Result ℕ Error)) (index : ℕ)
+        → RepresentsAddresses entries items → IfSome (slice_get items index)
+        (λ r. (new : Input)
+        × NumberRead entries.width (after (index * entries.width) entries.rest) (r, new)) }
+    ensures string_offset { (greatest : ℕ) (entries : Entries) (items : List (Result ℕ Error))
+        (index : ℕ)
+        → RepresentsStringOffsets greatest entries items → IfSome (slice_get items index)
+        (λ r. (new : Input)
+        × WordRead greatest entries.width (after (index * entries.width) entries.rest) (r, new)) }
     ensures counted { (entries : Entries) (items : List (Result ℕ Error)) → 0 < entries.width
         → RepresentsAddresses entries items
         → count_by is_ok items ≡ length entries.rest.bytes / entries.width }

@@ -95,6 +95,11 @@ infixl 10 ◌>>=◌
 abbrev pub ◌>>=◌ : {A B : Type 0} → Reading A → (A → Reading B) → Reading B
 At >>= Next = Then At Next
 
+-- a reading of a part of the bytes, which was read before; what remains of the part comes with the value
+abbrev pub Within : {A : Type 0} → Input → Reading A → Reading (A × Input)
+Within part At old (Ok x, new) = At part (Ok x.0, x.1) × (new ≡ old)
+Within part At old (Err e, new) = (left : Input) × At part (Err e, left) × (new ≡ old)
+
 -- a test that has to hold; if it doesn't, the result is this error
 abbrev pub Required : Bool → Error → Reading ⊤
 Required holds e = Given (if holds then Ok tt else Err e)
@@ -111,11 +116,15 @@ abbrev pub IsSettled : {A : Type 0} → Result A Error → Type 0
 IsSettled result = (position : ℕ) → result ≢ Err (eof position)
 
 -- the next bytes decide everything: each input has exactly one result, and exactly one input remains; appended bytes
--- change a result only where bytes were missing, and are all that is added to what remains; where bytes are missing, the
--- reading stops at their position; and what remains is what follows some of the bytes
-pub record IsRead {A : Type 0} (At : Reading A) : Type 0 where
+-- change a result only where bytes were missing, and are all that is added to what remains; and what remains is what
+-- follows some of the bytes
+pub record IsDecided {A : Type 0} (At : Reading A) : Type 0 where
   pub one : (old : Input) → HasOne (At old)
   pub more : (old new : Input) (result : Result A Error) (more : List ℕ) → At old (result, new) → IsSettled result
       → At (followed_by old more) (result, followed_by new more)
-  pub missing : (old new : Input) (position : ℕ) → At old (Err (eof position), new) → position ≡ new.position
   pub taken : (old new : Input) (result : Result A Error) → At old (result, new) → (n : ℕ) × Takes n old new
+
+-- the next bytes decide everything, and where bytes are missing, the reading stops at their position
+pub record IsRead {A : Type 0} (At : Reading A) : Type 0 where
+  pub decided : IsDecided At
+  pub missing : (old new : Input) (position : ℕ) → At old (Err (eof position), new) → position ≡ new.position

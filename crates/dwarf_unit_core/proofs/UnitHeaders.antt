@@ -96,7 +96,7 @@ module _ {A : Type 0} where
   -- a reading doesn't add bytes
   read-least : {At : Reading A} → IsRead At → HasLeast 0 At
   read-least read = record {
-    least = λ old new x is. let taken = read.taken old new (Ok x) is in
+    least = λ old new x is. let taken = read.decided.taken old new (Ok x) is in
         omega (arith, rest-length taken.0 old new taken.1);
   }
 

@@ -1,5 +1,5 @@
 -- What holds of a contribution that was returned holds of the unit that is made of it.
-use Rattle.std.proofs.Common.{◌≡◌, ◌≤◌, Bool, ℕ, drop, Result, Ok, Err, sym, subst, arith}
+use Rattle.std.proofs.Common.{◌≡◌, ◌≤◌, Bool, ℕ, Result, Ok, Err, sym, subst, arith}
 use Rattle.std.proofs.lemmas.List.{length-take}
 use Rattle.dwarf_read_core.specs.Contributions.{Contribution, Remaining, RepresentsContributions, contribution_size}
 use Rattle.dwarf_read_core.specs.declared.Error.{Error}
@@ -8,6 +8,7 @@ use Rattle.dwarf_read_core.specs.Format.{initial_length_size}
 use Rattle.dwarf_read_core.specs.Input.{Input}
 use Rattle.dwarf_read_core.specs.Items.{ComesFirst}
 use Rattle.dwarf_read_core.specs.Lookups.{Stays, UnlessCloneRanOut}
+use Rattle.dwarf_read_core.proofs.public.Contributions.{contribution_parts}
 use Rattle.dwarf_read_core.proofs.public.Items.{first-is}
 use Rattle.dwarf_unit_core.specs.Fields.{unit_header}
 use Rattle.dwarf_unit_core.specs.declared.header.UnitFields.{UnitFields}
@@ -42,7 +43,8 @@ initial_length_size-least format = grind arith
 pub unit-least : (code greatest : ℕ) {old new : Remaining} {s : Contribution (UnitFields ℕ)}
     → ComesFirst (RepresentsContributions (unit_header code) greatest) old (Ok s) new → 11 ≤ contribution_size s
 unit-least code greatest {old} {s = s} first =
-    let has = (first-is (first.1 first.0.0 first.0.1)).1 in
-    let seven = (unit_header-least code greatest s.format).least _ s.entries s.header has.said in
-    let part = length-take s.unit_length (drop (initial_length_size s.format) old.rest.bytes) in
+    let there = first-is (first.1 first.0.0 first.0.1) in
+    let parts = contribution_parts (unit_header code) greatest old.offset old.rest s there.1.rest there.2.0 in
+    let seven = (unit_header-least code greatest s.format).least _ s.entries s.header parts.said in
+    let part = length-take s.unit_length parts.mid.bytes in
     omega (arith, seven, part, initial_length_size-least s.format)

@@ -7,10 +7,9 @@ use Rattle.dwarf_read_core.specs.Input.{Input}
 use Rattle.dwarf_read_core.specs.Items.{AreItems, GivesFirst, only_error}
 
 -- no items follow an error
-error_is_last : {S A : Type 0} {rest : S → Input} {Is : S → Result A Error → Type 0} {following : A → S → S} {old : S}
-    {e : Error} {others : List (Result A Error)} → AreItems rest Is following old (Err e ∷ others)
-    → AreItems rest Is following old (Err e ∷ [])
-error_is_last (only_error some is) = only_error some is
+error_is_last : {S A : Type 0} {rest : S → Input} {At : S → Result A Error × S → Type 0} {old : S} {e : Error}
+    {others : List (Result A Error)} → AreItems rest At old (Err e ∷ others) → AreItems rest At old (Err e ∷ [])
+error_is_last (only_error some at) = only_error some at
 
 -- an error that `next` returned is the only item, unless memory ran out
 pub error_is_item : (old new : Entries) (e : Error) → e ≢ OutOfMemory

@@ -1,5 +1,5 @@
 -- Where the bytes of entries and contributions are missing.
-use Rattle.dwarf_read_core.proofs.Common.{◌≡◌, ◌∙◌, ℕ, ◌<◌, ◌≤◌, Bool, [], ◌∷◌, length, Err, Ok, Result, refl, sym, ap, inl, inr, Error, Input, after, eof, eof_here, arith}
+use Rattle.dwarf_read_core.proofs.Common.{◌≡◌, ◌∙◌, ℕ, ◌<◌, ◌≤◌, [], ◌∷◌, length, Err, Ok, Result, refl, subst, sym, ap, inl, inr, Error, Input, after, eof, eof_here, arith}
 use Rattle.dwarf_base_core.specs.declared.common.Format.{Format}
 use Rattle.dwarf_base_core.specs.Format.{initial_length_size}
 use Rattle.dwarf_reader_core.specs.Faults.{IsCutIn}
@@ -7,22 +7,22 @@ use Rattle.dwarf_reader_core.specs.Headers.{Header}
 use Rattle.dwarf_reader_core.specs.InitialLength.{HasLength, HasNoLength}
 use Rattle.dwarf_reader_core.proofs.public.InitialLengths.{length_taken, lengths_exactly_one}
 use Rattle.dwarf_reader_core.proofs.public.MissingFields.{cut_here, eof-same}
-use Rattle.dwarf_read_core.specs.Contributions.{ContributionAtOffset, HasNoContribution, contribution_cut, contribution_faulty, contribution_headless, contribution_outside, contribution_unmeasured}
-use Rattle.dwarf_read_core.specs.Entries.{EntryAt, HasNoEntry, entry_cut, entry_too_great}
+use Rattle.dwarf_read_core.specs.Contributions.{ContributionAtOffset, ContributionRead}
+use Rattle.dwarf_reader_core.specs.Readings.{NumberRead, WordRead}
 
 -- ---- entries
 
--- an `UnexpectedEof` in place of an entry is that of its bytes
-entry_missing : (fits : ℕ → Bool) (width : ℕ) (input : Input) {e : Error} → HasNoEntry fits width input e
-    → (position : ℕ) → e ≡ eof position → IsCutIn input (width ∷ []) (eof position)
-entry_missing fits width input (entry_cut short) position same =
-    cut_here input width [] position short (sym (eof-same same))
-entry_missing fits width input (entry_too_great takes unfit) position same = absurd (grind arith)
+-- the bytes of an address that are missing are its own
+pub address_is_cut : (width : ℕ) (input new : Input) (position : ℕ) → NumberRead width input (Err (eof position), new)
+    → IsCutIn input (width ∷ []) (eof position)
+address_is_cut width input new position short =
+    cut_here input width [] position short.short (eof-same short.fault)
 
--- the bytes of an entry that are missing are its own
-pub entry_is_cut : (fits : ℕ → Bool) (width : ℕ) (input : Input) (position : ℕ)
-    → EntryAt fits width input (Err (eof position)) → IsCutIn input (width ∷ []) (eof position)
-entry_is_cut fits width input position is = entry_missing fits width input is position refl
+-- and so are those of a string offset
+pub string_offset_is_cut : (greatest width : ℕ) (input new : Input) (position : ℕ)
+    → WordRead greatest width input (Err (eof position), new) → IsCutIn input (width ∷ []) (eof position)
+string_offset_is_cut greatest width input new position (inl short) = address_is_cut width input new position short
+string_offset_is_cut greatest width input new position (inr over) = absurd (let fault = over.fault in grind arith)
 
 -- ---- contributions
 
@@ -30,10 +30,10 @@ entry_is_cut fits width input position is = entry_missing fits width input is po
 pub contribution_past_end : {H : Type 0} → (header : Header H) (greatest : ℕ) (section : Input) (offset : ℕ) (e : Error)
     → length section.bytes < offset → ContributionAtOffset header greatest section offset (Err e)
     → IsCutIn section (offset ∷ []) e
-contribution_past_end header greatest section offset _ past (contribution_outside short) =
-    cut_here section offset [] section.position short refl
-contribution_past_end header greatest section offset e past (contribution_faulty within none) =
-    absurd (omega (arith, past, within))
+contribution_past_end header greatest section offset e past at = elim at.read [
+  | inl short ↦ inl (record { short = short.short; fault = short.fault; left = refl })
+  | inr read ↦ absurd (omega (arith, past, read.2.enough))
+]
 
 -- a result for an initial length, and what remains
 abbrev Outcome : Type 0
@@ -60,40 +60,32 @@ length-same greatest old mid new format kind n m has other =
     grind (arith, same)
 
 -- where fewer bytes follow an initial length than it says, the error is that of these bytes
-cut_after_length : {H : Type 0} → (header : Header H) (greatest : ℕ) (input mid : Input) (n : ℕ) (format : Format)
-    {e : Error} → HasLength greatest input format n mid → length mid.bytes < n
-    → HasNoContribution header greatest input e → e ≡ eof_here mid
-cut_after_length header greatest input mid n format {e} has short (contribution_unmeasured {new = new} none) =
+cut_after_length : {H : Type 0} → (header : Header H) (greatest offset : ℕ) (input mid new : Input) (n : ℕ)
+    (format : Format) (e : Error) → HasLength greatest input format n mid → length mid.bytes < n
+    → ContributionRead header greatest offset input (Err e, new) → e ≡ eof_here mid
+cut_after_length header greatest offset input mid new n format e has short (inl none) =
     absurd (length_no_error greatest input mid new format n e has none)
-cut_after_length header greatest input mid n format has short
-    (contribution_cut {format = kind} {n = m} {mid = new} other less) =
-    ap eof_here (sym ((length-same greatest input mid new format kind n m has other).1))
-cut_after_length header greatest input mid n format has short
-    (contribution_headless {format = kind} {n = m} {mid = new} other enough none) =
-    let same = length-same greatest input mid new format kind n m has other in
-    absurd (grind (arith, same))
+cut_after_length header greatest offset input mid new n format e has short (inr (size, left, other, inl less)) =
+    less.fault ∙ ap eof_here (sym ((length-same greatest input mid left format size.0 n size.1 has other).1))
+cut_after_length header greatest offset input mid new n format e has short (inr (size, left, other, inr read)) =
+    let same = length-same greatest input mid left format size.0 n size.1 has other in
+    let enough = read.2.1.enough in
+    absurd (grind (arith, same, enough))
 
 -- the bytes that a contribution's initial length measures are the ones that are missing
 pub contribution_is_cut : {H : Type 0} → (header : Header H) (greatest : ℕ) (section mid : Input) (offset n : ℕ)
     (format : Format) (e : Error) → offset ≤ length section.bytes → HasLength greatest (after offset section) format n mid
     → length mid.bytes < n → ContributionAtOffset header greatest section offset (Err e)
     → IsCutIn section (offset ∷ initial_length_size format ∷ n ∷ []) e
-contribution_is_cut header greatest section mid offset n format _ within has short (contribution_outside past) =
-    absurd (omega (arith, past, within))
-contribution_is_cut header greatest section mid offset n format e within has short (contribution_faulty _ none) =
-    inr (
-      after offset section,
-      record { enough = within; left = refl },
+contribution_is_cut header greatest section mid offset n format e within has short at = elim at.read [
+  | inl past ↦ absurd (omega (arith, past.short, within))
+  | inr read ↦
+      let rest = after offset section in
+      let there = subst (λ i. ContributionRead header greatest offset i (Err e, at.new)) read.2.left read.3 in
+      let fault = cut_after_length header greatest offset rest mid at.new n format e has short there in
       inr (
-        mid,
-        length_taken has,
-        inl (record {
-          short = short;
-          fault = cut_after_length header greatest (after offset section) mid n format has short none;
-          left = refl;
-        }),
-      ),
-    )
-
--- where the bytes of entries and contributions are missing
-pub ruleset missing = (entry_is_cut, contribution_past_end, contribution_is_cut)
+        rest,
+        record { enough = within; left = refl },
+        inr (mid, length_taken has, inl (record { short = short; fault = fault; left = refl })),
+      )
+]

@@ -9,12 +9,12 @@ ghost use Rattle.std.specs.Result.{result_transpose};
 ghost use Rattle.dwarf_reader_core.specs.Faults.{CloneRanOutOfMemory};
 ghost use Rattle.dwarf_base_core.specs.declared.common.Format.{Format};
 ghost use Rattle.dwarf_base_core.specs.declared.error.Error.{Error};
-ghost use Rattle.dwarf_reader_core.specs.Input.{Input, Takes};
+ghost use Rattle.dwarf_reader_core.specs.Input.{Input};
 ghost use Rattle.dwarf_read_core.specs.Equality.{same_contribution, same_contribution_per, same_contribution_equiv};
 ghost use Rattle.dwarf_reader_core.specs.Headers.{IsHeader};
 ghost use Rattle.dwarf_read_core.specs.Items.{GivesFirst, StaysFirst};
 ghost use Rattle.dwarf_read_core.specs.Lookups.{Stays, UnlessCloneRanOut};
-ghost use Rattle.dwarf_read_core.specs.Contributions.{HasNoContribution, HasContribution, RepresentsContributions, RepresentsContributionsOf, ContributionAtOffset, followed_remaining, remaining_of, seen_as, seen_by, contribution_size};
+ghost use Rattle.dwarf_read_core.specs.Contributions.{ContributionRead, ReadsNoContribution, RepresentsContributions, RepresentsContributionsOf, ContributionAtOffset, followed_remaining, remaining_of, seen_as, seen_by, contribution_size};
 
 use dwarf_base_core::{Format, Result};
 use dwarf_reader_core::Reader;
@@ -315,16 +315,12 @@ impl<R: Reader, H: HeaderFields<R>> ContributionHeader<R, H> {
     ///
     /// Those of [`ContributionHeaderIter::next`]. An input without bytes is an `UnexpectedEof` too.
     pub fn parse(input: &mut R, offset: R::Offset) -> Result<Self>
-        ensures ok { IfOk result
-            (λ header. HasContribution H.header R.Offset.GREATEST
-            (record { offset = R.Offset.value offset; rest = R.view input.old })
-            (seen_as H.said R.view header)) }
-        ensures taken { IfOk result
-            (λ header. Takes (contribution_size (seen_as H.said R.view header)) (R.view input.old)
-            (R.view input.new)) }
-        ensures err { IfErr result
-            (λ e. HasNoContribution H.header R.Offset.GREATEST (R.view input.old) e
-            ⊎ CloneRanOutOfMemory R.clone_is_free e) }
+        ensures ok { let at = R.Offset.value offset in IfOk result
+            (λ header. ContributionRead H.header R.Offset.GREATEST at (R.view input.old)
+            (Ok (seen_as H.said R.view header), R.view input.new)) }
+        ensures err { let at = R.Offset.value offset in IfErr result
+            (λ e. ReadsNoContribution H.header R.Offset.GREATEST R.clone_is_free at
+            (R.view input.old) e (R.view input.new)) }
         ensures entries_order { IfOk result
             (λ header. R.order header.entries ≡ R.order input.old) }
         ensures order { R.order input.new ≡ R.order input.old }

@@ -223,6 +223,31 @@ fn sets_end_at_the_first_error(rt: HostRuntime) {
     }
 }
 
+// Bytes, the length of the set that they begin with or the error, and what remains after either.
+#[rattlefmt::skip]
+static FRONTS: &[(&[u8], Result<usize>, &[u8])] = &[
+    (b"\x04\0\0\0\x05\0\x04\0next", Ok(4), b"next"),
+    // A set whose header is refused is skipped, too.
+    (b"\x04\0\0\0\x06\0\x04\0next", Err(UnknownVersion(6)), b"next"),
+    (b"\x04\0\0\0\x05\0\x04\x01next", Err(UnsupportedSegmentSize(1)), b"next"),
+    (b"\x02\0\0\0\x05\0next", Err(eof!(6)), b"next"),
+    // Without a whole set, what is measured remains; without a whole length, what comes before that.
+    (b"\x05\0\0\0\x05\0\x04\0", Err(eof!(4)), b"\x05\0\x04\0"),
+    (b"\xf0\xff\xff\xffnext", Err(UnknownReservedLength(0xffff_fff0)), b"next"),
+    (b"\xff\xff\xff\xff\x04\0\0", Err(eof!(4)), b"\x04\0\0"),
+    (b"\x04\0\0", Err(eof!(0)), b"\x04\0\0"),
+];
+
+#[test]
+fn refused_sets_are_skipped(rt: HostRuntime) {
+    for (bytes, length, rest) in FRONTS {
+        let mut input = EndianSlice::new(bytes, LittleEndian);
+        let header = AddrHeader::parse(&mut input, 0);
+        same(&rt, header.map(|header| header.length()), *length, *bytes);
+        same(&rt, input.slice(), *rest, *bytes);
+    }
+}
+
 // Appends the addresses of a section's sets, up to the first error.
 pub(super) fn walk<R: Reader>(section: &DebugAddr<R>, addresses: &mut Vec<u64>) -> Result<()> {
     for header in section.headers()? {

@@ -9,7 +9,7 @@ use Rattle.dwarf_reader_core.specs.Appended.{followed_by}
 use Rattle.dwarf_reader_core.specs.Faults.{is_number_size}
 use Rattle.dwarf_reader_core.specs.InitialLength.{HasNoLength, LengthAt, eight_cut, four_cut, reserved, too_great}
 use Rattle.dwarf_reader_core.specs.Leb128.{ReadsNumber, overflow_error}
-use Rattle.dwarf_reader_core.specs.Readings.{AddressRead, AddressSizeRead, BoundedRead, Choice, EncodingRead, Given, IsRead, IsSettled, Leb128Read, Mapped, NumberRead, OffsetRead, PartRead, Reading, Required, SignedRead, SkipRead, StringRead, Then, WordRead}
+use Rattle.dwarf_reader_core.specs.Readings.{AddressRead, AddressSizeRead, BoundedRead, Choice, EncodingRead, Given, IsDecided, IsRead, IsSettled, Leb128Read, Mapped, NumberRead, OffsetRead, PartRead, Reading, Required, SignedRead, SkipRead, StringRead, Then, Within, WordRead}
 use Rattle.dwarf_reader_core.proofs.leb.Outcomes.{encoding-not_none, encoding_or_none, length-same, malformed-long, outcome-exactly_one}
 use Rattle.dwarf_reader_core.proofs.public.BadNumbers.{bad_more}
 use Rattle.dwarf_reader_core.proofs.public.Consuming.{after-zero, front, front-cut, front-taken, number_more, takes-both, takes-more}
@@ -45,10 +45,12 @@ both-taken first second = (first.0 + second.0, takes-both first.1 second.1)
 pub given-is : {A : Type 0} (result : Result A Error) → ((position : ℕ) → result ≡ Err (eof position) → ⊥)
     → IsRead (Given result)
 given-is result settled = record {
-  one = λ old. ((result, old), refl, λ other is. is);
-  more = λ old new other more is fine. ap (λ r. (r.0, followed_by r.1 more)) is;
+  decided = record {
+    one = λ old. ((result, old), refl, λ other is. is);
+    more = λ old new other more is fine. ap (λ r. (r.0, followed_by r.1 more)) is;
+    taken = λ old new result is. none-taken old new (ap (λ r. r.1) is);
+  };
   missing = λ old new position is. absurd (settled position (sym (ap (λ r. r.0) is)));
-  taken = λ old new result is. none-taken old new (ap (λ r. r.1) is);
 }
 
 -- nor for a value
@@ -84,7 +86,7 @@ module _ {A B : Type 0} (f : A → B) where
   mapped_result (Ok x, new) = (Ok (f x), new)
   mapped_result (Err e, new) = (Err e, new)
 
-  module _ {At : Reading A} (read : IsRead At) where
+  module _ {At : Reading A} (read : IsDecided At) where
     -- it is a result
     mapped-some : (old : Input) (r : Result A Error × Input) → At old r → Mapped f At old (mapped_result r)
     mapped-some old (Ok x, new) is = (x, refl, is)
@@ -116,15 +118,20 @@ module _ {A B : Type 0} (f : A → B) where
 -- a function of a reading's value is a reading
 pub mapped-is : {A B : Type 0} {f : A → B} {At : Reading A} → IsRead At → IsRead (Mapped f At)
 mapped-is {f = f} read = record {
-  one = λ old. let one = read.one old in
-      (mapped_result f one.0, mapped-some f read old one.0 one.1, mapped-only f read old one.0 one.2);
-  more = mapped-more f read;
+  decided = record {
+    one = λ old. let one = read.decided.one old in (
+      mapped_result f one.0,
+      mapped-some f read.decided old one.0 one.1,
+      mapped-only f read.decided old one.0 one.2,
+    );
+    more = mapped-more f read.decided;
+    taken = mapped-taken f read.decided;
+  };
   missing = λ old new position is. read.missing old new position is;
-  taken = mapped-taken f read;
 }
 
-module _ {A B : Type 0} {At : Reading A} {Next : A → Reading B} (first_read : IsRead At)
-    (next_read : (x : A) → IsRead (Next x)) where
+module _ {A B : Type 0} {At : Reading A} {Next : A → Reading B} (first_read : IsDecided At)
+    (next_read : (x : A) → IsDecided (Next x)) where
   -- the result of the second reading, or the error of the first
   abbrev then_result : Result A Error × Input → Result B Error × Input
   then_result (Ok x, mid) = ((next_read x).one mid).0
@@ -172,12 +179,6 @@ module _ {A B : Type 0} {At : Reading A} {Next : A → Reading B} (first_read : 
         (next_read is.0).more is.1 new (Err e) more is.3 settled,
       )
 
-  -- where bytes are missing for either, the reading stops
-  then-missing : (old new : Input) (position : ℕ) → Then At Next old (Err (eof position), new)
-      → position ≡ new.position
-  then-missing old new position (inl is) = first_read.missing old new position is
-  then-missing old new position (inr is) = (next_read is.0).missing is.1 new position is.3
-
   -- the bytes of both are taken
   then-taken : (old new : Input) (result : Result B Error) → Then At Next old (result, new) → (n : ℕ) × Takes n old new
   then-taken old new (Ok y) is =
@@ -186,14 +187,69 @@ module _ {A B : Type 0} {At : Reading A} {Next : A → Reading B} (first_read : 
   then-taken old new (Err e) (inr is) =
       both-taken (first_read.taken old is.1 (Ok is.0) is.2) ((next_read is.0).taken is.1 new (Err e) is.3)
 
-  -- two consecutive readings are a reading
-  pub then-is : IsRead (Then At Next)
-  then-is = record {
+  -- the next bytes decide two consecutive readings if they decide each
+  pub then-decided : IsDecided (Then At Next)
+  then-decided = record {
     one = λ old. let one = first_read.one old in
         (then_result one.0, then-some old one.0 one.1, then-only old one.0 one.2);
     more = then-more;
-    missing = then-missing;
     taken = then-taken;
+  }
+
+module _ {A B : Type 0} {At : Reading A} {Next : A → Reading B} (first_read : IsRead At)
+    (next_read : (x : A) → IsRead (Next x)) where
+  -- where bytes are missing for either, both stop
+  then-missing : (old new : Input) (position : ℕ) → Then At Next old (Err (eof position), new)
+      → position ≡ new.position
+  then-missing old new position (inl is) = first_read.missing old new position is
+  then-missing old new position (inr is) = (next_read is.0).missing is.1 new position is.3
+
+  -- two consecutive readings are a reading
+  pub then-is : IsRead (Then At Next)
+  then-is = record {
+    decided = then-decided first_read.decided (λ x. (next_read x).decided);
+    missing = then-missing;
+  }
+
+module _ {A : Type 0} (part : Input) {At : Reading A} (read : IsDecided At) where
+  -- the result of a part, where another input remains
+  abbrev within_result : Input → Result A Error × Input → Result (A × Input) Error × Input
+  within_result old (Ok x, left) = (Ok (x, left), old)
+  within_result old (Err e, left) = (Err e, old)
+
+  -- it is a result
+  within-some : (old : Input) (r : Result A Error × Input) → At part r → Within part At old (within_result old r)
+  within-some old (Ok x, left) is = (is, refl)
+  within-some old (Err e, left) is = (left, is, refl)
+
+  -- and no other is
+  within-only : (old : Input) (r : Result A Error × Input)
+      → ((other : Result A Error × Input) → At part other → other ≡ r) → (other : Result (A × Input) Error × Input)
+      → Within part At old other → other ≡ within_result old r
+  within-only old r only (Ok x, new) is =
+      (λ i. (Ok x, is.1 i)) ∙ ap (within_result old) (only (Ok x.0, x.1) is.0)
+  within-only old r only (Err e, new) is = (λ i. (Err e, is.2 i)) ∙ ap (within_result old) (only (Err e, is.0) is.1)
+
+  -- bytes that are appended to the others don't change it
+  within-more : (old new : Input) (result : Result (A × Input) Error) (more : List ℕ)
+      → Within part At old (result, new) → IsSettled result
+      → Within part At (followed_by old more) (result, followed_by new more)
+  within-more old new (Ok x) more is settled = (is.0, ap (λ i. followed_by i more) is.1)
+  within-more old new (Err e) more is settled = (is.0, is.1, ap (λ i. followed_by i more) is.2)
+
+  -- none of the others is taken
+  within-taken : (old new : Input) (result : Result (A × Input) Error) → Within part At old (result, new)
+      → (n : ℕ) × Takes n old new
+  within-taken old new (Ok x) is = none-taken old new is.1
+  within-taken old new (Err e) is = none-taken old new is.2
+
+  -- the bytes of a part decide what is read of it
+  pub within-decided : IsDecided (Within part At)
+  within-decided = record {
+    one = λ old. let one = read.one part in
+        (within_result old one.0, within-some old one.0 one.1, within-only old one.0 one.2);
+    more = within-more;
+    taken = within-taken;
   }
 
 -- ---- readings with the results of others
@@ -202,12 +258,15 @@ module _ {A B : Type 0} {At : Reading A} {Next : A → Reading B} (first_read : 
 pub same-is : {A : Type 0} {At Bt : Reading A} → ((old : Input) (r : Result A Error × Input) → At old r → Bt old r)
     → ((old : Input) (r : Result A Error × Input) → Bt old r → At old r) → IsRead At → IsRead Bt
 same-is to from read = record {
-  one = λ old. let one = read.one old in (one.0, to old one.0 one.1, λ other is. one.2 other (from old other is));
-  more = λ old new result more is settled.
-      to (followed_by old more) (result, followed_by new more)
-      (read.more old new result more (from old (result, new) is) settled);
+  decided = record {
+    one = λ old. let one = read.decided.one old in
+        (one.0, to old one.0 one.1, λ other is. one.2 other (from old other is));
+    more = λ old new result more is settled.
+        to (followed_by old more) (result, followed_by new more)
+        (read.decided.more old new result more (from old (result, new) is) settled);
+    taken = λ old new result is. read.decided.taken old new result (from old (result, new) is);
+  };
   missing = λ old new position is. read.missing old new position (from old (Err (eof position), new) is);
-  taken = λ old new result is. read.taken old new result (from old (result, new) is);
 }
 
 -- a value if a test holds, and else an error, for which no byte is read
@@ -246,16 +305,18 @@ part-more n old new (Err e) more is settled = absurd (short-open is settled)
 -- so is a part of n bytes
 pub part-is : (n : ℕ) → IsRead (PartRead n)
 part-is n = record {
-  one = λ old. one_unless (length old.bytes) n (Err (eof_here old), old) (front-cut n old)
-      (λ short other is. grind arith)
-      (λ enough. (
-        (Ok (first n old), after n old),
-        (refl, record { enough = enough; left = refl }),
-        λ other is. grind arith,
-      ));
-  more = part-more n;
+  decided = record {
+    one = λ old. one_unless (length old.bytes) n (Err (eof_here old), old) (front-cut n old)
+        (λ short other is. grind arith)
+        (λ enough. (
+          (Ok (first n old), after n old),
+          (refl, record { enough = enough; left = refl }),
+          λ other is. grind arith,
+        ));
+    more = part-more n;
+    taken = part-taken n;
+  };
   missing = short-missing n;
-  taken = part-taken n;
 }
 
 -- its bytes are taken
@@ -273,12 +334,14 @@ number-more n old new (Err e) more is settled = absurd (short-open is settled)
 -- so is a number of n bytes
 pub number-is : (n : ℕ) → IsRead (NumberRead n)
 number-is n = record {
-  one = λ old. one_unless (length old.bytes) n (Err (eof_here old), old) (front-cut n old)
-      (λ short other is. grind arith)
-      (λ enough. ((Ok (front n old), after n old), front-taken n old enough, λ other is. grind arith));
-  more = number-more n;
+  decided = record {
+    one = λ old. one_unless (length old.bytes) n (Err (eof_here old), old) (front-cut n old)
+        (λ short other is. grind arith)
+        (λ enough. ((Ok (front n old), after n old), front-taken n old enough, λ other is. grind arith));
+    more = number-more n;
+    taken = number_read-taken n;
+  };
   missing = short-missing n;
-  taken = number_read-taken n;
 }
 
 module _ (n : ℕ) where
@@ -432,13 +495,15 @@ string-taken old new (Err e) is = none-taken old new is.1
 -- a string is a reading
 pub string-is : IsRead StringRead
 string-is = record {
-  one = λ old. elim (string_taken_or_none old) [
-    | inl found ↦ ((Ok found.0, found.1), found.2, string-only old found.0 found.1 found.2)
-    | inr none ↦ ((Err none.0, old), (none.1, refl), string-none_only old none.0 none.1)
-  ];
-  more = string-more;
+  decided = record {
+    one = λ old. elim (string_taken_or_none old) [
+      | inl found ↦ ((Ok found.0, found.1), found.2, string-only old found.0 found.1 found.2)
+      | inr none ↦ ((Err none.0, old), (none.1, refl), string-none_only old none.0 none.1)
+    ];
+    more = string-more;
+    taken = string-taken;
+  };
   missing = λ old new position is. eof-same is.0.fault ∙ ap (λ (i : Input). i.position) (sym is.1);
-  taken = string-taken;
 }
 
 -- ---- LEB128 numbers
@@ -513,11 +578,13 @@ module _ (k : Kind) where
   -- a LEB128 number is a reading
   pub leb128-is : IsRead (Leb128Read k)
   leb128-is = record {
-    one = λ old. let one = outcome-exactly_one k old.bytes in
-        (leb_result old one.0, leb-some old one.0 one.1, leb-only old one.0 one.2);
-    more = leb-more;
+    decided = record {
+      one = λ old. let one = outcome-exactly_one k old.bytes in
+          (leb_result old one.0, leb-some old one.0 one.1, leb-only old one.0 one.2);
+      more = leb-more;
+      taken = leb-taken;
+    };
     missing = leb-missing;
-    taken = leb-taken;
   }
 
 module _ (bound : ℕ) where
@@ -577,21 +644,23 @@ encoding-taken old new (Err e) is = (length old.bytes, record { enough = omega a
 -- an encoding that is skipped is a reading
 pub encoding-is : IsRead EncodingRead
 encoding-is = record {
-  one = λ old. elim (encoding_or_none old.bytes) [
-    | inl found ↦ (
-      (Ok tt, after found.0 old),
-      record { len = found.0; enough = found.1; encoding = found.2; left = refl },
-      encoding-only old found.0 found.1 found.2,
-    )
-    | inr none ↦ (
-      (Err (eof_here (after (length old.bytes) old)), after (length old.bytes) old),
-      record { none = none; left = refl; fault = refl },
-      encoding-none old none,
-    )
-  ];
-  more = encoding-more;
+  decided = record {
+    one = λ old. elim (encoding_or_none old.bytes) [
+      | inl found ↦ (
+        (Ok tt, after found.0 old),
+        record { len = found.0; enough = found.1; encoding = found.2; left = refl },
+        encoding-only old found.0 found.1 found.2,
+      )
+      | inr none ↦ (
+        (Err (eof_here (after (length old.bytes) old)), after (length old.bytes) old),
+        record { none = none; left = refl; fault = refl },
+        encoding-none old none,
+      )
+    ];
+    more = encoding-more;
+    taken = encoding-taken;
+  };
   missing = λ old new position is. eof-same is.fault;
-  taken = encoding-taken;
 }
 
 -- ---- initial lengths
@@ -632,10 +701,12 @@ length_at-taken greatest old new (Err e) is = no_length-taken is
 -- an initial length is a reading
 pub initial_length-is : (greatest : ℕ) → IsRead (LengthAt greatest)
 initial_length-is greatest = record {
-  one = lengths_exactly_one greatest;
-  more = length_at-more greatest;
+  decided = record {
+    one = lengths_exactly_one greatest;
+    more = length_at-more greatest;
+    taken = length_at-taken greatest;
+  };
   missing = λ old new position is. length_at-missing greatest old new position is refl;
-  taken = length_at-taken greatest;
 }
 
 -- what each call reads

@@ -12,10 +12,10 @@ returns c = record {
       one_text_by table_text _ (c.exactly_one_strict_answer.ensures.one (section_of section false) offset);
   string = λ section offset. one_text_by string_line _ (strings_exactly_one (section_of section false) offset);
   addresses = λ endian section. one_section address_listing (sets_section endian section)
-      (λ old s has. c.exactly_one_list_of_addresses.ensures.one (addresses_of s) (address_size old s has))
+      (λ old new s is. c.exactly_one_list_of_addresses.ensures.one (addresses_of s) (address_size old new s is))
       (c.exactly_one_list_of_contributions.ensures.one (2 ^ 64 - 1) (sets_section endian section));
   string_offsets = λ endian section. one_section (offset_listing (2 ^ 64 - 1)) (sets_section endian section)
-      (λ old s has. c.exactly_one_list_of_string_offsets.ensures.one (2 ^ 64 - 1) (string_offsets_of s)
+      (λ old new s is. c.exactly_one_list_of_string_offsets.ensures.one (2 ^ 64 - 1) (string_offsets_of s)
       (word_size-positive s.format))
       (c.exactly_one_list_of_contributions-2.ensures.one (2 ^ 64 - 1) (sets_section endian section));
 }

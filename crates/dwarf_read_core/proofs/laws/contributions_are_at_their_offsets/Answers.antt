@@ -2,4 +2,4 @@ use Rattle.dwarf_read_core.proofs.contributions.Places.{contribution_placed}
 use Rattle.dwarf_read_core.proofs.laws.contributions_are_at_their_offsets.Goals as goal
 
 pub returns : goal.returns
-returns g c greatest remaining items index s are is = contribution_placed c.law.ensures index are is
+returns g c = contribution_placed c.law.ensures

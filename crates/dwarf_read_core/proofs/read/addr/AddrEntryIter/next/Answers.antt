@@ -1,17 +1,18 @@
-use Rattle.dwarf_read_core.proofs.Common.{refl, ap, inl, rules, true, Input}
+use Rattle.dwarf_read_core.proofs.Common.{refl, ap, inl, rules, Input}
 use Rattle.dwarf_read_core.specs.Items.{no_items}
-use Rattle.dwarf_read_core.proofs.contributions.ItemLists.{bytes-some}
-use Rattle.dwarf_read_core.proofs.contributions.Entries.{address_not_read, number_error_first, number_first, size-positive}
+use Rattle.dwarf_read_core.proofs.contributions.ItemLists.{bytes-some, error-first, item-first}
+use Rattle.dwarf_read_core.proofs.contributions.Entries.{address-least, address_not_read, size-positive}
+use Rattle.dwarf_reader_core.proofs.public.Readings.{number-is}
 use Rattle.dwarf_read_core.proofs.read.addr.AddrEntryIter.next.Goals as goal
 
 pub returns-in-Ok-clause-first : goal.returns-in-Ok-clause-first
 returns-in-Ok-clause-first g c =
-    rw (← c.self.view_is) (number_first (λ x. true) _ _ _ (search rules) (size-positive _ c.in-Ok.ensures.ok.1)
-    c.in-Ok.ensures.ok.0 refl)
+    rw (← c.self.view_is) (item-first (number-is _).decided.one (address-least _)
+    (λ address. size-positive _ c.in-Ok.ensures.ok.1) (search rules) c.in-Ok.ensures.ok.0)
 
 pub returns-in-Err-clause-first : goal.returns-in-Err-clause-first
 returns-in-Err-clause-first g c =
-    rw (← c.self.view_is) (inl (number_error_first (λ x. true) _ _ _ (search rules)
+    rw (← c.self.view_is) (inl (error-first (number-is _).decided.one (search rules)
     (address_not_read c.self.invariant c.in-Err.ensures.err) (ap (λ (i : Input). i.bytes) c.empty.ensures.left)))
 
 pub returns-then-is_empty-clause-first : goal.returns-then-is_empty-clause-first

@@ -1,18 +1,19 @@
-use Rattle.dwarf_read_core.proofs.Common.{refl, ap, inl, le-leb, rules, Input}
+use Rattle.dwarf_read_core.proofs.Common.{refl, ap, inl, rules, Input}
 use Rattle.dwarf_read_core.specs.Items.{no_items}
-use Rattle.dwarf_read_core.proofs.contributions.ItemLists.{bytes-some}
-use Rattle.dwarf_read_core.proofs.contributions.Entries.{number_error_first, number_first, string_offset_not_read, word_size-positive}
+use Rattle.dwarf_read_core.proofs.contributions.ItemLists.{bytes-some, error-first, item-first}
+use Rattle.dwarf_read_core.proofs.contributions.Entries.{string_offset-least, word_size-positive}
+use Rattle.dwarf_reader_core.proofs.public.Readings.{word-is}
 use Rattle.dwarf_read_core.proofs.read.str.offsets.StrOffsetsEntryIter.next.Goals as goal
 
 pub returns-in-Ok-clause-first : goal.returns-in-Ok-clause-first
 returns-in-Ok-clause-first g c =
-    rw (← c.self.view_is) (number_first _ _ _ _ (search rules) (word_size-positive _) c.in-Ok.ensures.ok
-    (le-leb _ _ c.in-Ok.ensures.in_range))
+    rw (← c.self.view_is) (item-first (word-is _ _).decided.one (string_offset-least _ _) (λ offset. word_size-positive _)
+    (search rules) (c.in-Ok.ensures.ok, c.in-Ok.ensures.in_range))
 
 pub returns-in-Err-clause-first : goal.returns-in-Err-clause-first
 returns-in-Err-clause-first g c =
-    rw (← c.self.view_is) (inl (number_error_first _ _ _ _ (search rules)
-    (string_offset_not_read c.in-Err.ensures.err) (ap (λ (i : Input). i.bytes) c.empty.ensures.left)))
+    rw (← c.self.view_is) (inl (error-first (word-is _ _).decided.one (search rules) c.in-Err.ensures.err
+    (ap (λ (i : Input). i.bytes) c.empty.ensures.left)))
 
 pub returns-then-is_empty-clause-first : goal.returns-then-is_empty-clause-first
 returns-then-is_empty-clause-first g c =
