@@ -109,6 +109,13 @@ abbrev pub Choice : {A : Type 0} → Bool → Reading A → Reading A → Readin
 Choice true One Other old read = One old read
 Choice false One Other old read = Other old read
 
+-- ---- calls that read
+
+-- a call reads this: its result is the view of the value that it returns, or the error
+abbrev pub Reads : {X A : Type 0} → Reading A → (X → A) → Input → Result X Error → Input → Type 0
+Reads At seen old (Ok x) new = At old (Ok (seen x), new)
+Reads At seen old (Err e) new = At old (Err e, new)
+
 -- ---- what holds of each
 
 -- a value, or an error other than `UnexpectedEof`

@@ -1,5 +1,5 @@
 -- The header of a unit is a reading of at least seven bytes.
-use Rattle.std.proofs.Common.{◌≡◌, ◌≢◌, ◌≤◌, ℕ, ◌+◌, refl, arith, inr, Bool, true, false, length, Result, Ok, Err, IfOk, IfErr, ne_eqb}
+use Rattle.std.proofs.Common.{◌≡◌, ◌≤◌, ℕ, ◌+◌, arith, inr, Bool, true, false, length, Result, Ok, Err, ne_eqb}
 use Rattle.std.specs.Prelude.{◌==◌, ◌&&◌, nat_le}
 use Rattle.std.proofs.lemmas.Bool.{le-leb}
 use Rattle.dwarf_read_core.specs.declared.Error.{Error}
@@ -8,12 +8,12 @@ use Rattle.dwarf_read_core.specs.declared.Format.{Format}
 use Rattle.dwarf_read_core.specs.Format.{word_size}
 use Rattle.dwarf_read_core.specs.Headers.{IsHeader}
 use Rattle.dwarf_read_core.specs.Input.{Input, Takes, TakesNumber}
-use Rattle.dwarf_read_core.specs.Readings.{AddressSizeRead, Choice, Given, IsRead, NumberRead, Reading, Then, WordRead}
+use Rattle.dwarf_read_core.specs.Readings.{AddressSizeRead, Choice, Given, IsRead, NumberRead, Reading, Reads, Then, WordRead}
 use Rattle.dwarf_read_core.proofs.public.Consuming.{rest-length}
 use Rattle.dwarf_read_core.proofs.public.Readings.{address_size-is, choice-is, given-is, mapped-is, number-is, then-is, value-is, word-is}
 use Rattle.dwarf_unit_core.specs.declared.header.UnitFields.{UnitFields}
-use Rattle.dwarf_unit_core.specs.declared.header.UnitType.{UnitType}
 use Rattle.dwarf_unit_core.specs.Fields.{before_5, from_5, own_fields, type_fields, unit_fields, unit_header}
+use Rattle.dwarf_unit_core.specs.Seen.{seen_fields}
 
 -- ---- it is a reading
 
@@ -143,56 +143,25 @@ unit_header-least code greatest format =
 
 -- ---- what is read of it
 
--- the fields of units of the type with this number are those of a code that is it
-pub own-read : (greatest : ℕ) (format : Format) (n code : ℕ) → code ≡ n → (old : Input)
-    (r : Result (UnitType ℕ) Error × Input) → own_fields greatest format n old r
-    → own_fields greatest format code old r
-own-read greatest format n code is old r own = rw is own
+module _ (greatest : ℕ) (format : Format) (code : ℕ) {O : Type 0} (value : O → ℕ) {old mid : Input} (new : Input)
+    {version : ℕ} (takes : TakesNumber 2 old version mid) where
+  -- a call that reads the fields after version 5 reads those of the unit
+  pub version-5 : version ≡ 5 → (r : Result (UnitFields O) Error)
+      → Reads (from_5 greatest format) (seen_fields value) mid r new
+      → Reads (unit_fields greatest format code) (seen_fields value) old r new
+  version-5 is (Ok x) read = (version, mid, takes, rw is read)
+  version-5 is (Err e) read = inr (version, mid, takes, rw is read)
 
--- a code that is none of the six is the error
-pub own-unknown : (greatest : ℕ) (format : Format) (code : ℕ) → code ≢ 1 → code ≢ 2 → code ≢ 3 → code ≢ 4 → code ≢ 5
-    → code ≢ 6 → (old : Input) → own_fields greatest format code old (Err (UnknownUnitType (record { 0 = code })), old)
-own-unknown greatest format code a b c d e f old =
-    rw (
-      ne_eqb code 1 a,
-      ne_eqb code 2 b,
-      ne_eqb code 3 c,
-      ne_eqb code 4 d,
-      ne_eqb code 5 e,
-      ne_eqb code 6 f,
-    ) refl
-
-module _ (greatest : ℕ) (format : Format) (code : ℕ) {old mid : Input} {version : ℕ}
-    (takes : TakesNumber 2 old version mid) where
-  -- after version 5
-  pub version-5 : version ≡ 5 → (r : Result (UnitFields ℕ) Error × Input) → from_5 greatest format mid r
-      → unit_fields greatest format code old r
-  version-5 is (Ok x, new) read = (version, mid, takes, rw is read)
-  version-5 is (Err e, new) read = inr (version, mid, takes, rw is read)
-
-  -- after one before
-  pub version-before_5 : 2 ≤ version → version ≤ 4 → (r : Result (UnitFields ℕ) Error × Input)
-      → before_5 greatest format code version mid r → unit_fields greatest format code old r
-  version-before_5 low high (Ok x, new) read =
+  -- so does one after a version before 5
+  pub version-before_5 : 2 ≤ version → version ≤ 4 → (r : Result (UnitFields O) Error)
+      → Reads (before_5 greatest format code version) (seen_fields value) mid r new
+      → Reads (unit_fields greatest format code) (seen_fields value) old r new
+  version-before_5 low high (Ok x) read =
       (version, mid, takes, rw (ne_eqb version 5 (λ same. omega arith), le-leb 2 version low, le-leb version 4 high) read)
-  version-before_5 low high (Err e, new) read =
+  version-before_5 low high (Err e) read =
       inr (
         version,
         mid,
         takes,
         rw (ne_eqb version 5 (λ same. omega arith), le-leb 2 version low, le-leb version 4 high) read,
       )
-
--- what holds of the value of a call holds of that of a reading with the same results
-pub passed_ok : {X A : Type 0} {At Bt : Result A Error × Input → Type 0} (seen : X → A) (r : Result X Error) (new : Input)
-    → ((s : Result A Error × Input) → At s → Bt s) → IfOk r (λ x. At (Ok (seen x), new))
-    → IfOk r (λ x. Bt (Ok (seen x), new))
-passed_ok seen (Ok x) new to is = to (Ok (seen x), new) is
-passed_ok seen (Err e) new to is = tt
-
--- and so of its error
-pub passed_err : {X A : Type 0} {At Bt : Result A Error × Input → Type 0} (r : Result X Error) (new : Input)
-    → ((s : Result A Error × Input) → At s → Bt s) → IfErr r (λ e. At (Err e, new))
-    → IfErr r (λ e. Bt (Err e, new))
-passed_err (Ok x) new to is = tt
-passed_err (Err e) new to is = to (Err e, new) is

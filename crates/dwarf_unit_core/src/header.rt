@@ -1,6 +1,7 @@
 //! What the header of a unit says after its initial length (DWARF 5, 7.5.1).
 
-ghost use Rattle.std.specs.Prelude.{◌≡◌, IfOk, IfErr, Ok, Err};
+ghost use Rattle.std.specs.Prelude.{◌≡◌};
+ghost use Rattle.dwarf_read_core.specs.Readings.{Reads};
 ghost use Rattle.dwarf_unit_core.specs.Fields.{before_5, from_5, own_fields, type_fields, unit_fields};
 ghost use Rattle.dwarf_unit_core.specs.Seen.{seen_fields, seen_type};
 
@@ -55,12 +56,8 @@ pub(crate) fn parse_fields<R: Reader>(
     format: Format,
     code: DwUt,
 ) -> Result<UnitFields<R::Offset>>
-    ensures ok { IfOk result
-        (λ x. unit_fields R.Offset.GREATEST format code.0 (R.view unit.old)
-        (Ok (seen_fields R.Offset.value x), R.view unit.new)) }
-    ensures err { IfErr result
-        (λ e. unit_fields R.Offset.GREATEST format code.0 (R.view unit.old)
-        (Err e, R.view unit.new)) }
+    ensures read { Reads (unit_fields R.Offset.GREATEST format code.0)
+        (seen_fields R.Offset.value) (R.view unit.old) result (R.view unit.new) }
     ensures order { R.order unit.new ≡ R.order unit.old }
 {
     let version = unit.read_u16()?;
@@ -78,12 +75,8 @@ fn parse_before_5<R: Reader>(
     code: DwUt,
     version: u16,
 ) -> Result<UnitFields<R::Offset>>
-    ensures ok { IfOk result
-        (λ x. before_5 R.Offset.GREATEST format code.0 version (R.view unit.old)
-        (Ok (seen_fields R.Offset.value x), R.view unit.new)) }
-    ensures err { IfErr result
-        (λ e. before_5 R.Offset.GREATEST format code.0 version (R.view unit.old)
-        (Err e, R.view unit.new)) }
+    ensures read { Reads (before_5 R.Offset.GREATEST format code.0 version)
+        (seen_fields R.Offset.value) (R.view unit.old) result (R.view unit.new) }
     ensures order { R.order unit.new ≡ R.order unit.old }
 {
     let abbrev_offset = unit.read_offset(format)?;
@@ -99,12 +92,8 @@ fn parse_before_5<R: Reader>(
 
 // The fields after version 5.
 fn parse_from_5<R: Reader>(unit: &mut R, format: Format) -> Result<UnitFields<R::Offset>>
-    ensures ok { IfOk result
-        (λ x. from_5 R.Offset.GREATEST format (R.view unit.old)
-        (Ok (seen_fields R.Offset.value x), R.view unit.new)) }
-    ensures err { IfErr result
-        (λ e. from_5 R.Offset.GREATEST format (R.view unit.old)
-        (Err e, R.view unit.new)) }
+    ensures read { Reads (from_5 R.Offset.GREATEST format)
+        (seen_fields R.Offset.value) (R.view unit.old) result (R.view unit.new) }
     ensures order { R.order unit.new ≡ R.order unit.old }
 {
     let code = unit.read_u8()?;
@@ -125,12 +114,8 @@ fn parse_own_fields<R: Reader>(
     format: Format,
     code: DwUt,
 ) -> Result<UnitType<R::Offset>>
-    ensures ok { IfOk result
-        (λ x. own_fields R.Offset.GREATEST format code.0 (R.view unit.old)
-        (Ok (seen_type R.Offset.value x), R.view unit.new)) }
-    ensures err { IfErr result
-        (λ e. own_fields R.Offset.GREATEST format code.0 (R.view unit.old)
-        (Err e, R.view unit.new)) }
+    ensures read { Reads (own_fields R.Offset.GREATEST format code.0)
+        (seen_type R.Offset.value) (R.view unit.old) result (R.view unit.new) }
     ensures order { R.order unit.new ≡ R.order unit.old }
 {
     match code {
@@ -167,12 +152,8 @@ fn parse_type_fields<R: Reader>(
     unit: &mut R,
     format: Format,
 ) -> Result<(DebugTypeSignature, UnitOffset<R::Offset>)>
-    ensures ok { IfOk result
-        (λ x. type_fields R.Offset.GREATEST format (R.view unit.old)
-        (Ok (x.0.0, R.Offset.value x.1.0), R.view unit.new)) }
-    ensures err { IfErr result
-        (λ e. type_fields R.Offset.GREATEST format (R.view unit.old)
-        (Err e, R.view unit.new)) }
+    ensures read { Reads (type_fields R.Offset.GREATEST format)
+        (λ x. (x.0.0, R.Offset.value x.1.0)) (R.view unit.old) result (R.view unit.new) }
     ensures order { R.order unit.new ≡ R.order unit.old }
 {
     let signature = unit.read_u64()?;

@@ -12,6 +12,7 @@ ghost use Rattle.dwarf_base_core.specs.declared.error.Error.{Error};
 ghost use Rattle.dwarf_reader_core.specs.Input.{Input};
 ghost use Rattle.dwarf_read_core.specs.Equality.{same_contribution, same_contribution_per, same_contribution_equiv};
 ghost use Rattle.dwarf_reader_core.specs.Headers.{IsHeader};
+ghost use Rattle.dwarf_reader_core.specs.Readings.{Reads};
 ghost use Rattle.dwarf_read_core.specs.Items.{GivesFirst, StaysFirst};
 ghost use Rattle.dwarf_read_core.specs.Lookups.{Stays, UnlessCloneRanOut};
 ghost use Rattle.dwarf_read_core.specs.Contributions.{ContributionRead, ReadsNoContribution, RepresentsContributions, RepresentsContributionsOf, ContributionAtOffset, followed_remaining, remaining_of, seen_as, seen_by, contribution_size};
@@ -50,11 +51,8 @@ pub trait HeaderFields<R: Reader>: fmt::Debug + Copy + Drop {
     ///
     /// The first error of the fields.
     fn parse(unit: &mut R, format: Format) -> Result<Self>
-        ensures ok { IfOk result
-            (λ fields. header R.Offset.GREATEST format (R.view unit.old)
-            (Ok (said fields), R.view unit.new)) }
-        ensures err { IfErr result
-            (λ e. header R.Offset.GREATEST format (R.view unit.old) (Err e, R.view unit.new)) }
+        ensures read { Reads (header R.Offset.GREATEST format)
+            said (R.view unit.old) result (R.view unit.new) }
         ensures order { R.order unit.new ≡ R.order unit.old };
 
     /// Says a law of the kind by its contract, and does nothing: the bytes and their format

@@ -1,10 +1,10 @@
 use Rattle.std.proofs.Common.{inl, inr, refl}
-use Rattle.dwarf_read_core.proofs.public.Results.{propagated-err}
+use Rattle.dwarf_read_core.proofs.public.Results.{propagated-is}
 use Rattle.dwarf_unit_core.proofs.header.parse_from_5.Goals as goal
 
-pub returns-in_err-abbrev_offset-clause-err : goal.returns-in_err-abbrev_offset-clause-err
-returns-in_err-abbrev_offset-clause-err g c =
-    propagated-err _ _ c.from_residual-in_err-abbrev_offset.ensures.1
+pub returns-in_err-abbrev_offset-clause-read : goal.returns-in_err-abbrev_offset-clause-read
+returns-in_err-abbrev_offset-clause-read g c =
+    rw (propagated-is _ c.from_residual-in_err-abbrev_offset.ensures.1)
     (inr (
       _,
       _,
@@ -12,9 +12,9 @@ returns-in_err-abbrev_offset-clause-err g c =
       inr (_, _, c.in_ok-address_size.ensures.ok, inl c.in_err-abbrev_offset.ensures.err),
     ))
 
-pub returns-in_err-unit_type-clause-err : goal.returns-in_err-unit_type-clause-err
-returns-in_err-unit_type-clause-err g c =
-    propagated-err _ _ c.from_residual-in_err-unit_type.ensures.1
+pub returns-in_err-unit_type-clause-read : goal.returns-in_err-unit_type-clause-read
+returns-in_err-unit_type-clause-read g c =
+    rw (propagated-is _ c.from_residual-in_err-unit_type.ensures.1)
     (inr (
       _,
       _,
@@ -27,13 +27,13 @@ returns-in_err-unit_type-clause-err g c =
           _,
           _,
           (c.in_ok-abbrev_offset.ensures.ok, c.in_ok-abbrev_offset.ensures.in_range),
-          inl c.in_err-unit_type.ensures.err,
+          inl c.in_err-unit_type.ensures.read,
         ),
       ),
     ))
 
-pub returns-clause-ok : goal.returns-clause-ok
-returns-clause-ok g c = (
+pub returns-clause-read : goal.returns-clause-read
+returns-clause-read g c = (
   _,
   _,
   c.in_ok-code.ensures.ok,
@@ -45,7 +45,7 @@ returns-clause-ok g c = (
       _,
       _,
       (c.in_ok-abbrev_offset.ensures.ok, c.in_ok-abbrev_offset.ensures.in_range),
-      (_, _, c.in_ok-unit_type.ensures.ok, refl),
+      (_, _, c.in_ok-unit_type.ensures.read, refl),
     ),
   ),
 )

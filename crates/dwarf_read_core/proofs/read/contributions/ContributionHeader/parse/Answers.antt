@@ -16,9 +16,9 @@ pub returns-in_err-fields-clause-err : goal.returns-in_err-fields-clause-err
 returns-in_err-fields-clause-err g c =
     let unit = c.in_ok-unit.ensures in
     propagated-err _ _ c.from_residual-in_err-fields.ensures.1
-    (inl (inr (_, _, c.in_ok-length.ensures.ok, inr (_, _, (unit.part, unit.ok), inl (_, c.in_err-fields.ensures.err, refl)))))
+    (inl (inr (_, _, c.in_ok-length.ensures.ok, inr (_, _, (unit.part, unit.ok), inl (_, c.in_err-fields.ensures.read, refl)))))
 
 pub returns-clause-ok : goal.returns-clause-ok
 returns-clause-ok g c =
     let unit = c.in_ok-unit.ensures in
-    (_, _, c.in_ok-length.ensures.ok, (_, _, (unit.part, unit.ok), ((_, _), _, (c.in_ok-fields.ensures.ok, refl), refl)))
+    (_, _, c.in_ok-length.ensures.ok, (_, _, (unit.part, unit.ok), ((_, _), _, (c.in_ok-fields.ensures.read, refl), refl)))
