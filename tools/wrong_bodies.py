@@ -31,7 +31,7 @@ def owner_of(heading: str) -> str:
     """The name by which the kit calls an `impl` or a trait: the type, and after it the trait."""
     heading = heading.replace("()", "Unit").replace("->", "")
     # An associated type as the argument of a type is a part of the name.
-    heading = re.sub(r"<\w+::(\w+)>", r"\1", heading)
+    heading = re.sub(r"<\w+::(\w+)(?:, \w+)*>", r"\1", heading)
     while (shorter := re.sub(r"<[^<>]*>", "", heading)) != heading:
         heading = shorter
     found = OWNER.match(heading)

@@ -59,8 +59,8 @@ pub fn at_most_one_unit()
         → TellsUnit (header_in true) section offset a
         → TellsUnit (header_in true) section offset b → a ≡ b }
 {
-    exactly_one_contribution_at_an_offset::<Slice<'_>, InfoFields<usize>>();
-    exactly_one_contribution_at_an_offset::<Slice<'_>, TypesFields<usize>>();
+    exactly_one_contribution_at_an_offset::<Slice<'_>, InfoFields<Slice<'_>>>();
+    exactly_one_contribution_at_an_offset::<Slice<'_>, TypesFields<Slice<'_>>>();
 }
 
 /// A string offset has as many bytes as a word of its format.

@@ -107,7 +107,7 @@ fn info_unit_at<R: Reader<Offset = usize>>(section: R, offset: usize) -> Result<
     ensures err { let s = R.view section in
         IfErr result (λ e. ContributionAtOffset (header_in false) (2 ^ 64 - 1) s offset (Err e)) }
 {
-    let header = ContributionHeader::<R, InfoFields<usize>>::at(&section, offset)?;
+    let header = ContributionHeader::<R, InfoFields<R>>::at(&section, offset)?;
     let (format, length, fields) = (header.format(), header.length(), header.fields().0);
     let first_entry = header.into_entries().offset_id().0 as usize;
     Ok(unit_from(offset, format, length, first_entry, &fields))
@@ -121,7 +121,7 @@ fn types_unit_at<R: Reader<Offset = usize>>(section: R, offset: usize) -> Result
     ensures err { let s = R.view section in
         IfErr result (λ e. ContributionAtOffset (header_in true) (2 ^ 64 - 1) s offset (Err e)) }
 {
-    let header = ContributionHeader::<R, TypesFields<usize>>::at(&section, offset)?;
+    let header = ContributionHeader::<R, TypesFields<R>>::at(&section, offset)?;
     let (format, length, fields) = (header.format(), header.length(), header.fields().0);
     let first_entry = header.into_entries().offset_id().0 as usize;
     Ok(unit_from(offset, format, length, first_entry, &fields))

@@ -18,8 +18,10 @@ pub mod info;
 pub mod laws;
 pub mod types;
 pub mod unit;
+pub mod units;
 
 pub use header::{UnitFields, UnitType};
 pub use info::{DebugInfo, DebugInfoUnitHeadersIter, InfoFields};
 pub use types::{DebugTypes, DebugTypesUnitHeadersIter, TypesFields};
 pub use unit::UnitHeader;
+pub use units::{SectionFields, UnitHeadersIter, UnitSection};

@@ -1,7 +1,6 @@
 use Rattle.std.proofs.Common.{◌∙◌, arith}
-use Rattle.dwarf_unit_core.specs.Fields.{type_unit}
 use Rattle.dwarf_unit_core.proofs.UnitResults.{unit-least}
-use Rattle.dwarf_unit_core.proofs.types.DebugTypesUnitHeadersIter.next.Goals as goal
+use Rattle.dwarf_unit_core.proofs.units.UnitHeadersIter.next.Goals as goal
 
 pub returns-in-Ok-Some-clause-first : goal.returns-in-Ok-Some-clause-first
 returns-in-Ok-Some-clause-first g c =
@@ -16,7 +15,7 @@ returns-in-Ok-Some-clause-stable g c =
 pub returns-in-Ok-Some-clause-bound : goal.returns-in-Ok-Some-clause-bound
 returns-in-Ok-Some-clause-bound g c =
     let taken = rw c.in-Ok-Some.field-0-is at c.in-Ok-Some.ensures.bound in
-    omega (arith, taken, unit-least type_unit _ (rw c.in-Ok-Some.field-0-is at c.in-Ok-Some.ensures.first))
+    omega (arith, taken, unit-least g.U.UnitSection.CODE.0 _ (rw c.in-Ok-Some.field-0-is at c.in-Ok-Some.ensures.first))
 
 pub returns-in-Ok-Some-clause-entries_order : goal.returns-in-Ok-Some-clause-entries_order
 returns-in-Ok-Some-clause-entries_order g c =
