@@ -5,10 +5,10 @@ use Rattle.std.proofs.lemmas.List.Concat.{length-flat_map}
 use Rattle.std.proofs.lemmas.List.Sums.{sum_by-cons}
 use Rattle.std.proofs.lemmas.List.Elements.{All-nil, All-cons, All-weaker, All-same, All-append, All-head, All-drop}
 use Rattle.dwarf_read_core.specs.Equality.{HasValueByForm}
-use Rattle.dwarf_read_core.specs.Grammar.{AreDistinct, Specification, attribute_count, by_code_of}
+use Rattle.dwarf_read_core.specs.Grammar.{Specification, attribute_count, by_code_of}
 use Rattle.dwarf_read_core.proofs.public.Tables.{count_is, len_is}
 use Rattle.dwarf_read_core.specs.Others.{at_place}
-use Rattle.dwarf_read_c.specs.Laid.{AreLaid, AreRising, all_attributes, declaration_from, laid_out}
+use Rattle.dwarf_read_c.specs.Laid.{AreKept, AreLaid, AreRising, all_attributes, declaration_from, laid_out}
 use Rattle.dwarf_read_c.specs.Tables.{attribute_of, attributes_in, bit_of}
 use Rattle.dwarf_read_c.specs.declared.rows.DwarfAbbreviation.{DwarfAbbreviation}
 use Rattle.dwarf_read_c.proofs.RisingCodes.{rising-values}
@@ -194,13 +194,13 @@ shown_attributes [] = refl
 shown_attributes (d ∷ ds) = grind (arith, common_steps, (shown_attributes ds))
 
 -- there are as many rows and attributes as in the map of the declarations
-pub laid_counts : (attributes : List Specification) (rows : List DwarfAbbreviation) → AreLaid attributes rows
-    → AreDistinct (laid_out attributes rows) → (length rows ≡ len (by_code_of (laid_out attributes rows)))
+pub laid_counts : (attributes : List Specification) (rows : List DwarfAbbreviation) (ps : List (ℕ × ℕ))
+    → AreKept attributes rows ps → (length rows ≡ len (by_code_of (laid_out attributes rows)))
     × (length attributes ≡ attribute_count (by_code_of (laid_out attributes rows)))
-laid_counts attributes rows is distinct =
+laid_counts attributes rows ps is =
     let ds = laid_out attributes rows in (
-      sym (length-map rows (declaration_from attributes)) ∙ sym (len_is ds distinct),
-      ap length is.lists ∙ counted_attributes ds ∙ sym (count_is ds distinct),
+      sym (length-map rows (declaration_from attributes)) ∙ sym (len_is ds is.distinct),
+      ap length is.laid.lists ∙ counted_attributes ds ∙ sym (count_is ds is.distinct),
     )
 
 -- rows whose codes rise are the declarations of the map, as C sees them

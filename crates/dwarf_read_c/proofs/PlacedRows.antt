@@ -1,7 +1,8 @@
 -- Declarations with a place for each code are the values of their map, in the order of the places.
-use Rattle.std.proofs.Common.{All, IsSome, Some, None}
+use Rattle.std.proofs.Common.{◌≢◌, All, IsSome, Some, None}
 use Rattle.std.specs.BTreeMap.{insert_entry, is_at}
 use Rattle.std.specs.FinMap.{contains_key, insert}
+use Rattle.std.specs.List.{AllPairs}
 unfoldable use Rattle.std.specs.List.Sorted.{IsStrictlySortedBy}
 use Rattle.std.specs.Map.{keys_of, lookup, values_of}
 use Rattle.std.specs.Ordering.{nat_cmp}
@@ -11,9 +12,9 @@ use Rattle.std.proofs.lemmas.List.Sums.{sum_by-append, sum_by-cons}
 use Rattle.std.proofs.lemmas.List.Elements.{All-nil, All-same, All-head, All-drop}
 use Rattle.std.proofs.lemmas.Map.Made.{lookup-map_values}
 use Rattle.dwarf_read_core.specs.Equality.{HasValueByForm}
-use Rattle.dwarf_read_core.specs.Grammar.{AreDistinct, Specification, attribute_count, by_code_of}
+use Rattle.dwarf_read_core.specs.Grammar.{Specification, attribute_count, by_code_of}
 use Rattle.dwarf_read_core.specs.Others.{at_place, with_places}
-use Rattle.dwarf_read_core.proofs.public.Tables.{added_by_place, distinct_push, entries_kept, entries_sorted, fresh_from_key, get_is_lookup, has_by_place, inserted, places_put, table_push, values_with_places}
+use Rattle.dwarf_read_core.proofs.public.Tables.{added_by_place, distinct_push, entries_kept, entries_sorted, get_is_lookup, has_by_place, inserted, places_put, table_push, values_with_places}
 use Rattle.dwarf_read_c.specs.Laid.{AreKept, AreLaid, ArePlaced, AreRising, declaration_from, laid_out, last_code}
 use Rattle.dwarf_read_c.specs.declared.rows.DwarfAbbreviation.{DwarfAbbreviation}
 use Rattle.dwarf_read_c.proofs.LaidOut.{laid_more, laid_push, rest_after}
@@ -64,7 +65,7 @@ module _ (ds : List Declaration) (ps : List (ℕ × ℕ)) (placed : ArePlaced ds
       let new : contains_key (by_code_of ds) d.code ≡ false = rw (← same) (placed-lacks none) in
       record {
         places = places_put ds ps qs d code place placed.places last put longer ordered;
-        found = table_push ds d (fresh_from_key ds d.code new) ∙ ap (λ m. insert m d.code d) placed.found
+        found = table_push ds d new ∙ ap (λ m. insert m d.code d) placed.found
             ∙ sym (inserted (with_places ds ps) (with_places (ds ++ d ∷ []) qs) d.code d adds.added);
       }
 
@@ -80,8 +81,8 @@ none-rising (a ∷ rows) none = absurd (omega (arith, none))
 
 -- rows and attributes that are laid out, with a place for each code, can be kept
 pub kept-placed : (attributes : List Specification) (rows : List DwarfAbbreviation) (ps : List (ℕ × ℕ))
-    → AreLaid attributes rows → AreDistinct (laid_out attributes rows) → ArePlaced (laid_out attributes rows) ps
-    → AreKept attributes rows ps
+    → AreLaid attributes rows → AllPairs (λ d later. d.code ≢ later.code) (laid_out attributes rows)
+    → ArePlaced (laid_out attributes rows) ps → AreKept attributes rows ps
 kept-placed attributes rows ps laid distinct placed =
     let counted : length (laid_out attributes rows) ≡ length rows = length-map rows (declaration_from attributes) in
     record {
@@ -145,7 +146,7 @@ kept-more attributes rows ps qs d is new valued above placed =
     let pushed = laid_push attributes rows d is.laid in
     record {
       laid = laid_more attributes rows d is.laid valued;
-      distinct = rw pushed (distinct_push ds d is.distinct (fresh_from_key ds d.code new));
+      distinct = rw pushed (distinct_push ds d is.distinct new);
       rising = λ none. rising-push 0 rows (abbreviation_of (length attributes) d) (is.rising (above none).0) (above none).1;
       placed = λ some. rw pushed (placed some);
     }
@@ -158,4 +159,4 @@ pub kept-inserted : (attributes : List Specification) (rows : List DwarfAbbrevia
     ≡ insert (by_code_of (laid_out attributes rows)) d.code d
 kept-inserted attributes rows ps d is new =
     let ds = laid_out attributes rows in
-    ap by_code_of (laid_push attributes rows d is.laid) ∙ table_push ds d (fresh_from_key ds d.code new)
+    ap by_code_of (laid_push attributes rows d is.laid) ∙ table_push ds d new

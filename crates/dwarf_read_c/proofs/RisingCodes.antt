@@ -1,6 +1,6 @@
 -- Rows whose codes rise are declarations in the order of their map.
 use Rattle.std.proofs.Common.{Some, append_assoc, get_or, take-append-drop}
-use Rattle.std.specs.FinMap.{contains_key, insert}
+use Rattle.std.specs.FinMap.{contains_key, gets, insert}
 use Rattle.std.specs.List.{AllByRecursion}
 unfoldable use Rattle.std.specs.List.Sorted.{IsStrictlySortedBy}
 use Rattle.std.specs.Map.{keys_of}
@@ -9,38 +9,37 @@ use Rattle.std.specs.Prelude.{slice_get}
 use Rattle.std.proofs.lemmas.Bool.Decides.{nat_tests}
 use Rattle.std.proofs.lemmas.List.{take_more}
 use Rattle.std.proofs.Common.{Less}
-use Rattle.dwarf_read_core.specs.Grammar.{Declares, by_code_of, Specification}
-use Rattle.dwarf_read_core.proofs.public.Tables.{entries_kept, fresh_code, table_push}
+use Rattle.dwarf_read_core.specs.Grammar.{by_code_of, Specification}
+use Rattle.dwarf_read_core.proofs.public.Tables.{entries_kept, table_push}
 use Rattle.dwarf_read_c.specs.Laid.{AreRising, last_code, laid_out}
 use Rattle.dwarf_read_c.specs.declared.rows.DwarfAbbreviation.{DwarfAbbreviation}
-use Rattle.dwarf_read_c.proofs.Common.{◌≡◌, ◌∙◌, false, ℕ, ◌+◌, ◌-◌, ◌<◌, ◌≤◌, inl, inr, List, [], ◌∷◌, ◌++◌, length, map, take, drop, refl, sym, ap, subst, arith, values, Declaration}
+use Rattle.dwarf_read_c.proofs.Common.{◌≡◌, ◌∙◌, false, ℕ, ◌+◌, ◌-◌, ◌<◌, ◌≤◌, List, [], ◌∷◌, ◌++◌, length, map, take, drop, refl, sym, ap, subst, arith, values, Declaration}
 
 -- the last of rising codes is the greatest, and at least as great as the bound
 last-greatest : (below : ℕ) (rows : List DwarfAbbreviation) → AreRising below rows → below ≤ last_code below rows
 last-greatest below [] h = omega arith
 last-greatest below (a ∷ rows) h = omega (arith, last-greatest a.code rows h.1, h.0)
 
--- no declaration has a code above the last
-rising-undeclared : (attributes : List Specification) (below code : ℕ) (rows : List DwarfAbbreviation)
-    → AreRising below rows → last_code below rows < code → Declares (laid_out attributes rows) code → ⊥
-rising-undeclared attributes below code [] h above declares = declares
-rising-undeclared attributes below code (a ∷ rows) h above (inl same) =
-    omega (arith, last-greatest a.code rows h.1, above, same)
-rising-undeclared attributes below code (a ∷ rows) h above (inr later) =
-    rising-undeclared attributes a.code code rows h.1 above later
-
 -- the map of declarations whose codes rise lacks a code above the last
-pub rising-fresh : (attributes : List Specification) (code : ℕ) (rows : List DwarfAbbreviation) → AreRising 0 rows
-    → last_code 0 rows < code → contains_key (by_code_of (laid_out attributes rows)) code ≡ false
-rising-fresh attributes code rows h above =
-    fresh_code (laid_out attributes rows) code (rising-undeclared attributes 0 code rows h above)
+pub rising-fresh : (attributes : List Specification) (below code : ℕ) (rows : List DwarfAbbreviation)
+    → AreRising below rows → last_code below rows < code
+    → contains_key (by_code_of (laid_out attributes rows)) code ≡ false
+rising-fresh attributes below code [] h above = grind (arith, gets)
+rising-fresh attributes below code (a ∷ rows) h above =
+    grind (
+      arith,
+      nat_tests,
+      gets,
+      (last-greatest a.code rows h.1),
+      (rising-fresh attributes a.code code rows h.1 above),
+    )
 
 -- one more declaration with a code above the last is an insertion into the map
 pub rising-inserted : (attributes : List Specification) (rows : List DwarfAbbreviation) (d : Declaration)
     → AreRising 0 rows → last_code 0 rows < d.code → by_code_of (laid_out attributes rows ++ d ∷ [])
     ≡ insert (by_code_of (laid_out attributes rows)) d.code d
 rising-inserted attributes rows d h above =
-    table_push (laid_out attributes rows) d (rising-undeclared attributes 0 d.code rows h above)
+    table_push (laid_out attributes rows) d (rising-fresh attributes 0 d.code rows h above)
 
 -- codes still rise with one more above the last
 pub rising-push : (below : ℕ) (rows : List DwarfAbbreviation) (a : DwarfAbbreviation) → AreRising below rows

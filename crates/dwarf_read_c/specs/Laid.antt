@@ -1,10 +1,10 @@
 -- Declarations in the order in which they came, as C sees them: their rows, the attributes of all of them in one list,
 -- and the place of each code among the rows.
-use Rattle.std.specs.Prelude.{◌≡◌, ◌==◌, ◌<◌, ℕ, List, [], ◌∷◌, All, length, map, take, drop}
+use Rattle.std.specs.Prelude.{◌≡◌, ◌≢◌, ◌==◌, ◌<◌, ℕ, List, [], ◌∷◌, All, length, map, take, drop}
 use Rattle.std.specs.FinMap.{from_entries}
-use Rattle.std.specs.List.{flat_map}
+use Rattle.std.specs.List.{AllPairs, flat_map}
 use Rattle.dwarf_read_core.specs.Equality.{HasValueByForm}
-use Rattle.dwarf_read_core.specs.Grammar.{AreDistinct, Declaration, Specification, by_code_of}
+use Rattle.dwarf_read_core.specs.Grammar.{Declaration, Specification, by_code_of}
 use Rattle.dwarf_read_core.specs.Others.{ArePlaces, with_places}
 use Rattle.dwarf_read_c.specs.Tables.{laid_from}
 use Rattle.dwarf_read_c.specs.declared.rows.DwarfAbbreviation.{DwarfAbbreviation}
@@ -52,6 +52,6 @@ pub record ArePlaced (ds : List Declaration) (ps : List (ℕ × ℕ)) : Type 0 w
 pub record AreKept (attributes : List Specification) (rows : List DwarfAbbreviation) (ps : List (ℕ × ℕ)) :
     Type 0 where
   pub laid : AreLaid attributes rows
-  pub distinct : AreDistinct (laid_out attributes rows)
+  pub distinct : AllPairs (λ d later. d.code ≢ later.code) (laid_out attributes rows)
   pub rising : length ps ≡ 0 → AreRising 0 rows
   pub placed : 0 < length ps → ArePlaced (laid_out attributes rows) ps

@@ -12,7 +12,7 @@ pub use Rattle.std.specs.Cmp.{nat_cmp_total, eq_by_cmp_equiv}
 pub use Rattle.std.specs.FinMap.{get, insert, from_entries, contains_key, empty, empty_of_len, find}
 pub use Rattle.std.specs.FinMap.{from_entries_push, get-from_entries, nat_cmp-IsAntisymmetric, same_map, entries, len}
 pub use Rattle.std.specs.FinMap.{entries-insert, len-insert, len-empty, len-entries, get-entries, values, get-insert}
-pub use Rattle.std.specs.List.{AllWithin, AllByRecursion}
+pub use Rattle.std.specs.List.{AllPairs, AllWithin, AllByRecursion, Any}
 pub use Rattle.std.specs.List.Sorted.{IsNonDecreasingBy}
 unfoldable pub use Rattle.std.specs.List.Sorted.{IsStrictlySortedBy}
 pub use Rattle.std.specs.Map.{lookup, keys_of, values_of}
@@ -55,7 +55,7 @@ pub use Rattle.dwarf_read_core.specs.Cache.{shown_entries, StillKept, IsFaithful
 pub use Rattle.dwarf_read_core.specs.Cache.{least_count}
 pub use Rattle.dwarf_read_core.specs.Entries.{Entries}
 pub use Rattle.dwarf_read_core.specs.Grammar.{Table, by_null, by_end, Declaration, closed, implicit_const}
-pub use Rattle.dwarf_read_core.specs.Grammar.{IsTable, IsTableBefore, closed_by_null, closed_by_end, Declares, AreDistinct}
+pub use Rattle.dwarf_read_core.specs.Grammar.{IsTable, IsTableBefore, closed_by_null, closed_by_end}
 pub use Rattle.dwarf_read_core.specs.Grammar.{by_code_of, Specification, Sequence, IsSpecification, IsNull, IsFront}
 pub use Rattle.dwarf_read_core.specs.Grammar.{children_byte, IsCode, IsHead, IsDeclaration, IsImplicit, ByCode}
 pub use Rattle.dwarf_read_core.specs.Grammar.{attribute_count, AreDeclarations}

@@ -1,13 +1,14 @@
 -- The one result that a section has at an offset: the table there, or the first error.
 use Rattle.std.specs.Prelude.{◌≡◌, ◌≢◌, ℕ, ◌+◌, ◌*◌, ◌<◌, ◌≤◌, ◌⊎◌, Bool, true, List, [], ◌∷◌, ◌++◌, length, drop, Result, Ok, Err, IsErrOf, ⊤, if◌then◌else◌}
 use Rattle.std.specs.FinMap as finite
+use Rattle.std.specs.List.{Any}
 use Rattle.dwarf_base_core.specs.declared.error.Error.{Error}
 use Rattle.dwarf_base_core.specs.declared.error.Error.TheVariants.{AbbreviationTagZero, InvalidAbbreviationChildren, AttributeNameZero, AttributeFormZero, DuplicateAbbreviationCode, OutOfMemory, UnterminatedAbbreviations}
 use Rattle.dwarf_reader_core.specs.Leb128.{Kind, unsigned64, unsigned16, signed64, overflow_error, IsNumber, IsTruncated, IsMalformed}
 use Rattle.dwarf_reader_core.specs.Faults.{eof, eof_here}
 use Rattle.dwarf_reader_core.specs.Input.{Input, end_of}
 use Rattle.dwarf_reader_core.specs.Appended.{IsNotEof}
-use Rattle.dwarf_read_core.specs.Grammar.{Declaration, implicit_const, Table, by_null, is_by_null, attribute_count, IsCode, IsHead, IsFront, IsDeclaration, Declares, AreDeclarations, IsTable, IsTableBefore}
+use Rattle.dwarf_read_core.specs.Grammar.{Declaration, implicit_const, Table, by_null, is_by_null, attribute_count, IsCode, IsHead, IsFront, IsDeclaration, AreDeclarations, IsTable, IsTableBefore}
 use Rattle.dwarf_read_core.specs.Lookups.{UnlessOutOfMemory}
 
 -- the beginning of a declaration, up to a number of this kind
@@ -44,7 +45,7 @@ pub data IsFirstError (end : ℕ) : List ℕ → Error → Type 0 where
   in_declaration : (bytes rest : List ℕ) (ds : List Declaration) (e : Error) → AreDeclarations bytes ds → rest ≢ []
       → HasError end rest e → IsFirstError end (bytes ++ rest) e
   repeated : (bytes declaration rest : List ℕ) (ds : List Declaration) (d : Declaration) → AreDeclarations bytes ds
-      → IsDeclaration declaration d → Declares ds d.code
+      → IsDeclaration declaration d → Any (λ other. other.code ≡ d.code) ds
       → IsFirstError end (bytes ++ declaration ++ rest) (DuplicateAbbreviationCode d.code)
 
 -- the result for a section and an offset: the table there, or the first error

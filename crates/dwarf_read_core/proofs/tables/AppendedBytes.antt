@@ -30,8 +30,12 @@ declaration_error_more longer more h final = grind arith
 -- the first error of bytes, unless it is an `UnexpectedEof`, stays the first with more bytes appended
 first_error_more : {end : ℕ} {bytes : List ℕ} {e : Error} (longer : ℕ) (more : List ℕ) → IsFirstError end bytes e
     → IsNotEof e → IsFirstError longer (bytes ++ more) e
-first_error_more longer more h final =
-    grind (arith, append_assoc, in_declaration, repeated, bytes-still_some, declaration_error_more)
+first_error_more longer more (repeated bytes declaration rest ds d are is twice) final =
+    rw (append_assoc (bytes ++ declaration) rest more) (repeated bytes declaration (rest ++ more) ds d are is twice)
+first_error_more longer more (in_declaration bytes rest ds e are some f) final =
+    rw (append_assoc bytes rest more)
+    (in_declaration bytes (rest ++ more) ds e are (bytes-still_some rest more some)
+    (declaration_error_more longer more f final))
 
 -- a final result is still the result when bytes are appended to the section
 pub answer_more : {section : Input} {offset : ℕ} {r : Result Table Error} (more : List ℕ) → Answer section offset r

@@ -1,68 +1,74 @@
 -- The map of a table has the codes of its declarations, and each code occurs once.
-use Rattle.dwarf_read_core.proofs.Common.{◌≡◌, ℕ, ◌<◌, true, false, List, [], ◌∷◌, ◌++◌, map, None, Some, Ok, get, Input, Sequence, IsDeclaration, Table, IsTable, Answer, table, refl, sym, ap, ◌∙◌, arith, ◌⊎◌, inl, inr, is_some, nat_cmp, nat_cmp_total, find, insert, contains_key, from_entries_push, get-from_entries, nat_cmp-IsAntisymmetric, true≢false, map_push, Declaration, Declares, AreDistinct, by_code_of, nat_tests}
-use Rattle.std.specs.FinMap.{get-insert}
+use Rattle.dwarf_read_core.proofs.Common.{◌≡◌, ◌≢◌, ℕ, suc, ◌<◌, ◌==◌, true, false, List, [], ◌∷◌, ◌++◌, map, None, Some, Ok, get, Input, Sequence, IsDeclaration, Table, IsTable, Answer, table, sym, ◌∙◌, arith, nat_cmp, nat_cmp_total, find, insert, contains_key, from_entries_push, get-from_entries, nat_cmp-IsAntisymmetric, true≢false, map_push, All, AllPairs, Any, length, length-append, get_or, get_or_default, eqb-true, ne_eqb, Declaration, by_code_of, nat_tests}
+use Rattle.std.specs.FinMap.{gets}
+use Rattle.std.proofs.Math.ListN.{get_or-append}
+use Rattle.std.proofs.Math.Seq.{get_or-append_seam}
+use Rattle.std.specs.List.{list_any}
+use Rattle.std.proofs.lemmas.List.Folds.{Any-from_list_any, list_any_at, list_any_none}
+use Rattle.std.proofs.lemmas.List.Quantifiers.{all_pairs_push}
 
 -- declarations with their codes, as entries of a map
 abbrev pub entries_by_code : List Declaration → List (ℕ × Declaration)
 entries_by_code ds = map (λ d. (d.code, d)) ds
 
+-- the map of declarations has a code exactly if one of them has it
+key_is_any : (ds : List Declaration) (code : ℕ)
+    → contains_key (by_code_of ds) code ≡ list_any (λ d. d.code == code) ds
+key_is_any [] code = grind (arith, gets)
+key_is_any (x ∷ ds) code = grind (arith, nat_tests, gets, (key_is_any ds code))
+
 -- the map of declarations lacks a code that none of them has
-pub fresh_code : (ds : List Declaration) (code : ℕ) → (Declares ds code → ⊥) → contains_key (by_code_of ds) code ≡ false
-fresh_code [] code h = ap is_some (get-from_entries {X = Declaration} nat_cmp_total [] code)
-fresh_code (x ∷ ds) code h =
-    grind (arith, nat_tests, (get-insert nat_cmp_total (by_code_of ds) x.code x code), (fresh_code ds code))
+fresh_code : (ds : List Declaration) (code : ℕ) → All (λ d. d.code ≢ code) ds
+    → contains_key (by_code_of ds) code ≡ false
+fresh_code ds code none =
+    key_is_any ds code
+    ∙ list_any_none (λ d. d.code == code) ds (λ k d within. ne_eqb (get_or ds k d).code code (none k d within))
 
 -- the map of declarations has a code that one of them has
-pub repeated_code : (ds : List Declaration) (code : ℕ) → Declares ds code → contains_key (by_code_of ds) code ≡ true
-repeated_code [] code h = absurd h
-repeated_code (x ∷ ds) code h =
-    grind (arith, nat_tests, (get-insert nat_cmp_total (by_code_of ds) x.code x code), (repeated_code ds code))
+pub repeated_code : (ds : List Declaration) (code : ℕ) → Any (λ d. d.code ≡ code) ds
+    → contains_key (by_code_of ds) code ≡ true
+repeated_code ds code (k, d, within, at, same) =
+    key_is_any ds code ∙ list_any_at (λ d. d.code == code) ds k d within (grind (arith, nat_tests))
 
 -- if the map of declarations has a code, a declaration has it
-pub declared_from_key : (ds : List Declaration) (code : ℕ) → contains_key (by_code_of ds) code ≡ true → Declares ds code
-declared_from_key [] code e = absurd (let none = get-from_entries {X = Declaration} nat_cmp_total [] code in cc)
-declared_from_key (x ∷ ds) code e =
-    grind (arith, nat_tests, (get-insert nat_cmp_total (by_code_of ds) x.code x code), (declared_from_key ds code))
-
--- if the map of declarations lacks a code, no declaration has it
-pub fresh_from_key : (ds : List Declaration) (code : ℕ) → contains_key (by_code_of ds) code ≡ false
-    → Declares ds code → ⊥
-fresh_from_key ds code e h = true≢false (sym (repeated_code ds code h) ∙ e)
+pub declared_from_key : (ds : List Declaration) (code : ℕ) → contains_key (by_code_of ds) code ≡ true
+    → Any (λ d. d.code ≡ code) ds
+declared_from_key ds code has =
+    let (k, d, within, at, same) = Any-from_list_any (λ d. d.code == code) ds (sym (key_is_any ds code) ∙ has) in
+    (k, d, within, at, eqb-true d.code code same)
 
 -- one more declaration with a new code is an insertion into the map of declarations
-pub table_push : (ds : List Declaration) (d : Declaration) → (Declares ds d.code → ⊥)
+pub table_push : (ds : List Declaration) (d : Declaration) → contains_key (by_code_of ds) d.code ≡ false
     → by_code_of (ds ++ d ∷ []) ≡ insert (by_code_of ds) d.code d
-table_push ds d h =
-    let none : find nat_cmp d.code (entries_by_code ds) ≡ None = grind (
-      arith,
-      (fresh_code ds d.code h),
-      (get-from_entries nat_cmp_total (entries_by_code ds) d.code),
-    ) in
+table_push ds d new =
+    let none : find nat_cmp d.code (entries_by_code ds) ≡ None =
+    grind (arith, new, (get-from_entries nat_cmp_total (entries_by_code ds) d.code)) in
     rw (map_push {Y = ℕ × Declaration} (λ (x : Declaration). (x.code, x)) ds d)
     (from_entries_push nat_cmp_total nat_cmp-IsAntisymmetric (entries_by_code ds) d.code d none)
 
--- a code of some declarations and one more is a code of those, or that of the one more
-declared_later : (ds : List Declaration) (d : Declaration) (code : ℕ) → Declares (ds ++ d ∷ []) code
-    → Declares ds code ⊎ (d.code ≡ code)
-declared_later [] d code h = grind arith
-declared_later (x ∷ ds) d code h = grind (arith, (declared_later ds d code))
-
 -- declarations with distinct codes still have distinct codes with one more whose code is new
-pub distinct_push : (ds : List Declaration) (d : Declaration) → AreDistinct ds → (Declares ds d.code → ⊥)
-    → AreDistinct (ds ++ d ∷ [])
-distinct_push [] d h new = (λ w. w, tt)
-distinct_push (x ∷ ds) d h new = grind (arith, declared_later, (distinct_push ds d h.1))
+pub distinct_push : (ds : List Declaration) (d : Declaration) → AllPairs (λ d later. d.code ≢ later.code) ds
+    → contains_key (by_code_of ds) d.code ≡ false → AllPairs (λ d later. d.code ≢ later.code) (ds ++ d ∷ [])
+distinct_push ds d h new =
+    all_pairs_push (λ d later. d.code ≢ later.code) ds d h
+    (λ k none within same. true≢false
+    (sym (repeated_code ds d.code (k, get_or ds k none, within, get_or_default ds k _ none within, same)) ∙ new))
 
--- a declaration among others has its code
-declares_among : (ds more : List Declaration) (d : Declaration) → Declares (ds ++ d ∷ more) d.code
-declares_among [] more d = inl refl
-declares_among (x ∷ ds) more d = inr (declares_among ds more d)
+-- of declarations with distinct codes, the map of those before another lacks its code
+pub distinct_front : (ds more : List Declaration) (d : Declaration)
+    → AllPairs (λ d later. d.code ≢ later.code) (ds ++ d ∷ more) → contains_key (by_code_of ds) d.code ≡ false
+distinct_front ds more d h =
+    fresh_code ds d.code
+    (λ k none within same. h k (length ds) none within (omega (arith, length-append ds (d ∷ more)))
+    (grind (arith, (get_or-append ds (d ∷ more) none k within), (get_or-append_seam ds d more none))))
 
--- among declarations with distinct codes, no declaration before another has its code
-pub distinct_front : (ds more : List Declaration) (d : Declaration) → AreDistinct (ds ++ d ∷ more)
-    → Declares ds d.code → ⊥
-distinct_front [] more d h w = w
-distinct_front (x ∷ ds) more d h w = grind (arith, declares_among, (distinct_front ds more d h.1))
+-- of declarations with distinct codes, the map of those after the first lacks its code, and they have distinct codes
+pub distinct_rest : (d : Declaration) (ds : List Declaration) → AllPairs (λ d later. d.code ≢ later.code) (d ∷ ds)
+    → (contains_key (by_code_of ds) d.code ≡ false) × AllPairs (λ d later. d.code ≢ later.code) ds
+distinct_rest d ds h = (
+  fresh_code ds d.code (λ k none within same. h 0 (suc k) none (omega arith) (omega (arith, within)) (sym same)),
+  λ i j none before within. h (suc i) (suc j) none (omega (arith, before)) (omega (arith, within)),
+)
 
 -- ---- keys
 

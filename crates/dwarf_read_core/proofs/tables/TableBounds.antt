@@ -1,9 +1,9 @@
 -- A table has no more declarations and attributes than fit its bytes.
-use Rattle.dwarf_read_core.proofs.Common.{common_steps, ◌≡◌, ℕ, ◌+◌, ◌*◌, ◌≤◌, false, List, [], ◌∷◌, length, map, Ok, sym, ap, ◌∙◌, arith, is_some, sum_by, nat_cmp, nat_cmp_total, find, len, entries, entries-insert, len-insert, len-empty, len-entries, get-entries, length-append, length-drop, nil_from_length, sum_by-cons, Specification, Declaration, Sequence, IsSpecification, IsDeclaration, AreDistinct, Table, by_code_of, attribute_count, IsTable, Input, Answer, table, FitsIn}
+use Rattle.dwarf_read_core.proofs.Common.{common_steps, ◌≡◌, ◌≢◌, ℕ, ◌+◌, ◌*◌, ◌≤◌, false, List, [], ◌∷◌, length, map, Ok, sym, ap, ◌∙◌, arith, is_some, sum_by, nat_cmp, nat_cmp_total, find, len, entries, entries-insert, len-insert, len-empty, len-entries, get-entries, length-append, length-drop, nil_from_length, sum_by-cons, Specification, Declaration, Sequence, IsSpecification, IsDeclaration, AllPairs, Table, by_code_of, attribute_count, IsTable, Input, Answer, table, FitsIn}
 use Rattle.std.specs.FinMap.Entries.{put}
 use Rattle.dwarf_read_core.proofs.tables.ReadingNumbers.{encoding-nonempty}
 use Rattle.dwarf_read_core.proofs.tables.ReadingSpecifications.{specification_long, null_long}
-use Rattle.dwarf_read_core.proofs.tables.CodesOnce.{fresh_code}
+use Rattle.dwarf_read_core.proofs.tables.CodesOnce.{distinct_rest}
 
 -- the number of attributes that a declaration has
 attributes : Declaration → ℕ
@@ -52,19 +52,22 @@ total_put k d [] none = sum_by-cons (λ (x : Declaration). length x.attributes) 
 total_put k d (e ∷ es) none = grind (arith, common_steps, attributes, sum_by-cons, (total_put k d es))
 
 -- the map of declarations with distinct codes has as many entries as there are declarations
-pub len_is : (ds : List Declaration) → AreDistinct ds → len (by_code_of ds) ≡ length ds
+pub len_is : (ds : List Declaration) → AllPairs (λ d later. d.code ≢ later.code) ds → len (by_code_of ds) ≡ length ds
 len_is [] h = len-empty nat_cmp Declaration
-len_is (d ∷ ds) h = grind (arith, (len-insert {X = Declaration} nat_cmp_total), fresh_code, (len_is ds h.1))
+len_is (d ∷ ds) h =
+    let (fresh, rest) = distinct_rest d ds h in
+    grind (arith, (len-insert {X = Declaration} nat_cmp_total), (len_is ds rest))
 
 -- the map of declarations with distinct codes has as many attributes as the declarations together
-pub count_is : (ds : List Declaration) → AreDistinct ds
+pub count_is : (ds : List Declaration) → AllPairs (λ d later. d.code ≢ later.code) ds
     → attribute_count (by_code_of ds) ≡ sum_by (λ d. length d.attributes) ds
 count_is [] h = ap total (nil_from_length _ (sym (len-entries (by_code_of [])) ∙ len-empty nat_cmp Declaration))
 count_is (d ∷ ds) h =
-    let new = ap is_some (sym (get-entries (by_code_of ds) d.code)) ∙ fresh_code ds d.code h.0 in
+    let (fresh, rest) = distinct_rest d ds h in
+    let new = ap is_some (sym (get-entries (by_code_of ds) d.code)) ∙ fresh in
     let more = total_put d.code d (entries (by_code_of ds)) new in
     rw (entries-insert nat_cmp_total (by_code_of ds) d.code d)
-    (omega (arith, more, sum_by-cons (λ (x : Declaration). length x.attributes) d ds, count_is ds h.1))
+    (omega (arith, more, sum_by-cons (λ (x : Declaration). length x.attributes) d ds, count_is ds rest))
 
 -- the bytes of a table are at least five for each declaration and two for each attribute
 table_bound : {bytes : List ℕ} {t : Table} → IsTable bytes t

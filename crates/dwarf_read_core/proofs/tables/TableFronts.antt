@@ -1,5 +1,5 @@
 -- A table ends where the shortest front of the section ends that has it.
-use Rattle.dwarf_read_core.proofs.Common.{◌≡◌, ◌⊎◌, ◌↔◌, inl, inr, ◌∙◌, ℕ, ◌+◌, ◌-◌, ◌<◌, ◌≤◌, List, [], ◌∷◌, ◌++◌, length, take, drop, Ok, Some, refl, sym, ap, subst, arith, append_assoc, append-nil, length-append, length-drop, drop-append-le, take-append-drop, cases_lt, Input, first, Declaration, Sequence, IsDeclaration, AreDistinct, Table, closed, by_code_of, by_null, by_end, IsTable, IsTableBefore, closed_by_null, closed_by_end, Answer, table, followed_by, declaration_at, len, take-append-le, take_all}
+use Rattle.dwarf_read_core.proofs.Common.{◌≡◌, ◌⊎◌, ◌↔◌, inl, inr, ◌∙◌, ℕ, ◌+◌, ◌-◌, ◌<◌, ◌≤◌, List, [], ◌∷◌, ◌++◌, length, take, drop, Ok, Some, refl, sym, ap, subst, arith, append_assoc, append-nil, length-append, length-drop, drop-append-le, take-append-drop, cases_lt, Input, first, Declaration, Sequence, IsDeclaration, AreDeclarations, Table, closed, by_code_of, by_null, by_end, IsTable, IsTableBefore, closed_by_null, closed_by_end, Answer, table, followed_by, declaration_at, len, take-append-le, take_all}
 use Rattle.dwarf_read_core.specs.Answer.{TableEndsAt}
 use Rattle.dwarf_read_core.specs.Grammar.{Close}
 use Rattle.dwarf_read_core.proofs.tables.ReadingIsComplete.{declaration_again}
@@ -27,12 +27,12 @@ more_declared bytes more (d ∷ ds) (e ∷ es) (front, rest, parts, is, are) (ot
     omega (arith, more_declared rest more ds es are (rw same at others) some)
 
 -- a table that the end of a front closes isn't the table of more bytes
-closed_later : (bytes more : List ℕ) (ds es : List Declaration) → Sequence IsDeclaration bytes ds → AreDistinct ds
-    → Sequence IsDeclaration (bytes ++ more) es → AreDistinct es → by_code_of ds ≡ by_code_of es → 0 < length more → ⊥
-closed_later bytes more ds es are once others apart same some =
-    let longer = more_declared bytes more ds es are others some in
+closed_later : (bytes more : List ℕ) (ds es : List Declaration) → AreDeclarations bytes ds
+    → AreDeclarations (bytes ++ more) es → by_code_of ds ≡ by_code_of es → 0 < length more → ⊥
+closed_later bytes more ds es are others same some =
+    let longer = more_declared bytes more ds es are.each others.each some in
     let counted = ap len same in
-    omega (arith, longer, counted, len_is ds once, len_is es apart)
+    omega (arith, longer, counted, len_is ds are.distinct, len_is es others.distinct)
 
 -- the front up to where a table ends has the table
 front_before : {bytes rest : List ℕ} {t : Table} (n : ℕ) → IsTableBefore bytes t rest → n + length rest ≡ length bytes
@@ -61,8 +61,7 @@ closed-same {t = t} more a b unsettled longer some =
     go (closed_by_end _ _ _) is (closed_by_null _ _ _ _ _ _) same unsettled longer =
         let close = ap (λ (u : Table). u.close) same in absurd cc
     go (closed_by_end bytes ds are) is (closed_by_end others es each) same unsettled longer =
-        closed_later bytes more ds es are.each are.distinct (rw longer at each.each) each.distinct
-        (ap (λ (u : Table). u.by_code) (is ∙ sym same)) some
+        closed_later bytes more ds es are (rw longer at each) (ap (λ (u : Table). u.by_code) (is ∙ sym same)) some
 
 -- what closes a table
 close_cases : (close : Close) → (close ≡ by_null) ⊎ (close ≡ by_end)

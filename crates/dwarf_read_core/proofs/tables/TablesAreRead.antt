@@ -1,11 +1,11 @@
 -- A whole table that is read, or its first error, is what the grammar says, and conversely.
-use Rattle.dwarf_read_core.proofs.Common.{◌≡◌, ◌≢◌, ℕ, zero, suc, ◌<◌, ◌≤◌, false, List, [], ◌∷◌, ◌++◌, length, Option, Some, None, Ok, Err, refl, sym, ap, ◌∙◌, append_assoc, arith, append-nil, length-append, empty, insert, contains_key, Error, DuplicateAbbreviationCode, Declaration, Sequence, IsDeclaration, AreDistinct, AreDeclarations, ByCode, Table, closed, by_code_of, IsTable, IsTableBefore, closed_by_null, closed_by_end, IsFirstError, in_declaration, repeated, close_of, by_null, by_end, and_declared, table_at, table_in, HasOutcome, returned, failed, outcome-bind, outcome-cond, outcome-map, outcome-ok, declaration_at}
+use Rattle.dwarf_read_core.proofs.Common.{◌≡◌, ◌≢◌, ℕ, zero, suc, ◌<◌, ◌≤◌, false, List, [], ◌∷◌, ◌++◌, length, Option, Some, None, Ok, Err, refl, sym, ap, ◌∙◌, append_assoc, arith, append-nil, length-append, empty, insert, contains_key, Error, DuplicateAbbreviationCode, Declaration, Sequence, IsDeclaration, AllPairs, AreDeclarations, ByCode, Table, closed, by_code_of, IsTable, IsTableBefore, closed_by_null, closed_by_end, IsFirstError, in_declaration, repeated, close_of, by_null, by_end, and_declared, table_at, table_in, HasOutcome, returned, failed, outcome-bind, outcome-cond, outcome-map, outcome-ok, declaration_at}
 use Rattle.dwarf_read_core.proofs.tables.ReadingNumbers.{encoding-begins, encoding-nonempty}
 use Rattle.dwarf_read_core.proofs.tables.ReadingAttributes.{Sequence-push}
 use Rattle.dwarf_read_core.proofs.tables.ReadingIsSound.{DeclarationFound, EndFound, at_end, at_zero, EntryFound, declaration_outcome, declaration_found_shorter}
 use Rattle.dwarf_read_core.proofs.tables.ReadingIsComplete.{declaration_again, zero_again, end_again, error_again}
 use Rattle.dwarf_read_core.proofs.tables.ReadingTables.{closed-by_null, table_fails, table_ends, table_repeats, table_goes_on}
-use Rattle.dwarf_read_core.proofs.tables.CodesOnce.{fresh_code, repeated_code, declared_from_key, fresh_from_key, table_push, distinct_push, distinct_front}
+use Rattle.dwarf_read_core.proofs.tables.CodesOnce.{repeated_code, declared_from_key, table_push, distinct_push, distinct_front}
 
 -- ---- what is read is in the grammar
 
@@ -20,13 +20,14 @@ pub record BeginsWith (bytes : List ℕ) (t : ByCode) (rest : List ℕ) : Type 0
 -- any bytes begin with no declarations
 pub begins_with_none : (bytes : List ℕ) → BeginsWith bytes empty bytes
 begins_with_none bytes =
-    record { front = []; declarations = []; parts = refl; are = record { each = refl; distinct = tt }; by_code = refl }
+    let are : AreDeclarations [] [] = record { each = refl; distinct = λ i j none lt within. absurd (omega arith) } in
+    record { front = []; declarations = []; parts = refl; are = are; by_code = refl }
 
 -- a declaration with a new code after some declarations is one more of them
 begins_with_more : {whole bytes rest : List ℕ} {t : ByCode} (d : Declaration) → BeginsWith whole t bytes
     → DeclarationFound bytes d rest → contains_key t d.code ≡ false → BeginsWith whole (insert t d.code d) rest
 begins_with_more d b f fresh =
-    let new = fresh_from_key b.declarations d.code (rw b.by_code at fresh) in
+    let new = rw b.by_code at fresh in
     record {
       front = b.front ++ f.front;
       declarations = b.declarations ++ d ∷ [];
@@ -109,14 +110,14 @@ table_after (suc n) end bytes whole t b short =
 
 -- declarations with new and distinct codes are read into the table, and reading goes on after them
 feed : (end : ℕ) (seen : List Declaration) (bytes rest : List ℕ) (ds : List Declaration)
-    → Sequence IsDeclaration bytes ds → AreDistinct (seen ++ ds)
+    → Sequence IsDeclaration bytes ds → AllPairs (λ d later. d.code ≢ later.code) (seen ++ ds)
     → table_in end (by_code_of seen) (bytes ++ rest) ≡ table_in end (by_code_of (seen ++ ds)) rest
 feed end seen bytes rest [] e h = rw (e, append-nil seen) refl
 feed end seen bytes rest (d ∷ ds) q h =
     let new = distinct_front seen ds d h in
     let regrouped : (seen ++ d ∷ []) ++ ds ≡ seen ++ (d ∷ ds) = append_assoc seen (d ∷ []) ds in
     let goes_on = table_goes_on end (by_code_of seen) (q.0 ++ (q.1 ++ rest)) d (q.1 ++ rest)
-    (declaration_again end q.0 (q.1 ++ rest) d q.3) (fresh_code seen d.code new) in
+    (declaration_again end q.0 (q.1 ++ rest) d q.3) new in
     let others = feed end (seen ++ d ∷ []) q.1 rest ds q.4 (rw regrouped h) in
     rw (q.2, append_assoc, goes_on, ← table_push seen d new) (rw regrouped at others)
 

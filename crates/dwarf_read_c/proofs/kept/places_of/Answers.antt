@@ -22,7 +22,7 @@ loop-place-preserved c =
     let row = get_or rows i none in
     let so_far = c.loop-place.invariant attributes in
     let rising = rising-at rows i none c.requires c.loop-place-test.true in
-    let fresh = rising-fresh attributes row.code (take i rows) rising.0 rising.1 in
+    let fresh = rising-fresh attributes 0 row.code (take i rows) rising.0 rising.1 in
     let absent = placed-absent _ _ so_far row.code fresh in
     let last : i ≡ length (laid_out attributes (take i rows)) = grind (arith, common_steps, c.loop-place-test.true) in
     rw (laid_take attributes rows i none c.loop-place-test.true)

@@ -3,4 +3,4 @@ use Rattle.dwarf_read_c.proofs.LaidOut.{laid_counts}
 use Rattle.dwarf_read_c.proofs.kept.Kept.measure.Goals as goal
 
 pub returns : goal.returns
-returns c = grind (arith, common_steps, (laid_counts _ _ c.self.invariant.laid c.self.invariant.distinct))
+returns c = grind (arith, common_steps, (laid_counts _ _ _ c.self.invariant))

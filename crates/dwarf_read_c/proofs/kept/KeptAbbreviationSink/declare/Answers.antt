@@ -64,7 +64,7 @@ new : (c : goal.After-push_reserved) → contains_key (by_code_of (declared c)) 
 new c = elim c.if-is_empty.branch [
   | then-is_empty+then-is_above+in_ok-extend_from_slice w ↦
       let rising = c.self.invariant.rising (grind (arith, w.if-is_empty)) in
-      let fresh = rising-fresh (attributes c) c.args.declaration.now.code (rows c) rising in
+      let fresh = rising-fresh (attributes c) 0 c.args.declaration.now.code (rows c) rising in
       grind (arith, fresh, w.is_above.ensures, w.if-is_above, c.make_room.ensures.rows, c.code-code.ensures.code)
   | else-is_empty+in_ok-extend_by_place w ↦ grind (
     arith,
