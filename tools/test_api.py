@@ -71,7 +71,7 @@ class Pages(unittest.TestCase):
             ("each attribute two (`bound`)", "each attribute two (`unit_fields`)", "unit_fields"),
             ("`laws::codes_are_keys`", "`laws::codes_are_key`", "laws::codes_are_key"),
             ("change_no_string`, `_word`", "change_no_string`, `_words`", "laws::appended_bytes_change_no_words"),
-            ("(`HoldsString`)", "(`HasString`)", "HasString"),
+            ("(`StringAt`)", "(`StringFrom`)", "StringFrom"),
             ("the output (`closed`, `kept`)", "the output (`closed`, `keeps`)", "keeps"),
         )
         for old, new, name in planted:

@@ -12,7 +12,7 @@ pub use Rattle.dwarf_read_core.specs.Leb128.{Kind, ReadsNoNumber}
 pub use Rattle.dwarf_read_core.specs.Headers.{AddressHeaderAt, StringOffsetsHeaderAt}
 pub use Rattle.dwarf_read_core.specs.Contributions.{Contribution, addresses_of, string_offsets_of}
 pub use Rattle.dwarf_read_core.proofs.public.Headers.{address_header-sizes, string_offsets_header-sizes}
-pub use Rattle.dwarf_read_core.specs.Strings.{HoldsString, StringAt}
+pub use Rattle.dwarf_read_core.specs.Strings.{StringAt}
 pub use Rattle.dwarf_read_core.specs.declared.Error.{Error}
 pub use Rattle.dwarf_fault.specs.Fault.{IsKnown, error_number, fault_of}
 pub use Rattle.dwarf_fault.specs.declared.DwarfFault.{DwarfFault}

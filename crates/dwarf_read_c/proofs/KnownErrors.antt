@@ -1,15 +1,15 @@
 -- The errors that a call for C can return have numbers of their own.
-use Rattle.dwarf_read_core.specs.declared.Error.TheVariants.{OutOfMemory, UnknownUnitType, UnknownVersion, UnsupportedSegmentSize}
+use Rattle.dwarf_read_core.specs.declared.Error.TheVariants.{OutOfMemory, UnknownUnitType, UnknownVersion, UnsupportedOffset, UnsupportedSegmentSize}
 use Rattle.dwarf_read_core.specs.declared.Format.{Format}
-use Rattle.std.specs.Prelude.{◌==◌, ◌&&◌, nat_le}
+use Rattle.std.specs.Prelude.{⊤, ◌==◌, ◌&&◌, nat_le}
 use Rattle.dwarf_read_core.specs.Format.{word_size}
 use Rattle.dwarf_read_core.specs.Answer.{Answers, IsFirstError}
 use Rattle.dwarf_read_core.specs.Headers.{AddressHeaderAt, Header, StringOffsetsHeaderAt, VersionRead}
 use Rattle.dwarf_read_core.specs.Readings.{AddressSizeRead, Choice, Given, Mapped, NumberRead, PartRead, Reading, Required, SkipRead, Then, Within, WordRead}
 use Rattle.dwarf_read_core.specs.InitialLength.{LengthAt}
 use Rattle.dwarf_read_core.specs.Contributions.{ContributionAtOffset, ContributionFrom}
-use Rattle.dwarf_read_core.specs.Strings.{string_past_end, string_unended}
-use Rattle.dwarf_read_core.specs.Words.{Slot, HasNoPlace, no_base, no_distance, no_place, WordAt, word_unplaced, word_cut, word_too_great, AddressAt, address_unplaced, address_unsized, address_cut}
+use Rattle.dwarf_read_core.specs.Lookups.{ReadAt}
+use Rattle.dwarf_read_core.specs.Words.{AddressAt, PlaceRead, Slot, WordAt, distance}
 use Rattle.dwarf_unit_core.specs.Fields.{before_5, from_5, own_fields, type_fields, unit_header}
 use Rattle.dwarf_read_c.specs.Units.{header_in, type_before_5}
 use Rattle.dwarf_read_c.proofs.Common.{◌≢◌, Bool, true, false, ℕ, List, Ok, Err, inl, inr, arith, Error, Input, Kind, StringAt, error_number, IsKnown, HasNoNumber}
@@ -17,32 +17,6 @@ use Rattle.dwarf_read_c.proofs.Common.{◌≢◌, Bool, true, false, ℕ, List, 
 -- the error of bytes that begin with no number has a number of its own
 pub known_number : {k : Kind} {bytes : List ℕ} {e : Error} → HasNoNumber k bytes e → IsKnown e
 known_number absent = grind arith
-
--- ---- lookups
-
--- the error of a lookup of a string has a number of its own
-pub known_string : (section : Input) (offset : ℕ) (e : Error) → StringAt section offset (Err e) → IsKnown e
-known_string section offset e (string_past_end past) = omega arith
-known_string section offset e (string_unended within none) = omega arith
-
--- the error for a slot without a place has a number of its own
-known_place : {greatest : ℕ} {section : Input} {s : Slot} {e : Error} → HasNoPlace greatest section s e → IsKnown e
-known_place (no_base past) = omega arith
-known_place (no_distance based over) = omega arith
-known_place (no_place based counted past) = omega arith
-
--- the error of a lookup of a word has a number of its own
-pub known_word : (greatest : ℕ) (s : Slot) (section : Input) (e : Error) → WordAt greatest section s (Err e) → IsKnown e
-known_word greatest s section e (word_unplaced absent) = known_place absent
-known_word greatest s section e (word_cut placed cut) = omega arith
-known_word greatest s section e (word_too_great x placed held over) = omega arith
-
--- the error of a lookup of an address has a number of its own
-pub known_address : (greatest : ℕ) (s : Slot) (section : Input) (e : Error) → AddressAt greatest section s (Err e)
-    → IsKnown e
-known_address greatest s section e (address_unplaced absent) = known_place absent
-known_address greatest s section e (address_unsized placed other) = omega arith
-known_address greatest s section e (address_cut placed size cut) = omega arith
 
 -- ---- readings
 
@@ -103,6 +77,34 @@ module _ {A B : Type 0} where
       | inr is ↦ (next is.0).known is.1 new e is.3
     ];
   }
+
+-- ---- lookups
+
+-- the error of a reading at a place has a number of its own
+known_at : {A : Type 0} {Place : Reading ⊤} {At : Reading A} {section : Input} {e : Error} → HasKnown Place
+    → HasKnown At → ReadAt Place At section (Err e) → IsKnown e
+known_at {section = section} {e} place read is = (known_then _ _ place (λ _. read)).known section is.new e is.read
+
+-- the error of a lookup of a string has a number of its own
+pub known_string : (section : Input) (offset : ℕ) (e : Error) → StringAt section offset (Err e) → IsKnown e
+known_string section offset e =
+    known_at (known_skip offset) (record { known = λ old new e lacks. rw lacks.0.fault (omega arith) })
+
+-- the error for a slot without a place has a number of its own
+known_place : (greatest : ℕ) (s : Slot) → HasKnown (PlaceRead greatest s)
+known_place greatest s =
+    known_then _ _ (known_skip s.base) (λ _.
+    known_then _ _ (known_required _ UnsupportedOffset (omega arith)) (λ _. known_skip (distance s)))
+
+-- the error of a lookup of a word has a number of its own
+pub known_word : (greatest : ℕ) (s : Slot) (section : Input) (e : Error) → WordAt greatest section s (Err e) → IsKnown e
+known_word greatest s section e = known_at (known_place greatest s) (known_offset greatest s.width)
+
+-- the error of a lookup of an address has a number of its own
+pub known_address : (greatest : ℕ) (s : Slot) (section : Input) (e : Error) → AddressAt greatest section s (Err e)
+    → IsKnown e
+known_address greatest s section e =
+    known_at (known_place greatest s) (record { known = λ old new e none. grind arith })
 
 -- ---- sets
 

@@ -4,12 +4,13 @@ use Rattle.dwarf_read_core.proofs.Common.{◌≡◌, ◌≢◌, ℕ, ◌+◌, �
 use Rattle.dwarf_base_core.specs.declared.common.Format.{Format}
 use Rattle.dwarf_base_core.specs.Format.{initial_length_size}
 use Rattle.dwarf_reader_core.specs.InitialLength.{HasLength}
-use Rattle.dwarf_reader_core.specs.Readings.{IsDecided, IsSettled}
+use Rattle.dwarf_reader_core.specs.Readings.{IsDecided}
 use Rattle.dwarf_reader_core.proofs.public.Readings.{initial_length-is, part-is, then-decided, value-is, within-decided}
 use Rattle.dwarf_reader_core.proofs.public.InitialLengths.{length_taken}
 use Rattle.dwarf_reader_core.specs.Headers.{Header, IsHeader}
 use Rattle.dwarf_read_core.specs.Items.{only_error}
 use Rattle.dwarf_read_core.specs.Contributions.{ContributionAt, ContributionRead, ReadsNoContribution, contribution_size}
+use Rattle.dwarf_read_core.proofs.lookups.Results.{not_eof}
 use Rattle.dwarf_read_core.proofs.contributions.ItemLists.{bytes-still_some, items-same, TakesLeast, items-exactly_one, items-bounded, item-first, error-first, first-is, items-none}
 
 -- as many bytes fewer remain as a contribution that is taken has
@@ -27,11 +28,6 @@ contributions_at offset rest = record { offset = offset; rest = rest }
 -- the contributions that remain after bytes of them are read
 abbrev after_read : ℕ → Input → Input → Remaining
 after_read offset old new = contributions_at (offset + (length old.bytes - length new.bytes)) new
-
--- a result that isn't an `UnexpectedEof` is settled
-pub not_eof : {A : Type 0} (r : Result A Error) → IfErr r IsNotEof → IsSettled r
-not_eof (Ok x) settled position same = absurd cc
-not_eof (Err e) settled position same = settled position (let fault = same in cc)
 
 -- ---- the parts of a contribution
 

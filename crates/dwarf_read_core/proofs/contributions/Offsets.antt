@@ -4,7 +4,8 @@ use Rattle.dwarf_reader_core.specs.Headers.{Header, IsHeader}
 use Rattle.dwarf_reader_core.specs.Readings.{IsDecided}
 use Rattle.dwarf_reader_core.proofs.public.Readings.{skip-is, then-decided}
 use Rattle.dwarf_read_core.specs.Contributions.{ContributionAtOffset, ContributionFrom, ContributionRead, ReadsNoContribution, contribution_size}
-use Rattle.dwarf_read_core.proofs.contributions.Contributions.{contribution-decided, contribution_takes, not_eof}
+use Rattle.dwarf_read_core.proofs.contributions.Contributions.{contribution-decided, contribution_takes}
+use Rattle.dwarf_read_core.proofs.lookups.Results.{not_eof}
 
 module _ {H : Type 0} {header : Header H} (is_header : IsHeader header) (greatest : ℕ) where
   -- the bytes of a section decide the contribution at an offset

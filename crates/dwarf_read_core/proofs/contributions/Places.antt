@@ -2,20 +2,24 @@
 use Rattle.dwarf_reader_core.proofs.public.Consuming.{after-after, after-zero}
 use Rattle.dwarf_reader_core.proofs.public.InitialLengths.{length_taken}
 use Rattle.dwarf_read_core.proofs.contributions.Contributions.{contribution_parts, contribution_takes}
-use Rattle.dwarf_read_core.proofs.Common.{common_steps, ◌≡◌, ◌∙◌, ℕ, zero, suc, ◌+◌, ◌-◌, ◌≤◌, List, length, take, drop, Some, Result, Ok, sym, ap, subst, arith, Error, Input, Takes, after, first, rest-length, Contribution, Remaining}
+use Rattle.dwarf_read_core.proofs.Common.{refl, length-drop, ◌≡◌, ◌∙◌, ℕ, zero, suc, ◌+◌, ◌-◌, ◌≤◌, List, length, Some, Result, Ok, sym, ap, subst, arith, Error, Input, Takes, after, first, rest-length, takes-both, Contribution, Remaining}
 use Rattle.std.specs.Prelude.{slice_get}
 use Rattle.std.proofs.Math.Nat.{add-zero}
-use Rattle.std.proofs.lemmas.List.{drop-drop, drop-take, length-take}
+use Rattle.std.proofs.lemmas.List.{length-take}
 use Rattle.dwarf_base_core.specs.Format.{initial_length_size}
 use Rattle.dwarf_reader_core.specs.Headers.{Header, IsHeader}
 use Rattle.dwarf_read_core.specs.Items.{AreItems, no_items, value_first, only_error}
-use Rattle.dwarf_read_core.specs.Ranges.{HoldsRange}
+use Rattle.dwarf_read_core.specs.Ranges.{RangeAt}
+use Rattle.dwarf_read_core.proofs.lookups.Ranges.{after-first, range_taken}
+use Rattle.dwarf_read_core.proofs.lookups.Results.{read_at-reached}
 use Rattle.dwarf_read_core.specs.Contributions.{ContributionAt, ContributionRead, RepresentsContributions, contribution_size, end_of_remaining}
 
 -- a part of what remains after k bytes is a part of all, k bytes later
-range_after : {k offset n : ℕ} {rest part : Input} → k ≤ length rest.bytes → HoldsRange (after k rest) offset n part
-    → HoldsRange rest (k + offset) n part
-range_after {k} {offset} {n} {rest} {part} enough held = grind (arith, common_steps, drop-drop)
+range_after : {k offset n : ℕ} {rest part : Input} → k ≤ length rest.bytes → RangeAt (after k rest) offset n (Ok part)
+    → RangeAt rest (k + offset) n (Ok part)
+range_after {k} {rest = rest} {part} enough at =
+    let passed : Takes k rest (after k rest) = record { enough = enough; left = refl } in
+    read_at-reached at.read.1 at.new (Ok part) (takes-both passed at.read.2) at.read.3
 
 -- the contributions that remain when some bytes are passed
 abbrev placed : Remaining → ℕ → Remaining
@@ -39,7 +43,7 @@ record IsDivided {H : Type 0} (rest : Input) (s : Contribution H) : Type 0 where
   of_header : ℕ
   of_entries : ℕ
   both : s.unit_length ≡ of_header + of_entries
-  range : HoldsRange rest (initial_length_size s.format + of_header) of_entries s.entries
+  range : RangeAt rest (initial_length_size s.format + of_header) of_entries (Ok s.entries)
 
 module _ {H : Type 0} {header : Header H} (is_header : IsHeader header) (greatest : ℕ) where
   -- the contributions that remain begin with this one
@@ -57,23 +61,21 @@ module _ {H : Type 0} {header : Header H} (is_header : IsHeader header) (greates
       let said = subst (λ i. header greatest s.format (first s.unit_length i) (Ok s.header, s.entries))
       (length_taken parts.measured).left parts.said in
       let taken = (is_header greatest s.format).decided.taken _ _ _ said in
-      let bytes = drop front rest.bytes in
+      let inside = after front rest in
       let k = taken.0 in
       let n = s.unit_length - k in
-      let long = length-take s.unit_length bytes in
+      let long = length-take s.unit_length inside.bytes in
       let left = taken.1.left in
       let whole : k + n ≡ s.unit_length = omega (arith, taken.1.enough, long) in
       record {
         of_header = k;
         of_entries = n;
         both = sym whole;
-        range = record {
-          within = omega (arith, whole_takes.enough, whole);
-          content = ap (λ (i : Input). i.bytes) left ∙ ap (λ m. drop k (take m bytes)) (sym whole)
-              ∙ drop-take k n bytes ∙ ap (take n) (drop-drop k front rest.bytes);
-          start = omega (arith, ap (λ (i : Input). i.position) left);
-          order = ap (λ (i : Input). i.is_big) left;
-        };
+        range = range_taken (after (front + k) rest)
+            (record { enough = omega (arith, whole_takes.enough, whole); left = refl })
+            (omega (arith, whole_takes.enough, whole, length-drop (front + k) rest.bytes))
+            (left ∙ ap (λ m. after k (first m inside)) (sym whole) ∙ after-first k n inside
+            ∙ ap (first n) (after-after k front rest));
       }
 
   -- a contribution of a list is at the front of what remains when some bytes are passed
@@ -107,7 +109,7 @@ module _ {H : Type 0} {header : Header H} (is_header : IsHeader header) (greates
       → (far of_header of_entries : ℕ) × (s.offset ≡ remaining.offset + far)
       × BeginsWith (record { offset = s.offset; rest = after far remaining.rest }) s
       × (s.unit_length ≡ of_header + of_entries)
-      × HoldsRange remaining.rest (far + initial_length_size s.format + of_header) of_entries s.entries
+      × RangeAt remaining.rest (far + initial_length_size s.format + of_header) of_entries (Ok s.entries)
   contribution_placed remaining items index s are is =
       let found = contribution_passed index are is in
       let far = found.0 in
@@ -123,5 +125,5 @@ module _ {H : Type 0} {header : Header H} (is_header : IsHeader header) (greates
         here,
         subst (λ offset. BeginsWith (record { offset = offset; rest = after far remaining.rest }) s) (sym here) begins,
         parts.both,
-        subst (λ n. HoldsRange remaining.rest n parts.of_entries s.entries) place (range_after found.1 parts.range),
+        subst (λ n. RangeAt remaining.rest n parts.of_entries (Ok s.entries)) place (range_after found.1 parts.range),
       )

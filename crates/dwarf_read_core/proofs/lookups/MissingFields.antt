@@ -1,13 +1,27 @@
 -- Each `UnexpectedEof` is that of the first of consecutive fields that isn't there whole.
-use Rattle.dwarf_read_core.proofs.Common.{◌≡◌, ℕ, ◌+◌, ◌-◌, ◌<◌, ◌≤◌, true, [], ◌∷◌, length, Err, refl, sym, arith, inl, inr, eof, is_number_size, Error, Input, Answer}
+use Rattle.dwarf_read_core.proofs.Common.{◌≡◌, ℕ, ◌+◌, ◌-◌, ◌<◌, ◌≤◌, true, [], ◌∷◌, List, length, Ok, Err, refl, subst, arith, inl, inr, eof, is_number_size, Error, Input, IsTooShort, Answer, rest-length}
 use Rattle.dwarf_reader_core.specs.Faults.{IsCutIn}
-use Rattle.dwarf_reader_core.proofs.public.MissingFields.{cut_here, cut_second, cut_third}
-use Rattle.dwarf_reader_core.proofs.public.MissingFields.{eof-same}
-use Rattle.dwarf_read_core.specs.Ranges.{RangeAt, range_cut, range_past_end}
-use Rattle.dwarf_read_core.specs.Strings.{StringAt, string_past_end, string_unended}
-use Rattle.dwarf_read_core.specs.Words.{AddressAt, HasNoAddress, HasNoPlace, HasNoWord, IsPlaced, Slot, WordAt, address_cut, address_unplaced, address_unsized, distance, no_base, no_distance, no_place, slot_offset, word_cut, word_too_great, word_unplaced}
-use Rattle.dwarf_read_core.proofs.lookups.Ranges.{range_ends_early, range_outside}
+use Rattle.dwarf_reader_core.specs.Readings.{Reading}
+use Rattle.dwarf_reader_core.proofs.public.MissingFields.{cut_here, cut_third}
+use Rattle.dwarf_read_core.specs.Lookups.{ReadAt}
+use Rattle.dwarf_read_core.specs.Ranges.{RangeAt}
+use Rattle.dwarf_read_core.specs.Strings.{StringAt}
+use Rattle.dwarf_read_core.specs.Words.{AddressAt, PlaceRead, Slot, WordAt, distance, slot_offset}
+use Rattle.dwarf_read_core.proofs.lookups.Results.{read_at-missed, read_at-reached}
+use Rattle.dwarf_read_core.proofs.lookups.Words.{distance-counted, place_parts}
 use Rattle.dwarf_read_core.proofs.tables.EndFaults.{at_start, at_end, eof_ends}
+
+-- ---- fields
+
+-- an input is shorter than three fields of which one is cut
+pub cut-short : (input : Input) (e : Error) (one two three : ℕ) → IsCutIn input (one ∷ two ∷ three ∷ []) e
+    → length input.bytes < one + two + three
+cut-short input e one two three (inl short) = omega (arith, short.short)
+cut-short input e one two three (inr (rest, takes, inl short)) =
+    omega (arith, short.short, rest-length one input rest takes)
+cut-short input e one two three (inr (rest, takes, inr (left, more, inl short))) =
+    omega (arith, short.short, rest-length one input rest takes, rest-length two rest left more)
+cut-short input e one two three (inr (rest, takes, inr (left, more, inr cut))) = absurd cut.2
 
 -- ---- tables
 
@@ -24,109 +38,91 @@ table_cut section offset position is =
 
 -- ---- strings and ranges
 
+-- missing bytes are those of the field there
+cut_there : {size : ℕ} {input new : Input} {e : Error} (sizes : List ℕ) → IsTooShort size input e new
+    → IsCutIn input (size ∷ sizes) e
+cut_there sizes short = inl (record { short = short.short; fault = short.fault; left = refl })
+
 -- a string is cut in its offset, or needs more bytes than there are
 pub string_cut : (section : Input) (offset : ℕ) (e : Error) → StringAt section offset (Err e)
     → IsCutIn section (offset ∷ (length section.bytes + 1) ∷ []) e
-string_cut section offset _ (string_past_end past) =
-    cut_here section offset ((length section.bytes + 1) ∷ []) section.position past refl
-string_cut section offset _ (string_unended within none) =
-    cut_second section offset (length section.bytes + 1) [] (section.position + offset) within (omega arith) refl
+string_cut section offset e is = elim is.read [
+  | inl short ↦ cut_there ((length section.bytes + 1) ∷ []) short
+  | inr (_, rest, takes, none) ↦
+      let short : length rest.bytes < length section.bytes + 1 =
+      omega (arith, rest-length offset section rest takes) in
+      inr (rest, takes, inl (record { short = short; fault = none.0.fault; left = refl }))
+]
 
 -- a range is cut in its offset or in its size
 pub range_cut_in : (section : Input) (offset size : ℕ) (e : Error) → RangeAt section offset size (Err e)
     → IsCutIn section (offset ∷ size ∷ []) e
-range_cut_in section offset size _ (range_past_end past) =
-    cut_here section offset (size ∷ []) section.position past refl
-range_cut_in section offset size _ (range_cut within cut) =
-    cut_second section offset size [] (section.position + offset) within cut refl
+range_cut_in section offset size e is = elim is.read [
+  | inl short ↦ cut_there (size ∷ []) short
+  | inr (_, rest, takes, short) ↦ inr (rest, takes, cut_there [] short)
+]
 
 -- and one that is cut there isn't in the section
 pub cut_range : (section : Input) (offset size : ℕ) (e : Error) → IsCutIn section (offset ∷ size ∷ []) e
     → RangeAt section offset size (Err e)
-cut_range section offset size e (inl short) = range_outside section offset size e section short
-cut_range section offset size e (inr (rest, takes, inl short)) =
-    range_ends_early section offset size rest e rest takes short
+cut_range section offset size e (inl short) = read_at-missed section short
+cut_range section offset size e (inr (rest, takes, inl short)) = read_at-reached rest rest (Err e) takes short
 cut_range section offset size e (inr (rest, takes, inr (more, taken, none))) = absurd none
 
 -- ---- words and addresses
 
 module _ (greatest : ℕ) (section : Input) (s : Slot) where
-  -- a slot is cut in its base or in its distance
-  place_cut : {e : Error} → HasNoPlace greatest section s e → (position : ℕ) → e ≡ eof position
-      → IsCutIn section (s.base ∷ distance s ∷ s.width ∷ []) (eof position)
-  place_cut (no_base past) position same =
-      cut_here section s.base (distance s ∷ s.width ∷ []) position past (sym (eof-same same))
-  place_cut (no_distance based over) position same = absurd (grind arith)
-  place_cut (no_place based counted past) position same =
-      cut_second section s.base (distance s) (s.width ∷ []) position based past (sym (eof-same same))
+  -- a slot is cut in its base or in its distance, which is then an offset
+  place_cut : {new : Input} {position : ℕ} (sizes : List ℕ) → PlaceRead greatest s section (Err (eof position), new)
+      → IsCutIn section (s.base ∷ distance s ∷ sizes) (eof position)
+      × (s.base ≤ length section.bytes → distance s ≤ greatest)
+  place_cut sizes (inl short) = (cut_there (distance s ∷ sizes) short, λ based. absurd (omega (arith, short.short)))
+  place_cut sizes (inr (_, rest, takes, inl over)) = absurd (grind arith)
+  place_cut {position = position} sizes (inr (_, rest, takes, inr (_, mid, passed, short))) =
+      let counted = distance-counted greatest s passed in
+      let there = subst (λ i. IsCutIn i (distance s ∷ sizes) (eof position)) counted.1 (cut_there sizes short) in
+      (inr (rest, takes, there), λ based. counted.0)
 
-  -- or in its width, if it has a place
-  width_cut : (position : ℕ) → IsPlaced greatest section s → length section.bytes < slot_offset s + s.width
-      → eof (section.position + slot_offset s) ≡ eof position
-      → IsCutIn section (s.base ∷ distance s ∷ s.width ∷ []) (eof position)
-  width_cut position placed cut same =
-      cut_third section s.base (distance s) s.width [] position placed.within cut (sym (eof-same same))
+  -- what is cut at its place is cut after base and distance
+  cut_at_place : {rest : Input} {e : Error} (sizes : List ℕ) → PlaceRead greatest s section (Ok tt, rest)
+      → IsCutIn rest sizes e → IsCutIn section (s.base ∷ distance s ∷ sizes) e
+  cut_at_place {rest} sizes place cut =
+      let parts = place_parts greatest s place in
+      inr (parts.0, parts.1, inr (rest, parts.3, cut))
 
-  word_cut_in : {e : Error} → HasNoWord greatest section s e → (position : ℕ) → e ≡ eof position
-      → IsCutIn section (s.base ∷ distance s ∷ s.width ∷ []) (eof position)
-  word_cut_in (word_unplaced none) position same = place_cut none position same
-  word_cut_in (word_cut placed cut) position same = width_cut position placed cut same
-  word_cut_in (word_too_great x placed held over) position same = absurd (grind arith)
-
-  address_cut_in : {e : Error} → HasNoAddress greatest section s e → (position : ℕ) → e ≡ eof position
-      → IsCutIn section (s.base ∷ distance s ∷ s.width ∷ []) (eof position)
-  address_cut_in (address_unplaced none) position same = place_cut none position same
-  address_cut_in (address_unsized placed other) position same = absurd (grind arith)
-  address_cut_in (address_cut placed sized cut) position same = width_cut position placed cut same
-
-  -- where the bytes of a word and an address are cut
+  -- where the bytes of a word are cut
   pub word_is_cut : (position : ℕ) → WordAt greatest section s (Err (eof position))
       → IsCutIn section (s.base ∷ distance s ∷ s.width ∷ []) (eof position)
-  word_is_cut position is = word_cut_in is position refl
+  word_is_cut position is = elim is.read [
+    | inl none ↦ (place_cut (s.width ∷ []) none).0
+    | inr (_, rest, place, inl short) ↦ cut_at_place (s.width ∷ []) place (cut_there [] short)
+    | inr (_, rest, place, inr over) ↦ absurd (let fault = over.fault in grind arith)
+  ]
 
+  -- and those of an address
   pub address_is_cut : (position : ℕ) → AddressAt greatest section s (Err (eof position))
       → IsCutIn section (s.base ∷ distance s ∷ s.width ∷ []) (eof position)
-  address_is_cut position is = address_cut_in is position refl
+  address_is_cut position is = elim is.read [
+    | inl none ↦ (place_cut (s.width ∷ []) none).0
+    | inr (_, rest, place, inl other) ↦ absurd (let fault = other.fault in grind arith)
+    | inr (_, rest, place, inr short) ↦ cut_at_place (s.width ∷ []) place (cut_there [] short.1)
+  ]
 
--- ---- errors that need no bytes
+  -- ---- errors that need no bytes
 
-module _ (greatest : ℕ) (section : Input) (s : Slot) where
-  -- bytes of a slot are missing only if its distance is an offset
-  place_counted : {e : Error} → HasNoPlace greatest section s e → (position : ℕ) → e ≡ eof position
+  -- bytes at a slot are missing only if its distance is an offset
+  pub slot_counted : (At : Reading ℕ) (position : ℕ) → ReadAt (PlaceRead greatest s) At section (Err (eof position))
       → s.base ≤ length section.bytes → distance s ≤ greatest
-  place_counted (no_base past) position same based = absurd (omega (arith, past, based))
-  place_counted (no_distance at over) position same based = absurd (grind arith)
-  place_counted (no_place at counted past) position same based = counted
-
-  word_counted_if : {e : Error} → HasNoWord greatest section s e → (position : ℕ) → e ≡ eof position
-      → s.base ≤ length section.bytes → distance s ≤ greatest
-  word_counted_if (word_unplaced none) position same based = place_counted none position same based
-  word_counted_if (word_cut placed cut) position same based = placed.counted
-  word_counted_if (word_too_great x placed held over) position same based = absurd (grind arith)
-
-  address_counted_if : {e : Error} → HasNoAddress greatest section s e → (position : ℕ) → e ≡ eof position
-      → s.base ≤ length section.bytes → distance s ≤ greatest
-  address_counted_if (address_unplaced none) position same based = place_counted none position same based
-  address_counted_if (address_unsized placed other) position same based = placed.counted
-  address_counted_if (address_cut placed sized cut) position same based = placed.counted
+  slot_counted At position is = elim is.read [
+    | inl none ↦ (place_cut [] none).1
+    | inr (_, rest, place, error) ↦ λ based. (place_parts greatest s place).2
+  ]
 
   -- and those of an address only if its width is a size of addresses
-  address_sized_if : {e : Error} → HasNoAddress greatest section s e → (position : ℕ) → e ≡ eof position
-      → slot_offset s ≤ length section.bytes → is_number_size s.width ≡ true
-  address_sized_if (address_unplaced (no_base past)) position same within = absurd (omega (arith, past, within))
-  address_sized_if (address_unplaced (no_distance at over)) position same within = absurd (grind arith)
-  address_sized_if (address_unplaced (no_place at counted past)) position same within = absurd (omega (arith, past, within))
-  address_sized_if (address_unsized placed other) position same within = absurd (grind arith)
-  address_sized_if (address_cut placed sized cut) position same within = sized
-
-  pub word_counted : (position : ℕ) → WordAt greatest section s (Err (eof position)) → s.base ≤ length section.bytes
-      → distance s ≤ greatest
-  word_counted position is = word_counted_if is position refl
-
-  pub address_counted : (position : ℕ) → AddressAt greatest section s (Err (eof position))
-      → s.base ≤ length section.bytes → distance s ≤ greatest
-  address_counted position is = address_counted_if is position refl
-
   pub address_sized : (position : ℕ) → AddressAt greatest section s (Err (eof position))
       → slot_offset s ≤ length section.bytes → is_number_size s.width ≡ true
-  address_sized position is = address_sized_if is position refl
+  address_sized position is within = elim is.read [
+    | inl none ↦ absurd (omega (arith, cut-short section (eof position) s.base (distance s) 0 (place_cut (0 ∷ []) none).0, within))
+    | inr (_, rest, place, inl other) ↦ absurd (let fault = other.fault in grind arith)
+    | inr (_, rest, place, inr short) ↦ short.0
+  ]

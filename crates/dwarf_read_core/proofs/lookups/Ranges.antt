@@ -1,36 +1,36 @@
--- The part that a reader reads after an offset is the section's part there, and a section has one result there.
-use Rattle.dwarf_read_core.proofs.Common.{common_steps, ◌≡◌, arith, ℕ, ◌+◌, ◌<◌, ◌≤◌, length, Ok, Err, refl, Error, eof_here, IsTooShort, Input, after, first, Takes, HasOne, rest-length}
-use Rattle.dwarf_reader_core.proofs.public.Once.{one_unless}
-use Rattle.dwarf_read_core.specs.Ranges.{HasNoRange, HoldsRange, RangeAt, range_cut, range_past_end}
+-- A range is the first bytes after an offset, and a section has one result there.
+use Rattle.dwarf_read_core.proofs.Common.{◌≡◌, ◌∙◌, refl, sym, ◌+◌, ◌-◌, ◌≤◌, ℕ, List, length, Ok, ap, arith, followed_by, Input, first, after, Takes, HasOne, drop}
+use Rattle.std.proofs.lemmas.List.{drop-take, take-take}
+use Rattle.dwarf_reader_core.proofs.public.Readings.{part-is, skip-is}
+use Rattle.dwarf_read_core.proofs.lookups.Results.{read_at-exactly_one, read_at-more, read_at-reached}
+use Rattle.dwarf_read_core.specs.Ranges.{RangeAt}
 
 -- the first bytes after an offset are the range there, if the section has as many
-pub range_taken : (section : Input) (offset size : ℕ) (rest part : Input) → Takes offset section rest
-    → size ≤ length rest.bytes → part ≡ first size rest → HoldsRange section offset size part
-range_taken section offset size rest part takes enough is = grind (arith, common_steps, rest-length)
+pub range_taken : {section part : Input} {offset size : ℕ} (rest : Input) → Takes offset section rest
+    → size ≤ length rest.bytes → part ≡ first size rest → RangeAt section offset size (Ok part)
+range_taken {part = part} {size = size} rest takes enough is =
+    read_at-reached rest (after size rest) (Ok part) takes (is, record { enough = enough; left = refl })
 
--- a range is an `UnexpectedEof` if fewer bytes than its size remain after its offset
-pub range_ends_early : (section : Input) (offset size : ℕ) (rest : Input) (e : Error) (new : Input)
-    → Takes offset section rest → IsTooShort size rest e new → HasNoRange section offset size e
-range_ends_early section offset size rest e new takes short =
-    let long = rest-length offset section rest takes in
-    let over : length section.bytes < offset + size = omega (arith, takes.enough, short.short, long) in
-    rw (short.fault, takes.left) (range_cut takes.enough over)
+-- what remains of the first bytes after some of them are the first of those that remain
+pub after-first : (k n : ℕ) (input : Input) → after k (first (k + n) input) ≡ first n (after k input)
+after-first k n input = ap (λ (l : List ℕ). let i : Input = record (after k input) { bytes = l } in i) (drop-take k n input.bytes)
 
--- a range is an `UnexpectedEof` if the section ends before its offset
-pub range_outside : (section : Input) (offset size : ℕ) (e : Error) (new : Input) → IsTooShort offset section e new
-    → HasNoRange section offset size e
-range_outside section offset size e new short = rw short.fault (range_past_end short.short)
-
--- ---- exactly one result
+-- the first bytes after some of the first bytes are those after as many of all
+pub first-nested : (at n size : ℕ) (input : Input) → at + n ≤ size
+    → first n (after at (first size input)) ≡ first n (after at input)
+first-nested at n size input fits =
+    let m = size - at in
+    let whole : at + m ≡ size = omega (arith, fits) in
+    let shorter = take-take n m (drop at input.bytes) (omega (arith, fits)) in
+    ap (λ k. first n (after at (first k input))) (sym whole) ∙ ap (first n) (after-first at m input)
+    ∙ ap (λ (l : List ℕ). let i : Input = record (after at input) { bytes = l } in i) shorter
 
 -- a section has exactly one part or error at an offset
 pub ranges_exactly_one : (section : Input) (offset size : ℕ) → HasOne (RangeAt section offset size)
-ranges_exactly_one section offset size =
-    one_unless (length section.bytes) offset (Err (eof_here section)) range_past_end (λ past other is. grind arith)
-    (λ within.
-    one_unless (length section.bytes) (offset + size) (Err (eof_here (after offset section))) (range_cut within)
-    (λ cut other is. grind arith) (λ enough. (
-      Ok (first size (after offset section)),
-      record { within = enough; content = refl; start = refl; order = refl },
-      λ other is. grind arith,
-    )))
+ranges_exactly_one section offset size = read_at-exactly_one (skip-is offset).decided (part-is size).decided section
+
+-- a part of a section is still there when more bytes follow
+pub range_more : (section : Input) (offset size : ℕ) (part : Input) (more : List ℕ)
+    → RangeAt section offset size (Ok part) → RangeAt (followed_by section more) offset size (Ok part)
+range_more section offset size part more is =
+    read_at-more (skip-is offset).decided (part-is size).decided section (Ok part) more is tt

@@ -1,9 +1,13 @@
--- What a lookup returned: the error that `?` propagates, and what stays when bytes are appended.
-use Rattle.dwarf_read_core.proofs.Common.{common_steps, ◌++◌, ℕ, List, Result, Ok, Err, Bool, IfErr, arith, sym, subst, ◌≡◌, inl, inr, drop-append-le, take-append-le, followed_by, Error, IsNotEof, Input, ◌⊎◌, UnlessCloneRanOut, Stays}
+-- What is read at a place of a section: exactly one result, which stays when bytes are appended; and what a lookup
+-- returned of it.
+use Rattle.dwarf_read_core.proofs.Common.{ℕ, List, Result, Ok, Err, Bool, IfErr, ap, sym, subst, ◌≡◌, inl, inr, followed_by, Error, HasOne, IsNotEof, Input, ◌⊎◌, UnlessCloneRanOut, Stays}
+use Rattle.std.specs.Prelude.{⊤}
 use Rattle.std.proofs.Common.{IsErrAnd}
-use Rattle.std.proofs.lemmas.List.{get_or_append_left}
-use Rattle.dwarf_reader_core.specs.Input.{IsFirst}
-use Rattle.dwarf_read_core.specs.Ranges.{HoldsRange}
+use Rattle.dwarf_reader_core.specs.Readings.{IsDecided, IsSettled, Reading, Then}
+use Rattle.dwarf_reader_core.proofs.public.Readings.{then-decided}
+use Rattle.dwarf_read_core.specs.Lookups.{ReadAt}
+
+-- ---- what a lookup returned
 
 -- an error that `?` propagates is the result of the lookup
 pub result-propagated : {X A : Type 0} {Is : Result A Error → Type 0} {view : X → A} {clone_is_free : Bool}
@@ -32,12 +36,47 @@ lookup-stays IsIn kept {r = Err e} is =
       };
     }
 
--- a part of a section is still there when more bytes follow
-pub range_more : (section : Input) (offset size : ℕ) (part : Input) (more : List ℕ)
-    → HoldsRange section offset size part → HoldsRange (followed_by section more) offset size part
-range_more section offset size part more held = grind (arith, common_steps, drop-append-le, take-append-le)
+-- ---- what is read at a place
 
--- the first byte with a value is still the first when more bytes follow
-pub first_more : (byte : ℕ) (bytes more : List ℕ) (index : ℕ) → IsFirst byte bytes index
-    → IsFirst byte (bytes ++ more) index
-first_more byte bytes more index is = grind (arith, common_steps, take-append-le, get_or_append_left)
+-- a result that isn't an `UnexpectedEof` is settled
+pub not_eof : {A : Type 0} (r : Result A Error) → IfErr r IsNotEof → IsSettled r
+not_eof (Ok x) settled position same = absurd cc
+not_eof (Err e) settled position same = settled position (let fault = same in cc)
+
+module _ {A : Type 0} {Place : Reading ⊤} {At : Reading A} where
+  -- the error of going to a place is the result there
+  pub read_at-missed : {section : Input} {e : Error} (new : Input) → Place section (Err e, new)
+      → ReadAt Place At section (Err e)
+  read_at-missed new missed = record { new = new; read = inl missed }
+
+  -- what is read once a place is reached is the result there
+  pub read_at-reached : {section : Input} (mid new : Input) (r : Result A Error) → Place section (Ok tt, mid)
+      → At mid (r, new) → ReadAt Place At section r
+  read_at-reached mid new (Ok x) reached at = record { new = new; read = (tt, mid, reached, at) }
+  read_at-reached mid new (Err e) reached at = record { new = new; read = inr (tt, mid, reached, at) }
+
+  module _ (place : IsDecided Place) (read : IsDecided At) where
+    -- the bytes of a section decide what is read at a place
+    read_from-decided : IsDecided (Then Place (λ _. At))
+    read_from-decided = then-decided place (λ _. read)
+
+    -- a section has exactly one result at a place
+    pub read_at-exactly_one : (section : Input) → HasOne (ReadAt Place At section)
+    read_at-exactly_one section =
+        let one = read_from-decided.one section in
+        (one.0.0, record { new = one.0.1; read = one.1 }, λ other is. ap (λ r. r.0) (one.2 (other, is.new) is.read))
+
+    -- the result at a place, unless it is an `UnexpectedEof`, stays when bytes are appended
+    pub read_at-more : (section : Input) (r : Result A Error) (more : List ℕ) → ReadAt Place At section r
+        → IfErr r IsNotEof → ReadAt Place At (followed_by section more) r
+    read_at-more section r more at settled = record {
+      new = followed_by at.new more;
+      read = read_from-decided.more section at.new r more at.read (not_eof r settled);
+    }
+
+    -- what a lookup returned, except `UnexpectedEof` and `OutOfMemory`, stays when bytes are appended
+    pub read_at-stays : {X : Type 0} {section : Input} {view : X → A} {clone_is_free : Bool} {r : Result X Error}
+        → UnlessCloneRanOut (ReadAt Place At section) view clone_is_free r
+        → Stays (ReadAt Place At) view clone_is_free section r
+    read_at-stays {section = section} =
+        lookup-stays (ReadAt Place At) (λ more answer. read_at-more section answer more)

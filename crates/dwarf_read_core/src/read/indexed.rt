@@ -1,10 +1,10 @@
 //! Lookups of numbers of one width, by an index counted from a base.
 
-ghost use Rattle.std.specs.Prelude.{◌+◌, ◌*◌, OnOk, IfErr};
+ghost use Rattle.std.specs.Prelude.{◌+◌, ◌*◌};
 ghost use Rattle.dwarf_base_core.specs.Checked.{OkBelow};
 ghost use Rattle.dwarf_base_core.specs.Format.{word_size};
-ghost use Rattle.dwarf_reader_core.specs.Input.{Takes};
-ghost use Rattle.dwarf_read_core.specs.Words.{slot, slot_offset, HasNoPlace, IsPlaced};
+ghost use Rattle.dwarf_reader_core.specs.Readings.{Reads};
+ghost use Rattle.dwarf_read_core.specs.Words.{PlaceRead, slot};
 
 use dwarf_base_core::{Error, Format, ReaderOffset, Result};
 use dwarf_reader_core::Reader;
@@ -37,16 +37,9 @@ pub(crate) fn skip_to_index<R: Reader>(
     index: R::Offset,
     width: u8,
 ) -> Result<()>
-    ensures placed { OnOk result
-        (IsPlaced R.Offset.GREATEST (R.view input.old)
-        (slot (R.Offset.value base) (R.Offset.value index) width)) }
-    ensures ok { OnOk result
-        (Takes (slot_offset (slot (R.Offset.value base) (R.Offset.value index) width))
-        (R.view input.old)
-        (R.view input.new)) }
-    ensures err { IfErr result
-        (HasNoPlace R.Offset.GREATEST (R.view input.old)
-        (slot (R.Offset.value base) (R.Offset.value index) width)) }
+    ensures { Reads (PlaceRead R.Offset.GREATEST
+        (slot (R.Offset.value base) (R.Offset.value index) width))
+        (λ _. tt) (R.view input.old) result (R.view input.new) }
 {
     input.skip(base)?;
     input.skip(length_before(index, width)?)
@@ -67,15 +60,9 @@ pub(crate) fn skip_to_word<R: Reader>(
     index: R::Offset,
     format: Format,
 ) -> Result<()>
-    ensures placed { OnOk result
-        (IsPlaced R.Offset.GREATEST (R.view input.old)
-        (slot (R.Offset.value base) (R.Offset.value index) (word_size format))) }
-    ensures ok { OnOk result
-        (Takes (slot_offset (slot (R.Offset.value base) (R.Offset.value index) (word_size format)))
-        (R.view input.old) (R.view input.new)) }
-    ensures err { IfErr result
-        (HasNoPlace R.Offset.GREATEST (R.view input.old)
-        (slot (R.Offset.value base) (R.Offset.value index) (word_size format))) }
+    ensures { Reads (PlaceRead R.Offset.GREATEST
+        (slot (R.Offset.value base) (R.Offset.value index) (word_size format)))
+        (λ _. tt) (R.view input.old) result (R.view input.new) }
 {
     input.skip(base)?;
     let width = format.word_size();

@@ -153,7 +153,6 @@ impl<R: Reader> DebugStrOffsets<R> {
     /// - `UnsupportedOffset` if the entry doesn't fit the offset type.
     ///
     /// `OutOfMemory` if a clone of the reader runs out of memory.
-    #[tactic(auto, using(crate::proofs::lookups::Words::word_steps))]
     pub fn get_str_offset(
         &self,
         format: Format,

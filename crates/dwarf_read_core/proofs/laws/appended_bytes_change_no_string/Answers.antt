@@ -4,7 +4,4 @@ use Rattle.dwarf_read_core.proofs.laws.appended_bytes_change_no_string.Goals as 
 
 pub returns : goal.returns
 returns c =
-    record {
-      stable = λ section offset found more. string_more section offset found more;
-      changed = λ section offset e is. string_error_changes section offset is;
-    }
+    record { stable = string_more; changed = string_error_changes }

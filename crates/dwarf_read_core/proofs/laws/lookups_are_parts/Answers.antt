@@ -6,6 +6,6 @@ returns c = record {
   whole = range_whole;
   nested = range_nested;
   string = string_part;
-  word = λ greatest section s x has. number_part has.held;
-  address = λ greatest section s x has. number_part has.held;
+  word = λ greatest section s x has. number_part greatest s has.read.2 has.read.3.0;
+  address = λ greatest section s x has. number_part greatest s has.read.2 has.read.3.0;
 }

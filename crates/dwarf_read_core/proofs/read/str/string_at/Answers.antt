@@ -1,5 +1,5 @@
-use Rattle.dwarf_read_core.proofs.lookups.Results.{result-propagated}
-use Rattle.dwarf_read_core.proofs.lookups.Strings.{string-read, string_outside}
+use Rattle.dwarf_read_core.proofs.lookups.Results.{read_at-missed, result-propagated}
+use Rattle.dwarf_read_core.proofs.lookups.Strings.{string-read}
 use Rattle.dwarf_read_core.proofs.read.str.string_at.Goals as goal
 
 pub returns-clause-answer : goal.returns-clause-answer
@@ -10,4 +10,4 @@ returns-clause-answer g c =
 pub returns-in_err-skip-clause-answer : goal.returns-in_err-skip-clause-answer
 returns-in_err-skip-clause-answer g c =
     result-propagated _ c.from_residual-in_err-skip.ensures.1
-    (string_outside _ _ _ _ (rw c.in_ok-input.ensures.ok at c.in_err-skip.ensures.err))
+    (read_at-missed _ (rw c.in_ok-input.ensures.ok at c.in_err-skip.ensures.err))
