@@ -4,7 +4,7 @@
  * Generated, so edit nothing here: `tools/assembler` of the repository makes this file of its sources, and compares it.
  *
  * Kit: rattle-kit-13f logic dac8208d650f15bf
- * Sources: f696c4c0baf00f9ac1a013812d934c1a14d770fb249025ff84792b020c8bc803
+ * Sources: 418489c8e5c54b9ca179abadff737997b583273f938e178d1f1837a02883e7f9
  *
  * Copyright 2026 the authors of this repository. Licence: MIT or Apache-2.0.
  * The file also has code of the Rattle kit, of its standard library and of its ports of bstr, memchr, smallvec.
