@@ -10,7 +10,6 @@ from collections.abc import Iterator
 from typing import NamedTuple, Optional
 
 import kit
-import products
 from common import Failed, build, must, say
 from measure import what_ran
 from measured import table, tell
@@ -66,7 +65,7 @@ def elf_with(section: str, given: str, work: str) -> str:
 
 def sides(program: str, listing: Listing, given: str, work: str) -> Iterator[tuple[str, list[str]]]:
     """What is run of a listing: names and words."""
-    yield "here", [f"{kit.ROOT}/crates/dwarf_list/out/dwarf_list", *listing.ours.split()]
+    yield "here", [f"{kit.ROOT}/program/out/dwarf_list", *listing.ours.split()]
     yield "gimli", [os.path.join(os.path.dirname(program), "plain_list"), *listing.plain.split()]
     path = elf_with(listing.section, given, work)
     for tool, words in (("readelf", listing.readelf), ("llvm-dwarfdump", listing.dwarfdump)):
@@ -113,8 +112,7 @@ def row_of(name: str, found: Found) -> str:
 
 def program(given: argparse.Namespace) -> int:
     """Prints the table."""
-    if not products.find(kit.programs("dwarf_list")[0], "dwarf_list"):
-        raise Failed("dwarf_list isn't built from these sources: `./dwarf_list --prove` builds it")
+    must([f"{kit.ROOT}/dwarf_list", "--path"], "dwarf_list isn't built")
     built = build(given.debian)
     for tool, package in (("readelf", "binutils"), ("llvm-dwarfdump", "llvm")):
         if not shutil.which(tool):

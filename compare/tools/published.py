@@ -1,14 +1,18 @@
-"""Compares the named constants with the tables that elfutils and LLVM publish."""
+"""Compares the named constants with the tables that gimli, elfutils and LLVM publish."""
 import argparse
 import glob
+import os
 import re
 
 import kit
 from common import say
 
+HEADER = f"{kit.ROOT}/include/dwarf_constants.h"
 COMMENT = re.compile(r"/\*.*?\*/|//[^\n]*", re.S)
-# An enumerator, or a macro whose value is a number or another name.
-ENUMERATOR = re.compile(r"^\s*(?:#\s*define\s+)?(DW_\w+)(?:\s*=\s*|[ \t]+)(\w+)\s*,?\s*$", re.M)
+NAME = re.compile(r"\bDW_\w+")
+# An enumerator, of which a line may have several, or a macro. The value is a number, which may be shifted, or another
+# name.
+ENUMERATOR = re.compile(r"\b(DW_\w+)\s*=\s*(\w+(?:\s*<<\s*\d+)?)|^[ \t]*#[ \t]*define[ \t]+(DW_\w+)[ \t]+(\w+)[ \t]*$", re.M)
 # The arguments of a macro: a value, and the name after that of the family. Some values hold only for one
 # machine, which the family's name tells.
 HANDLED = re.compile(r"^HANDLE_(DW_[A-Z_]+?)(?:_PRED)?\((\w+),\s*(\w+)", re.M)
@@ -20,7 +24,8 @@ Rows = list[tuple[str, str]]
 
 def of_enumerators(text: str) -> Rows:
     """The names of a header in C, and their values as texts."""
-    return ENUMERATOR.findall(COMMENT.sub("", text))
+    found = ENUMERATOR.findall(COMMENT.sub("", text))
+    return [(name or macro, value or of_macro) for name, value, macro, of_macro in found]
 
 
 def of_macros(text: str) -> Rows:
@@ -29,15 +34,17 @@ def of_macros(text: str) -> Rows:
 
 
 TABLES = (
+    ("gimli", "/usr/share/cargo/registry/gimli-*/src/constants.rs", "librust-gimli-dev", of_enumerators),
     ("elfutils", "/usr/include/dwarf.h", "libdw-dev", of_enumerators),
     ("LLVM", "/usr/include/llvm-*/llvm/BinaryFormat/Dwarf.def", "llvm-14-dev", of_macros),
 )
 
 
 def number(text: str) -> int:
-    """A number as C has it."""
-    digits = text.rstrip("uUlL")
-    return int(digits, 8 if re.match(r"0\d", digits) else 0)
+    """A number as C or Rust has it."""
+    first, _, shift = text.partition("<<")
+    digits = first.strip().rstrip("uUlL")
+    return int(digits, 8 if re.match(r"0\d", digits) else 0) << int(shift or 0)
 
 
 def values(rows: Rows) -> dict[str, set[int]]:
@@ -51,7 +58,11 @@ def values(rows: Rows) -> dict[str, set[int]]:
 
 def constants(_given: argparse.Namespace) -> int:
     """Compares all tables that are here, and returns the exit status."""
-    header = values(of_enumerators(kit.text_of(f"{kit.ROOT}/include/dwarf_constants.h")))
+    text = kit.text_of(HEADER)
+    header = values(of_enumerators(text))
+    if unread := set(NAME.findall(COMMENT.sub("", text))) - header.keys():
+        say(f"{len(unread)} names of {os.path.basename(HEADER)} aren't read, such as {min(unread)}")
+        return 1
     unseen = set(header)
     compared = 0
     differ = 0
