@@ -5,8 +5,19 @@
  */
 #if defined __linux__ && defined __x86_64__ && defined __LP64__
 #include "../rust/proved/x86_64.s"
+/* GNU_PROPERTY_X86_FEATURE_1_AND: IBT and SHSTK. */
+#define PROPERTY 0xc0000002, 4, 3, 0
 #elif defined __linux__ && defined __AARCH64EL__ && defined __LP64__
 #include "../rust/proved/aarch64.s"
+/* GNU_PROPERTY_AARCH64_FEATURE_1_AND: BTI. */
+#define PROPERTY 0xc0000000, 4, 1, 0
 #else
 #error "dwarf_read has code for 64-bit Linux on x86-64 and little-endian AArch64 only"
 #endif
+
+/* The note NT_GNU_PROPERTY_TYPE_0, without which a linker takes these properties from the whole program. */
+	.section .note.gnu.property, "a", %note
+	.p2align 3
+	.long 4, 16, 5
+	.asciz "GNU"
+	.long PROPERTY

@@ -3,8 +3,7 @@
  * an index, sets of addresses and of string offsets, headers of units, abbreviation tables, sizes of forms,
  * names of constants, and texts of errors. The section numbers are those of DWARF 5.
  *
- * The headers need C99 or C++11, or a later standard. The library is for Linux on x86-64, on processors of
- * level x86-64-v2 and above, and on AArch64.
+ * The headers need C99 or C++11, or a later standard. The library is for Linux on x86-64 and AArch64.
  *
  *     cc -O2 -I include program.c include/dwarf_read_heap.c include/dwarf_read.S
  *
@@ -21,8 +20,8 @@
  *
  * No call keeps a pointer or has a state, so any number of threads may make calls at once.
  *
- * The library has no unwind tables. A stack walk that needs them ends in it: that of a debugger, of a heap profiler, of
- * perf with --call-graph dwarf. So the functions that allocate memory for it must not throw.
+ * The library has unwind tables. A stack walk by them comes through it: that of a debugger, of a heap profiler, of perf
+ * with --call-graph dwarf. On x86-64 it keeps no frame pointers, so one by these, as of perf -g, loses the caller.
  *
  * The calls that are declared here are proved. The functions that are defined here in C are tested, but
  * not proved.
@@ -52,9 +51,9 @@
 
 /* The version of this header. dwarf_read_version writes that of the library. */
 #define DWARF_READ_VERSION_MAJOR 0
-#define DWARF_READ_VERSION_MINOR 4
+#define DWARF_READ_VERSION_MINOR 5
 #define DWARF_READ_VERSION_PATCH 0
-#define DWARF_READ_VERSION "0.4.0"
+#define DWARF_READ_VERSION "0.5.0"
 
 /* The symbols of the calls whose parameters, or the fields of whose structs, have changed. They end in the version of
    that change, so that a program that was compiled with the header of another version doesn't link. */
@@ -521,7 +520,7 @@ static inline struct dwarf_name dwarf_form_name(uint16_t form) {
  * unchanged. The call returns DWARF_OK, or DWARF_NO_ROOM if `room` is less than `len`, and then only `len` is written.
  */
 
-/* Writes the version of the library, such as 0.4.0. */
+/* Writes the version of the library, such as 0.5.0. */
 uint32_t dwarf_read_version(char *version, size_t room, size_t *len);
 
 /* Writes the text of an error. Returns DWARF_NO_NAME, and writes nothing, if no error has this number and this value.

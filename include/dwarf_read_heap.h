@@ -6,8 +6,8 @@
  * They have the names that the compiler of the library, Rattle's, gives to them in each library that it makes. So two
  * such libraries in a program use the same three.
  *
- * None of them may throw, or leave by longjmp, since the library has no unwind tables; and none may call the library.
- * They are called by as many threads at once as make calls that allocate.
+ * None of them may throw, or leave by longjmp: the unwind tables are for debuggers, and the library would free nothing.
+ * And none may call the library. They are called by as many threads at once as make calls that allocate.
  */
 #ifndef DWARF_READ_HEAP_H
 #define DWARF_READ_HEAP_H

@@ -27,8 +27,8 @@
 //!
 //! # Platforms
 //!
-//! The code is for Linux on x86-64, on processors of level x86-64-v2 and above, and on AArch64. No
-//! library has to be installed, and no C compiler is needed.
+//! The code is for Linux on x86-64 and AArch64. No library has to be installed, and no C compiler is
+//! needed.
 //!
 //! # Features
 //!

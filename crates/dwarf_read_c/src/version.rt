@@ -7,9 +7,9 @@ ghost use Rattle.dwarf_read_c.specs.Version.{library_version};
 use crate::room::put;
 
 // tools/examples compares it with the file VERSION.
-const VERSION: &str = "0.4.0";
+const VERSION: &str = "0.5.0";
 
-/// Writes the version of the library, such as `0.4.0`, to the front of `version`, without a zero
+/// Writes the version of the library, such as `0.5.0`, to the front of `version`, without a zero
 /// byte after it. `len` is the number of its bytes. If `version` has no room for them, only `len`
 /// is written, and the call returns `DWARF_NO_ROOM`.
 #[unsafe(no_mangle)]
