@@ -19,8 +19,8 @@ ROOT = os.path.dirname(os.path.dirname(os.path.realpath(__file__)))
 PARTS = ("src", "specs", "proofs")
 # The folders with tests of scripts.
 SCRIPT_TESTS = ("tools",)
-# The kit that these scripts were written for.
-KIT = "rattle-kit-13f logic dac8208d650f15bf"
+# The kits that these scripts work with. They were written for the first.
+KITS = tuple(f"{it} logic dac8208d650f15bf" for it in ("rattle-kit-13f", "rattle-kit-13b"))
 # A command that has ended, with all that it wrote.
 Finished = subprocess.CompletedProcess[str]
 # The commands that run, and whether no more may begin.
@@ -126,9 +126,8 @@ def version() -> str:
 # The version of what is here. That of the kit is `version`.
 VERSION = text_of(f"{ROOT}/VERSION").strip()
 # The lines of crates.txt: a crate, lowest first, and the libraries that it names.
-ROWS = re.findall(r"^(\w+)( staticlib)?:(.*?)(?:#.*)?$", text_of(f"{ROOT}/crates.txt"), re.M)
-CRATES = {name: libraries.split() for name, _, libraries in ROWS}
-STATIC = [name for name, is_static, _ in ROWS if is_static]
+ROWS = re.findall(r"^(\w+)(?: staticlib)?:(.*?)(?:#.*)?$", text_of(f"{ROOT}/crates.txt"), re.M)
+CRATES = {name: libraries.split() for name, libraries in ROWS}
 
 
 def below(crate: str) -> list[str]:
@@ -172,7 +171,6 @@ def lanes(memory: int) -> int:
     return max(1, min(processors, free // memory))
 
 
-def programs(crate: str) -> tuple[str, str]:
-    """Where the proved program of a crate is once it is built, and the unproved one that ./dwarf_list keeps."""
-    proved = f"{ROOT}/crates/{crate}/out/{crate}"
-    return proved, f"{proved}.unproved"
+def program(crate: str) -> str:
+    """Where `rt ci` leaves the program of a crate."""
+    return f"{ROOT}/crates/{crate}/out/{crate}"

@@ -1,10 +1,9 @@
-"""Keeps what is built of the sources, so that it isn't built again: programs, programs of tests, and the code of static
-libraries as assembler files.
+"""Keeps what is built of the sources, so that it isn't built again: programs, programs of tests, and code as
+assembler files.
 
 Each is kept outside the checkout, in ${XDG_CACHE_HOME:-~/.cache}, under a checksum of its sources and of the kit. So it
-is current as long as they are, whatever the times of files say, and another checkout finds it too. A copy is in the
-folder `out` of its crate. Next to it, a file whose name ends in `.sums` has the checksums of the copy and of its
-sources as `sha256sum` prints them, so that a shell can see at once whether the copy is current.
+is current as long as they are, whatever the times of files say, and another checkout finds it too. A copy of
+a program is in the folder `out` of its crate.
 """
 import contextlib
 import fcntl
@@ -23,15 +22,19 @@ import kit
 
 # How many products are kept. Those that nothing took for the longest time go first.
 MOST_KEPT = 40
-# The crate whose code is in assembler files of the repository, their folder, and the targets that they are for.
-ASSEMBLED = "dwarf_read_c"
-FILES = f"{kit.ROOT}/rust/proved"
+# The crates whose code is in assembler files of the repository, with the folders of these, and their targets.
+FILES = {"dwarf_read_c": f"{kit.ROOT}/rust/proved", "dwarf_list": f"{kit.ROOT}/program/proved"}
 TARGETS = {"x86_64": "x86_64-unknown-linux-gnu", "aarch64": "aarch64-unknown-linux-gnu"}
-# The static libraries whose code is kept, each with its targets.
-LIBRARIES = {ASSEMBLED: [*TARGETS], "dwarf_compare": ["x86_64"]}
+# The least processor of each target, so that the code in these files runs on every one.
+PROCESSORS = {"x86_64": "x86-64", "aarch64": "generic"}
+# The crates whose code is kept, each with its targets.
+ASSEMBLED = {**dict.fromkeys(FILES, [*TARGETS]), "dwarf_compare": ["x86_64"]}
 # Takes the place of the kit's clang. It compiles as asked, and then makes an assembler file of the same code. Without
 # comments, since a line that begins with # is for the preprocessor; and .addrsig is unknown to the assembler of GNU.
+# Each function has unwind tables there, and what a processor that checks the targets of jumps looks for: an attribute
+# asks for that on AArch64, and a flag of the module on x86-64.
 CLANG = """#!/bin/sh
+PATH=/usr/bin:/bin
 {clang} "$@" || exit
 case " $* " in *" -c "*) ;; *) exit 0 ;; esac
 for word; do
@@ -41,9 +44,16 @@ for word; do
     *.o) set -- "$@" {made} ;;
     *) set -- "$@" "$word" ;;
     esac
+    case $word in *.bc | *.ll) code=$word ;; esac
 done
+{clang} "$@" -emit-llvm -Xclang -emit-llvm-uselists -Xclang -disable-llvm-passes -o {made}.ll || exit
+sed '/^define /s/ {{$/ uwtable "branch-target-enforcement" {{/' {made}.ll >"$code" || exit
+printf '%s\\n' '!llvm.module.flags = !{{!4000000}}' '!4000000 = !{{i32 8, !"cf-protection-branch", i32 1}}' >>"$code"
 exec {clang} "$@"
 """
+# The note that says so is of a whole object, and one of Rust's has code of that compiler, too. So the files that include
+# the code for C have it.
+NOTE = re.compile(r"\t\.section\t\.note\.gnu\.property,.*?\n\t\.text\n", re.S)
 # A label that the compiler has made up. In a crate for Rust it may not be one of those of that compiler.
 LABEL = re.compile(r'(?<![\w".])\.L(?=\w)')
 TEXT = ("\t.ascii", "\t.asciz", "\t.string")
@@ -71,15 +81,15 @@ def sums(crate: str) -> str:
 
 
 def code_of(crate: str) -> str:
-    """What decides the code of a crate: the checksums of its sources and of those below it, and their lines of
-    crates.txt. The other lines there change nothing."""
+    """What decides the code of a crate: the checksums of its sources and of those below it, their lines of crates.txt,
+    the processors, and the script above. The other lines of crates.txt change nothing."""
     rows = "".join(f"{it}: {' '.join(kit.CRATES[it])}\n" for it in [*kit.below(crate), crate])
-    return rows + sums(crate).partition("\n")[2]
+    return rows + sums(crate).partition("\n")[2] + f"{PROCESSORS}\n{CLANG}"
 
 
 def place_of_copy(path: str, of_sources: str) -> str:
     """Where a product of these sources is kept."""
-    version = kit.version() if shutil.which("rt") else kit.KIT
+    version = kit.version() if shutil.which("rt") else kit.KITS[0]
     key = hashlib.sha256(f"{version}\n{of_sources}".encode()).hexdigest()
     return f"{cache()}/{os.path.basename(path)}-{key[:32]}"
 
@@ -98,12 +108,11 @@ def copy(source: str, target: str) -> None:
             os.remove(made)
 
 
-def take(kept: str, path: str, of_sources: str) -> str:
+def take(kept: str, path: str) -> str:
     """Puts a kept product into its place. Returns where it is: where it is kept, if the checkout can't be written."""
     try:
         if not os.path.isfile(path) or not filecmp.cmp(kept, path, shallow=False):
             copy(kept, path)
-        kit.put(f"{path}.sums", f"{sum_of(path)}  {os.path.relpath(path, kit.ROOT)}\n{of_sources}")
         return path
     except OSError:
         return kept
@@ -114,19 +123,18 @@ def put(made: str, path: str, of_sources: str) -> str:
     kept = place_of_copy(path, of_sources)
     copy(made, kept)
     forget_oldest()
-    return take(kept, path, of_sources)
+    return take(kept, path)
 
 
 def find(path: str, crate: str) -> Optional[str]:
     """Where the current product of a crate is, or None."""
-    of_sources = sums(crate)
-    kept = place_of_copy(path, of_sources)
+    kept = place_of_copy(path, sums(crate))
     if not os.path.isfile(kept):
         return None
     with contextlib.suppress(OSError):
         # What is taken isn't the oldest.
         os.utime(kept)
-    return take(kept, path, of_sources)
+    return take(kept, path)
 
 
 def forget_oldest() -> None:
@@ -150,8 +158,8 @@ def in_turn(crate: str) -> Iterator[None]:
 
 
 def build(crate: str, root: str, of_sources: str, words: Sequence[str], tell: Callable[[str], object]) -> bool:
-    """Proves a crate, and builds its static library over the libraries that `rt ci` has left in a checkout or a copy.
-    Returns whether that went well. What goes wrong goes to `tell`."""
+    """Proves a crate, and compiles it over the libraries that `rt ci` has left in a checkout or a copy. Returns whether
+    that went well. What goes wrong goes to `tell`."""
     rt = kit.load_rt()
     folder = f"{root}/crates/{crate}"
     said = rt.rtlib.Crate(folder, root, {}).words(["--jobs", "2"], keeps=False)
@@ -179,20 +187,23 @@ def toolchain_with(script: str, folder: str) -> str:
 
 
 def with_own_labels(code: str) -> str:
-    """An assembler file in which the labels that the compiler has made up are of this library alone."""
-    lines = code.splitlines(True)
+    """An assembler file in which the labels that the compiler has made up are of this code alone, without the note of
+    its properties."""
+    lines = NOTE.sub("", code, count=1).splitlines(True)
     return "".join(it if it.startswith(TEXT) else LABEL.sub(".Ldwarf_read_", it) for it in lines)
 
 
 def put_assembler(crate: str, name: str, root: str, of_sources: str, tell: Callable[[str], object]) -> Optional[str]:
-    """Proves a static library for a target, and keeps its code as assembler. Returns where it is kept, or None if
-    something goes wrong."""
+    """Proves a crate for a target, and keeps its code as assembler. Returns where it is kept, or None if something goes
+    wrong."""
     tell(f"proving {crate} for {TARGETS[name]}")
     with tempfile.TemporaryDirectory(prefix="assembler-") as room:
         made = f"{room}/{name}.s"
         clang = shlex.quote(f"{kit.load_rt().KIT}/toolchain/bin/clang")
         toolchain = toolchain_with(CLANG.format(clang=clang, made=shlex.quote(made)), f"{room}/toolchain")
-        words = ["--target", TARGETS[name], "-o", f"{room}/library.a", "--toolchain", toolchain]
+        words = ["--target", TARGETS[name], "-o", f"{room}/compiled", "--toolchain", toolchain]
+        if crate in FILES:
+            words += ["--cpu", PROCESSORS[name]]
         if not build(crate, root, of_sources, words, tell):
             return None
         kit.put(made, with_own_labels(kit.text_of(made)))

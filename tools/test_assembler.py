@@ -14,6 +14,7 @@ import kit
 import products
 
 assembler = kit.load("assembler", f"{kit.ROOT}/tools/assembler")
+CRATE = "dwarf_read_c"
 NAME = "aarch64"
 SOURCES = "0123  a source\n"
 CODE = "\t.file\t\"rattle\"\n\tnop\n"
@@ -30,34 +31,37 @@ class Judging(unittest.TestCase):
             if text:
                 kit.put(f"{folder}/{NAME}.s", text)
             now = checks.Checks("assembler", folder)
-            with mock.patch.multiple(products, FILES=folder, place_of_copy=lambda *_: kept):
+            with mock.patch.multiple(products, FILES={CRATE: folder}, place_of_copy=lambda *_: kept):
                 with mock.patch.object(kit, "version", lambda: version):
-                    assembler.judge(now, NAME, SOURCES)
+                    assembler.judge(now, CRATE, NAME, SOURCES)
         return now.passed, now.failed, now.skipped
 
     def test_files(self) -> None:
-        head = assembler.head(NAME, SOURCES, "this kit")
-        stale = assembler.head(NAME, "4567  a source\n", "this kit")
+        this, another = kit.KITS
+        head = assembler.head(CRATE, NAME, SOURCES, this)
+        stale = assembler.head(CRATE, NAME, "4567  a source\n", this)
+        unknown = assembler.head(CRATE, NAME, SOURCES, "rattle-kit-99z")
         other = CODE.replace("nop", "ret")
         # What the file is, what this kit makes, what it is called, and what is counted.
         rows = [
-            (head + CODE, CODE, "this kit", (1, 0, 0)),
-            (head + other, CODE, "this kit", (0, 1, 0)),
-            (head.replace("proved", "Proved") + CODE, CODE, "this kit", (0, 1, 0)),
-            (head + CODE + "\n", CODE, "this kit", (0, 1, 0)),
-            (stale + CODE, CODE, "this kit", (0, 1, 0)),
-            ("", CODE, "this kit", (0, 1, 0)),
-            (head + CODE, CODE, "another kit", (1, 0, 0)),
-            (head + CODE, other, "another kit", (0, 0, 1)),
-            (stale + CODE, other, "another kit", (0, 1, 0)),
-            (CODE, CODE, "this kit", (0, 1, 0)),
+            (head + CODE, CODE, this, (1, 0, 0)),
+            (head + other, CODE, this, (0, 1, 0)),
+            (head.replace("proved", "Proved") + CODE, CODE, this, (0, 1, 0)),
+            (head + CODE + "\n", CODE, this, (0, 1, 0)),
+            (stale + CODE, CODE, this, (0, 1, 0)),
+            ("", CODE, this, (0, 1, 0)),
+            (head + CODE, CODE, another, (1, 0, 0)),
+            (head + CODE, other, another, (0, 0, 1)),
+            (stale + CODE, other, another, (0, 1, 0)),
+            (unknown + CODE, other, this, (0, 1, 0)),
+            (CODE, CODE, this, (0, 1, 0)),
         ]
         for text, made, version, wanted in rows:
             self.assertEqual(self.judge(text, made, version), wanted, (text, made, version))
 
 
 class Labels(unittest.TestCase):
-    """Labels of the compiler get a prefix, and texts, symbols and sections stay."""
+    """Labels of the compiler get a prefix, its note goes, and texts, symbols and sections stay."""
 
     def test_labels(self) -> None:
         rows = {
@@ -71,6 +75,10 @@ class Labels(unittest.TestCase):
             "\tcallq\trattle_alloc@PLT\n": "\tcallq\trattle_alloc@PLT\n",
         }
         self.assertEqual(products.with_own_labels("".join(rows)), "".join(rows.values()))
+
+    def test_note(self) -> None:
+        note = '\t.section\t.note.gnu.property,"a",@note\n\t.p2align\t3, 0x0\n\t.long\t4\n\t.text\n'
+        self.assertEqual(products.with_own_labels(note + CODE), CODE)
 
 
 if __name__ == "__main__":

@@ -4,6 +4,7 @@ import glob
 import io
 import os
 import re
+import shutil
 import sys
 import tempfile
 import unittest
@@ -28,6 +29,7 @@ class Judging(unittest.TestCase):
     ROWS = [
         ("3 passed, 0 failed\n", 0, 3, (3, 0, 0)),
         ("a line\n2 passed, 0 failed, 1 skipped\n", 0, 3, (2, 0, 1)),
+        ("0 passed, 0 failed, 3 skipped\n", 0, 3, (0, 1, 3)),
         ("2 passed, 1 failed\n", 1, 3, (2, 1, 0)),
         ("2 passed, 0 failed\n", 0, 3, (2, 1, 0)),
         ("4 passed, 0 failed\n", 0, 3, (4, 1, 0)),
@@ -80,11 +82,13 @@ class Judging(unittest.TestCase):
 
     def test_counts(self) -> None:
         rows = [
-            ("1 passed, 9 failed\ntest result: FAILED. 3 passed; 1 failed\n", (3, 1)),
-            ("Ran 26 tests in 0.1s\n\nOK\n", (26, 0)),
-            ("Ran 26 tests in 0.1s\n\nFAILED (failures=1)\n", (0, 0)),
-            ("Success: no issues found in 32 source files\n", (1, 0)),
-            ("Found 1 error in 1 file (checked 32 source files)\n", (0, 0)),
+            ("1 passed, 9 failed\ntest result: FAILED. 3 passed; 1 failed\n", (3, 1, 0)),
+            ("7 passed, 0 failed, 2 skipped\n", (7, 0, 2)),
+            ("Ran 26 tests in 0.1s\n\nOK\n", (26, 0, 0)),
+            ("Ran 26 tests in 0.1s\n\nOK (skipped=2)\n", (24, 0, 2)),
+            ("Ran 26 tests in 0.1s\n\nFAILED (failures=1)\n", (0, 0, 0)),
+            ("Success: no issues found in 32 source files\n", (1, 0, 0)),
+            ("Found 1 error in 1 file (checked 32 source files)\n", (0, 0, 0)),
         ]
         for said, counts in rows:
             self.assertEqual(tests.counts(said), counts, said)
@@ -136,7 +140,7 @@ class Judging(unittest.TestCase):
                 with mock.patch.object(now, "step", prove):
                     self.assertTrue(gate.prove(now, 0))
             built = [it.args[:2] for it in made["put_assembler"].call_args_list]
-            of_targets = gate.products.LIBRARIES.items()
+            of_targets = gate.products.ASSEMBLED.items()
             wanted = [(crate, it) for crate, targets in of_targets for it in targets] if is_built else []
             self.assertEqual((built, now.failed), (wanted, 0), (before, after))
 
@@ -153,7 +157,7 @@ class Judging(unittest.TestCase):
 
         now = gate.Gate("/")
         steps = mock.Mock(side_effect=lambda rows: [begin(*it) for it in rows])
-        rest = dict.fromkeys(("judge_proofs", "keep_programs", "keep_libraries"), mock.DEFAULT)
+        rest = dict.fromkeys(("judge_proofs", "keep_programs", "keep_code"), mock.DEFAULT)
         with mock.patch.multiple(now, run=begin, step=begin, steps_at_once=steps, end=lambda: 0), mock.patch.multiple(
             gate, read_bodies=lambda _: [], checks_of=lambda _: 1, has_library=lambda _: False, DISK_BYTES=0, **rest
         ):
@@ -249,6 +253,7 @@ fn free() {}
             why = wrong_bodies.disagreement(note, line, lambda _: self.SOURCE)
             self.assertEqual(why is None, agree, (note, line, why))
 
+    @unittest.skipUnless(shutil.which("rt"), "there is no Rattle kit")
     def test_notes(self) -> None:
         """The first line of each wrong body names a function that the sources have, and no line is too long."""
         for path in sorted(glob.glob(f"{kit.ROOT}/crates/*/must-fail/*.edit")):

@@ -1,159 +1,84 @@
-"""Tests of which program ./dwarf_list runs, of what is said of that, of the help that the installed program has, and of
-the manual pages."""
+"""Tests of how ./dwarf_list makes its program, of its help, and of the manual pages."""
 import contextlib
-import io
 import os
 import re
+import shutil
 import subprocess
 import sys
 import tempfile
 import unittest
 from collections.abc import Iterator
-from typing import Optional
-from unittest import mock
 
 sys.dont_write_bytecode = True
 sys.path.insert(0, os.path.dirname(os.path.realpath(__file__)))
 import kit
-import launch
-import products
-import unproved
 
 NAME = "dwarf_list"
 LAUNCHER = f"{kit.ROOT}/{NAME}"
-# The flags in /proc/cpuinfo of a processor of level x86-64-v2, by the ABI of the System V: those above x86-64.
-LEVEL = ("cx16", "lahf_lm", "pni", "popcnt", "sse4_1", "sse4_2", "ssse3")
-# The end of the name of an unproved program.
-OTHER = ".unproved"
-# What is said of an unproved program that runs though a proved one is there, with the reason, and without a kit.
-SAID = "this program is unproved, since {}; ./dwarf_list --prove builds a current one"
-OLD = "the proved one was built from other sources"
-UNKNOWN = "nothing says from which sources the proved one was built"
-NOT_THESE = f"the program wasn't built from these sources, and {launch.NO_KIT}"
-OF_OTHERS = "and built from other sources"
-BUILD = "the build"
 
 
 class Starting(unittest.TestCase):
-    """The launcher runs a current program at once and says nothing, and leaves all else to tools/launch.py."""
-
-    # What is there of the proved program and of the unproved one, and what runs.
-    ROWS = [
-        ("current", None, "proved"),
-        ("current", "current", "proved"),
-        ("current", "old", "proved"),
-        (None, "current", "unproved"),
-        ("old", "current", "launch"),
-        ("without sums", "current", "launch"),
-        ("old", None, "launch"),
-        (None, "old", "launch"),
-        (None, None, "launch"),
-    ]
-
-    def put_program(self, root: str, state: Optional[str], said: str, path: str) -> None:
-        """Puts a program that prints a word, with checksums that fit or don't."""
-        if not state:
-            return
-        kit.put(f"{root}/{path}", f"#!/bin/sh\necho {said}\n")
-        os.chmod(f"{root}/{path}", 0o755)
-        source = products.sum_of(f"{root}/crates.txt") if state == "current" else "0" * 64
-        if state != "without sums":
-            sums = f"{products.sum_of(f'{root}/{path}')}  {path}\n{source}  crates.txt\n"
-            kit.put(f"{root}/{path}.sums", sums)
-
-    def test_programs(self) -> None:
-        place = f"crates/{NAME}/out/{NAME}"
-        for proved, other, wanted in self.ROWS:
-            with self.subTest(proved=proved, other=other), tempfile.TemporaryDirectory() as root:
-                kit.put(f"{root}/crates.txt", "the sources")
-                kit.put(f"{root}/{NAME}", kit.text_of(LAUNCHER))
-                kit.put(f"{root}/tools/launch.py", 'print("launch")\n')
-                self.put_program(root, proved, "proved", place)
-                self.put_program(root, other, "unproved", f"{place}{OTHER}")
-                words = ["sh", f"{root}/{NAME}", "uleb", "0"]
-                ran = subprocess.run(words, capture_output=True, text=True, check=False)
-                self.assertEqual((ran.stdout, ran.stderr), (f"{wanted}\n", ""))
-
-    def test_commands(self) -> None:
-        """Each command of the program's usage line is passed on to it, and no other."""
-        with tempfile.TemporaryDirectory() as root:
-            kit.put(f"{root}/crates.txt", "the sources")
-            kit.put(f"{root}/{NAME}", kit.text_of(LAUNCHER))
-            self.put_program(root, "current", "proved", f"crates/{NAME}/out/{NAME}")
-            commands = [it.split()[0] for it in usage("Fault", NAME).split(" | ")]
-            for command in [*commands, *(f"{it}s" for it in commands), *(it[:-1] for it in commands)]:
-                words = ["sh", f"{root}/{NAME}", command, "0"]
-                ran = subprocess.run(words, capture_output=True, text=True, check=False)
-                wanted = ("proved\n", 0) if command in commands else ("", 2)
-                self.assertEqual((ran.stdout, ran.returncode), wanted, command)
-
-
-class Telling(unittest.TestCase):
-    """Where no proved program was ever built, the build and --version say that the program is unproved, and no call
-    does. A call that runs an unproved program though a proved one is there says why."""
-
-    # What is there, oldest first, by the ends of the names; what of it is current; whether the kit is there; the end of
-    # the name of what runs; what a call says; and what --version says.
-    ROWS: list[tuple[list[str], list[str], bool, str, list[str], str]] = [
-        (["", ".sums"], [""], True, "", [], "proved"),
-        (["", ".sums", OTHER], ["", OTHER], True, "", [], "proved"),
-        ([OTHER], [OTHER], True, OTHER, [], "unproved"),
-        ([OTHER], [OTHER], False, OTHER, [], "unproved"),
-        (["", ".sums", OTHER], [OTHER], True, OTHER, [SAID.format(OLD)], f"unproved, since {OLD}"),
-        (["", ".sums", OTHER], [OTHER], False, OTHER, [SAID.format(OLD)], f"unproved, since {OLD}"),
-        (["", OTHER], [OTHER], True, OTHER, [SAID.format(UNKNOWN)], f"unproved, since {UNKNOWN}"),
-        (["", ".sums"], [], False, "", [NOT_THESE], f"proved, {OF_OTHERS}"),
-        ([OTHER], [], False, OTHER, [NOT_THESE], f"unproved, {OF_OTHERS}"),
-        (["", ".sums", OTHER], [], False, OTHER, [NOT_THESE, SAID.format(OLD)], f"unproved, {OF_OTHERS}"),
-        ([], [], True, OTHER, [BUILD], "not built yet"),
-        (["", ".sums"], [], True, OTHER, [BUILD, SAID.format(OLD)], f"proved, {OF_OTHERS}"),
-    ]
+    """The script makes the program if it isn't there or older than what it is made of, and passes its arguments on."""
 
     @contextlib.contextmanager
-    def checkout(self, there: list[str], current: list[str], has_kit: bool, said: list[str]) -> Iterator[str]:
-        """A checkout with these programs, in which a build says so and makes an unproved one. Yields their place."""
+    def clone(self) -> Iterator[str]:
+        """A clone whose program prints a number and its first argument."""
+        with tempfile.TemporaryDirectory() as root:
+            shutil.copy(LAUNCHER, root)
+            for it in ("include/dwarf_read_heap.h", "include/dwarf_read_heap.c", "program/proved/any.s"):
+                kit.put(f"{root}/{it}", "")
+            kit.put(f"{root}/program/one.S", '.section .note.GNU-stack,"",@progbits\n')
+            self.write(root, 1)
+            yield root
 
-        def build(*_: object, **__: object) -> kit.Finished:
-            said.append(BUILD)
-            return subprocess.CompletedProcess([], 0, f"{place}{OTHER}\n")
+    def write(self, root: str, number: int) -> None:
+        text = f'#include <stdio.h>\nint main(int count, char **words) {{ return printf("{number} %s", words[1]) < 0; }}\n'
+        kit.put(f"{root}/program/one.c", text)
 
-        with tempfile.TemporaryDirectory() as root, contextlib.ExitStack() as patches:
-            place = f"{root}/crates/{NAME}/out/{NAME}"
-            for age, it in enumerate(there):
-                kit.put(f"{place}{it}", "")
-                os.utime(f"{place}{it}", (age, age))
-            found = {f"{place}{it}" for it in current}
-            patches.enter_context(mock.patch.object(kit, "ROOT", root))
-            patches.enter_context(mock.patch.object(kit, "run", build))
-            patches.enter_context(mock.patch.object(products, "find", lambda path, _: path if path in found else None))
-            patches.enter_context(mock.patch.object(launch, "say", said.append))
-            patches.enter_context(mock.patch("signal.signal"))
-            patches.enter_context(mock.patch("shutil.which", lambda _: "rt" if has_kit else None))
-            yield place
+    def said(self, root: str, **environment: str) -> tuple[str, str, int]:
+        """What the script prints, and its status."""
+        env = {**os.environ, "HOME": f"{root}/user", "CC": "cc", **environment}
+        env.pop("XDG_CACHE_HOME", None)
+        ran = subprocess.run([f"{root}/{NAME}", "uleb"], capture_output=True, text=True, env=env, check=False)
+        return ran.stdout, ran.stderr, ran.returncode
 
-    def test_calls(self) -> None:
-        for there, current, has_kit, ran, wanted, state in self.ROWS:
-            for words in (["uleb", "0"], ["--path"]):
-                said: list[str] = []
-                with self.subTest(there=there, current=current, has_kit=has_kit, words=words), self.checkout(
-                    there, current, has_kit, said
-                ) as place, mock.patch.object(os, "execv") as run, mock.patch.object(launch, "put") as put:
-                    self.assertEqual(launch.state(NAME), state)
-                    launch.run(NAME, words)
-                    program = put.call_args[0][0] if words == ["--path"] else run.call_args[0][0]
-                    self.assertEqual(program, f"{place}{ran}")
-                    self.assertEqual(said, wanted)
+    def test_program(self) -> None:
+        none = "dwarf_list: a C compiler has to make the program first, and there is no no-compiler\n"
+        with self.clone() as root:
+            self.assertEqual(self.said(root, CC="no-compiler"), ("", none, 3))
+            self.assertEqual(self.said(root, CC="false"), ("", "dwarf_list: false can't make the program\n", 3))
+            self.assertEqual(self.said(root, CC="cc -std=c99"), ("1 uleb", "", 0))
+            self.assertEqual(self.said(root, CC="no-compiler"), ("1 uleb", "", 0))
+            self.write(root, 2)
+            self.assertEqual(self.said(root), ("2 uleb", "", 0))
+            self.assertEqual(os.listdir(f"{root}/program/out"), [NAME])
 
-    def test_build(self) -> None:
-        said: list[str] = []
-        with self.checkout([], [], True, said) as place, mock.patch.object(unproved, "say", said.append):
-            os.makedirs(os.path.dirname(place))
-            with mock.patch.object(unproved, "build", lambda _, path: path):
-                with contextlib.redirect_stdout(io.StringIO()) as printed:
-                    self.assertEqual(unproved.build_once(NAME), 0)
-        self.assertEqual(printed.getvalue(), f"{place}{OTHER}\n")
-        self.assertEqual(len(said), 1)
-        self.assertIn(", unproved, ", said[0])
+    def test_other_systems(self) -> None:
+        """On a system that there is no code for, one line says so."""
+        rows = {"Darwin on arm64": 3, "Linux on riscv64": 3, "FreeBSD on x86_64": 3, "Linux on x86_64": 0}
+        for system, status in rows.items():
+            name, _, processor = system.partition(" on ")
+            with self.clone() as root:
+                kit.put(f"{root}/bin/uname", f"#!/bin/sh\n[ $1 = -s ] && echo {name} || echo {processor}\n")
+                os.chmod(f"{root}/bin/uname", 0o755)
+                said = f"dwarf_list: its code is for Linux on x86-64 and AArch64, and this is {system}\n"
+                wanted = ("", said, 3) if status else ("1 uleb", "", 0)
+                self.assertEqual(self.said(root, PATH=f"{root}/bin:{os.environ['PATH']}"), wanted)
+
+    def test_cache(self) -> None:
+        """If program/out can't be made, the program is in the user's cache, under a checksum of what it is made of."""
+        with self.clone() as root:
+            kit.put(f"{root}/program/out", "a file")
+            self.assertEqual(self.said(root), ("1 uleb", "", 0))
+            self.assertEqual(self.said(root, CC="no-compiler"), ("1 uleb", "", 0))
+            self.write(root, 2)
+            self.assertEqual(self.said(root), ("2 uleb", "", 0))
+            kept = os.listdir(f"{root}/user/.cache/dwarf_read_core")
+            self.assertEqual(sorted(it.partition("-")[0] for it in kept), [NAME, NAME])
+            kit.put(f"{root}/file", "")
+            said = f"dwarf_list: neither {root}/program/out nor {root}/file/.cache/dwarf_read_core can be written\n"
+            os.utime(f"{root}/program/one.c", (2**31, 2**31))
+            self.assertEqual(self.said(root, HOME=f"{root}/file"), ("", said, 3))
 
 
 def usage(file: str, program: str) -> str:
@@ -172,40 +97,11 @@ def printed(*words: str) -> str:
 
 
 class Help(unittest.TestCase):
-    """The help of ./dwarf_list and that of an installed one have each command of the program's usage line."""
+    """The help of ./dwarf_list has each command of the program's usage line."""
 
     def test_commands(self) -> None:
         listed = re.findall(r"^  ([a-z-]+ (?:OFFSET|N|le\|be))  ", printed(LAUNCHER, "--help"), re.M)
         self.assertEqual(sorted(listed), sorted(usage("Fault", NAME).split(" | ")))
-
-    def test_installed(self) -> None:
-        with tempfile.TemporaryDirectory() as folder:
-            kit.put(f"{folder}/start", printed(f"{kit.ROOT}/tools/install", "--start"))
-            self.assertNotIn("@", kit.text_of(f"{folder}/start").replace('"$@"', ""))
-            installed = printed("sh", f"{folder}/start", "--help").splitlines()
-            version = printed("sh", f"{folder}/start", "--version")
-        here = printed(LAUNCHER, "--help").splitlines()
-        last = installed.index("dwarf_list(1) is the manual page, and dwarf_elf(1) lists an ELF file.")
-        self.assertEqual(installed[0], here[0])
-        self.assertEqual(installed[2:last], here[2:last])
-        self.assertEqual(len(installed), last + 1)
-        self.assertIn("  sleb N ", "\n".join(installed))
-        self.assertTrue(version.startswith(f"dwarf_list {kit.VERSION}, proved, "))
-
-    def test_old_processors(self) -> None:
-        """The installed script names the first flag that a processor lacks, and starts the program if it lacks none."""
-        with tempfile.TemporaryDirectory() as folder:
-            text = printed(f"{kit.ROOT}/tools/install", "--start").replace("/proc/cpuinfo", f"{folder}/cpuinfo")
-            kit.put(f"{folder}/bin/start", text)
-            kit.put(f"{folder}/libexec/dwarf-read/{NAME}", "#!/bin/sh\necho started\n")
-            os.chmod(f"{folder}/libexec/dwarf-read/{NAME}", 0o755)
-            for lacking in (*LEVEL, ""):
-                kit.put(f"{folder}/cpuinfo", f"flags\t\t: fpu {' '.join(it for it in LEVEL if it != lacking)}\n")
-                words = ["sh", f"{folder}/bin/start", "uleb", "0"]
-                ran = subprocess.run(words, capture_output=True, text=True, check=False)
-                said = f"lacks {lacking}\n" if lacking else "started\n"
-                self.assertEqual(ran.returncode, 3 if lacking else 0, lacking)
-                self.assertTrue((ran.stderr if lacking else ran.stdout).endswith(said), (lacking, ran))
 
 
 class Manual(unittest.TestCase):
@@ -232,7 +128,7 @@ class Manual(unittest.TestCase):
         return {part for it in joined for part in it.split(", ")}
 
     def test_dwarf_list(self) -> None:
-        start = printed(f"{kit.ROOT}/tools/install", "--start")
+        start = kit.text_of(LAUNCHER)
         commands = [it.partition(" ") for it in usage("Fault", NAME).split(" | ")]
         wanted = {f"{name} {word}" for name, _, words in commands for word in words.split("|")}
         self.assertEqual(self.tags(NAME, "COMMANDS"), wanted)
