@@ -15,6 +15,14 @@
 #error "dwarf_read has code for 64-bit Linux on x86-64 and little-endian AArch64 only"
 #endif
 
+/* With -DDWARF_READ_HIDDEN, a shared library that contains this file doesn't export the calls. */
+#ifdef DWARF_READ_HIDDEN
+	.hidden dwarf_address, dwarf_address_set_0_3, dwarf_constant_name_0_4, dwarf_fault_text, dwarf_form_size
+	.hidden dwarf_read_version, dwarf_sleb128, dwarf_sleb128_write, dwarf_str_offset, dwarf_str_offset_set_0_3
+	.hidden dwarf_string, dwarf_table_measure_0_3, dwarf_table_read_0_3, dwarf_uleb128, dwarf_uleb128_write
+	.hidden dwarf_unit_header
+#endif
+
 /* The note NT_GNU_PROPERTY_TYPE_0, without which a linker takes these properties from the whole program. */
 	.section .note.gnu.property, "a", %note
 	.p2align 3
