@@ -3,7 +3,7 @@
  * an index, sets of addresses and of string offsets, headers of units, abbreviation tables, sizes of forms,
  * names of constants, and texts of errors. The section numbers are those of DWARF 5.
  *
- * The headers need C99 or C++11, or a later standard. The library is for Linux on x86-64 and AArch64.
+ * The headers need C99 or C++11, or a later standard. docs/C.md lists the platforms.
  *
  *     cc -O2 -I include program.c include/dwarf_read_heap.c include/dwarf_read.S
  *

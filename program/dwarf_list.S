@@ -10,6 +10,8 @@
 #include "proved/x86_64.s"
 #elif defined __linux__ && defined __AARCH64EL__ && defined __LP64__
 #include "proved/aarch64.s"
+#elif defined __linux__ && defined __riscv_float_abi_double && __riscv_xlen == 64
+#include "proved/riscv64.s"
 #else
-#error "dwarf_list has code for 64-bit Linux on x86-64 and little-endian AArch64 only"
+#error "dwarf_list has code for 64-bit Linux on x86-64, little-endian AArch64 and RISC-V only"
 #endif

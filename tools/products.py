@@ -19,44 +19,33 @@ from collections.abc import Callable, Iterator, Sequence
 from typing import Optional
 
 import kit
+import systems
 
 # How many products are kept. Those that nothing took for the longest time go first.
-MOST_KEPT = 40
-# The crates whose code is in assembler files of the repository, with the folders of these, and their targets.
-FILES = {"dwarf_read_c": f"{kit.ROOT}/rust/proved", "dwarf_list": f"{kit.ROOT}/program/proved"}
+MOST_KEPT = 60
+# The kit's targets, each with the least of its processors, so that the code in these files runs on every one.
 TARGETS = {"x86_64": "x86_64-unknown-linux-gnu", "aarch64": "aarch64-unknown-linux-gnu"}
-# The least processor of each target, so that the code in these files runs on every one.
 PROCESSORS = {"x86_64": "x86-64", "aarch64": "generic"}
+# The crates whose code is in assembler files of the repository, with the folders of these, and for which targets. Those
+# of other systems are made of the module for the first target.
+FILES = {"dwarf_read_c": f"{kit.ROOT}/rust/proved", "dwarf_list": f"{kit.ROOT}/program/proved"}
+OTHERS = {"dwarf_read_c": [*systems.SYSTEMS], "dwarf_list": ["riscv64"]}
+TRIPLES = {**TARGETS, **{name: system.triple for name, system in systems.SYSTEMS.items()}}
 # The crates whose code is kept, each with its targets.
-ASSEMBLED = {**dict.fromkeys(FILES, [*TARGETS]), "dwarf_compare": ["x86_64"]}
-# Takes the place of the kit's clang. It compiles as asked, and then makes an assembler file of the same code. Without
-# comments, since a line that begins with # is for the preprocessor; and .addrsig is unknown to the assembler of GNU.
-# Each function has unwind tables there, and what a processor that checks the targets of jumps looks for: an attribute
-# asks for that on AArch64, and a flag of the module on x86-64.
+CODE = {**{it: [*TARGETS, *OTHERS[it]] for it in FILES}, "dwarf_compare": ["x86_64"]}
+# Takes the place of the kit's clang. It compiles as asked, and keeps the module that it made the code of, as a text, and
+# its words.
 CLANG = """#!/bin/sh
 PATH=/usr/bin:/bin
 {clang} "$@" || exit
 case " $* " in *" -c "*) ;; *) exit 0 ;; esac
+printf '%s\\n' "$@" >{made}.words
 for word; do
     shift
-    case $word in
-    -c) set -- "$@" -S -fno-addrsig -fno-verbose-asm ;;
-    *.o) set -- "$@" {made} ;;
-    *) set -- "$@" "$word" ;;
-    esac
-    case $word in *.bc | *.ll) code=$word ;; esac
+    case $word in *.o) set -- "$@" {made}.ll ;; -c) ;; *) set -- "$@" "$word" ;; esac
 done
-{clang} "$@" -emit-llvm -Xclang -emit-llvm-uselists -Xclang -disable-llvm-passes -o {made}.ll || exit
-sed '/^define /s/ {{$/ uwtable "branch-target-enforcement" {{/' {made}.ll >"$code" || exit
-printf '%s\\n' '!llvm.module.flags = !{{!4000000}}' '!4000000 = !{{i32 8, !"cf-protection-branch", i32 1}}' >>"$code"
-exec {clang} "$@"
+exec {clang} "$@" -S -emit-llvm -Xclang -emit-llvm-uselists -Xclang -disable-llvm-passes
 """
-# The note that says so is of a whole object, and one of Rust's has code of that compiler, too. So the files that include
-# the code for C have it.
-NOTE = re.compile(r"\t\.section\t\.note\.gnu\.property,.*?\n\t\.text\n", re.S)
-# A label that the compiler has made up. In a crate for Rust it may not be one of those of that compiler.
-LABEL = re.compile(r'(?<![\w".])\.L(?=\w)')
-TEXT = ("\t.ascii", "\t.asciz", "\t.string")
 
 
 def cache() -> str:
@@ -82,9 +71,21 @@ def sums(crate: str) -> str:
 
 def code_of(crate: str) -> str:
     """What decides the code of a crate: the checksums of its sources and of those below it, their lines of crates.txt,
-    the processors, and the script above. The other lines of crates.txt change nothing."""
+    the processors, the script above, and the steps after it. The other lines of crates.txt change nothing."""
     rows = "".join(f"{it}: {' '.join(kit.CRATES[it])}\n" for it in [*kit.below(crate), crate])
-    return rows + sums(crate).partition("\n")[2] + f"{PROCESSORS}\n{CLANG}"
+    return rows + sums(crate).partition("\n")[2] + f"{PROCESSORS}\n{CLANG}\n{sum_of(systems.__file__)}\n"
+
+
+def kept_code(name: str, of_code: str) -> Optional[str]:
+    """Where the code for a target is kept, if it is."""
+    kept = place_of_copy(f"{name}.s", of_code)
+    return kept if os.path.isfile(kept) else None
+
+
+def lacking(crate: str, of_code: str) -> list[str]:
+    """The targets of the kit for which a crate has to be compiled, since code isn't kept."""
+    names = [it for it in CODE[crate] if not kept_code(it, of_code)]
+    return [it for it in TARGETS if it in names or it == "x86_64" and not TARGETS.keys() >= {*names}]
 
 
 def place_of_copy(path: str, of_sources: str) -> str:
@@ -186,31 +187,34 @@ def toolchain_with(script: str, folder: str) -> str:
     return folder
 
 
-def with_own_labels(code: str) -> str:
-    """An assembler file in which the labels that the compiler has made up are of this code alone, without the note of
-    its properties."""
-    lines = NOTE.sub("", code, count=1).splitlines(True)
-    return "".join(it if it.startswith(TEXT) else LABEL.sub(".Ldwarf_read_", it) for it in lines)
-
-
-def put_assembler(crate: str, name: str, root: str, of_sources: str, tell: Callable[[str], object]) -> Optional[str]:
-    """Proves a crate for a target, and keeps its code as assembler. Returns where it is kept, or None if something goes
-    wrong."""
+def put_assembler(crate: str, name: str, root: str, of_sources: str, tell: Callable[[str], object]) -> bool:
+    """Proves a crate for a target of the kit, and keeps its code as assembler; with the first target, also the code for
+    other systems. Returns whether all went well."""
     tell(f"proving {crate} for {TARGETS[name]}")
     with tempfile.TemporaryDirectory(prefix="assembler-") as room:
-        made = f"{room}/{name}.s"
-        clang = shlex.quote(f"{kit.load_rt().KIT}/toolchain/bin/clang")
-        toolchain = toolchain_with(CLANG.format(clang=clang, made=shlex.quote(made)), f"{room}/toolchain")
+        made = f"{room}/{name}"
+        clang = f"{kit.load_rt().KIT}/toolchain/bin/clang"
+        toolchain = toolchain_with(CLANG.format(clang=shlex.quote(clang), made=shlex.quote(made)), f"{room}/toolchain")
         words = ["--target", TARGETS[name], "-o", f"{room}/compiled", "--toolchain", toolchain]
         if crate in FILES:
             words += ["--cpu", PROCESSORS[name]]
         if not build(crate, root, of_sources, words, tell):
-            return None
-        kit.put(made, with_own_labels(kit.text_of(made)))
-        kept = place_of_copy(f"{name}.s", of_sources)
-        copy(made, kept)
+            return False
+        given, module = kit.text_of(f"{made}.words").splitlines(), kit.text_of(f"{made}.ll")
+        others = OTHERS.get(crate, []) if name == "x86_64" else []
+        try:
+            code = {name: systems.make(clang, given, module, None, room)}
+            if others and systems.make(clang, given, module, name, room) != code[name]:
+                raise OSError(f"the steps for other systems make other code for {TARGETS[name]}")
+            code.update((it, systems.make(clang, given, module, it, room)) for it in others)
+        except OSError as fault:
+            tell(str(fault))
+            return False
+        for it, text in code.items():
+            kit.put(f"{room}/code", systems.code_for(text, it))
+            copy(f"{room}/code", place_of_copy(f"{it}.s", of_sources))
         forget_oldest()
-        return kept
+        return True
 
 
 def copy_crates(crates: Sequence[str], folder: str) -> None:

@@ -12,6 +12,7 @@ sys.path.insert(0, os.path.dirname(os.path.realpath(__file__)))
 import checks
 import kit
 import products
+import systems
 
 assembler = kit.load("assembler", f"{kit.ROOT}/tools/assembler")
 CRATE = "dwarf_read_c"
@@ -60,10 +61,10 @@ class Judging(unittest.TestCase):
             self.assertEqual(self.judge(text, made, version), wanted, (text, made, version))
 
 
-class Labels(unittest.TestCase):
-    """Labels of the compiler get a prefix, its note goes, and texts, symbols and sections stay."""
+class Lines(unittest.TestCase):
+    """The lines of a file are those that each assembler takes, and labels of the compiler get a prefix."""
 
-    def test_labels(self) -> None:
+    def test_linux(self) -> None:
         rows = {
             ".LBB2_3:\n": ".Ldwarf_read_BB2_3:\n",
             "\tjne\t.LBB2_3\n": "\tjne\t.Ldwarf_read_BB2_3\n",
@@ -73,12 +74,73 @@ class Labels(unittest.TestCase):
             '\t.section\t.rodata..Lstatic.7,"a",@progbits\n': '\t.section\t.rodata..Lstatic.7,"a",@progbits\n',
             '\t.asciz\t" .LBB2_3"\n': '\t.asciz\t" .LBB2_3"\n',
             "\tcallq\trattle_alloc@PLT\n": "\tcallq\trattle_alloc@PLT\n",
+            '\t.section\t.note.gnu.property,"a",@note\n\t.long\t4\n\t.text\n': "",
         }
-        self.assertEqual(products.with_own_labels("".join(rows)), "".join(rows.values()))
+        self.assertEqual(systems.code_for("".join(rows), "x86_64"), "".join(rows.values()))
 
-    def test_note(self) -> None:
-        note = '\t.section\t.note.gnu.property,"a",@note\n\t.p2align\t3, 0x0\n\t.long\t4\n\t.text\n'
-        self.assertEqual(products.with_own_labels(note + CODE), CODE)
+    def test_systems(self) -> None:
+        feature = '"@feat.00"'
+        # The system, lines of the compiler, and what stays of them.
+        rows = [
+            ("riscv64", '\t.attribute\t5, "rv64i2p1"\n', ""),
+            ("riscv64", '\tcall\t"a::b"\n', "\tcall\ta..b\n"),
+            ("riscv64", '\t.asciz\t"a::b"\n', '\t.asciz\t"a::b"\n'),
+            ("riscv64", "\tbeqz\ta0, .LBB0_2\n", "\tbeqz\ta0, .Ldwarf_read_BB0_2\n"),
+            ("x86_64_windows", "\t.seh_startepilogue\n\tretq\n\t.seh_endepilogue\n", "\tretq\n"),
+            ("aarch64_windows", "\t.seh_startepilogue\n", "\t.seh_startepilogue\n"),
+            ("aarch64_windows", f"\t.def\t{feature};\n\t.scl\t3;\n\t.type\t0;\n\t.endef\n\t.globl\t{feature}\n{feature} = 0\n", ""),
+            ("x86_64_apple", "\t.build_version macos, 10, 12\n", ""),
+            ("x86_64_apple", "LBB0_2:\n\tjne\tLBB0_2\n", "Ldwarf_read_BB0_2:\n\tjne\tLdwarf_read_BB0_2\n"),
+            ("aarch64_apple", "Lloh0:\n\tbl\t_rattle_alloc\n", "Lloh0:\n\tbl\t_rattle_alloc\n"),
+        ]
+        for name, code, wanted in rows:
+            self.assertEqual(systems.code_for(code, name), wanted, code)
+
+
+class Modules(unittest.TestCase):
+    """A module says of its system what clang says, marks its functions, and follows the system's rules for C."""
+
+    MODULE = """\
+target datalayout = "e-m:e"
+target triple = "x86_64-unknown-linux-gnu"
+define noundef i32 @dwarf_string(i32 %a) #0 {
+  %tried = call { i64, i64 } @rattle_alloc(i64 8, i64 8)
+}
+define internal noundef i32 @"a::b"(i32 %a) #0 {
+}
+declare { i64, i64 } @rattle_alloc(i64, i64) #1
+declare i64 @read(i32 noundef, ptr, i64) #1
+declare void @llvm.trap() #1
+attributes #0 = { nounwind "probe-stack"="inline-asm" "target-cpu"="x86-64" }
+"""
+    # What the text for a system has, and what it hasn't.
+    ROWS = {
+        "riscv64": (
+            [
+                'target triple = "another"\ndefine noundef signext i32 @dwarf_string(i32 %a) #0 uwtable ',
+                'define internal noundef i32 @"a::b"(i32 %a) #0 uwtable "branch-target-enforcement" {\n',
+                "declare i64 @read(i32 signext noundef, ptr, i64) #1\ndeclare void @llvm.trap() #1\n",
+                'attributes #0 = { nounwind "probe-stack"="inline-asm" }\n',
+            ],
+            ["x86", "e-m:e"],
+        ),
+        "x86_64_windows": (
+            [
+                'call { i64, i64 } @"dwarf_read::alloc"(i64 8, i64 8)\n',
+                "declare void @rattle_alloc(ptr sret({ i64, i64 }) align 8, i64, i64)\n",
+                "define noundef i32 @dwarf_string(i32 %a) #0 uwtable ",
+            ],
+            ["declare { i64, i64 } @rattle_alloc", "signext", "probe-stack"],
+        ),
+    }
+
+    def test_modules(self) -> None:
+        for name, (wanted, others) in self.ROWS.items():
+            text = systems.module_for(systems.marked(self.MODULE), name, 'target triple = "another"\n')
+            for it in wanted:
+                self.assertIn(it, text)
+            for it in others:
+                self.assertNotIn(it, text)
 
 
 if __name__ == "__main__":

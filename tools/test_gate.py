@@ -124,11 +124,11 @@ class Judging(unittest.TestCase):
         rows = [([], every, True), (every[:1], every, False), ([], every[1:], False), ([], [], False)]
         for before, after, is_built in rows:
             now = gate.Gate("")
-            names = ("place_of_copy", "put_assembler")
+            names = ("lacking", "put_assembler")
             with tempfile.TemporaryDirectory() as root, mock.patch.object(kit, "ROOT", root), mock.patch.multiple(
                 gate, read_bodies=mock.DEFAULT, judge_proofs=mock.DEFAULT, keep_programs=mock.DEFAULT
             ), mock.patch.multiple(gate.products, sums=str, code_of=str, **dict.fromkeys(names, mock.DEFAULT)) as made:
-                made["place_of_copy"].return_value = f"{root}/nothing"
+                made["lacking"].return_value = ["a target"]
                 for it in before:
                     os.makedirs(f"{root}/crates/{it}/out/rlib")
 
@@ -140,8 +140,7 @@ class Judging(unittest.TestCase):
                 with mock.patch.object(now, "step", prove):
                     self.assertTrue(gate.prove(now, 0))
             built = [it.args[:2] for it in made["put_assembler"].call_args_list]
-            of_targets = gate.products.ASSEMBLED.items()
-            wanted = [(crate, it) for crate, targets in of_targets for it in targets] if is_built else []
+            wanted = [(crate, "a target") for crate in gate.products.CODE] if is_built else []
             self.assertEqual((built, now.failed), (wanted, 0), (before, after))
 
     def test_steps_of_the_page(self) -> None:

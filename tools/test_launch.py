@@ -55,13 +55,13 @@ class Starting(unittest.TestCase):
 
     def test_other_systems(self) -> None:
         """On a system that there is no code for, one line says so."""
-        rows = {"Darwin on arm64": 3, "Linux on riscv64": 3, "FreeBSD on x86_64": 3, "Linux on x86_64": 0}
+        rows = {"Darwin on arm64": 3, "Linux on s390x": 3, "FreeBSD on x86_64": 3, "Linux on riscv64": 0}
         for system, status in rows.items():
             name, _, processor = system.partition(" on ")
             with self.clone() as root:
                 kit.put(f"{root}/bin/uname", f"#!/bin/sh\n[ $1 = -s ] && echo {name} || echo {processor}\n")
                 os.chmod(f"{root}/bin/uname", 0o755)
-                said = f"dwarf_list: its code is for Linux on x86-64 and AArch64, and this is {system}\n"
+                said = f"dwarf_list: its code is for Linux on x86-64, AArch64 and RISC-V, and this is {system}\n"
                 wanted = ("", said, 3) if status else ("1 uleb", "", 0)
                 self.assertEqual(self.said(root, PATH=f"{root}/bin:{os.environ['PATH']}"), wanted)
 

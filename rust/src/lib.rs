@@ -27,8 +27,8 @@
 //!
 //! # Platforms
 //!
-//! The code is for Linux on x86-64 and AArch64. No library has to be installed, and no C compiler is
-//! needed.
+//! The code is for Linux, FreeBSD, Windows and macOS on x86-64 and AArch64, for iOS, and for Linux
+//! and FreeBSD on 64-bit RISC-V. No library has to be installed, and no C compiler is needed.
 //!
 //! # Features
 //!

@@ -117,6 +117,10 @@ void _start(void) {
         /* The system call that ends the program. */
 #ifdef __x86_64__
         __asm__ volatile("syscall" : : "a"(60), "D"(status) : "rcx", "r11", "memory");
+#elif defined __riscv
+        register long number __asm__("a7") = 93;
+        register long first __asm__("a0") = status;
+        __asm__ volatile("ecall" : : "r"(number), "r"(first) : "memory");
 #else
         register long number __asm__("x8") = 93;
         register long first __asm__("x0") = status;

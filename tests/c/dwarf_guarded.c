@@ -50,7 +50,7 @@ static void die(const char *what) {
 static void on_signal(int number) {
     (void)number;
     (void)!write(1, "failed: a byte outside was touched by ", 38);
-    (void)!write(1, call, strlen(call));
+    (void)!write(1, call, (unsigned)strlen(call));
     (void)!write(1, "\n", 1);
     _exit(1);
 }
