@@ -6,7 +6,6 @@ pub mod Entries
 pub mod Equality
 pub mod Forms
 pub mod Grammar
-pub mod Heads
 pub mod Items
 pub mod Lookups
 pub mod Others

@@ -23,6 +23,7 @@ use std::alloc::Global;
 mod abbreviation;
 mod attribute;
 mod cache;
+mod collector;
 mod others;
 mod parse;
 mod sink;

@@ -1,18 +1,14 @@
-//! Abbreviations, and how a declaration of one is read.
+//! Abbreviations.
 
-ghost use Rattle.std.specs.Prelude.{◌≡◌, ◌==◌, ◌≤◌, ◌<◌, ℕ, List, length, All, IsOk, IfOk, IfErr, IfSome, OnOk, Ok, None, option_map};
+ghost use Rattle.std.specs.Prelude.{◌≡◌, ◌==◌, ◌≤◌, length, All, IsOk, IfOk, IfErr};
 ghost use Rattle.std.specs.Cmp.{partial_equiv_from_equiv};
-ghost use Rattle.dwarf_reader_core.specs.Input.{end_of};
 ghost use Rattle.dwarf_read_core.specs.Equality.{HasValueByForm, same_declaration, same_declaration_equiv};
-ghost use Rattle.dwarf_read_core.specs.Reading.{ReturnsUnlessOutOfMemory, tag_at, children_at, declared_at, coded_at};
-ghost use Rattle.dwarf_read_core.specs.Heads.{with_attributes};
 
-use super::attribute::{AttributeSpecification, Attributes, Collector};
+use super::attribute::{AttributeSpecification, Attributes};
 use dwarf_base_core::{Error, Result};
-use dwarf_code_core::children::{DW_CHILDREN_no, DW_CHILDREN_yes, DwChildren};
+use dwarf_code_core::children::{DW_CHILDREN_yes, DwChildren};
 use dwarf_const_core::tag::DwTag;
-use dwarf_reader_core::Reader;
-use std::alloc::{AllocError, Global};
+use std::alloc::AllocError;
 use std::marker::Model;
 
 /// An abbreviation: the shape of the debugging information entries that have its code.
@@ -77,15 +73,20 @@ impl Eq for Abbreviation {
 }
 
 impl Abbreviation {
-    pub(super) fn new(head: Head, attributes: Attributes) -> Abbreviation
+    pub(super) fn new(
+        code: u64,
+        tag: DwTag,
+        has_children: DwChildren,
+        attributes: Attributes,
+    ) -> Abbreviation
         requires { All HasValueByForm attributes.items }
-        ensures { result ≡ with_attributes head attributes.items }
+        ensures { result ≡ record {
+          code = code;
+          tag = tag.0;
+          children = has_children.0 == 1;
+          attributes = attributes.items;
+        } }
     {
-        let Head {
-            code,
-            tag,
-            has_children,
-        } = head;
         Abbreviation {
             code,
             tag,
@@ -136,89 +137,5 @@ impl Abbreviation {
         ensures valued { All HasValueByForm result.now }
     {
         self.attributes.as_slice()
-    }
-
-    pub(super) fn parse_tag<R: Reader>(input: &mut R) -> Result<DwTag>
-        ensures read { ReturnsUnlessOutOfMemory (λ t. (t.0, (R.view input.new).bytes)) result
-            (tag_at (end_of (R.view input.old)) (R.view input.old).bytes) }
-        ensures same_end { OnOk result (end_of (R.view input.new) ≡ end_of (R.view input.old)) }
-    {
-        let value = input.read_uleb128_u16()?;
-        if value == 0 {
-            Err(Error::AbbreviationTagZero)
-        } else {
-            Ok(DwTag(value))
-        }
-    }
-
-    #[tactic(auto, unfolding(crate::specs::Reading::children_at))]
-    pub(super) fn parse_has_children<R: Reader>(input: &mut R) -> Result<DwChildren>
-        ensures read { ReturnsUnlessOutOfMemory (λ c. (c.0 == 1, (R.view input.new).bytes)) result
-            (children_at (end_of (R.view input.old)) (R.view input.old).bytes) }
-        ensures same_end { OnOk result (end_of (R.view input.new) ≡ end_of (R.view input.old)) }
-    {
-        let value = DwChildren(input.read_u8()?);
-        if value == DW_CHILDREN_no || value == DW_CHILDREN_yes {
-            Ok(value)
-        } else {
-            Err(Error::InvalidAbbreviationChildren(value))
-        }
-    }
-}
-
-// A declaration without its attributes, which are in a collector.
-#[derive(Clone, Copy, Debug)]
-pub(super) struct Head {
-    pub(super) code: u64,
-    pub(super) tag: DwTag,
-    pub(super) has_children: DwChildren,
-}
-
-impl Head {
-    // Reads what follows the code of a declaration.
-    #[tactic(auto, unfolding(crate::specs::Reading::declared_at))]
-    fn parse_declared<R: Reader>(
-        code: u64,
-        input: &mut R,
-        collector: &mut Collector,
-    ) -> Result<Head>
-        ensures coded { IfOk result (λ head. head.code ≡ code) }
-        ensures valued { OnOk result (All HasValueByForm collector.new) }
-        ensures read { ReturnsUnlessOutOfMemory
-            (λ head. (with_attributes head collector.new, (R.view input.new).bytes)) result
-            (declared_at (end_of (R.view input.old)) code (R.view input.old).bytes) }
-        ensures same_end { OnOk result (end_of (R.view input.new) ≡ end_of (R.view input.old)) }
-    {
-        let tag = Abbreviation::parse_tag(input)?;
-        let has_children = Abbreviation::parse_has_children(input)?;
-        collector.parse_attributes(input)?;
-        Ok(Head {
-            code,
-            tag,
-            has_children,
-        })
-    }
-
-    // Reads a declaration, or `None` if a code of value 0 is in its place.
-    pub(super) fn parse<R: Reader>(input: &mut R, collector: &mut Collector) -> Result<Option<Head>>
-        ensures coded { IfOk result (λ found. IfSome found (λ head. 0 < head.code)) }
-        ensures valued { IfOk result
-            (λ found. IfSome found (λ head. All HasValueByForm collector.new)) }
-        ensures ends { (rest : List ℕ)
-            → coded_at (end_of (R.view input.old)) (R.view input.old).bytes ≡ Ok (None, rest)
-            → IsOk result }
-        ensures read { ReturnsUnlessOutOfMemory
-            (λ found. (
-              option_map (λ head. with_attributes head collector.new) found,
-              (R.view input.new).bytes,
-            )) result
-            (coded_at (end_of (R.view input.old)) (R.view input.old).bytes) }
-        ensures same_end { OnOk result (end_of (R.view input.new) ≡ end_of (R.view input.old)) }
-    {
-        let code = input.read_uleb128()?;
-        if code == 0 {
-            return Ok(None);
-        }
-        Ok(Some(Self::parse_declared(code, input, collector)?))
     }
 }

@@ -1,10 +1,10 @@
-//! The attributes of abbreviations, the sizes of their forms, and where attributes are collected.
+//! The attributes of abbreviations, and the sizes of their forms.
 
-ghost use Rattle.std.specs.Prelude.{◌≡◌, ◌↔◌, ◌∷◌, ◌++◌, [], Ok, Err, IsSome, IfSome, IfNone, IfOk, IfErr, OnOk};
+ghost use Rattle.std.specs.Prelude.{◌≡◌, ◌↔◌, Ok, Err, IsSome, IfSome, IfNone, IfOk, IfErr, OnOk};
 ghost use Rattle.dwarf_reader_core.specs.Input.{end_of};
 ghost use Rattle.dwarf_read_core.specs.Forms.{form_size};
 ghost use Rattle.dwarf_read_core.specs.Grammar.{implicit_const};
-ghost use Rattle.dwarf_read_core.specs.Reading.{PairRead, ReturnsUnlessOutOfMemory, attributes_in, specification_at};
+ghost use Rattle.dwarf_read_core.specs.Reading.{PairRead, ReturnsUnlessOutOfMemory, specification_at};
 
 use dwarf_base_core::{Encoding, Error, Result};
 use dwarf_const_core::attribute::{DW_AT_null, DwAt};
@@ -18,7 +18,7 @@ use dwarf_const_core::form::{
 };
 use dwarf_reader_core::{Reader, read_u8_array};
 use smallvec::SmallVec;
-use std::alloc::{AllocError, Global};
+use std::alloc::Global;
 use std::default::MadeWith;
 use std::marker::Model;
 
@@ -211,85 +211,3 @@ fn get_attribute_size(form: DwForm, encoding: Encoding) -> Option<u8>
 // Most declarations have at most five attributes. These are in the abbreviation itself, and only
 // a longer list allocates.
 pub(super) type Attributes = SmallVec<AttributeSpecification, 5>;
-
-// How many attributes are collected without allocating. Few declarations have more.
-const SCRATCH_LEN: usize = 16;
-
-// The attributes of a declaration while it is read.
-#[derive(Drop)]
-pub(super) struct Collector {
-    // They are those in `overflow`, and then the first `len` of `scratch`.
-    overflow: Vec<AttributeSpecification>,
-    scratch: [AttributeSpecification; SCRATCH_LEN],
-    len: usize,
-}
-
-impl Model for Collector {
-    ghost use Rattle.std.specs.Prelude.{◌++◌, ◌≤◌, List, take};
-    ghost use Rattle.dwarf_read_core.specs.Grammar.{Specification};
-
-    ghost Value = { List Specification };
-
-    ghost view = { λ c. c.overflow.items ++ take c.len c.scratch };
-
-    ghost invariant = { λ c. c.len ≤ 16 };
-}
-
-impl Collector {
-    pub(super) fn new(mem: Global) -> Collector
-        ensures { result ≡ [] }
-    {
-        Collector {
-            overflow: Vec::new(mem),
-            scratch: [AttributeSpecification::made_with(mem); SCRATCH_LEN],
-            len: 0,
-        }
-    }
-
-    // Reads the attributes of a declaration, in place of those of another one.
-    #[tactic(auto, using(crate::proofs::tables::ReadingAttributes::attribute_steps))]
-    pub(super) fn parse_attributes<R: Reader>(&mut self, input: &mut R) -> Result<()>
-        ensures read { ReturnsUnlessOutOfMemory (λ _. (self.new, (R.view input.new).bytes)) result
-            (attributes_in (end_of (R.view input.old)) (R.view input.old).bytes) }
-        ensures same_end { OnOk result (end_of (R.view input.new) ≡ end_of (R.view input.old)) }
-    {
-        self.overflow.clear();
-        // It is counted in a variable of its own, which stays in a register.
-        let mut len = 0;
-        // The label names the loop in its proof.
-        'attributes: while let Some(attribute) = AttributeSpecification::parse(input)? {
-            if len == SCRATCH_LEN {
-                spill(&mut self.overflow, &self.scratch)?;
-                len = 0;
-            }
-            self.scratch[len] = attribute;
-            len += 1;
-        }
-        self.len = len;
-        Ok(())
-    }
-
-    // Returns all attributes in one place.
-    pub(super) fn as_slice(&mut self) -> std::result::Result<&[AttributeSpecification], AllocError>
-        ensures { IfOk result (λ slice. slice.now ≡ self.old) }
-    {
-        if self.overflow.is_empty() {
-            return Ok(&self.scratch[..self.len]);
-        }
-        spill(&mut self.overflow, &self.scratch[..self.len])?;
-        self.len = 0;
-        Ok(self.overflow.as_slice())
-    }
-}
-
-// Copies attributes after those in `overflow`. It is out of line, since few declarations have
-// enough attributes to need it.
-#[inline(never)]
-fn spill(
-    overflow: &mut Vec<AttributeSpecification>,
-    scratch: &[AttributeSpecification],
-) -> std::result::Result<(), AllocError>
-    ensures ok { OnOk result (overflow.new.items ≡ overflow.old.items ++ scratch.now) }
-{
-    overflow.extend_from_slice(scratch)
-}

@@ -4,12 +4,10 @@ ghost use Rattle.std.specs.Prelude.{◌≡◌, ◌≢◌, ◌<◌, All, true, fa
 ghost use Rattle.std.specs.FinMap as finite;
 ghost use Rattle.dwarf_read_core.specs.Equality.{HasValueByForm};
 ghost use Rattle.dwarf_read_core.specs.Grammar.{Table, by_end, by_null, closed};
-ghost use Rattle.dwarf_read_core.specs.Heads.{with_attributes};
 
-use super::abbreviation::Head;
 use super::attribute::AttributeSpecification;
 use dwarf_base_core::{Error, Result};
-use dwarf_code_core::children::DW_CHILDREN_yes;
+use dwarf_code_core::children::{DW_CHILDREN_yes, DwChildren};
 use dwarf_const_core::tag::DwTag;
 use std::alloc::Global;
 use std::marker::Model;
@@ -20,42 +18,37 @@ use std::marker::Model;
 /// Only the parser makes one, so each is a declaration that was read from a section.
 #[derive(Debug, Drop)]
 pub struct AbbreviationDeclaration<'a> {
-    pub(super) head: Head,
+    pub(super) code: u64,
+    pub(super) tag: DwTag,
+    pub(super) has_children: DwChildren,
     pub(super) attributes: &'a [AttributeSpecification],
 }
 
 impl<'a> Model for AbbreviationDeclaration<'a> {
-    ghost use Rattle.std.specs.Prelude.{◌<◌, All};
+    ghost use Rattle.std.specs.Prelude.{◌<◌, ◌==◌, All};
     ghost use Rattle.dwarf_read_core.specs.Equality.{HasValueByForm};
     ghost use Rattle.dwarf_read_core.specs.Grammar.{Declaration};
-    ghost use Rattle.dwarf_read_core.specs.Heads.{with_attributes};
 
     ghost Value = { Declaration };
 
-    ghost view = { λ d. with_attributes d.head d.attributes.now };
+    ghost view = { λ d. record {
+      code = d.code;
+      tag = d.tag.0;
+      children = d.has_children.0 == 1;
+      attributes = d.attributes.now;
+    } };
 
-    ghost invariant = { λ d. (0 < d.head.code) × All HasValueByForm d.attributes.now };
+    ghost invariant = { λ d. (0 < d.code) × All HasValueByForm d.attributes.now };
 }
 
 impl<'a> AbbreviationDeclaration<'a> {
-    pub(super) fn new(
-        head: Head,
-        attributes: &'a [AttributeSpecification],
-    ) -> AbbreviationDeclaration<'a>
-        requires nonzero { 0 < head.code }
-        requires valued { All HasValueByForm attributes.now }
-        ensures { result ≡ with_attributes head attributes.now }
-    {
-        AbbreviationDeclaration { head, attributes }
-    }
-
     /// Returns the code of the abbreviation. It is not 0.
     #[inline]
     pub fn code(&self) -> u64
         ensures code { result ≡ self.now.code }
         ensures nonzero { 0 < result }
     {
-        self.head.code
+        self.code
     }
 
     /// Returns the tag of the entries.
@@ -63,7 +56,7 @@ impl<'a> AbbreviationDeclaration<'a> {
     pub fn tag(&self) -> DwTag
         ensures { result.0 ≡ self.now.tag }
     {
-        self.head.tag
+        self.tag
     }
 
     /// Returns whether an entry is followed by its children.
@@ -71,7 +64,7 @@ impl<'a> AbbreviationDeclaration<'a> {
     pub fn has_children(&self) -> bool
         ensures { result ≡ self.now.children }
     {
-        self.head.has_children == DW_CHILDREN_yes
+        self.has_children == DW_CHILDREN_yes
     }
 
     /// Returns the attributes of the entries, as [`Abbreviation::attributes`] does.

@@ -178,7 +178,12 @@ impl AbbreviationSink for Abbreviations {
     #[inline(always)]
     fn declare(&mut self, declaration: &AbbreviationDeclaration<'_>) -> Result<()> {
         let attributes = Attributes::from_slice(*self.vec.allocator(), declaration.attributes)?;
-        self.insert(Abbreviation::new(declaration.head, attributes))
+        self.insert(Abbreviation::new(
+            declaration.code,
+            declaration.tag,
+            declaration.has_children,
+            attributes,
+        ))
     }
 
     fn close(&mut self) {

@@ -5,9 +5,11 @@ ghost use Rattle.std.specs.Prelude.{◌≡◌, All, IfOk};
 ghost use Rattle.dwarf_read_core.specs.Equality.{HasValueByForm};
 
 use super::DebugAbbrev;
-use super::abbreviation::{Abbreviation, Head};
-use super::attribute::{AttributeSpecification, Attributes, Collector};
+use super::abbreviation::Abbreviation;
+use super::attribute::{AttributeSpecification, Attributes};
+use super::collector::{Collector, parse_has_children, parse_tag};
 use super::parse::parse;
+use super::sink::AbbreviationDeclaration;
 use super::table::Abbreviations;
 use dwarf_base_core::{DebugAbbrevOffset, Error, LittleEndian, Result};
 use dwarf_code_core::children::{DW_CHILDREN_no, DW_CHILDREN_yes, DwChildren};
@@ -24,12 +26,7 @@ fn declared(code: u64, attributes: Attributes) -> Abbreviation
     requires { All HasValueByForm attributes.items }
     ensures { result.code ≡ code }
 {
-    let head = Head {
-        code,
-        tag: DW_TAG_compile_unit,
-        has_children: DW_CHILDREN_no,
-    };
-    Abbreviation::new(head, attributes)
+    Abbreviation::new(code, DW_TAG_compile_unit, DW_CHILDREN_no, attributes)
 }
 
 // A table of declarations with these codes, added one by one.
@@ -146,14 +143,14 @@ fn attributes(mem: Global, count: usize) -> std::result::Result<Attributes, Allo
 #[test]
 fn tags_and_children_are_parsed(rt: HostRuntime) {
     let input = &mut slice(b"\x01\x02");
-    assert!(rt; Abbreviation::parse_tag(input) == Ok(DwTag(1)));
+    assert!(rt; parse_tag(input) == Ok(DwTag(1)));
     assert!(rt; input.slice() == b"\x02".as_slice());
-    assert!(rt; Abbreviation::parse_tag(&mut slice(b"\0")) == Err(Error::AbbreviationTagZero));
+    assert!(rt; parse_tag(&mut slice(b"\0")) == Err(Error::AbbreviationTagZero));
     let input = &mut slice(b"\0\x01\x02");
-    assert!(rt; Abbreviation::parse_has_children(input) == Ok(DW_CHILDREN_no));
-    assert!(rt; Abbreviation::parse_has_children(input) == Ok(DW_CHILDREN_yes));
+    assert!(rt; parse_has_children(input) == Ok(DW_CHILDREN_no));
+    assert!(rt; parse_has_children(input) == Ok(DW_CHILDREN_yes));
     let refused = Error::InvalidAbbreviationChildren(DwChildren(2));
-    assert!(rt; Abbreviation::parse_has_children(input) == Err(refused));
+    assert!(rt; parse_has_children(input) == Err(refused));
 }
 
 #[test]
@@ -190,8 +187,7 @@ fn entries_of_a_table_are_parsed(rt: HostRuntime) -> std::result::Result<(), Fai
     let mut collector = Collector::new(mem);
     for (bytes, attribute, left) in rows {
         let input = &mut slice(bytes);
-        let found = Head::parse(input, &mut collector)?;
-        check_entry(&rt, found, collector.as_slice()?, attribute, bytes);
+        check_entry(&rt, collector.declaration(input)?, attribute, bytes);
         assert_eq!(rt; input.slice(), left, "{bytes:?}");
     }
     Ok(())
@@ -200,8 +196,7 @@ fn entries_of_a_table_are_parsed(rt: HostRuntime) -> std::result::Result<(), Fai
 // Ends the test unless an entry with only this attribute was found, or none where `None` is wanted.
 fn check_entry(
     rt: &impl Abort,
-    found: Option<Head>,
-    attributes: &[AttributeSpecification],
+    found: Option<AbbreviationDeclaration<'_>>,
     attribute: Option<AttributeSpecification>,
     bytes: &[u8],
 ) {
@@ -209,7 +204,7 @@ fn check_entry(
     if let (Some(found), Some(attribute)) = (found, attribute) {
         let head = (found.code, found.tag, found.has_children);
         assert!(rt; head == (1, DW_TAG_subprogram, DW_CHILDREN_no), "{bytes:?}");
-        assert!(rt; attributes == [attribute].as_slice(), "{bytes:?}");
+        assert!(rt; found.attributes == [attribute].as_slice(), "{bytes:?}");
     }
 }
 

@@ -1,6 +1,6 @@
 use Rattle.dwarf_read_core.proofs.Common.{◌≡◌, ◌≤◌, ◌++◌, length, take, end_of, attributes_in}
 use Rattle.dwarf_read_core.proofs.tables.ReadingAttributes.{with_front}
-use Rattle.dwarf_read_core.proofs.read.abbrev.attribute.Collector.parse_attributes.Given as goal
+use Rattle.dwarf_read_core.proofs.read.abbrev.collector.Collector.parse_attributes.Given as goal
 
 -- the specifications so far and those that are read after them are all of the declaration
 abbrev pub invariant-attributes : goal.invariant-attributes

@@ -1,6 +1,6 @@
 use Rattle.dwarf_read_core.proofs.Common.{arith, refl, tag_at, gives_err}
 use Rattle.dwarf_read_core.proofs.tables.ReadingNumbers.{number_steps, number_not_read, end_stays}
-use Rattle.dwarf_read_core.proofs.read.abbrev.abbreviation.Abbreviation.parse_tag.Goals as goal
+use Rattle.dwarf_read_core.proofs.read.abbrev.collector.parse_tag.Goals as goal
 
 pub returns-in_err-value-clause-read : goal.returns-in_err-value-clause-read
 unfolding tag_at

@@ -1,6 +1,6 @@
 use Rattle.dwarf_read_core.proofs.Common.{◌≡◌, ◌∙◌, ◌<◌, ◌++◌, length, take, arith, common_steps, gives_err}
 use Rattle.dwarf_read_core.proofs.tables.ReadingAttributes.{collected_push, front-ends, front-fails, front-goes_on}
-use Rattle.dwarf_read_core.proofs.read.abbrev.attribute.Collector.parse_attributes.Goals as goal
+use Rattle.dwarf_read_core.proofs.read.abbrev.collector.Collector.parse_attributes.Goals as goal
 
 pub returns-in_err-attribute-clause-read : goal.returns-in_err-attribute-clause-read
 returns-in_err-attribute-clause-read g c =
