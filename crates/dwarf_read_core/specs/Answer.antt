@@ -5,7 +5,7 @@ use Rattle.std.specs.List.{Any}
 use Rattle.dwarf_base_core.specs.declared.error.Error.{Error}
 use Rattle.dwarf_base_core.specs.declared.error.Error.TheVariants.{AbbreviationTagZero, InvalidAbbreviationChildren, AttributeNameZero, AttributeFormZero, DuplicateAbbreviationCode, OutOfMemory, UnterminatedAbbreviations}
 use Rattle.dwarf_reader_core.specs.Leb128.{Kind, unsigned64, unsigned16, signed64, overflow_error, IsNumber, IsTruncated, IsMalformed}
-use Rattle.dwarf_reader_core.specs.Faults.{eof, eof_here}
+use Rattle.dwarf_reader_core.specs.Faults.{eof}
 use Rattle.dwarf_reader_core.specs.Input.{Input, end_of}
 use Rattle.dwarf_reader_core.specs.Appended.{IsNotEof}
 use Rattle.dwarf_read_core.specs.Grammar.{Declaration, implicit_const, Table, by_null, is_by_null, attribute_count, IsCode, IsHead, IsFront, IsDeclaration, AreDeclarations, IsTable, IsTableBefore}
@@ -50,11 +50,11 @@ pub data IsFirstError (end : ℕ) : List ℕ → Error → Type 0 where
 
 -- the result for a section and an offset: the table there, or the first error
 pub data Answer (section : Input) (offset : ℕ) : Result Table Error → Type 0 where
-  outside : length section.bytes < offset → Answer section offset (Err (eof_here section))
+  outside : length section.bytes < offset → Answer section offset (Err (eof section.position))
   table : (t : Table) → offset ≤ length section.bytes → IsTable (drop offset section.bytes) t
       → Answer section offset (Ok t)
   first_error : (e : Error) → offset ≤ length section.bytes
-      → IsFirstError (end_of section) (drop offset section.bytes) e
+      → IsFirstError (section.position + length section.bytes) (drop offset section.bytes) e
       → Answer section offset (Err e)
 
 -- the errors that a section can have in place of a table
@@ -85,7 +85,7 @@ FitsIn section offset t =
 -- a result that doesn't depend on where the section ends
 abbrev pub IsFinal : Result Table Error → Type 0
 IsFinal (Ok t) = t.close ≡ by_null
-IsFinal (Err e) = IsNotEof e
+IsFinal (Err e) = (position : ℕ) → e ≢ eof position
 
 -- the offsets at which no memory is needed: past the end, at the end, or at a code of value 0
 abbrev pub TakesNoMemory : Input → ℕ → Type 0

@@ -12,6 +12,7 @@ use Rattle.dwarf_reader_core.specs.Readings.{Given, PartRead, Reading, SkipRead,
 use Rattle.dwarf_read_core.specs.Entries.{Entries}
 use Rattle.dwarf_reader_core.specs.Headers.{Header}
 use Rattle.dwarf_read_core.specs.Items.{AreItems}
+use Rattle.dwarf_read_core.specs.Lookups.{ReadAt}
 
 -- a contribution: its place in the section, its format and length, what its header says, and its entries, which are a
 -- part of the section or a reader of it
@@ -79,17 +80,10 @@ ReadsNoContribution header greatest clone_is_free offset old e new =
     ContributionRead header greatest offset old (Err e, new)
     ⊎ (CloneRanOutOfMemory clone_is_free e × (size : Format × ℕ) × LengthAt greatest old (Ok size, new))
 
--- the contribution at an offset of a section
-abbrev pub ContributionFrom : {H : Type 0} → Header H → ℕ → ℕ → Reading (Contribution H)
-ContributionFrom header greatest offset = do
-  _ ← SkipRead offset
-  ContributionRead header greatest offset
-
 -- the result for the contribution at an offset of a section: the contribution, or the error that there is none
-pub record ContributionAtOffset {H : Type 0} (header : Header H) (greatest : ℕ) (section : Input) (offset : ℕ)
-    (result : Result (Contribution H) Error) : Type 0 where
-  pub new : Input
-  pub read : ContributionFrom header greatest offset section (result, new)
+abbrev pub ContributionAtOffset : {H : Type 0} → Header H → ℕ → Input → ℕ → Result (Contribution H) Error → Type 0
+ContributionAtOffset header greatest section offset =
+    ReadAt (SkipRead offset) (ContributionRead header greatest offset) section
 
 -- where the contributions that remain end, in bytes from the section's start
 abbrev pub end_of_remaining : Remaining → ℕ

@@ -12,10 +12,6 @@ IsEncoding [] = ⊥
 IsEncoding (b ∷ []) = b < 128
 IsEncoding (b ∷ c ∷ bytes) = (128 ≤ b) × IsEncoding (c ∷ bytes)
 
--- none of the bytes is the last of an encoding
-abbrev pub NoneIsLast : List ℕ → Type 0
-NoneIsLast bytes = AllByRecursion (λ b. 128 ≤ b) bytes
-
 -- byte i, counted from 0, has the digit b % 128, which counts 128 ^ i times
 abbrev pub unsigned_value : List ℕ → ℕ
 unsigned_value [] = 0
@@ -77,10 +73,10 @@ pub record HasNumber (k : Kind) (bytes : List ℕ) (number : Number k) (n : ℕ)
   pub enough : n ≤ length bytes
   pub is_number : IsNumber k (take n bytes) number
 
--- the bytes end before the limit of the kind, and none of them is the last of an encoding
+-- the bytes end before the limit of the kind, and none of them is the last of an encoding, which is below 128
 pub record IsTruncated (k : Kind) (bytes : List ℕ) : Type 0 where
   pub short : length bytes < limit k
-  pub unended : NoneIsLast bytes
+  pub unended : AllByRecursion (λ b. 128 ≤ b) bytes
 
 -- the bytes begin with no number of the kind, and not just because they end too early
 pub record IsMalformed (k : Kind) (bytes : List ℕ) : Type 0 where
@@ -129,6 +125,10 @@ pub record TakesEncoding (old new : Input) : Type 0 where
   pub enough : len ≤ length old.bytes
   pub encoding : IsEncoding (take len old.bytes)
   pub left : new ≡ after len old
+
+-- none of the bytes is the last of an encoding
+abbrev pub NoneIsLast : List ℕ → Type 0
+NoneIsLast bytes = AllByRecursion (λ b. 128 ≤ b) bytes
 
 -- no encoding is at the front: all bytes are consumed, and the error is that of missing bytes
 pub record TakesNoEncoding (old : Input) (e : Error) (new : Input) : Type 0 where

@@ -1,7 +1,7 @@
 -- Readings: what a call reads at the front of an input, and what remains then.
-use Rattle.std.specs.Prelude.{◌≡◌, ◌≢◌, ◌<◌, ◌≤◌, ℕ, ℤ, ⊤, Bool, true, false, List, Result, Ok, Err, ◌⊎◌, IsTrue, if◌then◌else◌}
+use Rattle.std.specs.Prelude.{◌≡◌, ◌<◌, ◌≤◌, ℕ, ℤ, ⊤, Bool, true, false, List, Result, Ok, Err, IfErr, ◌⊎◌, IsTrue, if◌then◌else◌}
 use Rattle.dwarf_base_core.specs.declared.error.Error.{Error}
-use Rattle.dwarf_reader_core.specs.Appended.{followed_by}
+use Rattle.dwarf_reader_core.specs.Appended.{IsNotEof, followed_by}
 use Rattle.dwarf_reader_core.specs.Faults.{HasNoByte, IsTooShort, IsUnsupportedAddressSize, ReadsNoAddress, ReadsNoOffset, ReadsNoWord, eof, is_number_size}
 use Rattle.dwarf_reader_core.specs.Input.{Input, Takes, TakesByte, TakesNumber, TakesSigned, TakesString, first}
 use Rattle.dwarf_reader_core.specs.Leb128.{IsOver, Kind, Number, ReadsNoNumber, ReadsNumber, TakesEncoding, TakesNoEncoding, unsigned64}
@@ -118,17 +118,13 @@ Reads At seen old (Err e) new = At old (Err e, new)
 
 -- ---- what holds of each
 
--- a value, or an error other than `UnexpectedEof`
-abbrev pub IsSettled : {A : Type 0} → Result A Error → Type 0
-IsSettled result = (position : ℕ) → result ≢ Err (eof position)
-
 -- the next bytes decide everything: each input has exactly one result, and exactly one input remains; appended bytes
 -- change a result only where bytes were missing, and are all that is added to what remains; and what remains is what
 -- follows some of the bytes
 pub record IsDecided {A : Type 0} (At : Reading A) : Type 0 where
   pub one : (old : Input) → HasOne (At old)
-  pub more : (old new : Input) (result : Result A Error) (more : List ℕ) → At old (result, new) → IsSettled result
-      → At (followed_by old more) (result, followed_by new more)
+  pub more : (old new : Input) (result : Result A Error) (more : List ℕ) → At old (result, new)
+      → IfErr result IsNotEof → At (followed_by old more) (result, followed_by new more)
   pub taken : (old new : Input) (result : Result A Error) → At old (result, new) → (n : ℕ) × Takes n old new
 
 -- the next bytes decide everything, and where bytes are missing, the reading stops at their position

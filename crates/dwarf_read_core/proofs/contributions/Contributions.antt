@@ -10,7 +10,6 @@ use Rattle.dwarf_reader_core.proofs.public.InitialLengths.{length_taken}
 use Rattle.dwarf_reader_core.specs.Headers.{Header, IsHeader}
 use Rattle.dwarf_read_core.specs.Items.{only_error}
 use Rattle.dwarf_read_core.specs.Contributions.{ContributionAt, ContributionRead, ReadsNoContribution, contribution_size}
-use Rattle.dwarf_read_core.proofs.lookups.Results.{not_eof}
 use Rattle.dwarf_read_core.proofs.contributions.ItemLists.{bytes-still_some, items-same, TakesLeast, items-exactly_one, items-bounded, item-first, error-first, first-is, items-none}
 
 -- as many bytes fewer remain as a contribution that is taken has
@@ -123,7 +122,7 @@ module _ {H : Type 0} {header : Header H} (is_header : IsHeader header) (greates
       → ContributionAt header greatest old (r, new) → IfErr r IsNotEof
       → ContributionAt header greatest (followed_remaining more old) (r, followed_remaining more new)
   first-more more old new r is settled = (
-    (contribution-decided old.offset).more old.rest new.rest r more is.0 (not_eof r settled),
+    (contribution-decided old.offset).more old.rest new.rest r more is.0 settled,
     omega (arith, is.1, length-append old.rest.bytes more, length-append new.rest.bytes more),
   )
 

@@ -1,33 +1,24 @@
 -- A section has exactly one result for the contribution at an offset, which stays with more bytes appended.
-use Rattle.dwarf_read_core.proofs.Common.{ℕ, ◌+◌, ◌≤◌, length, arith, rest-length, List, Result, Ok, Err, ap, Bool, IfOk, IfErr, ◌⊎◌, inl, inr, Error, CloneRanOutOfMemory, Input, Takes, HasOne, IsNotEof, followed_by, Contribution}
+use Rattle.dwarf_read_core.proofs.Common.{ℕ, ◌+◌, ◌≤◌, length, arith, rest-length, List, Result, Ok, Err, Bool, IfOk, IfErr, ◌⊎◌, inl, inr, Error, CloneRanOutOfMemory, Input, Takes, HasOne, IsNotEof, followed_by, Contribution}
 use Rattle.dwarf_reader_core.specs.Headers.{Header, IsHeader}
-use Rattle.dwarf_reader_core.specs.Readings.{IsDecided}
-use Rattle.dwarf_reader_core.proofs.public.Readings.{skip-is, then-decided}
-use Rattle.dwarf_read_core.specs.Contributions.{ContributionAtOffset, ContributionFrom, ContributionRead, ReadsNoContribution, contribution_size}
+use Rattle.dwarf_reader_core.proofs.public.Readings.{skip-is}
+use Rattle.dwarf_read_core.specs.Contributions.{ContributionAtOffset, ContributionRead, ReadsNoContribution, contribution_size}
 use Rattle.dwarf_read_core.proofs.contributions.Contributions.{contribution-decided, contribution_takes}
-use Rattle.dwarf_read_core.proofs.lookups.Results.{not_eof}
+use Rattle.dwarf_read_core.proofs.lookups.Results.{read_at-exactly_one, read_at-more}
 
 module _ {H : Type 0} {header : Header H} (is_header : IsHeader header) (greatest : ℕ) where
-  -- the bytes of a section decide the contribution at an offset
-  contribution_from-decided : (offset : ℕ) → IsDecided (ContributionFrom header greatest offset)
-  contribution_from-decided offset =
-      then-decided (skip-is offset).decided (λ skipped. contribution-decided is_header greatest offset)
-
   -- a section has exactly one result for the contribution at an offset
   pub contribution_at-exactly_one : (section : Input) (offset : ℕ)
       → HasOne (ContributionAtOffset header greatest section offset)
   contribution_at-exactly_one section offset =
-      let one = (contribution_from-decided offset).one section in
-      (one.0.0, record { new = one.0.1; read = one.1 }, λ other is. ap (λ r. r.0) (one.2 (other, is.new) is.read))
+      read_at-exactly_one (skip-is offset).decided (contribution-decided is_header greatest offset) section
 
   -- the result for the contribution at an offset, unless it is an `UnexpectedEof`, stays when bytes are appended
   pub contribution_at-more : (section : Input) (offset : ℕ) (more : List ℕ) (r : Result (Contribution H) Error)
       → ContributionAtOffset header greatest section offset r → IfErr r IsNotEof
       → ContributionAtOffset header greatest (followed_by section more) offset r
-  contribution_at-more section offset more r at settled = record {
-    new = followed_by at.new more;
-    read = (contribution_from-decided offset).more section at.new r more at.read (not_eof r settled);
-  }
+  contribution_at-more section offset more r =
+      read_at-more (skip-is offset).decided (contribution-decided is_header greatest offset) section r more
 
 module _ {H X : Type 0} (header : Header H) (greatest : ℕ) (section : Input) (offset : ℕ) (view : X → Contribution H)
     {rest : Input} (new : Input) (takes : Takes offset section rest) where
@@ -47,10 +38,10 @@ module _ {H X : Type 0} (header : Header H) (greatest : ℕ) (section : Input) (
   contribution_at-faulty is_free (Err e) (inr want) = inr want.0
 
 -- a contribution at an offset ends within the section
-pub contribution_at-within : {H : Type 0} {header : Header H} {greatest offset : ℕ} {section : Input}
+pub contribution_at-within : {H : Type 0} (header : Header H) {greatest offset : ℕ} {section : Input}
     {s : Contribution H} → ContributionAtOffset header greatest section offset (Ok s)
     → offset + contribution_size s ≤ length section.bytes
-contribution_at-within {header = header} {greatest} {offset} {section} {s} at =
+contribution_at-within header {greatest} {offset} {section} {s} at =
     let rest = at.read.1 in
     let skipped = at.read.2 in
     let taken = contribution_takes header greatest offset rest s at.new at.read.3 in

@@ -3,7 +3,7 @@
 use Rattle.dwarf_read_core.proofs.Common.{ℕ, List, Result, Ok, Err, Bool, IfErr, ap, sym, subst, ◌≡◌, inl, inr, followed_by, Error, HasOne, IsNotEof, Input, ◌⊎◌, UnlessCloneRanOut, Stays}
 use Rattle.std.specs.Prelude.{⊤}
 use Rattle.std.proofs.Common.{IsErrAnd}
-use Rattle.dwarf_reader_core.specs.Readings.{IsDecided, IsSettled, Reading, Then}
+use Rattle.dwarf_reader_core.specs.Readings.{IsDecided, Reading, Then}
 use Rattle.dwarf_reader_core.proofs.public.Readings.{then-decided}
 use Rattle.dwarf_read_core.specs.Lookups.{ReadAt}
 
@@ -38,11 +38,6 @@ lookup-stays IsIn kept {r = Err e} is =
 
 -- ---- what is read at a place
 
--- a result that isn't an `UnexpectedEof` is settled
-pub not_eof : {A : Type 0} (r : Result A Error) → IfErr r IsNotEof → IsSettled r
-not_eof (Ok x) settled position same = absurd cc
-not_eof (Err e) settled position same = settled position (let fault = same in cc)
-
 module _ {A : Type 0} {Place : Reading ⊤} {At : Reading A} where
   -- the error of going to a place is the result there
   pub read_at-missed : {section : Input} {e : Error} (new : Input) → Place section (Err e, new)
@@ -71,7 +66,7 @@ module _ {A : Type 0} {Place : Reading ⊤} {At : Reading A} where
         → IfErr r IsNotEof → ReadAt Place At (followed_by section more) r
     read_at-more section r more at settled = record {
       new = followed_by at.new more;
-      read = read_from-decided.more section at.new r more at.read (not_eof r settled);
+      read = read_from-decided.more section at.new r more at.read settled;
     }
 
     -- what a lookup returned, except `UnexpectedEof` and `OutOfMemory`, stays when bytes are appended

@@ -1,15 +1,15 @@
 -- Each reading has exactly one result, which appended bytes change only where bytes were missing; and so has each
 -- reading that is made of others.
-use Rattle.std.specs.Prelude.{if◌then◌else◌, nat_le, nat_lt, ◌≢◌}
+use Rattle.std.specs.Prelude.{IfErr, if◌then◌else◌, nat_le, nat_lt, ◌≢◌}
 use Rattle.dwarf_reader_core.proofs.Common.{Bool, true, ◌≡◌, ◌∙◌, ◌+◌, ℕ, ℤ, ⊤, ◌≤◌, false, List, length, take, Result, Ok, Err, refl, sym, ap, inl, inr, arith, HasNoByte, HasOutcome, IsEncoding, NoneIsLast, IsTooShort, Kind, Number, Outcome, Value, End, Bad, limit, unsigned64, Error, Input, after, eof, eof_here, first, Takes, TakesNumber, TakesString, length-append, take-append-le, drop-append-le}
 use Rattle.dwarf_base_core.specs.Number.{signed_number}
 use Rattle.dwarf_base_core.specs.declared.common.Format.{Format}
 use Rattle.dwarf_base_core.specs.declared.error.Error.TheVariants.{BadUnsignedLeb128, UnsupportedAddressSize, UnsupportedOffset, UnsupportedOffsetSize}
-use Rattle.dwarf_reader_core.specs.Appended.{followed_by}
+use Rattle.dwarf_reader_core.specs.Appended.{IsNotEof, followed_by}
 use Rattle.dwarf_reader_core.specs.Faults.{is_number_size}
 use Rattle.dwarf_reader_core.specs.InitialLength.{HasNoLength, LengthAt, eight_cut, four_cut, reserved, too_great}
 use Rattle.dwarf_reader_core.specs.Leb128.{ReadsNumber, overflow_error}
-use Rattle.dwarf_reader_core.specs.Readings.{AddressRead, AddressSizeRead, BoundedRead, Choice, EncodingRead, Given, IsDecided, IsRead, IsSettled, Leb128Read, Mapped, NumberRead, OffsetRead, PartRead, Reading, Required, SignedRead, SkipRead, StringRead, Then, Within, WordRead}
+use Rattle.dwarf_reader_core.specs.Readings.{AddressRead, AddressSizeRead, BoundedRead, Choice, EncodingRead, Given, IsDecided, IsRead, Leb128Read, Mapped, NumberRead, OffsetRead, PartRead, Reading, Required, SignedRead, SkipRead, StringRead, Then, Within, WordRead}
 use Rattle.dwarf_reader_core.proofs.leb.Outcomes.{encoding-not_none, encoding_or_none, length-same, malformed-long, outcome-exactly_one}
 use Rattle.dwarf_reader_core.proofs.public.BadNumbers.{bad_more}
 use Rattle.dwarf_reader_core.proofs.public.Consuming.{after-zero, front, front-cut, front-taken, number_more, takes-both, takes-more}
@@ -17,13 +17,6 @@ use Rattle.dwarf_reader_core.proofs.public.InitialLengths.{length_more, length_t
 use Rattle.dwarf_reader_core.proofs.public.MissingFields.{eof-same, err-equal, ok-settled}
 use Rattle.dwarf_reader_core.proofs.public.Once.{one_unless}
 use Rattle.dwarf_reader_core.proofs.public.Strings.{string_not_none, string_taken-more, string_taken_once, string_taken_or_none}
-
--- ---- results
-
--- equal errors are equal as results of another type
-err-same : {A B : Type 0} {e f : Error} → ◌≡◌ {A = Result A Error} (Err e) (Err f)
-    → ◌≡◌ {A = Result B Error} (Err e) (Err f)
-err-same same = grind arith
 
 -- ---- bytes that are taken
 
@@ -103,11 +96,10 @@ module _ {A B : Type 0} (f : A → B) where
 
     -- appended bytes change it where they change the reading
     mapped-more : (old new : Input) (result : Result B Error) (more : List ℕ) → Mapped f At old (result, new)
-        → IsSettled result → Mapped f At (followed_by old more) (result, followed_by new more)
+        → IfErr result IsNotEof → Mapped f At (followed_by old more) (result, followed_by new more)
     mapped-more old new (Ok y) more is settled =
-        (is.0, is.1, read.more old new (Ok is.0) more is.2 (λ position. ok-settled))
-    mapped-more old new (Err e) more is settled =
-        read.more old new (Err e) more is (λ position same. settled position (err-same same))
+        (is.0, is.1, read.more old new (Ok is.0) more is.2 tt)
+    mapped-more old new (Err e) more is settled = read.more old new (Err e) more is settled
 
     -- it takes the bytes of the reading
     mapped-taken : (old new : Input) (result : Result B Error) → Mapped f At old (result, new)
@@ -162,20 +154,20 @@ module _ {A B : Type 0} {At : Reading A} {Next : A → Reading B} (first_read : 
 
   -- appended bytes change it where they change either
   then-more : (old new : Input) (result : Result B Error) (more : List ℕ) → Then At Next old (result, new)
-      → IsSettled result → Then At Next (followed_by old more) (result, followed_by new more)
+      → IfErr result IsNotEof → Then At Next (followed_by old more) (result, followed_by new more)
   then-more old new (Ok y) more is settled = (
     is.0,
     followed_by is.1 more,
-    first_read.more old is.1 (Ok is.0) more is.2 (λ position. ok-settled),
+    first_read.more old is.1 (Ok is.0) more is.2 tt,
     (next_read is.0).more is.1 new (Ok y) more is.3 settled,
   )
   then-more old new (Err e) more (inl is) settled =
-      inl (first_read.more old new (Err e) more is (λ position same. settled position (err-same same)))
+      inl (first_read.more old new (Err e) more is settled)
   then-more old new (Err e) more (inr is) settled =
       inr (
         is.0,
         followed_by is.1 more,
-        first_read.more old is.1 (Ok is.0) more is.2 (λ position. ok-settled),
+        first_read.more old is.1 (Ok is.0) more is.2 tt,
         (next_read is.0).more is.1 new (Err e) more is.3 settled,
       )
 
@@ -232,7 +224,7 @@ module _ {A : Type 0} (part : Input) {At : Reading A} (read : IsDecided At) wher
 
   -- bytes that are appended to the others don't change it
   within-more : (old new : Input) (result : Result (A × Input) Error) (more : List ℕ)
-      → Within part At old (result, new) → IsSettled result
+      → Within part At old (result, new) → IfErr result IsNotEof
       → Within part At (followed_by old more) (result, followed_by new more)
   within-more old new (Ok x) more is settled = (is.0, ap (λ i. followed_by i more) is.1)
   within-more old new (Err e) more is settled = (is.0, is.1, ap (λ i. followed_by i more) is.2)
@@ -287,8 +279,8 @@ short-missing : (n : ℕ) (old new : Input) (position : ℕ) → IsTooShort n ol
 short-missing n old new position short = eof-same short.fault ∙ ap (λ (i : Input). i.position) (sym short.left)
 
 -- bytes that are missing leave a result open
-short-open : {A : Type 0} {n : ℕ} {old new : Input} {e : Error} → IsTooShort n old e new → IsSettled {A = A} (Err e) → ⊥
-short-open {A = A} {old = old} short settled = settled old.position (ap (λ f. let r : Result A Error = Err f in r) short.fault)
+short-open : {n : ℕ} {old new : Input} {e : Error} → IsTooShort n old e new → IsNotEof e → ⊥
+short-open {old = old} short settled = settled old.position short.fault
 
 -- its bytes are taken
 part-taken : (n : ℕ) (old new : Input) (result : Result Input Error) → PartRead n old (result, new)
@@ -298,7 +290,7 @@ part-taken n old new (Err e) short = none-taken old new short.left
 
 -- appended bytes change it only where bytes were missing
 part-more : (n : ℕ) (old new : Input) (result : Result Input Error) (more : List ℕ) → PartRead n old (result, new)
-    → IsSettled result → PartRead n (followed_by old more) (result, followed_by new more)
+    → IfErr result IsNotEof → PartRead n (followed_by old more) (result, followed_by new more)
 part-more n old new (Ok part) more is settled = (grind (arith, is.0, is.1, take-append-le), takes-more more is.1)
 part-more n old new (Err e) more is settled = absurd (short-open is settled)
 
@@ -327,7 +319,7 @@ number_read-taken n old new (Err e) short = none-taken old new short.left
 
 -- appended bytes change it only where bytes were missing
 number-more : (n : ℕ) (old new : Input) (result : Result ℕ Error) (more : List ℕ) → NumberRead n old (result, new)
-    → IsSettled result → NumberRead n (followed_by old more) (result, followed_by new more)
+    → IfErr result IsNotEof → NumberRead n (followed_by old more) (result, followed_by new more)
 number-more n old new (Ok x) more is settled = number_more more is
 number-more n old new (Err e) more is settled = absurd (short-open is settled)
 
@@ -481,10 +473,9 @@ string-none_only old e none (Err f, y) is = grind arith
 
 -- appended bytes change a string only where its zero byte was missing
 string-more : (old new : Input) (result : Result Input Error) (more : List ℕ) → StringRead old (result, new)
-    → IsSettled result → StringRead (followed_by old more) (result, followed_by new more)
+    → IfErr result IsNotEof → StringRead (followed_by old more) (result, followed_by new more)
 string-more old new (Ok string) more is settled = string_taken-more more is
-string-more old new (Err e) more is settled =
-    absurd (settled old.position (ap (λ f. let r : Result Input Error = Err f in r) is.0.fault))
+string-more old new (Err e) more is settled = absurd (settled old.position is.0.fault)
 
 -- a string is taken with its zero byte
 string-taken : (old new : Input) (result : Result Input Error) → StringRead old (result, new)
@@ -550,10 +541,9 @@ module _ (k : Kind) where
 
   -- appended bytes change a number only where its last byte was missing
   leb-more : (old new : Input) (result : Result (Number k) Error) (more : List ℕ) → Leb128Read k old (result, new)
-      → IsSettled result → Leb128Read k (followed_by old more) (result, followed_by new more)
+      → IfErr result IsNotEof → Leb128Read k (followed_by old more) (result, followed_by new more)
   leb-more old new (Ok x) more is settled = leb_number-more old new x more is
-  leb-more old new (Err e) more (inl cut) settled =
-      absurd (settled new.position (ap (λ f. let r : Result (Number k) Error = Err f in r) cut.fault))
+  leb-more old new (Err e) more (inl cut) settled = absurd (settled new.position cut.fault)
   leb-more old new (Err e) more (inr is) settled =
       let long = malformed-long k old.bytes is.bad in
       inr (record {
@@ -610,15 +600,14 @@ module _ (bound : ℕ) where
 
 -- appended bytes change an encoding only where its last byte was missing
 encoding-more : (old new : Input) (result : Result ⊤ Error) (more : List ℕ) → EncodingRead old (result, new)
-    → IsSettled result → EncodingRead (followed_by old more) (result, followed_by new more)
+    → IfErr result IsNotEof → EncodingRead (followed_by old more) (result, followed_by new more)
 encoding-more old new (Ok done) more is settled = record {
   len = is.len;
   enough = omega (arith, is.enough, length-append old.bytes more);
   encoding = rw (take-append-le is.len old.bytes more is.enough) is.encoding;
   left = grind (arith, is.left, is.enough, drop-append-le);
 }
-encoding-more old new (Err e) more is settled =
-    absurd (settled new.position (ap (λ f. let r : Result ⊤ Error = Err f in r) is.fault))
+encoding-more old new (Err e) more is settled = absurd (settled new.position is.fault)
 
 -- an encoding that is skipped is the only result
 encoding-only : (old : Input) (n : ℕ) → n ≤ length old.bytes → IsEncoding (take n old.bytes)
@@ -667,11 +656,10 @@ encoding-is = record {
 
 -- appended bytes change an initial length only where bytes were missing
 length_at-more : (greatest : ℕ) (old new : Input) (result : Result (Format × ℕ) Error) (more : List ℕ)
-    → LengthAt greatest old (result, new) → IsSettled result
+    → LengthAt greatest old (result, new) → IfErr result IsNotEof
     → LengthAt greatest (followed_by old more) (result, followed_by new more)
 length_at-more greatest old new (Ok x) more is settled = length_more more is
-length_at-more greatest old new (Err e) more is settled =
-    no_length-more more is (λ position same. settled position (ap (λ f. let r : Result (Format × ℕ) Error = Err f in r) same))
+length_at-more greatest old new (Err e) more is settled = no_length-more more is settled
 
 -- an initial length whose bytes are missing stops there
 length_at-missing : (greatest : ℕ) (old new : Input) {e : Error} (position : ℕ) → HasNoLength greatest old e new
