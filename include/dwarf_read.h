@@ -319,25 +319,34 @@ uint32_t dwarf_table_read(const uint8_t *section, size_t len, size_t offset,
                           struct dwarf_attribute_spec *attributes, size_t attribute_room,
                           struct dwarf_measure *measure, struct dwarf_fault *fault);
 
-/* Finds the abbreviation with a code among those of a table, which are in the order of their codes as
-   they are read. Returns null if there is none. */
+/* A table. dwarf_table_load, below, fills one; so does a caller that has read it into arrays of its own, with the
+   `measure` that dwarf_table_read wrote. */
+struct dwarf_table {
+    struct dwarf_abbreviation *abbreviations; /* as many as `measure` says, in the order of their codes */
+    struct dwarf_attribute_spec *attributes;  /* those of all abbreviations, in the same order */
+    struct dwarf_measure measure;
+};
+
+/* Finds the abbreviation with a code. Returns null if the table has none. */
 static inline const struct dwarf_abbreviation *
-dwarf_table_find(const struct dwarf_abbreviation *abbreviations, size_t count, uint64_t code) {
-    /* The codes before it are smaller, and none is 0. So its index is less than its code. In a table whose
-       codes count from 1, the index is the code minus 1. */
-    size_t low = 0, high = code < count ? code : count;
-    if (code != 0 && high == code && abbreviations[high - 1].code == code) {
-        return &abbreviations[high - 1];
+dwarf_table_find(const struct dwarf_table *table, uint64_t code) {
+    const struct dwarf_abbreviation *rows = table->abbreviations;
+    size_t count = table->measure.abbreviations;
+    /* In a table whose codes count from 1, the index is the code minus 1. That of code 0 is past every table. */
+    if (code - 1 < count && rows[code - 1].code == code) {
+        return &rows[code - 1];
     }
+    /* The codes before it are smaller, and none is 0. So its index is less than its code. */
+    size_t low = 0, high = code < count ? code : count;
     while (low < high) {
         size_t middle = low + (high - low) / 2;
-        if (abbreviations[middle].code < code) {
+        if (rows[middle].code < code) {
             low = middle + 1;
         } else {
             high = middle;
         }
     }
-    return low < count && abbreviations[low].code == code ? &abbreviations[low] : NULL;
+    return low < count && rows[low].code == code ? &rows[low] : NULL;
 }
 
 #if __STDC_HOSTED__
@@ -346,13 +355,6 @@ dwarf_table_find(const struct dwarf_abbreviation *abbreviations, size_t count, u
 #else
 #define DWARF_CAST(type, pointer) (pointer)
 #endif
-
-/* A table, in one block of memory. */
-struct dwarf_table {
-    struct dwarf_abbreviation *abbreviations; /* as many as `measure` says, in the order of their codes */
-    struct dwarf_attribute_spec *attributes;  /* those of all abbreviations, in the same order */
-    struct dwarf_measure measure;
-};
 
 /* The arrays of a table in a block: attributes follow this many abbreviations. */
 static inline void dwarf_table_lay(struct dwarf_table *table, void *block, size_t room) {

@@ -90,18 +90,18 @@ static bool is_well(void) {
     static const uint8_t section[] = {2, 0x2e, 0, 3, 0x21, 0x56, 0, 0, 1, 0x11, 1, 3, 8, 0, 0, 0};
     struct dwarf_abbreviation rows[2];
     struct dwarf_attribute_spec attributes[2];
-    struct dwarf_measure measure;
+    struct dwarf_table table = {rows, attributes, {0, 0, 0, 0}};
     struct dwarf_fault fault = {0, 0};
     char text[DWARF_TEXT_ROOM];
-    if (dwarf_table_read(section, sizeof section, 0, rows, 2, attributes, 2, &measure, &fault) != DWARF_OK) {
+    if (dwarf_table_read(section, sizeof section, 0, rows, 2, attributes, 2, &table.measure, &fault) != DWARF_OK) {
         return false;
     }
-    const struct dwarf_abbreviation *unit = dwarf_table_find(rows, measure.abbreviations, 1);
+    const struct dwarf_abbreviation *unit = dwarf_table_find(&table, 1);
     bool is_read = unit != NULL && unit->tag == DW_TAG_compile_unit && attributes[1].implicit_const == -42;
     if (!is_read || !is_name(dwarf_tag_name(unit->tag), "DW_TAG_compile_unit")) {
         return false;
     }
-    return dwarf_table_read(section, 2, 0, rows, 2, attributes, 2, &measure, &fault) == DWARF_UNEXPECTED_EOF &&
+    return dwarf_table_read(section, 2, 0, rows, 2, attributes, 2, &table.measure, &fault) == DWARF_UNEXPECTED_EOF &&
            is_text(dwarf_fault_string(&fault, text, sizeof text), "unexpected end of input");
 }
 

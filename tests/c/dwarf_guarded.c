@@ -245,15 +245,16 @@ static uint32_t call_table_read(const uint8_t *bytes, size_t len, size_t offset,
         return status;
     }
     call = "dwarf_table_find";
+    const struct dwarf_table table = {abbreviations, attributes, *measure};
     size_t count = measure->abbreviations, found = 0;
     for (uint64_t code = 0; code < 300; code++) {
-        const struct dwarf_abbreviation *it = dwarf_table_find(abbreviations, count, code);
+        const struct dwarf_abbreviation *it = dwarf_table_find(&table, code);
         if (it != NULL && it->code != code) {
             die("it found another code");
         }
         found += it != NULL;
     }
-    if (found != count || dwarf_table_find(abbreviations, count, UINT64_MAX) != NULL) {
+    if (found != count || dwarf_table_find(&table, UINT64_MAX) != NULL) {
         die("it didn't find a code that is there");
     }
     return status;
