@@ -1,5 +1,5 @@
 -- Readings: what a call reads at the front of an input, and what remains then.
-use Rattle.std.specs.Prelude.{◌≡◌, ◌<◌, ◌≤◌, ℕ, ℤ, ⊤, Bool, true, false, List, Result, Ok, Err, IfErr, ◌⊎◌, IsTrue, if◌then◌else◌}
+use Rattle.std.specs.Prelude.{◌≡◌, ◌<◌, ◌≤◌, ℕ, ℤ, ⊤, Bool, true, false, List, take, Result, Ok, Err, IfErr, ◌⊎◌, IsTrue, if◌then◌else◌}
 use Rattle.dwarf_base_core.specs.declared.error.Error.{Error}
 use Rattle.dwarf_reader_core.specs.Appended.{IsNotEof, followed_by}
 use Rattle.dwarf_reader_core.specs.Faults.{HasNoByte, IsTooShort, IsUnsupportedAddressSize, ReadsNoAddress, ReadsNoOffset, ReadsNoWord, eof, is_number_size}
@@ -22,6 +22,11 @@ SkipRead n old (Err e, new) = IsTooShort n old e new
 abbrev pub PartRead : ℕ → Reading Input
 PartRead n old (Ok part, new) = (part ≡ first n old) × Takes n old new
 PartRead n old (Err e, new) = IsTooShort n old e new
+
+-- n bytes, which are copied
+abbrev pub BytesRead : ℕ → Reading (List ℕ)
+BytesRead n old (Ok bytes, new) = (bytes ≡ take n old.bytes) × Takes n old new
+BytesRead n old (Err e, new) = IsTooShort n old e new
 
 -- the string up to the first zero byte
 abbrev pub StringRead : Reading Input

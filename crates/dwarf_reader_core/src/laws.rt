@@ -1,15 +1,16 @@
 //! Laws of the definitions that the contracts cite.
 
-ghost use Rattle.std.specs.Prelude.{◌≡◌, ◌≤◌, ◌↔◌, ◌++◌, ℕ, List, [], ◌∷◌, Ok, Err, length, IsTrue};
+ghost use Rattle.std.specs.Prelude.{◌≡◌, ◌<◌, ◌≤◌, ◌↔◌, ◌⊎◌, ◌++◌, ℕ, ℤ, ⊤, true, false, List, [], ◌∷◌, Result, Ok, Err, IfOk, IfErr, OnOk, length, take, IsTrue};
 ghost use Rattle.dwarf_base_core.specs.declared.common.Format.{Format};
 ghost use Rattle.dwarf_base_core.specs.declared.error.Error.{Error};
-ghost use Rattle.dwarf_reader_core.specs.Input.{Input, Takes};
-ghost use Rattle.dwarf_reader_core.specs.Faults.{IsCutIn, eof};
+ghost use Rattle.dwarf_base_core.specs.declared.error.Error.TheVariants.{UnknownVersion, UnsupportedSegmentSize};
+ghost use Rattle.dwarf_reader_core.specs.Input.{Input, Takes, TakesNumber, TakesSigned, section_of};
+ghost use Rattle.dwarf_reader_core.specs.Faults.{IsCutIn, IsTooShort, ReadsNoOffset, eof, is_number_size};
 ghost use Rattle.dwarf_reader_core.specs.Headers.{AddressHeaderAt, StringOffsetsHeaderAt};
 ghost use Rattle.dwarf_reader_core.specs.InitialLength.{LengthAt};
-ghost use Rattle.dwarf_reader_core.specs.Leb128.{unsigned64, unsigned16, signed64, HasNumber, HasOutcome, IsEncoding, IsMalformed, Kind, Number, is_in_range, limit};
+ghost use Rattle.dwarf_reader_core.specs.Leb128.{unsigned64, unsigned16, signed64, HasNumber, HasOutcome, IsEncoding, IsMalformed, IsOver, Kind, Number, ReadsNoNumber, ReadsNumber, TakesEncoding, TakesNoEncoding, is_in_range, limit};
 ghost use Rattle.dwarf_reader_core.specs.Once.{HasOne};
-ghost use Rattle.dwarf_reader_core.specs.Readings.{AddressRead, AddressSizeRead, BoundedRead, EncodingRead, IsRead, Leb128Read, NumberRead, OffsetRead, PartRead, SignedRead, SkipRead, StringRead, WordRead};
+ghost use Rattle.dwarf_reader_core.specs.Readings.{AddressRead, AddressSizeRead, BoundedRead, BytesRead, EncodingRead, IsRead, Leb128Read, NumberRead, OffsetRead, PartRead, SignedRead, SkipRead, StringRead, WordRead};
 ghost use Rattle.dwarf_reader_core.specs.Shortest.{Encodes, IsShortest};
 
 use dwarf_base_core::laws::numbers_of_bytes;
@@ -82,6 +83,7 @@ pub fn headers_of_sets_have_four_bytes()
 pub fn exactly_one_read()
     ensures skip { (n : ℕ) → IsRead (SkipRead n) }
     ensures split { (n : ℕ) → IsRead (PartRead n) }
+    ensures slice { (n : ℕ) → IsRead (BytesRead n) }
     ensures null_terminated_slice { IsRead StringRead }
     ensures unsigned_number { (n : ℕ) → IsRead (NumberRead n) }
     ensures signed_number { (n : ℕ) → IsRead (SignedRead n) }
@@ -93,4 +95,49 @@ pub fn exactly_one_read()
     ensures address { (size : ℕ) → IsRead (AddressRead size) }
     ensures word { (greatest n : ℕ) → IsRead (WordRead greatest n) }
     ensures sized_offset { (greatest size : ℕ) → IsRead (OffsetRead greatest size) }
+{}
+
+/// A call reads what its contract promises, of a value and of an error. A buffer of `read_slice` and
+/// the array of `read_u8_array` hold the bytes that are read.
+pub fn promises_are_read()
+    ensures slice { (n : ℕ) (old new : Input) (result : Result (List ℕ) Error)
+        → IfOk result (λ bytes. bytes ≡ take n old.bytes) → OnOk result (Takes n old new)
+        → IfErr result (λ e. IsTooShort n old e new) → BytesRead n old (result, new) }
+    ensures signed_number { (n : ℕ) (old new : Input) (result : Result ℤ Error)
+        → IfOk result (λ x. TakesSigned n old x new)
+        → IfErr result (λ e. IsTooShort n old e new) → SignedRead n old (result, new) }
+    ensures leb128 { (k : Kind) (old new : Input) (result : Result (Number k) Error)
+        → IfOk result (λ x. ReadsNumber k old x new)
+        → IfErr result (λ e. ReadsNoNumber k old e new) → Leb128Read k old (result, new) }
+    ensures bounded_leb128 { (bound : ℕ) (old new : Input) (result : Result ℕ Error)
+        → IfOk result (λ x. ReadsNumber unsigned64 old x new) → IfOk result (λ x. x < bound)
+        → IfErr result (λ e. ReadsNoNumber unsigned64 old e new ⊎ IsOver bound old e new)
+        → BoundedRead bound old (result, new) }
+    ensures skipped_leb128 { (old new : Input) (result : Result ⊤ Error)
+        → OnOk result (TakesEncoding old new) → IfErr result (λ e. TakesNoEncoding old e new)
+        → EncodingRead old (result, new) }
+    ensures sized_offset { (greatest size : ℕ) (old new : Input) (result : Result ℕ Error)
+        → IfOk result (λ x. TakesNumber size old x new × IsTrue (is_number_size size))
+        → IfOk result (λ x. x ≤ greatest) → IfErr result (λ e. ReadsNoOffset greatest size old e new)
+        → OffsetRead greatest size old (result, new) }
+{}
+
+/// Headers of sets by their bytes. One of addresses has a version, an address size and a segment
+/// size; one of string offsets, here in the big-endian order, a version and two bytes more. What
+/// isn't supported is an error, and the bytes up to it are consumed.
+pub fn headers_of_sets_by_their_bytes()
+    ensures address { (greatest : ℕ) (format : Format) (bytes : List ℕ)
+        → AddressHeaderAt greatest format (section_of (5 ∷ 0 ∷ 8 ∷ 0 ∷ bytes) false)
+        (Ok 8, record { bytes = bytes; position = 4; is_big = false }) }
+    ensures version { (greatest : ℕ) (format : Format) (bytes : List ℕ)
+        → AddressHeaderAt greatest format (section_of (4 ∷ 0 ∷ bytes) false)
+        (Err (UnknownVersion 4), record { bytes = bytes; position = 2; is_big = false }) }
+    ensures segment_size { (greatest : ℕ) (format : Format) (bytes : List ℕ)
+        → AddressHeaderAt greatest format (section_of (5 ∷ 0 ∷ 8 ∷ 1 ∷ bytes) false) (
+          Err (UnsupportedSegmentSize 1),
+          record { bytes = bytes; position = 4; is_big = false },
+        ) }
+    ensures string_offsets { (greatest : ℕ) (format : Format) (bytes : List ℕ)
+        → StringOffsetsHeaderAt greatest format (section_of (0 ∷ 5 ∷ 7 ∷ 9 ∷ bytes) true)
+        (Ok tt, record { bytes = bytes; position = 4; is_big = true }) }
 {}

@@ -9,7 +9,7 @@ use Rattle.dwarf_reader_core.specs.Appended.{IsNotEof, followed_by}
 use Rattle.dwarf_reader_core.specs.Faults.{is_number_size}
 use Rattle.dwarf_reader_core.specs.InitialLength.{HasNoLength, LengthAt, eight_cut, four_cut, reserved, too_great}
 use Rattle.dwarf_reader_core.specs.Leb128.{ReadsNumber, overflow_error}
-use Rattle.dwarf_reader_core.specs.Readings.{AddressRead, AddressSizeRead, BoundedRead, Choice, EncodingRead, Given, IsDecided, IsRead, Leb128Read, Mapped, NumberRead, OffsetRead, PartRead, Reading, Required, SignedRead, SkipRead, StringRead, Then, Within, WordRead}
+use Rattle.dwarf_reader_core.specs.Readings.{AddressRead, AddressSizeRead, BoundedRead, BytesRead, Choice, EncodingRead, Given, IsDecided, IsRead, Leb128Read, Mapped, NumberRead, OffsetRead, PartRead, Reading, Required, SignedRead, SkipRead, StringRead, Then, Within, WordRead}
 use Rattle.dwarf_reader_core.proofs.leb.Outcomes.{encoding-not_none, encoding_or_none, length-same, malformed-long, outcome-exactly_one}
 use Rattle.dwarf_reader_core.proofs.public.BadNumbers.{bad_more}
 use Rattle.dwarf_reader_core.proofs.public.Consuming.{after-zero, front, front-cut, front-taken, number_more, takes-both, takes-more}
@@ -310,6 +310,23 @@ part-is n = record {
   };
   missing = short-missing n;
 }
+
+module _ (n : ℕ) where
+  -- the bytes of a part
+  bytes-to : (old : Input) (r : Result (List ℕ) Error × Input) → Mapped (λ (part : Input). part.bytes) (PartRead n) old r
+      → BytesRead n old r
+  bytes-to old (Ok bytes, new) is = (is.1 ∙ ap (λ (part : Input). part.bytes) is.2.0, is.2.1)
+  bytes-to old (Err e, new) is = is
+
+  -- and bytes that are copied are what it reads
+  bytes-from : (old : Input) (r : Result (List ℕ) Error × Input) → BytesRead n old r
+      → Mapped (λ (part : Input). part.bytes) (PartRead n) old r
+  bytes-from old (Ok bytes, new) is = (first n old, is.0, (refl, is.1))
+  bytes-from old (Err e, new) is = is
+
+  -- n bytes that are copied are a reading
+  pub bytes-is : IsRead (BytesRead n)
+  bytes-is = same-is bytes-to bytes-from (mapped-is (part-is n))
 
 -- its bytes are taken
 number_read-taken : (n : ℕ) (old new : Input) (result : Result ℕ Error) → NumberRead n old (result, new)
@@ -698,4 +715,4 @@ initial_length-is greatest = record {
 }
 
 -- what each call reads
-pub ruleset readings = (skip-is, part-is, number-is, signed-is, word-is, address-is, offset-is, address_size-is, string-is, leb128-is, bounded-is, encoding-is, initial_length-is)
+pub ruleset readings = (skip-is, part-is, bytes-is, number-is, signed-is, word-is, address-is, offset-is, address_size-is, string-is, leb128-is, bounded-is, encoding-is, initial_length-is)
