@@ -59,7 +59,7 @@ pub use Rattle.dwarf_read_core.specs.Grammar.{IsTable, IsTableBefore, closed_by_
 pub use Rattle.dwarf_read_core.specs.Grammar.{by_code_of, Specification, Sequence, IsSpecification, IsNull, IsFront}
 pub use Rattle.dwarf_read_core.specs.Grammar.{children_byte, IsCode, IsHead, IsDeclaration, IsImplicit, ByCode}
 pub use Rattle.dwarf_read_core.specs.Grammar.{attribute_count, AreDeclarations}
-pub use Rattle.dwarf_read_core.specs.Items.{ComesFirst, least_taken}
+pub use Rattle.dwarf_read_core.specs.Items.{ComesFirst}
 pub use Rattle.dwarf_read_core.specs.Lookups.{UnlessCloneRanOut, Stays}
 pub use Rattle.dwarf_read_core.specs.Reading.{◌>>=◌, and_others, declaration_of, number_from, specification_of}
 pub use Rattle.dwarf_read_core.specs.Reading.{close_of, and_declared, is_final}

@@ -7,3 +7,5 @@ pub mod Places
 pub mod Offsets
 pub mod Entries
 pub mod MissingBytes
+pub mod SetBytes
+pub mod CallsOfNext

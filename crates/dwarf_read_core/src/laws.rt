@@ -1,9 +1,10 @@
 //! Laws over the definitions: each function has one as its contract, and does nothing.
 
-ghost use Rattle.std.specs.Prelude.{◌≡◌, ◌≢◌, ◌↔◌, ◌+◌, ◌-◌, ◌*◌, ◌/◌, Bool, true, false, IsTrue, IsSome, Option, Some, None, ℕ, ◌<◌, ◌≤◌, List, [], ◌∷◌, ◌++◌, codes, map, length, slice_get, slice_index, count_by, All, IfErr, IfSome, Ok, Err, Result, is_ok, replicate};
+ghost use Rattle.std.specs.Prelude.{◌≡◌, ◌≢◌, ◌↔◌, ◌+◌, ◌-◌, ◌*◌, ◌/◌, Bool, true, false, IsTrue, IsSome, Option, Some, None, ℕ, ◌<◌, ◌≤◌, List, [], ◌∷◌, ◌++◌, codes, map, length, slice_get, slice_index, count_by, All, IfErr, IfSome, Ok, Err, Result, is_err, is_ok, replicate};
 ghost use Rattle.std.specs.FinMap as finite;
-ghost use Rattle.std.specs.Iterator.{YieldsFirst};
-ghost use Rattle.std.specs.List.{sum_by};
+ghost use Rattle.std.specs.Iterator.{YieldsFirst, YieldsThen};
+ghost use Rattle.std.specs.List.{filter_map, sum_by};
+ghost use Rattle.std.specs.Result.{result_ok};
 ghost use Rattle.dwarf_base_core.specs.declared.error.Error.{Error};
 ghost use Rattle.dwarf_code_core.specs.DwChildren.{children_names};
 ghost use Rattle.dwarf_const_core.specs.DwForm.{form_names};
@@ -25,20 +26,21 @@ ghost use Rattle.dwarf_read_core.specs.Equality.{HasValueByForm, same_contributi
 ghost use Rattle.dwarf_read_core.specs.Grammar.{Declaration, Table, children_byte, implicit_const};
 ghost use Rattle.dwarf_read_core.specs.Entries.{Entries, RepresentsAddresses, RepresentsStringOffsets};
 ghost use Rattle.dwarf_reader_core.specs.Headers.{IsHeader};
-ghost use Rattle.dwarf_read_core.specs.Items.{least_taken};
+ghost use Rattle.dwarf_read_core.specs.Items.{GivesFirst, StaysFirst};
+ghost use Rattle.dwarf_read_core.specs.Lookups.{Stays};
 ghost use Rattle.dwarf_read_core.specs.Ranges.{RangeAt};
 ghost use Rattle.dwarf_read_core.specs.Contributions.{Remaining, Contribution, ContributionAtOffset, ContributionOf, ContributionRead, RepresentsContributions, contribution_size, followed_remaining};
 ghost use Rattle.dwarf_read_core.specs.Strings.{StringAt};
 ghost use Rattle.dwarf_read_core.specs.Words.{AddressAt, Slot, WordAt, distance, slot_offset};
 
-use crate::read::{HeaderFields, Reader};
+use crate::read::{AddressSize, HeaderFields, NoFields, Reader};
 pub use dwarf_base_core::laws::{names_of_sections, numbers_of_bytes};
 pub use dwarf_code_core::laws::{names_are_distinct, negate_ra_state_is_window_save};
 pub use dwarf_const_core::laws::names_are_distinct as names_of_two_bytes_are_distinct;
 pub use dwarf_reader_core::laws::{
     bad_bytes_stay_bad, exactly_one_outcome, exactly_one_read, exactly_one_shortest,
-    headers_of_sets_have_four_bytes, missing_bytes_of_headers, no_encoding_begins_another,
-    written_is_read,
+    headers_of_sets_by_their_bytes, headers_of_sets_have_four_bytes, missing_bytes_of_headers,
+    no_encoding_begins_another, promises_are_read, written_is_read,
 };
 
 /// Every section has exactly one result at every offset: a table, or the first error.
@@ -299,10 +301,31 @@ pub fn exactly_one_list_of_contributions<R: Reader, H: HeaderFields<R>>()
     ensures bound { (greatest : ℕ) (remaining : Remaining)
         (items : List (Result (Contribution H.Said) Error))
         → RepresentsContributions H.header greatest remaining items
-        → sum_by (least_taken contribution_size) items ≤ length remaining.rest.bytes }
+        → sum_by contribution_size (filter_map result_ok items) + count_by is_err items
+        ≤ length remaining.rest.bytes }
 {
     H::law();
 }
+
+/// A set of addresses or of string offsets has at least eight bytes: four of its initial length, and
+/// four of its header. So the bytes that remain are at least eight for each set of their list, and
+/// one for an error.
+pub fn sets_have_eight_bytes<R: Reader>()
+    ensures address { (greatest offset : ℕ) (old new : Input) (s : Contribution ℕ)
+        → ContributionRead ⟦<AddressSize as HeaderFields<R>>⟧.header greatest offset old (Ok s, new)
+        → 8 ≤ contribution_size s }
+    ensures string_offsets { (greatest offset : ℕ) (old new : Input) (s : Contribution (Unit {0}))
+        → ContributionRead ⟦<NoFields as HeaderFields<R>>⟧.header greatest offset old (Ok s, new)
+        → 8 ≤ contribution_size s }
+    ensures address_list { (greatest : ℕ) (remaining : Remaining)
+        (items : List (Result (Contribution ℕ) Error))
+        → RepresentsContributions ⟦<AddressSize as HeaderFields<R>>⟧.header greatest remaining items
+        → count_by is_ok items * 8 + count_by is_err items ≤ length remaining.rest.bytes }
+    ensures string_offsets_list { (greatest : ℕ) (remaining : Remaining)
+        (items : List (Result (Contribution (Unit {0})) Error))
+        → RepresentsContributions ⟦<NoFields as HeaderFields<R>>⟧.header greatest remaining items
+        → count_by is_ok items * 8 + count_by is_err items ≤ length remaining.rest.bytes }
+{}
 
 /// The next bytes decide a contribution of each kind: an input begins with exactly one, or with
 /// exactly one error in place of it, and after either what follows some of the bytes remains.
@@ -393,7 +416,8 @@ pub fn exactly_one_list_of_addresses()
     ensures one { (entries : Entries) → 0 < entries.width → HasOne (RepresentsAddresses entries) }
     ensures bound { (entries : Entries) (items : List (Result ℕ Error))
         → RepresentsAddresses entries items
-        → sum_by (least_taken (λ _. entries.width)) items ≤ length entries.rest.bytes }
+        → count_by is_ok items * entries.width + count_by is_err items
+        ≤ length entries.rest.bytes }
 {}
 
 /// The bytes that remain of a set have exactly one list of string offsets, and then at most one
@@ -404,7 +428,8 @@ pub fn exactly_one_list_of_string_offsets()
         → HasOne (RepresentsStringOffsets greatest entries) }
     ensures bound { (greatest : ℕ) (entries : Entries) (items : List (Result ℕ Error))
         → RepresentsStringOffsets greatest entries items
-        → sum_by (least_taken (λ _. entries.width)) items ≤ length entries.rest.bytes }
+        → count_by is_ok items * entries.width + count_by is_err items
+        ≤ length entries.rest.bytes }
 {}
 
 /// The first contribution stays the first when bytes are appended. So does a first error, unless it
@@ -426,3 +451,36 @@ pub fn appended_bytes_change_no_contribution<R: Reader, H: HeaderFields<R>>()
 {
     H::law();
 }
+
+/// Calls of `next` up to `None` yield the items that the bytes represent, and nothing remains then.
+/// What stays first is the first item of every longer list. Clones can't fail here.
+pub fn calls_of_next_yield_the_list<R: Reader, H: HeaderFields<R>>()
+    ensures items { (greatest : ℕ) (from left : Remaining)
+        (items : List (Result (Contribution H.Said) Error))
+        → YieldsThen (GivesFirst (RepresentsContributions H.header greatest) (λ s. s) true)
+        from items None left
+        → RepresentsContributions H.header greatest from items
+        × RepresentsContributions H.header greatest left [] }
+    ensures stays { (greatest : ℕ) (old new : Remaining) (s : Contribution H.Said) (more : List ℕ)
+        (others : List (Result (Contribution H.Said) Error))
+        → StaysFirst (RepresentsContributions H.header greatest) (λ s. s) true followed_remaining
+        old (Some (Ok s)) new
+        → RepresentsContributions H.header greatest (followed_remaining more old) others
+        → (rest : List (Result (Contribution H.Said) Error)) × (others ≡ Ok s ∷ rest) }
+    ensures error_stays { (greatest : ℕ) (old new : Remaining) (e : Error) (more : List ℕ)
+        (others : List (Result (Contribution H.Said) Error))
+        → StaysFirst (RepresentsContributions H.header greatest) (λ s. s) true followed_remaining
+        old (Some (Err e)) new → IsNotEof e
+        → RepresentsContributions H.header greatest (followed_remaining more old) others
+        → others ≡ Err e ∷ [] }
+{
+    H::law();
+}
+
+/// What a lookup keeps is the result of every longer section, if clones can't fail: a string offset
+/// or an error in place of one, unless that is an `UnexpectedEof`.
+pub fn kept_lookups_are_those_of_longer_sections()
+    ensures { (greatest : ℕ) (section : Input) (s : Slot) (result : Result ℕ Error) (more : List ℕ)
+        → Stays (λ input. WordAt greatest input s) (λ x. x) true section result
+        → IfErr result IsNotEof → WordAt greatest (followed_by section more) s result }
+{}

@@ -1,6 +1,9 @@
 -- Bytes have exactly one list of contributions, a contribution stays with more bytes appended, and what a reader reads
 -- of it is it.
-use Rattle.dwarf_read_core.proofs.Common.{◌≡◌, ◌≢◌, ℕ, ◌+◌, ◌-◌, ◌≤◌, List, [], ◌∷◌, length, Result, Ok, Err, sym, ap, subst, arith, Bool, ◌⊎◌, inl, inr, sum_by, length-append, Error, CloneRanOutOfMemory, IsTooShort, Input, first, Takes, HasOne, IsNotEof, ComesFirst, least_taken, Contribution, Remaining, RepresentsContributions, followed_remaining, rest-length, takes-both, IfErr}
+use Rattle.dwarf_read_core.proofs.Common.{◌≡◌, ◌≢◌, ℕ, ◌+◌, ◌-◌, ◌≤◌, List, [], ◌∷◌, length, Result, Ok, Err, sym, ap, subst, arith, Bool, ◌⊎◌, inl, inr, sum_by, length-append, Error, CloneRanOutOfMemory, IsTooShort, Input, first, Takes, HasOne, IsNotEof, ComesFirst, Contribution, Remaining, RepresentsContributions, followed_remaining, rest-length, takes-both, IfErr}
+use Rattle.std.specs.Prelude.{count_by, is_err}
+use Rattle.std.specs.List.{filter_map}
+use Rattle.std.specs.Result.{result_ok}
 use Rattle.dwarf_base_core.specs.declared.common.Format.{Format}
 use Rattle.dwarf_base_core.specs.Format.{initial_length_size}
 use Rattle.dwarf_reader_core.specs.InitialLength.{HasLength}
@@ -95,7 +98,7 @@ module _ {H : Type 0} {header : Header H} (is_header : IsHeader header) (greates
       )
 
   -- a contribution has its initial length, and as many bytes as that says
-  contribution_least : TakesLeast (λ (h : Remaining). h.rest) (ContributionAt header greatest) contribution_size
+  pub contribution_least : TakesLeast (λ (h : Remaining). h.rest) (ContributionAt header greatest) contribution_size
   contribution_least = record {
     by = λ old new s is.
         omega (arith, contribution_bound (contribution_takes header greatest old.offset old.rest s new.rest is.0));
@@ -112,7 +115,7 @@ module _ {H : Type 0} {header : Header H} (is_header : IsHeader header) (greates
   -- contributions consume no more bytes than there are
   pub contributions_bounded : (remaining : Remaining) (items : List (Result (Contribution H) Error))
       → RepresentsContributions header greatest remaining items
-      → sum_by (least_taken contribution_size) items ≤ length remaining.rest.bytes
+      → sum_by contribution_size (filter_map result_ok items) + count_by is_err items ≤ length remaining.rest.bytes
   contributions_bounded remaining items are = items-bounded contribution_least are
 
   -- ---- appended bytes

@@ -1,5 +1,9 @@
 -- Bytes have exactly one list of items, and a call returns the first.
-use Rattle.dwarf_read_core.proofs.Common.{common_steps, ◌≡◌, ◌≢◌, ℕ, zero, suc, ◌+◌, ◌<◌, ◌≤◌, List, [], ◌∷◌, ◌++◌, length, Result, Ok, Err, refl, sym, ap, ◌∙◌, arith, sum_by, sum_by-cons, Error, Input, HasOne, least_taken, ComesFirst}
+use Rattle.dwarf_read_core.proofs.Common.{common_steps, ◌≡◌, ◌≢◌, ℕ, zero, suc, ◌+◌, ◌<◌, ◌≤◌, List, [], ◌∷◌, ◌++◌, length, Result, Ok, Err, refl, sym, ap, ◌∙◌, arith, sum_by, sum_by-cons, Error, Input, HasOne, ComesFirst, cond, ◌*◌}
+use Rattle.std.specs.Prelude.{count_by, is_err, is_ok}
+use Rattle.std.specs.List.{filter_map}
+use Rattle.std.specs.Result.{result_ok}
+use Rattle.std.proofs.Math.Nat.{suc-mul}
 use Rattle.dwarf_read_core.specs.Items.{AreItems, no_items, value_first, only_error}
 
 -- bytes that aren't empty are at least one
@@ -20,15 +24,33 @@ module _ {S A : Type 0} (rest : S → Input) (At : S → Result A Error × S →
   pub record TakesLeast (count : A → ℕ) : Type 0 where
     pub by : (old new : S) (x : A) → At old (Ok x, new) → length (rest new).bytes + count x ≤ length (rest old).bytes
 
+-- the errors of a list are those of its first item and of the others
+errors-cons : {A : Type 0} (r : Result A Error) (items : List (Result A Error))
+    → count_by is_err (r ∷ items) ≡ cond (is_err r) 1 0 + count_by is_err items
+errors-cons {A} r items = sum_by-cons (λ (r : Result A Error). cond (is_err r) 1 0) r items
+
 module _ {S A : Type 0} {rest : S → Input} {At : S → Result A Error × S → Type 0} where
-  -- items consume no more bytes than there are
+  -- values and an error consume no more bytes than there are
   pub items-bounded : {count : A → ℕ} → TakesLeast rest At count → {old : S} {items : List (Result A Error)}
-      → AreItems rest At old items → sum_by (least_taken count) items ≤ length (rest old).bytes
+      → AreItems rest At old items
+      → sum_by count (filter_map result_ok items) + count_by is_err items ≤ length (rest old).bytes
   items-bounded least (no_items e) = omega arith
   items-bounded {count} least (value_first {now = old} {new = new} {x = x} {items = items} some at others) =
-      rw (sum_by-cons (least_taken count) (Ok x) items) (omega (arith, items-bounded least others, least.by old new x at))
-  items-bounded {count} least (only_error {now = old} {e = e} some at) =
-      rw (sum_by-cons (least_taken count) (Err e) []) (omega (arith, bytes-some (rest old).bytes some))
+      rw (sum_by-cons count x (filter_map result_ok items), errors-cons (Ok x) items)
+      (omega (arith, items-bounded least others, least.by old new x at))
+  items-bounded least (only_error {now = old} {e = e} some at) =
+      rw (errors-cons {A = A} (Err e) []) (omega (arith, bytes-some (rest old).bytes some))
+
+  -- nor do as many values of n bytes each
+  pub items-counted : {n : ℕ} → TakesLeast rest At (λ _. n) → {old : S} {items : List (Result A Error)}
+      → AreItems rest At old items → count_by is_ok items * n + count_by is_err items ≤ length (rest old).bytes
+  items-counted least (no_items e) = omega arith
+  items-counted {n} least (value_first {now = old} {new = new} {x = x} {items = items} some at others) =
+      let values : count_by is_ok (Ok x ∷ items) * n ≡ count_by is_ok items * n + n =
+      rw (sum_by-cons (λ (r : Result A Error). cond (is_ok r) 1 0) (Ok x) items) (grind (arith, suc-mul)) in
+      omega (arith, values, errors-cons (Ok x) items, items-counted least others, least.by old new x at)
+  items-counted least (only_error {now = old} {e = e} some at) =
+      omega (arith, errors-cons {A = A} (Err e) [], bytes-some (rest old).bytes some)
 
   module _ (one : (old : S) → HasOne (At old)) where
     -- two lists of items of the same bytes are equal

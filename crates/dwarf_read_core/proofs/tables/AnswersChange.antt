@@ -1,13 +1,12 @@
 -- Some appended zero bytes change each result that depends on where the section ends.
-use Rattle.dwarf_read_core.proofs.Common.{◌≡◌, ◌≢◌, ◌⊎◌, inl, inr, ℕ, ◌-◌, ◌<◌, ◌≤◌, List, [], ◌∷◌, ◌++◌, length, Result, Ok, Err, refl, subst, arith, append-nil, length-append, drop-append-le, eof, end_of, Input, Error, Table, closed, by_code_of, by_null, by_end, IsNumber, unsigned64, IsTableBefore, closed_by_null, closed_by_end, Answer, outside, table, first_error, StrictAnswer, IsStrictlyFinal, IsFinal, followed_by}
+use Rattle.dwarf_read_core.proofs.Common.{◌≡◌, ◌≢◌, inl, inr, ℕ, ◌-◌, ◌<◌, ◌≤◌, List, [], ◌∷◌, ◌++◌, length, Result, Ok, Err, refl, subst, arith, append-nil, length-append, drop-append-le, eof, end_of, Input, Error, Table, closed, by_code_of, by_null, IsNumber, unsigned64, IsTableBefore, closed_by_null, closed_by_end, Answer, outside, table, first_error, StrictAnswer, IsStrictlyFinal, IsFinal, followed_by}
 use Rattle.std.proofs.Common.{replicate}
 use Rattle.std.proofs.lemmas.List.{length-replicate}
 use Rattle.dwarf_read_core.specs.Answer.{unterminated}
-use Rattle.dwarf_read_core.specs.Grammar.{Close}
 use Rattle.dwarf_read_core.proofs.contributions.ItemLists.{same_of_one}
 use Rattle.dwarf_read_core.proofs.tables.ExactlyOneAnswer.{answer_exactly_one}
 use Rattle.dwarf_read_core.proofs.tables.TableErrors.{table_error}
-use Rattle.dwarf_read_core.proofs.tables.EndFaults.{at_start, at_end, first_at_end, eof_ends, closed_or_other, unterminated_at_end}
+use Rattle.dwarf_read_core.proofs.tables.EndFaults.{at_start, at_end, first_at_end, eof_ends, close_cases, closed_or_other, unterminated_at_end}
 
 -- ---- tables that the end closes
 
@@ -74,11 +73,6 @@ answer_changes section offset _ (first_error e le is) unsettled =
 
 -- ---- strict results
 
--- what closes a table
-null_or_end : (close : Close) → (close ≡ by_null) ⊎ (close ≡ by_end)
-null_or_end by_null = inl refl
-null_or_end by_end = inr refl
-
 -- the error for an unclosed table moves with each byte that is appended
 unclosed_moves : (section : Input) (offset : ℕ)
     → StrictAnswer (followed_by section (0 ∷ [])) offset (Err (unterminated (end_of section))) → ⊥
@@ -90,7 +84,7 @@ unclosed_moves section offset stays =
 strict_error : (section : Input) (offset : ℕ) (e : Error) → ((position : ℕ) → e ≢ unterminated position)
     → StrictAnswer section offset (Err e) → Answer section offset (Err e)
 strict_error section offset e other (Ok t, is, same) =
-    elim (null_or_end t.close) [
+    elim (close_cases t.close) [
       | inl null ↦ absurd (grind arith)
       | inr end ↦ absurd (other (end_of section) (grind arith))
     ]
@@ -102,7 +96,7 @@ pub strict_answer_changes : (section : Input) (offset : ℕ) (strict : Result Ta
     → (count : ℕ) × (StrictAnswer (followed_by section (replicate count 0)) offset strict → ⊥)
 strict_answer_changes section offset (Ok t) is unsettled = absurd (unsettled tt)
 strict_answer_changes section offset (Err e) (Ok t, is, same) unsettled =
-    elim (null_or_end t.close) [
+    elim (close_cases t.close) [
       | inl null ↦ absurd (grind arith)
       | inr end ↦
           let unclosed : e ≡ unterminated (end_of section) = grind arith in

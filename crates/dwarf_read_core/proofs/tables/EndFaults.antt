@@ -1,7 +1,8 @@
 -- Where the errors of tables are.
-use Rattle.dwarf_read_core.proofs.Common.{◌≡◌, ◌≢◌, ◌⊎◌, inl, inr, ◌∙◌, ℕ, ◌<◌, ◌≤◌, List, length, Result, Ok, Err, refl, sym, arith, eof, end_of, Input, Error, Kind, unsigned64, unsigned16, signed64, overflow_error, Table, HasError, number_cut, number_bad, children_cut, tag_zero, children_bad, name_zero, form_zero, IsFirstError, in_declaration, repeated, Answer, outside, table, first_error, StrictAnswer, IsNotEof, strictly}
+use Rattle.dwarf_read_core.proofs.Common.{◌≡◌, ◌≢◌, ◌⊎◌, inl, inr, ◌∙◌, ℕ, ◌<◌, ◌≤◌, List, length, Result, Ok, Err, refl, sym, arith, eof, end_of, Input, Error, Kind, unsigned64, unsigned16, signed64, overflow_error, Table, HasError, number_cut, number_bad, children_cut, tag_zero, children_bad, name_zero, form_zero, IsFirstError, in_declaration, repeated, Answer, outside, table, first_error, StrictAnswer, IsNotEof, strictly, by_null, by_end}
 use Rattle.dwarf_reader_core.proofs.public.MissingFields.{eof-same}
 use Rattle.dwarf_read_core.specs.Answer.{IsTableError, missing_bytes, bad_number, zero_tag, bad_children, zero_name, zero_form, same_code, unterminated}
+use Rattle.dwarf_read_core.specs.Grammar.{Close}
 use Rattle.dwarf_read_core.proofs.tables.TableErrors.{table_error}
 
 -- ---- the errors of tables
@@ -50,6 +51,11 @@ pub eof_ends : (section : Input) (offset position : ℕ) → Answer section offs
 eof_ends section offset position is = answer_ends is position refl
 
 -- ---- strict tables
+
+-- what closes a table
+pub close_cases : (close : Close) → (close ≡ by_null) ⊎ (close ≡ by_end)
+close_cases by_null = inl refl
+close_cases by_end = inr refl
 
 -- no error in place of a table says that the table isn't closed
 pub closed_or_other : {e : Error} → IsTableError e → (position : ℕ) → e ≢ unterminated position

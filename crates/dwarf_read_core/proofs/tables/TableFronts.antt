@@ -1,8 +1,8 @@
 -- A table ends where the shortest front of the section ends that has it.
-use Rattle.dwarf_read_core.proofs.Common.{◌≡◌, ◌⊎◌, ◌↔◌, inl, inr, ◌∙◌, ℕ, ◌+◌, ◌-◌, ◌<◌, ◌≤◌, List, [], ◌∷◌, ◌++◌, length, take, drop, Ok, Some, refl, sym, ap, subst, arith, append_assoc, append-nil, length-append, length-drop, drop-append-le, take-append-drop, cases_lt, Input, first, Declaration, Sequence, IsDeclaration, AreDeclarations, Table, closed, by_code_of, by_null, by_end, IsTable, IsTableBefore, closed_by_null, closed_by_end, Answer, table, followed_by, declaration_at, len, take-append-le, take_all}
+use Rattle.dwarf_read_core.proofs.Common.{◌≡◌, ◌↔◌, inl, inr, ◌∙◌, ℕ, ◌+◌, ◌-◌, ◌<◌, ◌≤◌, List, [], ◌∷◌, ◌++◌, length, take, drop, Ok, Some, refl, sym, ap, subst, arith, append_assoc, append-nil, length-append, length-drop, drop-append-le, take-append-drop, cases_lt, Input, first, Declaration, Sequence, IsDeclaration, AreDeclarations, Table, closed, by_code_of, by_null, by_end, IsTable, IsTableBefore, closed_by_null, closed_by_end, Answer, table, followed_by, declaration_at, len, take-append-le, take_all}
 use Rattle.dwarf_read_core.specs.Answer.{TableEndsAt}
-use Rattle.dwarf_read_core.specs.Grammar.{Close}
 use Rattle.dwarf_read_core.proofs.tables.ReadingIsComplete.{declaration_again}
+use Rattle.dwarf_read_core.proofs.tables.EndFaults.{close_cases}
 use Rattle.dwarf_read_core.proofs.tables.TableEnds.{end_exactly_one, end_more}
 use Rattle.dwarf_read_core.proofs.tables.TableBounds.{len_is}
 use Rattle.dwarf_read_core.proofs.tables.TablesAreRead.{table_before_fits}
@@ -62,11 +62,6 @@ closed-same {t = t} more a b unsettled longer some =
         let close = ap (λ (u : Table). u.close) same in absurd cc
     go (closed_by_end bytes ds are) is (closed_by_end others es each) same unsettled longer =
         closed_later bytes more ds es are (rw longer at each) (ap (λ (u : Table). u.by_code) (is ∙ sym same)) some
-
--- what closes a table
-close_cases : (close : Close) → (close ≡ by_null) ⊎ (close ≡ by_end)
-close_cases by_null = inl refl
-close_cases by_end = inr refl
 
 -- the bytes of a front and those after it
 front_and_rest : (section : Input) (m : ℕ) → followed_by (first m section) (drop m section.bytes) ≡ section
