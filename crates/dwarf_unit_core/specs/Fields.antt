@@ -1,5 +1,5 @@
 -- What the header of a unit says after its initial length (DWARF 5, 7.5.1; DWARF 4, 7.5.1).
-use Rattle.std.specs.Prelude.{ℕ, ◌==◌, ◌&&◌, nat_le, Ok, Err}
+use Rattle.std.specs.Prelude.{ℕ, ◌+◌, ◌==◌, ◌&&◌, nat_le, Ok, Err, if◌then◌else◌}
 use Rattle.dwarf_read_core.specs.declared.Error.TheVariants.{UnknownVersion, UnknownUnitType}
 use Rattle.dwarf_read_core.specs.declared.Format.{Format}
 use Rattle.dwarf_read_core.specs.Format.{word_size}
@@ -70,3 +70,16 @@ type_unit = 2
 -- the headers of units in such a section
 abbrev pub unit_header : ℕ → Header (UnitFields ℕ)
 unit_header code greatest format = unit_fields greatest format code
+
+-- how many bytes the fields have that only units of one type have
+abbrev pub own_size : Format → UnitType ℕ → ℕ
+own_size format Compilation = 0
+own_size format (TypeUnit signature place) = 8 + word_size format
+own_size format Partial = 0
+own_size format (Skeleton id) = 8
+own_size format (SplitCompilation id) = 8
+own_size format (SplitType signature place) = 8 + word_size format
+
+-- how many bytes a header has after the initial length
+abbrev pub header_size : Format → UnitFields ℕ → ℕ
+header_size format x = (if x.version == 5 then 4 else 3) + word_size format + own_size format x.unit_type
