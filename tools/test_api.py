@@ -34,7 +34,7 @@ class Pages(unittest.TestCase):
 
     def test_check(self) -> None:
         """The check fails for a line of any of these, and for a page that isn't what would be written."""
-        names = ("misnamed", "without_row", "absent", "misplaced", "without_caller", "private", "unlisted")
+        names = ("misnamed", "without_row", "absent", "misplaced", "without_caller", "private", "unlisted", "uncited")
         other = "crates/dwarf_read_core/CALLING.md isn't what tools/api would write"
         for faulty in (*names, "text_of"):
             self.put("text_of", lambda crate, text: text)
@@ -150,6 +150,15 @@ class Pages(unittest.TestCase):
         planted = ("dwarf_read_core", "planted.antt", own + offered + other)
         wanted = ["planted.antt cites proofs.leb.Bits, which dwarf_reader_core doesn't offer"]
         self.assertEqual([*api.private([planted])], wanted)
+
+    def test_lemma_that_nothing_cites(self) -> None:
+        own = "use Rattle.low.proofs.Sums.{zero-add}\n-- zero-add\npub zero-add : (n : ℕ) → n ≡ n\nzero-add n = refl\n"
+        again = "pub twice : (n : ℕ) → n ≡ n\ntwice zero = refl\ntwice (suc n) =\n    twice n\n"
+        files = [("low", "crates/low/proofs/Sums.antt", own + again)]
+        rows = ((files, [], ["zero-add"]), (files, ["`zero-add`"], []))
+        rows += (([*files, ("low", "crates/low/src/laws.rt", "using(crate::proofs::Sums::zero-add)")], [], []),)
+        for there, pages, wanted in rows:
+            self.assertEqual([*api.uncited(there, pages)], [f"{files[0][1]}: nothing cites {it}" for it in wanted])
 
 
 if __name__ == "__main__":

@@ -19,11 +19,6 @@ pub one_joined : {Lists : Result (List ℕ) Error → Type 0} (own : Result (Lis
 one_joined (Ok text) has = one_image (in_front text) has (λ rest lists. (rest, lists, refl)) (λ listed h. h)
 one_joined (Err e) has = (Err e, refl, λ other h. h)
 
--- what is the same as what is exactly one is exactly one
-pub one_same : {A : Type 0} {Is Of : A → Type 0} → ((a : A) → Is a → Of a) → ((a : A) → Of a → Is a) → HasOne Is
-    → HasOne Of
-one_same to from has = (has.0, to has.0 has.1, λ other of. has.2 other (from other of))
-
 -- what is listed of a value, or the error
 listed_of_result : {A B : Type 0} → (A → B) → Result A Error → Result B Error
 listed_of_result listed_of (Ok value) = Ok (listed_of value)

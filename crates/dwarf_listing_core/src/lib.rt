@@ -23,6 +23,6 @@ mod sets;
 mod tables;
 pub mod words;
 
-pub use lines::{hex_line, string, string_in_place};
+pub use lines::{hex_line, string_in_place};
 pub use listing::{abbreviations, abbreviations_strict};
 pub use sets::{addresses, string_offsets};

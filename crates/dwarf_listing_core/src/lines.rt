@@ -8,22 +8,7 @@ use dwarf_read_core::{DebugStr, DebugStrOffset, Error, LittleEndian};
 use std::alloc::{AllocError, Global};
 
 /// Returns the string at an offset of `.debug_str` or `.debug_line_str`, byte for byte, and a line
-/// end.
-///
-/// # Errors
-///
-/// That of [`DebugStr::get_str`], or `OutOfMemory` if memory runs out.
-pub fn string(mem: Global, section: &[u8], offset: u64) -> Result<Vec<u8>, Error>
-    ensures { UnlessOutOfMemory (ListsString section.now offset) vec_items result }
-{
-    let debug_str = DebugStr::new(section, LittleEndian);
-    let string = debug_str.get_str(DebugStrOffset(offset as usize))?;
-    let mut text = Vec::from_slice(mem, string.slice())?;
-    text.push(b'\n')?;
-    Ok(text)
-}
-
-/// Returns the text that [`string`] returns, in the memory of the section.
+/// end, in the memory of the section.
 ///
 /// The line end replaces the zero byte after the string, which is then moved to the front.
 ///

@@ -1,6 +1,6 @@
 -- Rows whose codes rise are declarations in the order of their map.
 use Rattle.std.proofs.Common.{Some, append_assoc, get_or, take-append-drop}
-use Rattle.std.specs.FinMap.{contains_key, gets, insert}
+use Rattle.std.specs.FinMap.{contains_key, gets}
 use Rattle.std.specs.List.{AllByRecursion}
 unfoldable use Rattle.std.specs.List.Sorted.{IsStrictlySortedBy}
 use Rattle.std.specs.Map.{keys_of}
@@ -10,7 +10,7 @@ use Rattle.std.proofs.lemmas.Bool.Decides.{nat_tests}
 use Rattle.std.proofs.lemmas.List.{take_more}
 use Rattle.std.proofs.Common.{Less}
 use Rattle.dwarf_read_core.specs.Grammar.{by_code_of, Specification}
-use Rattle.dwarf_read_core.proofs.public.Tables.{entries_kept, table_push}
+use Rattle.dwarf_read_core.proofs.public.Tables.{entries_kept}
 use Rattle.dwarf_read_c.specs.Laid.{AreRising, last_code, laid_out}
 use Rattle.dwarf_read_c.specs.declared.rows.DwarfAbbreviation.{DwarfAbbreviation}
 use Rattle.dwarf_read_c.proofs.Common.{◌≡◌, ◌∙◌, false, ℕ, ◌+◌, ◌-◌, ◌<◌, ◌≤◌, List, [], ◌∷◌, ◌++◌, length, map, take, drop, refl, sym, ap, subst, arith, values, Declaration}
@@ -33,13 +33,6 @@ rising-fresh attributes below code (a ∷ rows) h above =
       (last-greatest a.code rows h.1),
       (rising-fresh attributes a.code code rows h.1 above),
     )
-
--- one more declaration with a code above the last is an insertion into the map
-pub rising-inserted : (attributes : List Specification) (rows : List DwarfAbbreviation) (d : Declaration)
-    → AreRising 0 rows → last_code 0 rows < d.code → by_code_of (laid_out attributes rows ++ d ∷ [])
-    ≡ insert (by_code_of (laid_out attributes rows)) d.code d
-rising-inserted attributes rows d h above =
-    table_push (laid_out attributes rows) d (rising-fresh attributes 0 d.code rows h above)
 
 -- codes still rise with one more above the last
 pub rising-push : (below : ℕ) (rows : List DwarfAbbreviation) (a : DwarfAbbreviation) → AreRising below rows
