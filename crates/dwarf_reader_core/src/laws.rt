@@ -97,8 +97,8 @@ pub fn exactly_one_read()
     ensures sized_offset { (greatest size : ℕ) → IsRead (OffsetRead greatest size) }
 {}
 
-/// A call reads what its contract promises, of a value and of an error. A buffer of `read_slice` and
-/// the array of `read_u8_array` hold the bytes that are read.
+/// A call reads what its contract promises, of a value and of an error. The buffer of `read_slice`
+/// and the array of `read_u8_array` hold the bytes that are read.
 pub fn promises_are_read()
     ensures slice { (n : ℕ) (old new : Input) (result : Result (List ℕ) Error)
         → IfOk result (λ bytes. bytes ≡ take n old.bytes) → OnOk result (Takes n old new)
@@ -118,7 +118,8 @@ pub fn promises_are_read()
         → EncodingRead old (result, new) }
     ensures sized_offset { (greatest size : ℕ) (old new : Input) (result : Result ℕ Error)
         → IfOk result (λ x. TakesNumber size old x new × IsTrue (is_number_size size))
-        → IfOk result (λ x. x ≤ greatest) → IfErr result (λ e. ReadsNoOffset greatest size old e new)
+        → IfOk result (λ x. x ≤ greatest)
+        → IfErr result (λ e. ReadsNoOffset greatest size old e new)
         → OffsetRead greatest size old (result, new) }
 {}
 
