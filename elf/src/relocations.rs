@@ -1,13 +1,12 @@
 //! The relocations of a relocatable ELF file, which are applied to the bytes of its debug sections.
 
-use crate::elf::{of_class, Elf};
-use crate::report::{unlisted, Result};
+use crate::elf::{number_of, of_class, Elf};
+use crate::order::Order;
+use crate::report::Result;
 use object::read::elf::{FileHeader, Rela, Sym};
 use object::{elf, Endianness, ReadRef};
+use std::fmt::{self, Display};
 use std::mem::size_of;
-
-/// The most bytes that a relocation stores.
-pub const MOST_BYTES: u64 = 8;
 
 // The types of a machine's relocations, each with its bytes.
 type Types = &'static [(u32, usize)];
@@ -67,7 +66,7 @@ const PAST_START: &[(u16, u64, &[u32])] = &[
 ];
 
 fn types(table: &[(u16, Types)], machine: u16) -> Types {
-    table.iter().find(|it| it.0 == machine).map_or(&[], |it| it.1)
+    table.iter().find(|(known, _)| *known == machine).map_or(&[], |(_, types)| types)
 }
 
 /// What a relocation does with the number that is there.
@@ -80,11 +79,39 @@ enum Effect {
 
 /// A relocation: its place, the number of its symbol, its type, and its addend if it has one.
 #[derive(Clone, Copy)]
-pub struct Relocation {
-    pub place: u64,
-    pub symbol: u32,
+struct Relocation {
+    place: u64,
+    symbol: u32,
     kind: u32,
     addend: Option<u64>,
+}
+
+/// Why a relocation isn't applied, and its place.
+#[derive(Debug, Clone, Copy, PartialEq, Eq)]
+pub struct Fault {
+    pub place: u64,
+    pub why: Why,
+}
+
+#[derive(Debug, Clone, Copy, PartialEq, Eq)]
+pub enum Why {
+    UnknownType(u32),
+    PastEnd,
+    NoSymbol(u32),
+    /// The value, and the number of bytes that it doesn't fit.
+    Overflow(u64, usize),
+}
+
+impl Display for Fault {
+    fn fmt(&self, f: &mut fmt::Formatter<'_>) -> fmt::Result {
+        write!(f, "has a relocation at 0x{:x} ", self.place)?;
+        match self.why {
+            Why::UnknownType(kind) => write!(f, "of type {kind}, which isn't known here"),
+            Why::PastEnd => write!(f, "that is past the end"),
+            Why::NoSymbol(symbol) => write!(f, "by the symbol {symbol}, which isn't there"),
+            Why::Overflow(value, size) => write!(f, "with the value 0x{value:x}, which doesn't fit {size} bytes"),
+        }
+    }
 }
 
 /// A table of the relocations of a section.
@@ -95,24 +122,24 @@ pub struct Relocations<'d> {
     rows: &'d [u8],
     has_addends: bool,
     symbols: &'d [u8],
-    count: u64,
-    // The numbers of the rows in the order of their places, unless the rows have it.
-    sorted: Vec<u32>,
+    // The order of their places.
+    order: Order,
     kinds: [(Types, Effect); 3],
 }
 
+/// How many bytes a row has in a table of this kind.
+pub fn row_bytes(is_64: bool, has_addends: bool) -> usize {
+    let word = if is_64 { 8 } else { 4 };
+    word * if has_addends { 3 } else { 2 }
+}
+
+/// Whether the relocations of a machine are known.
+pub fn is_known(machine: u16) -> bool {
+    [ABSOLUTE, ADDED, SUBTRACTED].iter().any(|table| !types(table, machine).is_empty())
+}
+
 impl<'d> Relocations<'d> {
-    pub fn new(file: &Elf<'d>, rows: &'d [u8], symbols: &'d [u8], has_addends: bool) -> Relocations<'d> {
-        let row_bytes = if file.is_64 { 16 } else { 8 }
-            + if has_addends {
-                if file.is_64 {
-                    8
-                } else {
-                    4
-                }
-            } else {
-                0
-            };
+    pub fn new(file: &Elf<'d>, rows: &'d [u8], symbols: &'d [u8], has_addends: bool) -> Result<Relocations<'d>> {
         let kinds = [(ABSOLUTE, Effect::Replace), (ADDED, Effect::Add), (SUBTRACTED, Effect::Subtract)];
         let mut table = Relocations {
             machine: file.machine,
@@ -121,21 +148,16 @@ impl<'d> Relocations<'d> {
             rows,
             has_addends,
             symbols,
-            count: rows.len() as u64 / row_bytes,
-            sorted: Vec::new(),
+            order: Order::default(),
             kinds: kinds.map(|(table, effect)| (types(table, file.machine), effect)),
         };
-        let place = |number: u64| table.row(number).place;
-        if (1..table.count).any(|it| place(it - 1) > place(it)) {
-            let mut sorted: Vec<u32> = (0..table.count as u32).collect();
-            sorted.sort_by_key(|it| place((*it).into()));
-            table.sorted = sorted;
-        }
-        table
+        let count = rows.len() / row_bytes(file.is_64, has_addends);
+        table.order = Order::new(count.try_into().unwrap_or(u32::MAX), |number| table.row(number).place)?;
+        Ok(table)
     }
 
-    fn row(&self, number: u64) -> Relocation {
-        of_class!(self.is_64, self.row_of(number))
+    fn row(&self, number: u32) -> Relocation {
+        of_class!(self.is_64, self.row_of(number.into()))
     }
 
     fn row_of<F: FileHeader<Endian = Endianness>>(&self, number: u64) -> Relocation {
@@ -144,7 +166,7 @@ impl<'d> Relocations<'d> {
         let row = if self.has_addends {
             self.rows.read_at::<F::Rela>(number * size_of::<F::Rela>() as u64).copied()
         } else {
-            self.rows.read_at::<F::Rel>(number * size_of::<F::Rel>() as u64).map(|it| F::Rela::from(*it))
+            self.rows.read_at::<F::Rel>(number * size_of::<F::Rel>() as u64).map(|row| F::Rela::from(*row))
         };
         // The number is less than the count.
         let row = row.unwrap_or_else(|()| unreachable!());
@@ -157,90 +179,41 @@ impl<'d> Relocations<'d> {
         }
     }
 
-    /// The relocation with a number, in the order of their places.
-    fn nth(&self, number: u64) -> Relocation {
-        self.row(self.sorted.get(number as usize).map_or(number, |it| (*it).into()))
-    }
-
-    /// How many relocations have a lower place.
-    fn count_before(&self, place: u64) -> u64 {
-        let (mut low, mut end) = (0, self.count);
-        while low < end {
-            let middle = low + (end - low) / 2;
-            if self.nth(middle).place < place {
-                low = middle + 1;
-            } else {
-                end = middle;
+    /// Applies the relocations to the bytes of a section. A function is called with each that can't be applied, and
+    /// with the first that is past the end.
+    pub fn apply(&self, data: &mut [u8], on_fault: &mut dyn FnMut(Fault)) {
+        // One of type 0 does nothing.
+        for row in self.order.rows().map(|number| self.row(number)).filter(|row| row.kind != 0) {
+            let fault = |why| Fault { place: row.place, why };
+            if row.place >= data.len() as u64 {
+                return on_fault(fault(Why::PastEnd));
             }
-        }
-        low
-    }
-
-    /// The relocations whose places are in a part.
-    pub fn between(&self, low: u64, end: u64) -> impl Iterator<Item = Relocation> + '_ {
-        let first = self.count_before(low);
-        (first..self.count).map(|it| self.nth(it)).take_while(move |it| it.place < end)
-    }
-
-    /// The first place that is past the end of the section, of a relocation that does something.
-    pub fn past(&self, end: u64) -> Option<u64> {
-        (self.count_before(end)..self.count).map(|it| self.nth(it)).find(|it| it.kind != 0).map(|it| it.place)
-    }
-
-    /// Applies the relocations to a part, whose bytes are there from a lower offset on. A function is called with the
-    /// reason where that isn't possible, and may end the work.
-    pub fn apply(
-        &self, data: &mut [u8], low: u64, at: u64, end: u64, on_error: &mut dyn FnMut(String) -> Result<()>,
-    ) -> Result<()> {
-        for it in self.between(low, end) {
-            let found = self.kinds.iter().find_map(|(types, effect)| {
-                let (_, size) = types.iter().find(|(kind, _)| *kind == it.kind)?;
-                Some((*size, *effect))
-            });
-            let size = found.map_or(0, |(size, _)| size);
-            // Type 0 is none, and one before the part may end there.
-            if it.kind == 0 || it.place < at && it.place + size as u64 <= at {
-                continue;
-            }
-            let place = (it.place - low) as usize;
-            let stored = data.get_mut(place..place + size);
-            let applied = self.expect_known(&it, found).and_then(|effect| match stored {
-                Some(stored) => self.store(&it, effect, stored),
-                None => unlisted(format!("has a relocation at 0x{:x} that is past the end", it.place)),
-            });
-            if let Err(error) = applied {
-                on_error(error.to_string())?;
-            }
-        }
-        Ok(())
-    }
-
-    // What a relocation does, if its machine and its type are known.
-    fn expect_known(&self, it: &Relocation, found: Option<(usize, Effect)>) -> Result<Effect> {
-        if self.kinds.iter().all(|(types, _)| types.is_empty()) {
-            return unlisted(format!("has relocations of the machine {}, which aren't known here", self.machine));
-        }
-        match found {
-            Some((_, effect)) => Ok(effect),
-            None => {
-                unlisted(format!("has a relocation at 0x{:x} of type {}, which isn't known here", it.place, it.kind))
+            if let Err(why) = self.apply_row(&row, &mut data[row.place as usize..]) {
+                on_fault(fault(why));
             }
         }
     }
 
-    fn store(&self, it: &Relocation, effect: Effect, stored: &mut [u8]) -> Result<()> {
+    fn apply_row(&self, row: &Relocation, data: &mut [u8]) -> std::result::Result<(), Why> {
+        let known = self.kinds.iter().find_map(|(types, effect)| {
+            let (_, size) = types.iter().find(|(kind, _)| *kind == row.kind)?;
+            Some((*size, *effect))
+        });
+        let (size, effect) = known.ok_or(Why::UnknownType(row.kind))?;
+        let stored = data.get_mut(..size).ok_or(Why::PastEnd)?;
         let before = number_of(stored, self.endian);
-        let (value, section) = self.symbol(it.symbol)?;
+        let (value, section) = self.symbol(row.symbol).ok_or(Why::NoSymbol(row.symbol))?;
         // This symbol has no address yet, and an alignment instead.
         let value = if section == elf::SHN_COMMON { 0 } else { value };
-        let past = PAST_START.iter().find(|(machine, _, kinds)| *machine == self.machine && kinds.contains(&it.kind));
-        let sum = value.wrapping_add(it.addend.unwrap_or(before)).wrapping_sub(past.map_or(0, |it| it.1));
+        let is_own = |kinds: &[u32]| kinds.contains(&row.kind);
+        let past = PAST_START.iter().find(|(machine, _, kinds)| *machine == self.machine && is_own(kinds));
+        let sum = value.wrapping_add(row.addend.unwrap_or(before)).wrapping_sub(past.map_or(0, |(_, by, _)| *by));
         let value = match effect {
+            Effect::Replace if !self.fits(sum, size) => return Err(Why::Overflow(sum, size)),
             Effect::Replace => sum,
             Effect::Add => before.wrapping_add(sum),
             Effect::Subtract => before.wrapping_sub(sum),
         };
-        let size = stored.len();
         match self.endian {
             Endianness::Little => stored.copy_from_slice(&value.to_le_bytes()[..size]),
             Endianness::Big => stored.copy_from_slice(&value.to_be_bytes()[8 - size..]),
@@ -248,24 +221,31 @@ impl<'d> Relocations<'d> {
         Ok(())
     }
 
+    /// Whether a value fits a number of bytes, with a sign or without. Addresses of a class of four bytes wrap, and so do
+    /// the differences of RISC-V, which are stored in two steps.
+    fn fits(&self, value: u64, size: usize) -> bool {
+        let bits = 8 * size as u32;
+        if size == 8 || !self.is_64 && size == 4 || self.machine == elf::EM_RISCV {
+            return true;
+        }
+        let value = if self.is_64 { value as i64 } else { (value as i32).into() };
+        value >> bits == 0 || value >> (bits - 1) == -1 || !self.is_64 && value as u32 >> bits == 0
+    }
+
+    /// The number of the section that the symbol of the first relocation at a place is in.
+    pub fn section_at(&self, place: u64) -> Option<u16> {
+        let (_, first) = self.order.split(|number| self.row(number).place < place);
+        let row = first.map(|number| self.row(number)).filter(|row| row.place == place)?;
+        self.symbol(row.symbol).map(|(_, section)| section)
+    }
+
     /// The value of a symbol, and the number of its section.
-    pub fn symbol(&self, number: u32) -> Result<(u64, u16)> {
+    fn symbol(&self, number: u32) -> Option<(u64, u16)> {
         of_class!(self.is_64, self.symbol_of(number))
     }
 
-    fn symbol_of<F: FileHeader<Endian = Endianness>>(&self, number: u32) -> Result<(u64, u16)> {
-        match self.symbols.read_at::<F::Sym>(u64::from(number) * size_of::<F::Sym>() as u64) {
-            Ok(found) => Ok((found.st_value(self.endian).into(), found.st_shndx(self.endian))),
-            Err(()) => unlisted(format!("has a relocation by the symbol {number}, which isn't there")),
-        }
-    }
-}
-
-/// The number that has these bytes, at most eight.
-pub fn number_of(bytes: &[u8], endian: Endianness) -> u64 {
-    let add = |sum, byte: &u8| sum << 8 | u64::from(*byte);
-    match endian {
-        Endianness::Little => bytes.iter().rev().fold(0, add),
-        Endianness::Big => bytes.iter().fold(0, add),
+    fn symbol_of<F: FileHeader<Endian = Endianness>>(&self, number: u32) -> Option<(u64, u16)> {
+        let found = self.symbols.read_at::<F::Sym>(u64::from(number) * size_of::<F::Sym>() as u64).ok()?;
+        Some((found.st_value(self.endian).into(), found.st_shndx(self.endian)))
     }
 }

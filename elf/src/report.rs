@@ -1,70 +1,98 @@
 //! What the tool prints: its output, and lines on standard error, with the exit status.
 
+use std::cell::{Cell, RefCell, RefMut};
 use std::collections::HashSet;
 use std::fmt::{self, Display};
 use std::fs::File;
 use std::io::{self, Write};
 use std::os::unix::io::AsFd;
-use std::process::exit;
 
-/// After this many errors of a kind the others aren't reported.
-pub const ERRORS: usize = 1000;
+/// Of each file this many errors are reported, and as many warnings.
+pub const LINES: usize = 1000;
+/// The listing of a file or an archive may have this many bytes, or this many times those of the file if that is more.
+const LISTED_BYTES: u64 = 1 << 29;
+const LISTED_TIMES: u64 = 1 << 9;
 /// The exit statuses of an error in a file and of one of input or output, and the one that a shell has for a program
 /// that SIGPIPE ends.
-const WRONG_FILE: u8 = 1;
+pub const WRONG_FILE: u8 = 1;
 const WRONG_IO: u8 = 3;
-const CLOSED: i32 = 141;
+const CLOSED: u8 = 141;
 const BUFFER_BYTES: usize = 1 << 16;
 
-/// Why a file or a part of it can't be listed, and the exit status for that.
-#[derive(Debug, Clone)]
-pub struct Unlisted {
-    text: String,
-    status: u8,
+/// Why a file or a part of it isn't listed.
+#[derive(Debug)]
+pub enum Error {
+    /// The system doesn't open or read it.
+    Unopened(io::Error),
+    /// It is nothing that this tool lists, or more than it takes.
+    Unlisted(String),
+    /// Its bytes aren't as its format has them.
+    Malformed(String),
+    /// Memory ran out.
+    NoMemory,
 }
 
-pub type Result<T> = std::result::Result<T, Unlisted>;
+pub type Result<T> = std::result::Result<T, Error>;
 
-/// Why a part of a file can't be read.
-pub fn unlisted<T>(text: impl Into<String>) -> Result<T> {
-    Err(Unlisted { text: text.into(), status: WRONG_FILE })
+pub fn unlisted(text: impl Into<String>) -> Error {
+    Error::Unlisted(text.into())
 }
 
-/// Why the system doesn't open or read a file.
-pub fn unopened(error: io::Error) -> Unlisted {
-    Unlisted { text: reason(&error), status: WRONG_IO }
+pub fn malformed(text: impl Into<String>) -> Error {
+    Error::Malformed(text.into())
 }
 
-impl Display for Unlisted {
+impl From<io::Error> for Error {
+    fn from(error: io::Error) -> Error {
+        Error::Unopened(error)
+    }
+}
+
+impl Error {
+    fn status(&self) -> u8 {
+        match self {
+            Error::Unopened(_) => WRONG_IO,
+            Error::Unlisted(_) | Error::Malformed(_) | Error::NoMemory => WRONG_FILE,
+        }
+    }
+}
+
+impl Display for Error {
     fn fmt(&self, f: &mut fmt::Formatter<'_>) -> fmt::Result {
-        f.write_str(&self.text)
+        match self {
+            Error::Unopened(error) => f.write_str(&reason(error)),
+            Error::Unlisted(text) | Error::Malformed(text) => f.write_str(text),
+            Error::NoMemory => f.write_str("isn't read: memory ran out"),
+        }
     }
 }
 
 /// What the system says, without the number that Rust puts after it.
-pub fn reason(error: &io::Error) -> String {
+fn reason(error: &io::Error) -> String {
     let text = error.to_string();
     text.split(" (os error ").next().unwrap_or_default().to_owned()
 }
 
 /// Prints a line on standard error. One that can't be written stops nothing.
-pub fn tell(text: impl Display) {
-    tell_to(&mut io::stderr(), text);
+pub fn print_error(text: impl Display) {
+    print_error_to(&mut io::stderr(), text);
 }
 
-fn tell_to(errors: &mut dyn Write, text: impl Display) {
+fn print_error_to(errors: &mut dyn Write, text: impl Display) {
     let _ = errors.write_all(format!("dwarf_elf: {text}\n").as_bytes());
 }
 
-/// The output, with a buffer. If it can't be written, the run ends.
+/// The output, with a buffer. After an error of it nothing is written.
 pub struct Output {
     to: Box<dyn Write>,
     buffer: Vec<u8>,
+    written: u64,
+    error: Option<io::Error>,
 }
 
 impl Output {
-    pub fn new(to: Box<dyn Write>) -> Output {
-        Output { to, buffer: Vec::with_capacity(BUFFER_BYTES) }
+    fn new(to: Box<dyn Write>) -> Output {
+        Output { to, buffer: Vec::with_capacity(BUFFER_BYTES), written: 0, error: None }
     }
 
     #[inline]
@@ -86,14 +114,9 @@ impl Output {
     }
 
     fn write(&mut self, bytes: &[u8]) {
-        match self.to.write_all(bytes) {
-            Ok(()) => {}
-            // Whoever reads the output has enough of it.
-            Err(error) if error.kind() == io::ErrorKind::BrokenPipe => exit(CLOSED),
-            Err(error) => {
-                tell(format_args!("the output: {}", reason(&error)));
-                exit(WRONG_IO.into())
-            }
+        self.written += bytes.len() as u64;
+        if self.error.is_none() {
+            self.error = self.to.write_all(bytes).err();
         }
     }
 
@@ -131,20 +154,32 @@ impl fmt::Write for Output {
     }
 }
 
-/// The output and the lines on standard error, each once for a file, with the exit status.
+/// What a run prints, and its exit status. Each line on standard error is printed once for a file, up to a limit.
 pub struct Report {
-    pub output: Output,
-    pub status: u8,
-    errors: Box<dyn Write>,
-    said: HashSet<String>,
-    // What is before each line: the name of a file if there are several.
+    output: RefCell<Output>,
+    errors: RefCell<Box<dyn Write>>,
+    status: Cell<u8>,
+    file: RefCell<FileReport>,
+    // How many bytes the output had when the argument began that is listed now, and how many its files have so far.
+    begin: Cell<u64>,
+    file_bytes: Cell<u64>,
+}
+
+/// What was reported of the file that is listed now.
+#[derive(Default)]
+struct FileReport {
+    // What is before each line: the name of the file if there are several.
     before: String,
+    lines: HashSet<String>,
+    error_count: usize,
+    warning_count: usize,
 }
 
 impl Report {
     pub fn new(output: Box<dyn Write>, errors: Box<dyn Write>) -> Report {
-        let output = Output::new(output);
-        Report { output, status: 0, errors, said: HashSet::new(), before: String::new() }
+        let (output, errors) = (RefCell::new(Output::new(output)), RefCell::new(errors));
+        let (status, file, begin, file_bytes) = Default::default();
+        Report { output, errors, status, file, begin, file_bytes }
     }
 
     /// One that prints to the standard streams. If the output is closed, that is told, and the exit status returned.
@@ -154,7 +189,7 @@ impl Report {
         match io::stdout().as_fd().try_clone_to_owned() {
             Ok(output) => Ok(Report::new(Box::new(File::from(output)), Box::new(io::stderr()))),
             Err(error) => {
-                tell(format_args!("standard output: {}", reason(&error)));
+                print_error(format_args!("standard output: {}", reason(&error)));
                 Err(WRONG_IO)
             }
         }
@@ -165,55 +200,93 @@ impl Report {
         Report::new(Box::new(io::sink()), Box::new(io::sink()))
     }
 
-    /// Begins a file, whose lines begin so.
-    pub fn begin(&mut self, before: String) {
-        self.before = before;
-        self.said.clear();
+    pub fn output(&self) -> RefMut<'_, Output> {
+        self.output.borrow_mut()
     }
 
-    /// Reports an error.
-    pub fn say(&mut self, text: impl Display) {
-        self.status = self.status.max(WRONG_FILE);
-        self.note(text);
+    /// Begins the files that an argument names: one, or the members of an archive.
+    pub fn begin_argument(&self) {
+        self.begin.set(self.output.borrow().written);
+        self.file_bytes.set(0);
     }
 
-    /// Reports why a whole file can't be listed.
-    pub fn say_of(&mut self, name: &str, error: &Unlisted) {
-        self.status = self.status.max(error.status);
-        self.note_of(format!("{name}: {error}"));
+    /// Begins a file of this size. Each line on standard error begins with that text.
+    pub fn begin(&self, before: String, file_bytes: usize) {
+        self.file_bytes.set(self.file_bytes.get() + file_bytes as u64);
+        *self.file.borrow_mut() = FileReport { before, ..FileReport::default() };
     }
 
-    /// Reports something that is no error.
-    pub fn note(&mut self, text: impl Display) {
-        self.note_of(format!("{}{text}", self.before));
+    /// An error if the listing of an argument is too long, or the output has failed.
+    pub fn expect_room(&self) -> Result<()> {
+        let output = self.output.borrow();
+        let most = LISTED_BYTES.max(LISTED_TIMES.saturating_mul(self.file_bytes.get()));
+        if output.written - self.begin.get() > most || output.error.is_some() {
+            return Err(unlisted("isn't listed further, since the listing is too long"));
+        }
+        Ok(())
     }
 
-    /// The same, of a file that the line names.
-    pub fn note_of(&mut self, line: String) {
-        if !self.said.contains(&line) {
-            self.output.flush();
-            tell_to(&mut self.errors, &line);
-            self.said.insert(line);
+    /// Whether the output can't be written.
+    pub fn has_ended(&self) -> bool {
+        self.output.borrow().error.is_some()
+    }
+
+    /// Writes what is left, and returns the exit status.
+    pub fn end(&self) -> u8 {
+        let mut output = self.output.borrow_mut();
+        output.flush();
+        match &output.error {
+            None => self.status.get(),
+            // Whoever reads the output has enough of it.
+            Some(error) if error.kind() == io::ErrorKind::BrokenPipe => CLOSED,
+            Some(error) => {
+                print_error_to(&mut *self.errors.borrow_mut(), format_args!("the output: {}", reason(error)));
+                WRONG_IO
+            }
         }
     }
-}
 
-/// How many errors of a kind there were, of which only the first are reported.
-#[derive(Default)]
-pub struct Limited(usize);
+    fn raise(&self, status: u8) {
+        self.status.set(self.status.get().max(status));
+    }
 
-impl Limited {
-    /// Reports an error of a part of a file, or that there are more.
-    pub fn say(&mut self, report: &mut Report, whose: &dyn Display, text: impl Display) {
-        self.0 += 1;
-        match self.0 {
-            0..=ERRORS => report.say(text),
-            it if it == ERRORS + 1 => report.say(format_args!("{whose}: more such errors, which aren't reported")),
-            _ => {}
+    /// Reports an error of the file that is listed.
+    pub fn error(&self, text: impl Display) {
+        self.raise(WRONG_FILE);
+        self.limited(|file| &mut file.error_count, "errors", text);
+    }
+
+    /// Reports what is no error.
+    pub fn warn(&self, text: impl Display) {
+        self.limited(|file| &mut file.warning_count, "warnings", text);
+    }
+
+    fn limited(&self, count: fn(&mut FileReport) -> &mut usize, what: &str, text: impl Display) {
+        let mut file = self.file.borrow_mut();
+        let seen = *count(&mut file);
+        let line = match seen {
+            LINES => format!("{}more than {LINES} {what}, and the others aren't reported", file.before),
+            seen if seen > LINES => return,
+            _ => format!("{}{text}", file.before),
+        };
+        if !file.lines.contains(&line) {
+            *count(&mut file) += 1;
+            self.print(&line);
+            file.lines.insert(line);
         }
     }
 
-    pub fn is_reached(&self) -> bool {
-        self.0 >= ERRORS
+    /// Reports why a file isn't listed, or what is wrong with it as a whole.
+    pub fn file_error(&self, name: &str, error: &Error) {
+        self.raise(error.status());
+        self.print(&format!("{name}: {error}"));
+    }
+
+    /// Prints a line on standard error, after what was listed before.
+    pub fn print(&self, line: &str) {
+        self.output.borrow_mut().flush();
+        if !self.has_ended() {
+            print_error_to(&mut *self.errors.borrow_mut(), line);
+        }
     }
 }

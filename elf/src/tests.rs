@@ -3,12 +3,14 @@
 mod archives;
 mod broken;
 mod compressed;
+mod listing;
 mod relocations;
 mod sets;
 mod words;
 
-use crate::inputs::{Input, Words};
+use crate::arguments::Words;
 use crate::report::Report;
+use crate::Input;
 use std::cell::RefCell;
 use std::ffi::OsStr;
 use std::io::{self, Write};
@@ -118,33 +120,33 @@ impl Shared {
 pub struct Said(pub u8, pub String, pub Vec<String>);
 
 pub fn said(status: u8, output: &str, errors: &[&str]) -> Said {
-    Said(status, output.to_owned(), errors.iter().map(|it| it.to_string()).collect())
+    Said(status, output.to_owned(), errors.iter().map(|line| line.to_string()).collect())
 }
 
-fn reported(run: impl FnOnce(&mut Report)) -> Said {
+fn reported(run: impl FnOnce(&Report) -> u8) -> Said {
     let (output, errors) = (Shared::default(), Shared::default());
-    let mut report = Report::new(Box::new(output.clone()), Box::new(errors.clone()));
-    run(&mut report);
-    report.output.flush();
-    let lines = errors.text().lines().map(|it| it.strip_prefix("dwarf_elf: ").unwrap_or(it).to_owned()).collect();
-    Said(report.status, output.text(), lines)
+    let report = Report::new(Box::new(output.clone()), Box::new(errors.clone()));
+    let status = run(&report);
+    let errors = errors.text();
+    let lines = errors.lines().map(|line| line.strip_prefix("dwarf_elf: ").unwrap_or(line).to_owned());
+    Said(status, output.text(), lines.collect())
 }
 
 /// What is printed of a file with these bytes, whose name is `file`.
 pub fn listed(data: &[u8], words: &str) -> Said {
     let words: Words = ["file"].into_iter().chain(words.split(' ')).map(Into::into).collect();
     let request = crate::arguments::parse(&words).unwrap();
-    let input = Input { name: "file".to_owned(), path: OsStr::new("file"), is_member: false, bytes: Ok(data) };
-    reported(|report| crate::list_input(&request, &input, false, report))
+    let input = Input { name: "file".to_owned(), path: OsStr::new("file"), bytes: data };
+    reported(|report| {
+        crate::list_input(&request, &input, false, report);
+        report.end()
+    })
 }
 
 /// What a run prints.
 pub fn run(words: &[&str]) -> Said {
     let words: Words = words.iter().map(Into::into).collect();
-    reported(|report| {
-        let status = crate::run(&words, report);
-        report.status = status;
-    })
+    reported(|report| crate::run(&words, report))
 }
 
 /// A folder for files, which is gone in the end.

@@ -101,19 +101,32 @@ fn many_errors_are_cut_off() {
     file = with(with(with(with(file, 60, 0, 2), at + 32, 100_002, 8), 62, 0xffff, 2), at + 40, 100_001, 4);
     let Said(status, output, lines) = listed(&file, "str");
     assert_eq!((status, output.lines().count(), lines.len()), (1, 0, 1001));
-    assert_eq!(lines[1000], "section 1001 .debug_str: more such errors, which aren't reported");
+    let more = "more than 1000 errors, and the others aren't reported";
+    assert_eq!(lines[1000], more);
     for number in 1..=100_000 {
         file[at + 64 * number..][..4].copy_from_slice(&[0xff; 4]);
     }
     let Said(status, _, lines) = listed(&file, "str");
     assert_eq!((status, lines.len()), (1, 1002));
-    assert_eq!(lines[1000], "the names of sections: more such errors, which aren't reported");
+    assert_eq!(lines[1000..], [more, "file: there is no section .debug_str"]);
 
     let units = little(&[(8, 4), (9, 2), (1, 1), (8, 1), (0, 4)]).repeat(1500);
     let file = elf(&[(".debug_info", PROGBITS, units, 0, 0), (".debug_abbrev", PROGBITS, vec![0], 0, 0)], OBJECT);
     let Said(status, output, lines) = listed(&file, "abbrev");
     assert_eq!((status, output.as_str(), lines.len()), (1, "table 0x0:\n", 1002));
-    assert_eq!(lines[1000], "section 1 .debug_info has 1000 errors, and the rest of its units isn't read");
+    assert_eq!(lines[1000], more);
+    // The limit is one for all sections.
+    let sets = little(&[(4, 4), (9, 2), (8, 1), (0, 1)]).repeat(600);
+    let sections = [(".debug_addr", PROGBITS, sets.clone(), 0, 0), (".debug_addr", PROGBITS, sets, 0, 0)];
+    let Said(status, output, lines) = listed(&elf(&sections, OBJECT), "addr");
+    assert_eq!((status, output.lines().count(), lines.len()), (1, 2, 1001));
+    assert_eq!(lines[999], "section 2 .debug_addr: error at 0xc78: unknown DWARF version: 9");
+    // Each may be read to the end of the section, so of a large one the rest isn't read at all.
+    let named: Vec<u64> = (0..500).map(|it| 2 * it).collect();
+    let Said(status, output, lines) = tables(&named, &[1, 0].repeat(1 << 18), "abbrev");
+    assert_eq!((status, output.as_str(), lines.len()), (1, "", 258));
+    assert_eq!(lines[256], "section 2 .debug_abbrev: error at 0x200: invalid abbreviation tag: zero");
+    assert_eq!(lines[257], "section 2 .debug_abbrev has too many malformed tables, and the rest isn't listed");
 }
 
 /// What is listed of tables of six bytes each, whose units name those at these offsets.
@@ -173,22 +186,29 @@ fn tables_may_be_within_tables() {
 #[test]
 fn what_is_wrong_with_a_unit() {
     let turn = "no unit names a table of section 2 .debug_abbrev, so the tables are listed in turn, from 0x0 on";
-    for (unit, output, why) in [
-        (unit(1, 0), "", "has the unknown version 1"),
-        (little(&[(2, 4), (5, 2)]), "", "is too short for its header"),
-        (little(&[(0xffff_fff5, 4), (0, 8)]), "", "has the reserved length 0xfffffff5, and what follows isn't read"),
+    let others = "no unit names the bytes from 0x0 to 0x1 of section 2 .debug_abbrev, and --all lists the tables there";
+    for (unit, more, why) in [
+        (unit(1, 0), turn, "is malformed: unknown DWARF version: 1"),
+        (little(&[(2, 4), (5, 2)]), turn, "is malformed: unexpected end of input"),
+        (
+            little(&[(0xffff_fff5, 4), (0, 8)]),
+            turn,
+            "is malformed: unknown reserved length: 0xfffffff5, and what follows isn't read",
+        ),
         (unit(5, 9), "", "names the table at 0x9, past the end of section 2 .debug_abbrev (0x1 bytes)"),
         (
             little(&[(99, 4), (5, 2), (1, 1), (8, 1), (0, 4)]),
-            "named",
-            "has the length 0x63, which is past the section's end",
+            turn,
+            "is malformed: unexpected end of input, and what follows isn't read",
         ),
+        // A length of 2^64 - 1, whose sum with its place is no place.
+        (vec![0xff; 12], turn, "is malformed: unexpected end of input, and what follows isn't read"),
     ] {
         let sections = [(".debug_info", PROGBITS, unit, 0, 0), (".debug_abbrev", PROGBITS, vec![0], 0, 0)];
         let line = format!("the unit at 0x0 of section 1 .debug_info {why}");
-        let Said(status, listed, lines) = listed(&elf(&sections, OBJECT), "abbrev");
-        assert_eq!((status, &lines[0]), (1, &line));
-        assert_eq!(listed, if output.is_empty() && lines.last().unwrap() != turn { "" } else { "table 0x0:\n" });
+        let more = if more.is_empty() { others } else { more };
+        let output = if more == turn { "table 0x0:\n" } else { "" };
+        assert_eq!(listed(&elf(&sections, OBJECT), "abbrev"), said(1, output, &[&line, more]));
     }
 }
 

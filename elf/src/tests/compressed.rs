@@ -1,4 +1,4 @@
-//! Compressed sections, and units that are read as they are inflated.
+//! Compressed sections.
 
 use super::{elf, listed, little, numbers, said, unit, Form, OBJECT, PROGBITS};
 use flate2::write::ZlibEncoder;
@@ -33,47 +33,25 @@ fn sections_of_each_class_and_order_are_inflated() {
     let old = [b"ZLIB\0\0\0\0\0\0\0\x04".to_vec(), deflated(b"one\0")].concat();
     let file = elf(&[(".zdebug_str", PROGBITS, old, 0, 0)], OBJECT);
     assert_eq!(listed(&file, "str"), said(0, "0x0: one\n", &[]));
-    assert_eq!(listed(&file, "sections"), said(0, ".debug_str                            4\n", &[]));
+    let sizes = ".debug_str                                  4           24\n\
+                 total                                       4           24  7.9 % of 303\n";
+    assert_eq!(listed(&file, "sections"), said(0, sizes, &[]));
 }
 
 #[test]
 fn what_is_wrong_with_a_compressed_section() {
     let (data, one) = (deflated(b"one\0two\0"), "0x0: one\n");
     let both = "0x0: one\n0x4: two\n";
-    let (cut, large) = (&data[..data.len() - 1], vec![0; (1 << 22) + 1]);
+    let cut = &data[..data.len() - 1];
+    let after = [&data[..], b"more"].concat();
     for (kind, size, data, status, output, why) in [
         (1, 8, &data[..], 0, both, ""),
         (1, 9, &data, 1, both, "is to inflate to 9 bytes, and inflates to 8"),
         (1, 4, &data, 1, one, "is to inflate to 4 bytes, and inflates to more"),
         (1, 8, cut, 1, both, "is to inflate to 8 bytes, and inflates to other bytes"),
+        (1, 8, &after, 1, both, "has 4 bytes after its compressed ones"),
         (1, 8, b"xxxx", 1, "", "can't be inflated: its bytes are corrupt"),
         (7, 8, &data, 1, "", "can't be inflated: its compression type 7 is unknown"),
-        (
-            1,
-            1 << 60,
-            &[0; 8],
-            1,
-            "",
-            "claims 1152921504606846976 bytes in 8 compressed ones, and at most 268435456 are read",
-        ),
-        // The limit is 256 MiB, or 64 times the compressed bytes if that is more.
-        (
-            1,
-            (1 << 28) + 1,
-            &[0; 8],
-            1,
-            "",
-            "claims 268435457 bytes in 8 compressed ones, and at most 268435456 are read",
-        ),
-        (1, (1 << 28) + 64, &large, 1, "", "can't be inflated: its bytes are corrupt"),
-        (
-            1,
-            (1 << 28) + 65,
-            &large,
-            1,
-            "",
-            "claims 268435521 bytes in 4194305 compressed ones, and at most 268435520 are read",
-        ),
     ] {
         let line = format!("section 1 .debug_str {why}");
         let lines: Vec<&str> = Some(&line[..]).filter(|_| !why.is_empty()).into_iter().collect();
@@ -82,7 +60,34 @@ fn what_is_wrong_with_a_compressed_section() {
 }
 
 #[test]
-fn units_are_read_as_they_are_inflated() {
+fn sections_inflate_to_so_much_together() {
+    let corrupt = "section 1 .debug_str can't be inflated: its bytes are corrupt";
+    let large = vec![0; 2 << 20];
+    let whole = elf(&[(".debug_str", PROGBITS, packed(1, 0, &large), 0, 0)], FORM);
+    let more = 64 * whole.len() as u64;
+    for (size, data, most) in [
+        (1 << 26, &[0; 8][..], None),
+        ((1 << 26) + 1, &[0; 8], Some(1 << 26)),
+        (more, &large, None),
+        (more + 1, &large, Some(more)),
+    ] {
+        let count = data.len();
+        let claims = |most: u64| {
+            format!("claims {size} bytes in {count} compressed ones, and the sections may have {most} together")
+        };
+        let line = most.map_or(corrupt.to_owned(), |most| format!("section 1 .debug_str {}", claims(most)));
+        assert_eq!(strings(1, size, data), said(1, "", &[&line]));
+    }
+    // Many headers may have one section.
+    let section = (".debug_str", PROGBITS, packed(1, 40 << 20, &[0; 8]), 0, 0);
+    let corrupt = "section 1 .debug_str can't be inflated: its bytes are corrupt";
+    let claims = "claims 41943040 bytes in 8 compressed ones, and the sections may have 67108864 together";
+    let line = format!("section 2 .debug_str {claims}");
+    assert_eq!(listed(&elf(&[section.clone(), section], FORM), "str"), said(1, "", &[corrupt, &line]));
+}
+
+#[test]
+fn compressed_units_name_tables() {
     // Tables of one byte at each place, units of both versions, and padding after each unit of DWARF 5.
     let units: Vec<u8> = (0..4000)
         .flat_map(|it| {
@@ -103,36 +108,7 @@ fn units_are_read_as_they_are_inflated() {
     assert_eq!((status, output), (1, tables));
     // What is told is the padding, up to the limit.
     assert_eq!(lines[0], "the 4 bytes at 0x3f4 of section 1 .debug_info are zero, and passed over");
-    assert_eq!(lines[1000..], ["section 1 .debug_info: more such errors, which aren't reported"]);
-}
-
-#[test]
-fn a_header_may_cross_the_parts_that_are_inflated() {
-    // The last field of the second header is the first byte of another part, and is read before the one in front.
-    let mut units = unit(4, 0);
-    units.resize((1 << 16) - 10, 1);
-    units[..4].copy_from_slice(&((1 << 16) - 14_u32).to_le_bytes());
-    units.extend(unit(4, 2));
-    let sections = [
-        (".debug_info", PROGBITS, packed(1, units.len() as u64, &deflated(&units)), 0, 0),
-        (".debug_abbrev", PROGBITS, packed(1, 3, &deflated(&[0; 3])), 0, 0),
-    ];
-    let found = listed(&elf(&sections, FORM), "abbrev");
-    assert_eq!(found.1, "table 0x0:\ntable 0x2:\n");
-}
-
-#[test]
-fn units_after_an_error_are_inflated() {
-    let data = deflated(&little(&[(0xffff_fff5, 4), (0, 8)]));
-    let sections =
-        [(".debug_info", PROGBITS, packed(1, 13, &data), 0, 0), (".debug_abbrev", PROGBITS, Vec::new(), 0, 0)];
-    let found = listed(&elf(&sections, FORM), "abbrev");
-    let lines = [
-        "the unit at 0x0 of section 1 .debug_info has the reserved length 0xfffffff5, and what follows isn't read",
-        "section 1 .debug_info is to inflate to 13 bytes, and inflates to 12",
-        "section 2 .debug_abbrev is compressed, and has 0 of the 24 bytes of the header of that",
-    ];
-    assert_eq!(found, said(1, "", &lines));
+    assert_eq!(lines[1000..], ["more than 1000 errors, and the others aren't reported"]);
 }
 
 #[cfg(not(feature = "zstd"))]

@@ -104,7 +104,7 @@ fn machines_have_their_relocations() {
             let past = PAST.iter().find(|it| (it.0, it.1) == (*machine, *kind)).map_or(0, |it| it.2);
             let form = Form { machine: *machine, is_64: *is_64, is_big: *is_big, ..OBJECT };
             let mut bytes = numbers(*is_big, &[(STORED, 8)]);
-            let number = crate::relocations::number_of;
+            let number = crate::elf::number_of;
             let endian = if *is_big { object::Endianness::Big } else { object::Endianness::Little };
             let before = number(&bytes[..*size], endian);
             let sum = match sign {
@@ -121,16 +121,36 @@ fn machines_have_their_relocations() {
 
 #[test]
 fn bytes_stay_where_a_relocation_cannot_be_applied() {
-    let (unknown, far) = (Form { machine: 0x1234, ..OBJECT }, "has a relocation at 0xc that is past the end");
-    let rest = "so the bytes there are listed as they are in the file";
-    for (form, row, why) in [
-        (OBJECT, (0, 99, 0), "has a relocation at 0x8 of type 99, which isn't known here"),
-        (unknown, (0, 1, 0), "has relocations of the machine 4660, which aren't known here"),
-        (OBJECT, (4, 1, 0), far),
+    let unknown = Form { machine: 0x1234, ..OBJECT };
+    let rest = ", so the bytes there are listed as they are in the file";
+    for (form, row, why, rest) in [
+        (OBJECT, (0, 99, 0), "has a relocation at 0x8 of type 99, which isn't known here", rest),
+        (
+            unknown,
+            (0, 1, 0),
+            "has relocations of the machine 4660, which aren't known here",
+            ", so its bytes are listed as they are in the file",
+        ),
+        (OBJECT, (4, 1, 0), "has a relocation at 0xc that is past the end", ""),
+        (
+            OBJECT,
+            (0, 10, 1 << 32),
+            "has a relocation at 0x8 with the value 0x100000020, which doesn't fit 4 bytes",
+            rest,
+        ),
+        // A sign is extended.
+        (
+            OBJECT,
+            (0, 11, (-0x8000_0021_i64) as u64),
+            "has a relocation at 0x8 with the value 0xffffffff7fffffff, which doesn't fit 4 bytes",
+            rest,
+        ),
     ] {
-        let line = format!("section 1 .debug_addr {why}, {rest}");
+        let line = format!("section 1 .debug_addr {why}{rest}");
         assert_eq!(address(&[row], STORED, form, 2), said(1, &one(STORED), &[&line]));
     }
+    let least = STORED >> 32 << 32 | 0x8000_0000;
+    assert_eq!(address(&[(0, 11, (-0x8000_0020_i64) as u64)], STORED, OBJECT, 2), said(0, &one(least), &[]));
 }
 
 #[test]
@@ -175,13 +195,13 @@ fn tables(rows: &[Row], unit: Vec<u8>) -> super::Said {
 
 #[test]
 fn units_are_read_with_their_relocations() {
-    let unit = little(&[(8, 4), (5, 2), (1, 1), (8, 1), (7, 4)]);
+    let unit = little(&[(9, 4), (5, 2), (1, 1), (8, 1), (7, 4), (0, 1)]);
     for (rows, table) in [
         (vec![(8, 10, 0x10)], 0x30),
         // One begins before the number, and changes its first four bytes.
         (vec![(4, 1, 0x0801_0005_u64.wrapping_add(0x33 << 32).wrapping_sub(0x20))], 0x33),
-        // One that isn't known is at a byte that isn't needed.
-        (vec![(6, 77, 0)], 7),
+        // One that isn't known is after the header.
+        (vec![(12, 77, 0)], 7),
         // One ends where the number begins, or begins after its end.
         (vec![(4, 10, 0x0801_0005 - 0x20), (12, 0, 0)], 7),
     ] {
@@ -189,9 +209,32 @@ fn units_are_read_with_their_relocations() {
     }
     // The rows may be in any order.
     let units = [&unit[..], &unit].concat();
-    let found = tables(&[(20, 10, 0x11), (8, 10, 0x10)], units);
+    let found = tables(&[(21, 10, 0x11), (8, 10, 0x10)], units);
     assert_eq!(found, said(0, "table 0x30:\ntable 0x31:\n", &[]));
     let told = "the unit at 0x0 of section 1 .debug_info has a relocation at 0x8 of type 77, which isn't known here";
     let turn = "no unit names a table of section 2 .debug_abbrev, so the tables are listed in turn, from 0x0 on";
     assert_eq!(tables(&[(8, 77, 0)], unit), said(1, "", &[told, turn]));
+}
+
+#[test]
+fn rows_of_relocations_are_whole_and_share_no_bytes() {
+    let set = little(&[(12, 4), (5, 2), (8, 1), (0, 1), (7, 8)]);
+    let row = little(&[(8, 8), (1 << 32 | 1, 8), (0x10, 8)]);
+    let symbols = little(&[(0, 8), (0, 8), (0, 8), (0, 4), (3, 1), (0, 1), (1, 2), (0x20, 8), (0, 8)]);
+    let sections = |rows: &[u8]| -> Vec<Section<'_>> {
+        let set = (".debug_addr", PROGBITS, set.clone(), 0, 0);
+        vec![set, (".symtab", SYMTAB, symbols.clone(), 0, 0), (".rela.debug_addr", RELA, rows.to_vec(), 2, 1)]
+    };
+    let line = "the table of the relocations of section 1 .debug_addr has 36 bytes, which isn't a multiple of 24";
+    let found = listed(&elf(&sections(&[&row[..], &row[..12]].concat()), OBJECT), "addr");
+    assert_eq!(found, said(1, &one(0x30), &[line]));
+    // Ten headers have the bytes of one table, which is most of the file.
+    let mut many = sections(&row.repeat(1000));
+    many.extend(vec![(".rela.debug_addr", RELA, Vec::new(), 2, 1); 10]);
+    let mut file = elf(&many, OBJECT);
+    let at = u64::from_le_bytes(file[40..48].try_into().unwrap()) as usize + 3 * 64 + 24;
+    let place: Vec<u8> = file[at..at + 16].to_vec();
+    (1..=10).for_each(|it| file[at + it * 64..][..16].copy_from_slice(&place));
+    let line = "section 1 .debug_addr isn't read, since it and the sections before have more than 4 times the bytes of the file";
+    assert_eq!(listed(&file, "addr"), said(1, "", &[line]));
 }

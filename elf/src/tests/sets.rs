@@ -23,8 +23,10 @@ fn sets_are_listed_in_turn_or_by_their_units() {
     let both = format!("section 2 .debug_addr: the bytes from 0x0 to 0x18 aren't listed, {why}");
     let rest = [&entry[..], &[0; 3]].concat();
     let cut = "section 2 .debug_addr: error at 0x8: unexpected end of input";
-    let size = "section 2 .debug_addr has no headers, and isn't listed: the units' address size is 3";
-    let odd = little(&[(7, 4), (4, 2), (0, 4), (3, 1)]);
+    let sizes = "section 2 .debug_addr has no headers, and isn't listed: the units' address size is 4 and 8";
+    let other = little(&[(7, 4), (4, 2), (0, 4), (4, 1)]);
+    let odd = "the unit at 0xb of section 1 .debug_info is malformed: unsupported address size: 3";
+    let past = "section 2 .debug_addr: error at 0x0: unexpected end of input";
     for (what, units, data, status, output, lines) in [
         ("of version 5", unit(5, 0), good.clone(), 0, set(0), vec![]),
         ("without units", vec![], good.clone(), 0, set(0), vec![]),
@@ -32,7 +34,17 @@ fn sets_are_listed_in_turn_or_by_their_units() {
         ("with padding", unit(5, 0), [&good[..], &[0; 8], &good].concat(), 0, set(0) + &set(24), vec![]),
         ("of version 4", unit(4, 0), entry.clone(), 0, alone.to_owned(), vec![headers]),
         ("of version 4, cut", unit(4, 0), rest, 1, alone.to_owned(), vec![headers, cut]),
-        ("of version 4, of another size", odd, entry.clone(), 1, String::new(), vec![size]),
+        ("of version 4, of two sizes", [unit(4, 0), other].concat(), entry.clone(), 1, String::new(), vec![sizes]),
+        (
+            "of version 4, of an odd size",
+            [unit(4, 0), little(&[(7, 4), (4, 2), (0, 4), (3, 1)])].concat(),
+            entry.clone(),
+            1,
+            alone.to_owned(),
+            vec![odd, headers],
+        ),
+        // A length of 2^64 - 1, whose sum with its place is no place.
+        ("of a far end", unit(5, 0), vec![0xff; 12], 1, String::new(), vec![past]),
         ("of both", [unit(4, 0), unit(5, 0)].concat(), good.clone(), 0, set(0), vec![]),
         (
             "of both, malformed",
@@ -68,7 +80,7 @@ fn string_offsets_of_the_64_bit_format_need_no_header() {
 }
 
 /// The index of a package: the offset and the size in each column.
-fn index(rows: &[&[(u64, u64)]], version: u64, columns: &[u64]) -> Vec<u8> {
+pub fn index(rows: &[&[(u64, u64)]], version: u64, columns: &[u64]) -> Vec<u8> {
     let mut data = little(&[(version, 2), (0, 2), (columns.len() as u64, 4), (rows.len() as u64, 4), (0, 4)]);
     data.extend(columns.iter().flat_map(|it| little(&[(*it, 4)])));
     data.extend(rows.iter().flat_map(|row| row.iter().flat_map(|it| little(&[(it.0, 4)]))));
@@ -103,6 +115,11 @@ fn tables_of_a_package_count_from_its_contributions() {
             "section 4 .debug_cu_index is too short for its 0 slots and 1 rows, and isn't read",
         ),
         (index(&[&[]], 5, &[]), "section 4 .debug_cu_index has no columns, and isn't read"),
+        // The section of units has 24 bytes, of which a unit has at least 11.
+        (
+            index(&[&row[..]; 3], 5, &[1, 3, 6]),
+            "section 4 .debug_cu_index has 3 rows, and isn't read: the units are at most 2",
+        ),
         (
             index(&[&row], 5, &[1, 3, 6]),
             "the unit at 0x0 of section 1 .debug_info.dwo names the table at 0x2 of its contribution, which has 0x1 bytes",
@@ -129,6 +146,19 @@ fn a_malformed_set_of_a_package_hides_no_others() {
     let line = "section 3 .debug_str_offsets.dwo: error at 0x0: unknown reserved length: 0xfffffff5";
     let found = package(&index, &[&bad[..], &good, &good].concat(), "str-offsets");
     assert_eq!(found, said(1, &[set(12), set(24)].concat(), &[line]));
+}
+
+#[test]
+fn contributions_that_overlap_are_listed_once() {
+    let good = little(&[(8, 4), (5, 2), (0, 2), (7, 4)]);
+    let bad = little(&[(8, 4), (9, 2), (0, 2), (7, 4)]);
+    let rows: [&[(u64, u64)]; 2] = [&[(0, 12), (0, 24)], &[(12, 12), (12, 24)]];
+    let found = package(&index(&rows, 5, &[1, 6]), &[&bad[..], &good, &good].concat(), "str-offsets");
+    let lines = [
+        "section 3 .debug_str_offsets.dwo: the contribution at 0xc begins in another one",
+        "section 3 .debug_str_offsets.dwo: error at 0x0: unknown DWARF version: 9",
+    ];
+    assert_eq!(found, said(1, "set 0xc: length 8, 32-bit\n  0x7\n", &lines));
 }
 
 #[test]
