@@ -44,7 +44,7 @@ impl<'f, 'd> Listing<'f, 'd> {
             if start > end {
                 let part = format!("from 0x{end:x} to 0x{start:x}");
                 self.report.error(format_args!("{section}: no row of the index has the bytes {part}"));
-                ranges.push(end..start.min(len));
+                ranges.push(end.min(len)..start.min(len));
             }
             if start + size > len {
                 self.report.error(format_args!("{section}: the contribution at 0x{start:x} is past the end"));

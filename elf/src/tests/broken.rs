@@ -213,8 +213,10 @@ fn what_is_wrong_with_a_unit() {
 }
 
 #[test]
-fn a_folder_is_no_file() {
+fn what_is_no_ordinary_file() {
     let folder = Folder::new("folder");
     let line = format!("{}: Is a directory", folder.0);
     assert_eq!(run(&[&folder.0, "str"]), said(3, "", &[&line]));
+    // Its first bytes say what it is, so it isn't read to an end that it may not have.
+    assert_eq!(run(&["/dev/zero", "sections"]), said(1, "", &["/dev/zero: this isn't an ELF file"]));
 }

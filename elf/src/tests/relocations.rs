@@ -169,10 +169,11 @@ fn a_common_symbol_has_no_address() {
 #[test]
 fn tables_of_relocations_that_are_not_read_are_told() {
     let set = little(&[(12, 4), (5, 2), (8, 1), (0, 1), (7, 8)]);
-    for (kind, link, why) in [
-        (0x4000_0014, 3, "has compact relocations (SHT_CREL), which aren't read"),
-        (RELA, 2, "has relocations whose symbols are to be in section 2, and aren't"),
-        (RELA, 9, "has relocations whose symbols are to be in section 9, and aren't"),
+    for (kind, link, flags, why) in [
+        (0x4000_0014, 3, 0, "has compact relocations (SHT_CREL), which aren't read"),
+        (RELA, 3, 0x800_u64, "has compressed relocations, which aren't read"),
+        (RELA, 2, 0, "has relocations whose symbols are to be in section 2, and aren't"),
+        (RELA, 9, 0, "has relocations whose symbols are to be in section 9, and aren't"),
     ] {
         let sections: [Section<'_>; 4] = [
             (".debug_addr", PROGBITS, set.clone(), 0, 0),
@@ -181,7 +182,10 @@ fn tables_of_relocations_that_are_not_read_are_told() {
             (".rela", kind, vec![0; 24], link, 1),
         ];
         let line = format!("section 1 .debug_addr {why}");
-        assert_eq!(listed(&elf(&sections, OBJECT), "addr"), said(1, "", &[&line]));
+        let mut file = elf(&sections, OBJECT);
+        let headers = u64::from_le_bytes(file[40..48].try_into().unwrap()) as usize;
+        file[headers + 4 * 64 + 8..][..8].copy_from_slice(&flags.to_le_bytes());
+        assert_eq!(listed(&file, "addr"), said(1, "", &[&line]));
     }
 }
 
@@ -211,6 +215,8 @@ fn units_are_read_with_their_relocations() {
     let units = [&unit[..], &unit].concat();
     let found = tables(&[(21, 10, 0x11), (8, 10, 0x10)], units);
     assert_eq!(found, said(0, "table 0x30:\ntable 0x31:\n", &[]));
+    let line = "section 1 .debug_info has a relocation at 0xd that is past the end";
+    assert_eq!(tables(&[(13, 1, 0)], unit.clone()), said(1, "table 0x7:\n", &[line]));
     let told = "the unit at 0x0 of section 1 .debug_info has a relocation at 0x8 of type 77, which isn't known here";
     let turn = "no unit names a table of section 2 .debug_abbrev, so the tables are listed in turn, from 0x0 on";
     assert_eq!(tables(&[(8, 77, 0)], unit), said(1, "", &[told, turn]));

@@ -159,6 +159,18 @@ fn contributions_that_overlap_are_listed_once() {
         "section 3 .debug_str_offsets.dwo: error at 0x0: unknown DWARF version: 9",
     ];
     assert_eq!(found, said(1, "set 0xc: length 8, 32-bit\n  0x7\n", &lines));
+    // Both are past the end, and so are the bytes between them.
+    let rows: [&[(u64, u64)]; 2] = [&[(0, 12), (0x100, 12)], &[(12, 12), (0x200, 12)]];
+    let found = package(&index(&rows, 5, &[1, 6]), &[&bad[..], &good].concat(), "str-offsets");
+    let name = "section 3 .debug_str_offsets.dwo";
+    let lines = [
+        &format!("{name}: no row of the index has the bytes from 0x0 to 0x100"),
+        &format!("{name}: the contribution at 0x100 is past the end"),
+        &format!("{name}: no row of the index has the bytes from 0x10c to 0x200"),
+        &format!("{name}: the contribution at 0x200 is past the end"),
+        lines[1],
+    ];
+    assert_eq!(found, said(1, "set 0xc: length 8, 32-bit\n  0x7\n", &lines));
 }
 
 #[test]
