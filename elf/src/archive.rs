@@ -30,8 +30,8 @@ pub struct Archive<'a> {
     // The table of long names.
     names: &'a [u8],
     next: usize,
-    // The other archive that a thin one named last.
-    inner: Option<(PathBuf, Rc<Bytes>)>,
+    // The file that a thin archive named last.
+    last: Option<(PathBuf, Rc<Bytes>)>,
 }
 
 /// A member of an archive: its name, and its bytes or why they can't be had.
@@ -40,11 +40,10 @@ pub struct Member<'a> {
     pub bytes: Result<Content<'a>>,
 }
 
-/// The bytes of a member: a part of the archive, a file, or a part of another archive.
+/// The bytes of a member: a part of the archive, or of another file.
 pub enum Content<'a> {
-    Part(&'a [u8]),
-    File(Bytes),
-    Inner(Rc<Bytes>, Range<usize>),
+    Inside(&'a [u8]),
+    Outside(Rc<Bytes>, Range<usize>),
 }
 
 impl Deref for Content<'_> {
@@ -52,9 +51,8 @@ impl Deref for Content<'_> {
 
     fn deref(&self) -> &[u8] {
         match self {
-            Content::Part(bytes) => bytes,
-            Content::File(bytes) => bytes,
-            Content::Inner(bytes, range) => &bytes[range.clone()],
+            Content::Inside(bytes) => bytes,
+            Content::Outside(bytes, range) => &bytes[range.clone()],
         }
     }
 }
@@ -96,7 +94,7 @@ fn trimmed(text: &[u8], byte: u8) -> &[u8] {
 impl<'a> Archive<'a> {
     pub fn new(path: &'a Path, whole: &'a [u8], report: &'a Report) -> Archive<'a> {
         let is_thin = whole.starts_with(THIN_MAGIC);
-        Archive { path, whole, is_thin, report, names: &[], next: MAGIC.len(), inner: None }
+        Archive { path, whole, is_thin, report, names: &[], next: MAGIC.len(), last: None }
     }
 
     fn error(&self, text: String) {
@@ -159,30 +157,35 @@ impl<'a> Archive<'a> {
         self.next = header.begin();
         let (name, inner) = self.name(header);
         let path = self.path.parent().unwrap_or_else(|| Path::new("")).join(OsStr::from_bytes(name));
-        let found = match inner {
-            None => open_ordinary(&path).map(|bytes| (name.into(), Content::File(bytes))),
-            Some(at) => self
-                .inner_member(path, at)
-                .map(|(inner_name, content)| (Cow::Owned([name, b"(", &inner_name, b")"].concat()), content)),
-        };
+        let found = self.opened(&path).and_then(|bytes| match inner {
+            None => Ok((name.into(), Content::Outside(Rc::clone(&bytes), 0..bytes.len()))),
+            Some(at) => self.inner_member(name, &path, bytes, at),
+        });
         match found {
             Ok((name, content)) => Member { name, bytes: Ok(content) },
             Err(error) => Member { name: name.into(), bytes: Err(error) },
         }
     }
 
-    // The name and the bytes of the member at an offset of another archive.
-    fn inner_member(&mut self, path: PathBuf, at: usize) -> Result<(Vec<u8>, Content<'a>)> {
-        let bytes = match self.inner.take() {
+    // The bytes of a file. That of the member before is often the same.
+    fn opened(&mut self, path: &Path) -> Result<Rc<Bytes>> {
+        let bytes = match self.last.take() {
             Some((last, bytes)) if last == path => bytes,
-            _ => Rc::new(open_ordinary(&path)?),
+            _ => Rc::new(open_ordinary(path)?),
         };
-        self.inner = Some((path.clone(), Rc::clone(&bytes)));
+        self.last = Some((path.to_owned(), Rc::clone(&bytes)));
+        Ok(bytes)
+    }
+
+    // The name and the bytes of the member at an offset of another archive.
+    fn inner_member(
+        &self, name: &[u8], path: &Path, bytes: Rc<Bytes>, at: usize,
+    ) -> Result<(Cow<'a, [u8]>, Content<'a>)> {
         // `ar` puts the members of a thin archive into another one, so this would be a loop or no work of its own.
         if bytes.starts_with(THIN_MAGIC) {
             return Err(unlisted("this thin archive is to have a member's bytes"));
         }
-        let mut archive = Archive::new(&path, &bytes, self.report);
+        let mut archive = Archive::new(path, &bytes, self.report);
         // The names are before the members, and after at most two indexes of symbols.
         for _ in 0..3 {
             let header = Header::read(&bytes, archive.next).filter(Header::is_index);
@@ -190,8 +193,9 @@ impl<'a> Archive<'a> {
         }
         let header = Header::read(&bytes, at).filter(|_| is_archive(&bytes));
         let found = header.map(|header| archive.contained(&header)).transpose()?.flatten();
-        let (name, range) = found.ok_or_else(|| malformed(format!("this archive has no member at 0x{at:x}")))?;
-        Ok((name.to_vec(), Content::Inner(Rc::clone(&bytes), range)))
+        let (inner, range) = found.ok_or_else(|| malformed(format!("this archive has no member at 0x{at:x}")))?;
+        let name = [name, b"(", inner, b")"].concat();
+        Ok((name.into(), Content::Outside(Rc::clone(&bytes), range)))
     }
 
     /// The member of a header, unless that is an index.
@@ -200,7 +204,7 @@ impl<'a> Archive<'a> {
             return Ok(Some(self.thin_member(header)));
         }
         let found = self.contained(header)?;
-        Ok(found.map(|(name, range)| Member { name: name.into(), bytes: Ok(Content::Part(&self.whole[range])) }))
+        Ok(found.map(|(name, range)| Member { name: name.into(), bytes: Ok(Content::Inside(&self.whole[range])) }))
     }
 }
 

@@ -1,6 +1,9 @@
-//! What happens if memory runs out.
+//! What happens if memory runs out: what may be large is an error, and all else ends the run with a line and status 1.
 
-use crate::report::{Error, Result};
+use crate::report::{Error, Result, WRONG_FILE};
+use std::alloc::{GlobalAlloc, Layout, System};
+use std::io::{self, Write};
+use std::sync::atomic::{AtomicBool, Ordering::Relaxed};
 
 /// Makes room for that many more items, or says that memory ran out.
 pub fn reserve<T>(items: &mut Vec<T>, count: usize) -> Result<()> {
@@ -15,62 +18,46 @@ pub fn copied(bytes: &[u8]) -> Result<Vec<u8>> {
     Ok(copy)
 }
 
-/// Calls what handles a request for memory that fails.
-#[cfg(test)]
+static MAY_FAIL: AtomicBool = AtomicBool::new(false);
+
+/// Makes a call that handles requests for memory that fail.
 pub fn fallible<T>(call: impl FnOnce() -> T) -> T {
-    call()
+    MAY_FAIL.store(true, Relaxed);
+    let result = call();
+    MAY_FAIL.store(false, Relaxed);
+    result
 }
 
-#[cfg(not(test))]
-pub use of_run::fallible;
+/// The system's allocator. Rust would end the run by a signal.
+struct Allocator;
 
-/// Everywhere else such a request ends the run with a line and status 1, and not by a signal.
-#[cfg(not(test))]
+#[global_allocator]
+static ALLOCATOR: Allocator = Allocator;
+
+fn expect(block: *mut u8) -> *mut u8 {
+    if block.is_null() && !MAY_FAIL.swap(true, Relaxed) {
+        let _ = io::stderr().write_all(b"dwarf_elf: memory ran out\n");
+        std::process::exit(WRONG_FILE.into());
+    }
+    block
+}
+
+// SAFETY: each call is the system's, with its arguments.
 #[allow(unsafe_code)]
-mod of_run {
-    use crate::report::WRONG_FILE;
-    use std::alloc::{GlobalAlloc, Layout, System};
-    use std::io::{self, Write};
-    use std::sync::atomic::{AtomicBool, Ordering::Relaxed};
-
-    static MAY_FAIL: AtomicBool = AtomicBool::new(false);
-
-    pub fn fallible<T>(call: impl FnOnce() -> T) -> T {
-        MAY_FAIL.store(true, Relaxed);
-        let result = call();
-        MAY_FAIL.store(false, Relaxed);
-        result
+unsafe impl GlobalAlloc for Allocator {
+    unsafe fn alloc(&self, layout: Layout) -> *mut u8 {
+        expect(System.alloc(layout))
     }
 
-    struct Ending;
-
-    #[global_allocator]
-    static ALLOCATOR: Ending = Ending;
-
-    fn expect(block: *mut u8) -> *mut u8 {
-        if block.is_null() && !MAY_FAIL.swap(true, Relaxed) {
-            let _ = io::stderr().write_all(b"dwarf_elf: memory ran out\n");
-            std::process::exit(WRONG_FILE.into());
-        }
-        block
+    unsafe fn alloc_zeroed(&self, layout: Layout) -> *mut u8 {
+        expect(System.alloc_zeroed(layout))
     }
 
-    // SAFETY: each call is the system's, with its arguments.
-    unsafe impl GlobalAlloc for Ending {
-        unsafe fn alloc(&self, layout: Layout) -> *mut u8 {
-            expect(System.alloc(layout))
-        }
+    unsafe fn realloc(&self, block: *mut u8, layout: Layout, size: usize) -> *mut u8 {
+        expect(System.realloc(block, layout, size))
+    }
 
-        unsafe fn alloc_zeroed(&self, layout: Layout) -> *mut u8 {
-            expect(System.alloc_zeroed(layout))
-        }
-
-        unsafe fn realloc(&self, block: *mut u8, layout: Layout, size: usize) -> *mut u8 {
-            expect(System.realloc(block, layout, size))
-        }
-
-        unsafe fn dealloc(&self, block: *mut u8, layout: Layout) {
-            System.dealloc(block, layout);
-        }
+    unsafe fn dealloc(&self, block: *mut u8, layout: Layout) {
+        System.dealloc(block, layout);
     }
 }
