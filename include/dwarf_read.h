@@ -13,10 +13,11 @@
  *
  * WHAT A CALL DOES. A call returns DWARF_OK and has written its outputs, or it returns another status.
  * A status from 1 to 99 is the number of an error. The call has then written that number to `fault`,
- * with the position or value that the error carries, and has written nothing else. The one exception is
- * dwarf_fault_text, whose `fault` is an input: with DWARF_OUT_OF_MEMORY it has written nothing. A status
- * from 100 on is described at the calls that return it. All offsets and positions are in bytes from the
- * first byte that is passed.
+ * with the position or value that the error carries, and has written nothing else. There are two exceptions:
+ * dwarf_fault_text, whose `fault` is an input, has written nothing with DWARF_OUT_OF_MEMORY; and the calls that
+ * read the header of a set or a unit have also written its `next` and `unit_length`, if all of it is in the
+ * section. A status from 100 on is described at the calls that return it. All offsets and positions are in
+ * bytes from the first byte that is passed.
  *
  * No call keeps a pointer or has a state, so any number of threads may make calls at once.
  *
@@ -194,7 +195,8 @@ struct dwarf_set {
    returns DWARF_OK for each index below `entry_count`, and DWARF_UNEXPECTED_EOF for an address that the
    set's end cuts.
 
-   The first of these errors:
+   The first of these errors. If all bytes of the set are in the section, `next` and `unit_length` are written with
+   the error, and nothing else of the set, so the next set can be read:
     - DWARF_UNEXPECTED_EOF at 0 if the offset is past the end, and at the offset if fewer than four bytes
       follow it;
     - DWARF_UNKNOWN_RESERVED_LENGTH if those four are 0xfffffff0 to 0xfffffffe;
@@ -217,7 +219,7 @@ uint32_t dwarf_address_set(const uint8_t *section, size_t len, bool is_big, size
    string offset that the set's end cuts.
 
    The errors are those of dwarf_address_set up to the version, and DWARF_UNEXPECTED_EOF after the version
-   if fewer than two bytes of padding follow in the set. */
+   if fewer than two bytes of padding follow in the set. `next` and `unit_length` are written as there. */
 uint32_t dwarf_str_offset_set(const uint8_t *section, size_t len, bool is_big, size_t offset,
                               struct dwarf_set *set, struct dwarf_fault *fault);
 
@@ -246,7 +248,8 @@ struct dwarf_unit {
    A header before version 5 has no type: the unit is a DW_UT_compile in .debug_info, and a DW_UT_type in
    .debug_types.
 
-   The first of these errors:
+   The first of these errors. With an error of a field, of which the type is the last, `next` and `unit_length` are
+   written, and nothing else of the unit, so the next unit can be read. With the others before them, nothing is:
     - DWARF_UNEXPECTED_EOF at 0 if the offset is past the end, and at the offset if fewer than four bytes
       follow it;
     - DWARF_UNKNOWN_RESERVED_LENGTH if those four are 0xfffffff0 to 0xfffffffe;

@@ -187,7 +187,8 @@ static const char sets[] =
     "\x12\x00\x00\x00\x05\x00\x04\x00\x01\x00\x00\x00\x02\x00\x00\x00\x03\x00\x00\x00\x04\x00"
     "\x04\x00\x00\x00\x05\x00\x03\x00";
 
-/* The offset of a set; what the call returns and writes, and the value of the error. */
+/* The offset of a set; what the call returns and writes, and the value of the error. With an error, the end and the
+   length are written if the set lies within the section. */
 static const struct set_row {
     size_t offset;
     uint32_t status;
@@ -197,7 +198,7 @@ static const struct set_row {
     {0, DWARF_OK, {16, 12, 8, 2, 4, 4}, 0},
     {16, DWARF_OK, {48, 20, 32, 8, 8, 2}, 0},
     {48, DWARF_OK, {70, 18, 56, 3, 4, 4}, 0},
-    {70, DWARF_UNSUPPORTED_ADDRESS_SIZE, {7, 7, 7, 7, 7, 7}, 3},
+    {70, DWARF_UNSUPPORTED_ADDRESS_SIZE, {78, 4, 7, 7, 7, 7}, 3},
     {78, DWARF_END, {7, 7, 7, 7, 7, 7}, 0},
 }, offset_sets[] = {
     {16, DWARF_OK, {48, 20, 32, 2, 8, 8}, 0},
@@ -234,7 +235,7 @@ static const char units[] =
     "\x13\x00\x00\x00\x04\x00\x40\x00\x00\x00\x04\x08\x07\x06\x05\x04\x03\x02\x01\x17\x00\x00\x00";
 
 /* The offset of a unit, and whether the section is .debug_types; what the call returns and writes, and the value of the
-   error. */
+   error. With an error, the end and the length are written if the unit lies within the section. */
 static const struct unit_row {
     size_t offset;
     bool is_types;
@@ -243,13 +244,13 @@ static const struct unit_row {
     uint64_t error;
 } unit_rows[] = {
     {0, false, DWARF_OK, {12, 8, 11, 0x11223344, 0, 0, 4, 1, 8, 4}, 0},
-    {0, true, DWARF_UNEXPECTED_EOF, {7, 7, 7, 7, 7, 7, 7, 7, 7, 7}, 11},
+    {0, true, DWARF_UNEXPECTED_EOF, {12, 8, 7, 7, 7, 7, 7, 7, 7, 7}, 11},
     {12, false, DWARF_OK, {33, 17, 32, 16, 0x1122334455667788, 0, 5, 4, 4, 4}, 0},
     {12, true, DWARF_OK, {33, 17, 32, 16, 0x1122334455667788, 0, 5, 4, 4, 4}, 0},
     {33, false, DWARF_OK, {74, 29, 73, 32, 0x0102030405060708, 28, 5, 2, 8, 8}, 0},
-    {74, false, DWARF_UNKNOWN_UNIT_TYPE, {7, 7, 7, 7, 7, 7, 7, 7, 7, 7}, 7},
-    {87, false, DWARF_UNKNOWN_VERSION, {7, 7, 7, 7, 7, 7, 7, 7, 7, 7}, 1},
-    {99, false, DWARF_UNSUPPORTED_ADDRESS_SIZE, {7, 7, 7, 7, 7, 7, 7, 7, 7, 7}, 3},
+    {74, false, DWARF_UNKNOWN_UNIT_TYPE, {87, 9, 7, 7, 7, 7, 7, 7, 7, 7}, 7},
+    {87, false, DWARF_UNKNOWN_VERSION, {99, 8, 7, 7, 7, 7, 7, 7, 7, 7}, 1},
+    {99, false, DWARF_UNSUPPORTED_ADDRESS_SIZE, {111, 8, 7, 7, 7, 7, 7, 7, 7, 7}, 3},
     {111, false, DWARF_OK, {134, 19, 122, 64, 0, 0, 4, 1, 4, 4}, 0},
     {111, true, DWARF_OK, {134, 19, 134, 64, 0x0102030405060708, 23, 4, 2, 4, 4}, 0},
     {134, false, DWARF_END, {7, 7, 7, 7, 7, 7, 7, 7, 7, 7}, 0},

@@ -218,7 +218,8 @@ static void call_sets(const uint8_t *bytes, size_t len, size_t offset, bool is_b
     end();
 }
 
-/* A unit that was read ends within the section, and its entries begin within the unit. */
+/* A unit that was read ends within the section, and its entries begin within the unit. One of another version ends there,
+   too. */
 static void call_units(const uint8_t *bytes, size_t len, size_t offset, bool is_big) {
     for (int is_types = 0; is_types < 2; is_types++) {
         begin("dwarf_unit_header");
@@ -226,6 +227,9 @@ static void call_units(const uint8_t *bytes, size_t len, size_t offset, bool is_
         uint32_t status = dwarf_unit_header(bytes, len, is_big, is_types == 1, offset, unit, fault());
         if (status == DWARF_OK && (unit->next > len || unit->first_entry > unit->next || unit->first_entry <= offset)) {
             die("its entries aren't in the section");
+        }
+        if (status == DWARF_UNKNOWN_VERSION && (unit->next > len || unit->next <= offset)) {
+            die("its end isn't in the section");
         }
         end();
     }

@@ -3,7 +3,6 @@ pub use Rattle.std.proofs.Common.{◌≡◌, ◌≢◌, Bool, true, if◌then◌
 pub use Rattle.std.proofs.Common.{Result, Ok, Err, subst, arith, ◌⊎◌, inl, inr, length-drop, take, suc, ◌++◌, refl}
 pub use Rattle.std.proofs.Common.{sym, ap, ◌∙◌, sum_by, false, map, length-append}
 pub use Rattle.std.proofs.lemmas.Grind.{common_steps}
-pub use Rattle.std.proofs.lemmas.Result.{err_from_is_err_and}
 pub use Rattle.std.specs.FinMap.{entries, len, values, len-entries}
 pub use Rattle.dwarf_read_core.specs.Faults.{IsTooShort, CloneRanOutOfMemory, eof}
 pub use Rattle.dwarf_read_core.specs.Grammar.{Declaration, ByCode}
@@ -19,5 +18,5 @@ pub use Rattle.dwarf_fault.specs.declared.DwarfFault.{DwarfFault}
 pub use Rattle.dwarf_read_c.specs.Fault.{Rejects}
 pub use Rattle.dwarf_read_c.specs.Numbers.{HasNoNumber, cut, bad}
 pub use Rattle.dwarf_read_c.specs.Sections.{section_of, part_of}
-pub use Rattle.dwarf_read_c.specs.Sets.{TellsSet, set_from}
+pub use Rattle.dwarf_read_c.specs.Sets.{TellsSet, set_to}
 pub use Rattle.dwarf_read_c.specs.Tables.{abbreviation_of, laid_from, attribute_of, attributes_in}

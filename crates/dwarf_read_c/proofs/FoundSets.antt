@@ -10,7 +10,7 @@ use Rattle.dwarf_read_core.proofs.public.Contributions.{contribution_at-within, 
 use Rattle.dwarf_read_core.proofs.public.InitialLengths.{length_taken}
 use Rattle.dwarf_read_core.proofs.public.Entries.{addresses_counted}
 use Rattle.dwarf_read_c.specs.declared.sets.DwarfSet.{DwarfSet}
-use Rattle.dwarf_read_c.proofs.Common.{◌≡◌, ◌∙◌, Bool, true, ℕ, List, Ok, ◌+◌, ◌-◌, ◌/◌, ◌<◌, ◌≤◌, ◌^◌, length, sym, ap, subst, arith, ◌⊎◌, inl, inr, length-drop, Error, CloneRanOutOfMemory, Input, Contribution, take, TellsSet, set_from}
+use Rattle.dwarf_read_c.proofs.Common.{◌≡◌, ◌∙◌, ℕ, List, Ok, ◌+◌, ◌-◌, ◌/◌, ◌<◌, ◌≤◌, ◌^◌, length, sym, ap, subst, arith, length-drop, Input, Contribution, take, TellsSet, set_to}
 use Rattle.dwarf_read_c.specs.Sets.{shown}
 
 -- what is known of a set at an offset
@@ -39,34 +39,28 @@ set_found {header = header} {offset = offset} {s = s} has_sizes starts has =
     let start = ap (λ (i : Input). i.position) skipped.left in
     record {
       has = has;
-      within = omega (arith, contribution_at-within has);
+      within = omega (arith, contribution_at-within header has);
       four = omega (arith, part.enough, unit);
       first = omega (arith, starts, place, mid, start);
       rest = omega (arith, entries, cut, unit, parts.taken.enough);
     }
 
--- if clones can't fail, the error is that of the section
-pub set_absent : {Lacks : Type 0} {e : Error} {is_free : Bool} → is_free ≡ true → Lacks ⊎ CloneRanOutOfMemory is_free e
-    → Lacks
-set_absent free (inl lacks) = lacks
-set_absent free (inr want) = let costs = want.costs in absurd (cc)
-
 -- what is written for C describes a set that was found
 pub set_reported : {H : Type 0} {header : Header H} {section : Input} {offset : ℕ} {s : Contribution H}
-    {reported : DwarfSet} (entries_of : Contribution H → Entries) (width : ℕ) → 0 < width
+    {next : ℕ} {reported : DwarfSet} (entries_of : Contribution H → Entries) (width : ℕ) → 0 < width
     → entries_of s ≡ record { width = width; rest = s.entries } → FoundSet header section offset s
-    → reported ≡ set_from offset s.format s.unit_length width → TellsSet header entries_of section offset reported
-set_reported {offset = offset} {s} {reported} entries_of width positive entries found fields =
-    let front = initial_length_size s.format in
-    let ends : offset + front + s.unit_length ≡ offset + (front + s.unit_length) = omega arith in
+    → next ≡ offset + initial_length_size s.format + s.unit_length
+    → reported ≡ set_to next s.unit_length s.format width → TellsSet header entries_of section offset reported
+set_reported {offset = offset} {s} {next} {reported} entries_of width positive entries found at_end fields =
+    let ends : next ≡ offset + (initial_length_size s.format + s.unit_length) = omega (arith, at_end) in
+    let first : next - s.unit_length + 4 ≡ s.entries.position = omega (arith, at_end, found.first) in
     record {
       s = s;
-      within = omega (arith, found.within);
       has = found.has;
       fields = fields ∙ (λ i. record {
         next = ends i;
         unit_length = s.unit_length;
-        first_entry = (sym found.first) i;
+        first_entry = first i;
         entry_count = (sym found.rest) i / width;
         word_size = word_size s.format;
         entry_size = width;

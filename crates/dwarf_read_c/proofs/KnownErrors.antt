@@ -7,7 +7,7 @@ use Rattle.dwarf_read_core.specs.Answer.{Answers, IsFirstError}
 use Rattle.dwarf_read_core.specs.Headers.{AddressHeaderAt, Header, StringOffsetsHeaderAt, VersionRead}
 use Rattle.dwarf_read_core.specs.Readings.{AddressSizeRead, Choice, Given, Mapped, NumberRead, PartRead, Reading, Required, SkipRead, Then, Within, WordRead}
 use Rattle.dwarf_read_core.specs.InitialLength.{LengthAt}
-use Rattle.dwarf_read_core.specs.Contributions.{ContributionAtOffset, ContributionFrom}
+use Rattle.dwarf_read_core.specs.Contributions.{ContributionAtOffset}
 use Rattle.dwarf_read_core.specs.Lookups.{ReadAt}
 use Rattle.dwarf_read_core.specs.Words.{AddressAt, PlaceRead, Slot, WordAt, distance}
 use Rattle.dwarf_unit_core.specs.Fields.{before_5, from_5, own_fields, type_fields, unit_header}
@@ -113,20 +113,16 @@ known_length : (greatest : ℕ) → HasKnown (LengthAt greatest)
 known_length greatest = record { known = λ old new e absent. grind arith }
 
 -- the error in place of a set has a number of its own, if each error of the header has
-known_set : {H : Type 0} {header : Header H} {greatest : ℕ} {section : Input} {offset : ℕ} {e : Error}
+known_set : {H : Type 0} (header : Header H) {greatest : ℕ} {section : Input} {offset : ℕ} {e : Error}
     → ((format : Format) → HasKnown (header greatest format))
     → ContributionAtOffset header greatest section offset (Err e) → IsKnown e
-known_set {header = header} {greatest} {section} {offset} {e} law at = set.known section at.new e at.read
+known_set header {greatest} {offset = offset} law =
+    known_at (known_skip offset)
+    (known_then _ _ (known_length greatest) (λ size.
+    known_then _ _ (known_part size.1) (λ unit. known_then _ _ (within unit size.0) (λ said. known_value _))))
   where
     within : (unit : Input) (format : Format) → HasKnown (Within unit (header greatest format))
     within unit format = record { known = λ old new e is. (law format).known unit is.0 e is.1 }
-
-    set : HasKnown (ContributionFrom header greatest offset)
-    set =
-        known_then (SkipRead offset) _ (known_skip offset) (λ skipped.
-        known_then _ _ (known_length greatest) (λ size.
-        known_then _ _ (known_part size.1) (λ unit.
-        known_then _ _ (within unit size.0) (λ said. known_value _))))
 
 -- the error in place of version 5 has a number of its own
 known_version : HasKnown VersionRead
@@ -138,7 +134,7 @@ known_version =
 pub known_address_set : {greatest : ℕ} {section : Input} {offset : ℕ} {e : Error}
     → ContributionAtOffset AddressHeaderAt greatest section offset (Err e) → IsKnown e
 known_address_set absent =
-    known_set (λ format.
+    known_set AddressHeaderAt (λ format.
     known_then _ _ known_version (λ five.
     known_then _ _ known_size (λ size.
     known_then _ _ (known_read 1) (λ segment.
@@ -149,7 +145,7 @@ known_address_set absent =
 pub known_str_offset_set : {greatest : ℕ} {section : Input} {offset : ℕ} {e : Error}
     → ContributionAtOffset StringOffsetsHeaderAt greatest section offset (Err e) → IsKnown e
 known_str_offset_set absent =
-    known_set (λ format.
+    known_set StringOffsetsHeaderAt (λ format.
     known_then _ _ known_version (λ five. known_then _ _ (known_read 2) (λ padding. known_value tt))) absent
 
 -- ---- units
@@ -199,7 +195,7 @@ module _ (greatest : ℕ) (format : Format) where
 pub known_unit : (is_types : Bool) {greatest : ℕ} {section : Input} {offset : ℕ} {e : Error}
     → ContributionAtOffset (header_in is_types) greatest section offset (Err e) → IsKnown e
 known_unit is_types {greatest} absent =
-    known_set (λ format. known_unit_header greatest format (type_before_5 is_types)) absent
+    known_set (header_in is_types) (λ format. known_unit_header greatest format (type_before_5 is_types)) absent
 
 -- ---- tables
 

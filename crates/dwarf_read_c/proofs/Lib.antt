@@ -2,10 +2,10 @@ pub mod Common
 pub mod AttributeIndexes
 pub mod AbsentNumbers
 pub mod FoundStrings
-pub mod FoundUnits
 pub mod WrittenTables
 pub mod FoundSets
 pub mod OneUnit
+pub mod OneExtent
 pub mod KnownErrors
 pub mod FamilyBounds
 pub mod RisingCodes

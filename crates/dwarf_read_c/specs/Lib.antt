@@ -7,6 +7,7 @@ pub mod Laid
 pub mod Names
 pub mod Families
 pub mod Forms
+pub mod Extents
 pub mod Sets
 pub mod Units
 pub mod Version

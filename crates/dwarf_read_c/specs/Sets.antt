@@ -1,9 +1,9 @@
 -- A set of addresses or of string offsets at an offset of a section, as C sees it.
-use Rattle.std.specs.Prelude.{◌≡◌, ℕ, ◌+◌, ◌-◌, ◌/◌, ◌≤◌, ◌^◌, List, Result, Ok, length, count_by, is_ok}
+use Rattle.std.specs.Prelude.{◌≡◌, ℕ, ◌+◌, ◌-◌, ◌/◌, ◌^◌, List, Result, Ok, length, count_by, is_ok}
 use Rattle.dwarf_read_core.specs.declared.Error.{Error}
 use Rattle.dwarf_read_core.specs.declared.Format.{Format}
 use Rattle.dwarf_read_core.specs.Entries.{Entries, RepresentsAddresses}
-use Rattle.dwarf_read_core.specs.Format.{initial_length_size, word_size}
+use Rattle.dwarf_read_core.specs.Format.{word_size}
 use Rattle.dwarf_read_core.specs.Headers.{Header}
 use Rattle.dwarf_read_core.specs.Input.{Input}
 use Rattle.dwarf_read_core.specs.Contributions.{Contribution, ContributionAtOffset, contribution_size}
@@ -25,18 +25,17 @@ shown s entries next = record {
 pub record TellsSet {H : Type 0} (header : Header H) (entries_of : Contribution H → Entries) (section : Input)
     (offset : ℕ) (reported : DwarfSet) : Type 0 where
   pub s : Contribution H
-  pub within : offset ≤ length section.bytes
   pub has : ContributionAtOffset header (2 ^ 64 - 1) section offset (Ok s)
   pub fields : reported ≡ shown s (entries_of s) (offset + contribution_size s)
   pub counted : (items : List (Result ℕ Error)) → RepresentsAddresses (entries_of s) items
       → reported.entry_count ≡ count_by is_ok items
 
--- a set whose header has four bytes, by its offset, format, length and size of entries
-abbrev pub set_from : ℕ → Format → ℕ → ℕ → DwarfSet
-set_from offset format unit_length entry_size = record {
-  next = offset + initial_length_size format + unit_length;
+-- a set whose header has four bytes, by its end, its length, its format and the size of its entries
+abbrev pub set_to : ℕ → ℕ → Format → ℕ → DwarfSet
+set_to next unit_length format entry_size = record {
+  next = next;
   unit_length = unit_length;
-  first_entry = offset + initial_length_size format + 4;
+  first_entry = next - unit_length + 4;
   entry_count = (unit_length - 4) / entry_size;
   word_size = word_size format;
   entry_size = entry_size;

@@ -1,5 +1,5 @@
 -- A unit at an offset of a section, as C sees it.
-use Rattle.std.specs.Prelude.{◌≡◌, ℕ, ◌+◌, ◌-◌, ◌≤◌, ◌^◌, Bool, length, if◌then◌else◌, Ok}
+use Rattle.std.specs.Prelude.{◌≡◌, ℕ, ◌+◌, ◌-◌, ◌^◌, Bool, if◌then◌else◌, Ok}
 use Rattle.dwarf_read_core.specs.Contributions.{Contribution, ContributionAtOffset, contribution_size}
 use Rattle.dwarf_read_core.specs.Format.{word_size}
 use Rattle.dwarf_read_core.specs.Headers.{Header}
@@ -64,6 +64,5 @@ shown_unit unit next = record {
 pub record TellsUnit (header : Header (UnitFields ℕ)) (section : Input) (offset : ℕ) (reported : DwarfUnit) :
     Type 0 where
   pub unit : Contribution (UnitFields ℕ)
-  pub within : offset ≤ length section.bytes
   pub has : ContributionAtOffset header (2 ^ 64 - 1) section offset (Ok unit)
   pub fields : reported ≡ shown_unit unit (offset + contribution_size unit)

@@ -10,6 +10,7 @@ ghost use Rattle.dwarf_read_core.specs.Input.{Input};
 ghost use Rattle.dwarf_read_core.specs.Once.{HasOne};
 ghost use Rattle.dwarf_read_core.specs.declared.Format.TheVariants.{Dwarf32, Dwarf64};
 ghost use Rattle.dwarf_fault.specs.Fault.{Means};
+ghost use Rattle.dwarf_read_c.specs.Extents.{ExtentAt};
 ghost use Rattle.dwarf_read_c.specs.Sections.{offset_size};
 ghost use Rattle.dwarf_read_c.specs.Tables.{Measures, abbreviation_of, abbreviations_of, attribute_of, attributes_of};
 ghost use Rattle.dwarf_read_c.specs.Units.{TellsUnit, header_in};
@@ -62,6 +63,13 @@ pub fn at_most_one_unit()
     exactly_one_contribution_at_an_offset::<Slice<'_>, InfoFields<Slice<'_>>>();
     exactly_one_contribution_at_an_offset::<Slice<'_>, TypesFields<Slice<'_>>>();
 }
+
+/// A contribution at an offset has exactly one extent, or one error: that no length is there, or that
+/// its bytes aren't all in the section.
+#[tactic(auto, using(crate::proofs::OneExtent::extent_exactly_one))]
+pub fn exactly_one_extent()
+    ensures { (section : Input) (offset : ℕ) → HasOne (ExtentAt section offset) }
+{}
 
 /// A string offset has as many bytes as a word of its format.
 pub fn string_offsets_are_words()

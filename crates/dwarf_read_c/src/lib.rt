@@ -14,6 +14,7 @@
 
 mod families;
 pub mod forms;
+mod headers;
 mod kept;
 pub mod laws;
 pub mod names;

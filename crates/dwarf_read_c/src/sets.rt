@@ -1,17 +1,18 @@
 //! Sets of addresses (DWARF 5, 7.27) and of string offsets (7.26).
 
-ghost use Rattle.std.specs.Prelude.{◌≡◌, ◌≢◌, ◌↔◌, ◌+◌, ◌-◌, ◌<◌, ◌≤◌, ◌^◌, true, length, Err, IfOk, IfErr};
-ghost use Rattle.dwarf_read_core.specs.Format.{initial_length_size};
+ghost use Rattle.std.specs.Prelude.{◌≡◌, ◌≢◌, ◌↔◌, ◌-◌, ◌<◌, ◌≤◌, ◌^◌, true, length, Err, IfErr, OnErr, OnOk};
 ghost use Rattle.dwarf_read_core.specs.Headers.{AddressHeaderAt, StringOffsetsHeaderAt};
 ghost use Rattle.dwarf_read_core.specs.Contributions.{ContributionAtOffset, addresses_of, string_offsets_of};
+ghost use Rattle.dwarf_read_c.specs.Extents.{StepsOver};
 ghost use Rattle.dwarf_read_c.specs.Fault.{Rejects};
 ghost use Rattle.dwarf_read_c.specs.Sections.{section_of};
-ghost use Rattle.dwarf_read_c.specs.Sets.{TellsSet, set_from};
+ghost use Rattle.dwarf_read_c.specs.Sets.{TellsSet, set_to};
 
+use crate::headers::header_at;
 use crate::sections::order;
 use crate::status::{DWARF_END, DWARF_OK};
 use dwarf_fault::{DwarfFault, reject};
-use dwarf_read_core::{AddrHeader, EndianSlice, Error, Format, Reader, StrOffsetsHeader};
+use dwarf_read_core::{AddressSize, EndianSlice, Error, Format, NoFields, Reader};
 
 /// A set of addresses or of string offsets. Its entries are the numbers from `first_entry` up to
 /// `next`.
@@ -41,7 +42,8 @@ pub struct DwarfSet {
 ///
 /// # Errors
 ///
-/// The first of these:
+/// The first of these. If the set lies within the section, `next` and `unit_length` are written with
+/// the error, and nothing else of the set.
 ///
 /// - 1 (`UnexpectedEof`) at 0 if `offset` is past the end;
 /// - 1 at `offset` if fewer than four bytes follow;
@@ -54,7 +56,6 @@ pub struct DwarfSet {
 /// - 1 at the segment size if the set ends before it;
 /// - 13 (`UnsupportedSegmentSize`) if the segment size isn't 0.
 #[unsafe(no_mangle)]
-#[tactic(auto, using(crate::proofs::KnownErrors::known_address_set))]
 pub extern "C" fn dwarf_address_set_0_3(
     section: &[u8],
     is_big: bool,
@@ -70,17 +71,23 @@ pub extern "C" fn dwarf_address_set_0_3(
         result ≢ DWARF_OK → result ≢ DWARF_END
         → Rejects (λ e. ContributionAtOffset AddressHeaderAt (2 ^ 64 - 1) s offset (Err e))
         result fault.new }
-    ensures no_set { result ≢ DWARF_OK → set.new ≡ set.old }
+
+    // An error of a set that lies within the section says where the next set may begin. No error
+    // writes anything else.
+    ensures stepped { let s = section_of section.now is_big in
+        result ≢ DWARF_OK → result ≢ DWARF_END → StepsOver s offset
+        (set.old.next, set.old.unit_length) (set.new.next, set.new.unit_length) }
+    ensures kept { result ≢ DWARF_OK → set.new
+        ≡ record set.old { next = set.new.next; unit_length = set.new.unit_length } }
+    ensures no_set { result ≡ DWARF_END → set.new ≡ set.old }
     ensures no_fault { result ≡ DWARF_OK → fault.new ≡ fault.old }
 {
     if offset == section.len() {
         return DWARF_END;
     }
-    match address_set_at(EndianSlice::new(section, order(is_big)), offset) {
-        Ok(found) => {
-            *set = found;
-            DWARF_OK
-        }
+    let section = EndianSlice::new(section, order(is_big));
+    match address_set_at(section, offset, set) {
+        Ok(()) => DWARF_OK,
         Err(error) => reject(error, fault),
     }
 }
@@ -95,9 +102,8 @@ pub extern "C" fn dwarf_address_set_0_3(
 /// # Errors
 ///
 /// Those of [`dwarf_address_set_0_3`] up to the version, and 1 (`UnexpectedEof`) after the version if
-/// fewer than two bytes of padding follow in the set.
+/// fewer than two bytes of padding follow in the set. `next` and `unit_length` are written as there.
 #[unsafe(no_mangle)]
-#[tactic(auto, using(crate::proofs::KnownErrors::known_str_offset_set))]
 pub extern "C" fn dwarf_str_offset_set_0_3(
     section: &[u8],
     is_big: bool,
@@ -113,66 +119,91 @@ pub extern "C" fn dwarf_str_offset_set_0_3(
         result ≢ DWARF_OK → result ≢ DWARF_END
         → Rejects (λ e. ContributionAtOffset StringOffsetsHeaderAt (2 ^ 64 - 1) s offset (Err e))
         result fault.new }
-    ensures no_set { result ≢ DWARF_OK → set.new ≡ set.old }
+
+    // An error of a set that lies within the section says where the next set may begin. No error
+    // writes anything else.
+    ensures stepped { let s = section_of section.now is_big in
+        result ≢ DWARF_OK → result ≢ DWARF_END → StepsOver s offset
+        (set.old.next, set.old.unit_length) (set.new.next, set.new.unit_length) }
+    ensures kept { result ≢ DWARF_OK → set.new
+        ≡ record set.old { next = set.new.next; unit_length = set.new.unit_length } }
+    ensures no_set { result ≡ DWARF_END → set.new ≡ set.old }
     ensures no_fault { result ≡ DWARF_OK → fault.new ≡ fault.old }
 {
     if offset == section.len() {
         return DWARF_END;
     }
-    match str_offset_set_at(EndianSlice::new(section, order(is_big)), offset) {
-        Ok(found) => {
-            *set = found;
-            DWARF_OK
-        }
+    let section = EndianSlice::new(section, order(is_big));
+    match str_offset_set_at(section, offset, set) {
+        Ok(()) => DWARF_OK,
         Err(error) => reject(error, fault),
     }
 }
 
-// Returns the set of addresses at an offset.
-fn address_set_at<R: Reader<Offset = usize>>(section: R, offset: usize) -> Result<DwarfSet, Error>
+// Writes the set of addresses at an offset; with an error, where it ends, if all of it is there.
+fn address_set_at<R: Reader<Offset = usize>>(
+    section: R,
+    offset: usize,
+    set: &mut DwarfSet,
+) -> Result<(), Error>
     requires starts { (R.view section).position ≡ 0 }
     requires clones { R.clone_is_free ≡ true }
     ensures found { let s = R.view section in
-        IfOk result (TellsSet AddressHeaderAt addresses_of s offset) }
+        OnOk result (TellsSet AddressHeaderAt addresses_of s offset set.new) }
     ensures err { let s = R.view section in
         IfErr result (λ e. ContributionAtOffset AddressHeaderAt (2 ^ 64 - 1) s offset (Err e)) }
+    ensures stepped { StepsOver (R.view section) offset
+        (set.old.next, set.old.unit_length) (set.new.next, set.new.unit_length) }
+    ensures kept { OnErr result (set.new
+        ≡ record set.old { next = set.new.next; unit_length = set.new.unit_length }) }
 {
-    let header = AddrHeader::at(&section, offset)?;
-    let (length, encoding) = (header.length(), header.encoding());
-    Ok(set_from(offset, encoding.format, length, encoding.address_size))
+    let (format, size, _) = header_at::<R, AddressSize>(
+        section,
+        offset,
+        &mut set.next,
+        &mut set.unit_length,
+    )?;
+    put_entries(format, size.bytes(), set);
+    Ok(())
 }
 
-// Returns the set of string offsets at an offset.
+// Writes the set of string offsets at an offset; with an error, where it ends, if all of it is there.
 fn str_offset_set_at<R: Reader<Offset = usize>>(
     section: R,
     offset: usize,
-) -> Result<DwarfSet, Error>
+    set: &mut DwarfSet,
+) -> Result<(), Error>
     requires starts { (R.view section).position ≡ 0 }
     requires clones { R.clone_is_free ≡ true }
     ensures found { let s = R.view section in
-        IfOk result (TellsSet StringOffsetsHeaderAt string_offsets_of s offset) }
+        OnOk result (TellsSet StringOffsetsHeaderAt string_offsets_of s offset set.new) }
     ensures err { let s = R.view section in let header = StringOffsetsHeaderAt in
         IfErr result (λ e. ContributionAtOffset header (2 ^ 64 - 1) s offset (Err e)) }
+    ensures stepped { StepsOver (R.view section) offset
+        (set.old.next, set.old.unit_length) (set.new.next, set.new.unit_length) }
+    ensures kept { OnErr result (set.new
+        ≡ record set.old { next = set.new.next; unit_length = set.new.unit_length }) }
 {
-    let header = StrOffsetsHeader::at(&section, offset)?;
-    let (length, format) = (header.length(), header.format());
-    Ok(set_from(offset, format, length, format.word_size()))
+    let (format, _, _) = header_at::<R, NoFields>(
+        section,
+        offset,
+        &mut set.next,
+        &mut set.unit_length,
+    )?;
+    put_entries(format, format.word_size(), set);
+    Ok(())
 }
 
-// Returns a set whose header has four bytes, as C sees it.
-fn set_from(offset: usize, format: Format, unit_length: usize, entry_size: u8) -> DwarfSet
-    requires within { offset + initial_length_size format + unit_length < 2 ^ 64 }
-    requires header { 4 ≤ unit_length }
+// Writes what a header of four bytes says of a set whose end and length are written.
+#[inline(always)]
+fn put_entries(format: Format, entry_size: u8, set: &mut DwarfSet)
+    requires header { 4 ≤ set.old.unit_length }
+    requires within { set.old.unit_length ≤ set.old.next }
     requires sized { 0 < entry_size }
-    ensures { result ≡ set_from offset format unit_length entry_size }
+    ensures { set.new ≡ set_to set.old.next set.old.unit_length format entry_size }
 {
-    let unit = offset + usize::from(format.initial_length_size());
-    DwarfSet {
-        next: unit + unit_length,
-        unit_length,
-        first_entry: unit + 4,
-        entry_count: (unit_length - 4) / usize::from(entry_size),
-        word_size: format.word_size(),
-        entry_size,
-    }
+    set.first_entry = set.next - set.unit_length + 4;
+    set.entry_count = (set.unit_length - 4) / usize::from(entry_size);
+    set.word_size = format.word_size();
+    set.entry_size = entry_size;
 }

@@ -1,17 +1,21 @@
 //! The headers of units (DWARF 5, 7.5.1).
 
-ghost use Rattle.std.specs.Prelude.{◌≡◌, ◌≢◌, ◌↔◌, ◌+◌, ◌-◌, ◌<◌, ◌^◌, true, false, length, Err, IfOk, IfErr};
+ghost use Rattle.std.specs.Prelude.{◌≡◌, ◌≢◌, ◌↔◌, ◌-◌, ◌^◌, true, length, Err, IfErr, OnErr, OnOk};
 ghost use Rattle.dwarf_read_core.specs.Contributions.{ContributionAtOffset};
-ghost use Rattle.dwarf_read_core.specs.Format.{initial_length_size, word_size};
+ghost use Rattle.dwarf_unit_core.specs.Fields.{unit_header};
+ghost use Rattle.dwarf_read_c.specs.Extents.{StepsOver};
 ghost use Rattle.dwarf_read_c.specs.Fault.{Rejects};
 ghost use Rattle.dwarf_read_c.specs.Sections.{section_of};
 ghost use Rattle.dwarf_read_c.specs.Units.{TellsUnit, header_in, identifier, type_number, type_place};
 
+use crate::headers::header_at;
 use crate::sections::order;
 use crate::status::{DWARF_END, DWARF_OK};
 use dwarf_fault::{DwarfFault, reject};
-use dwarf_read_core::{ContributionHeader, EndianSlice, Error, Format, Reader};
-use dwarf_unit_core::{InfoFields, TypesFields, UnitFields, UnitType};
+use dwarf_read_core::{EndianSlice, Error, Reader, RunTimeEndian};
+use dwarf_unit_core::{DebugInfo, DebugTypes, SectionFields, UnitSection, UnitType};
+
+type Slice<'a> = EndianSlice<'a, RunTimeEndian>;
 
 /// What the header of a unit says.
 #[repr(C)]
@@ -48,7 +52,8 @@ pub struct DwarfUnit {
 ///
 /// # Errors
 ///
-/// The first of these:
+/// The first of these. With an error of a field, which the last four are, `next` and `unit_length`
+/// are written, and nothing else of the unit; with any other, nothing is.
 ///
 /// - 1 (`UnexpectedEof`) at 0 if `offset` is past the end;
 /// - 1 at `offset` if fewer than four bytes follow;
@@ -61,7 +66,6 @@ pub struct DwarfUnit {
 /// - 20 (`UnknownUnitType`) if the unit's type isn't 1 to 6. It is tested after the fields that all
 ///   units have.
 #[unsafe(no_mangle)]
-#[tactic(auto, using(crate::proofs::KnownErrors::known_unit))]
 pub extern "C" fn dwarf_unit_header(
     section: &[u8],
     is_big: bool,
@@ -78,7 +82,14 @@ pub extern "C" fn dwarf_unit_header(
         result ≢ DWARF_OK → result ≢ DWARF_END
         → Rejects (λ e. ContributionAtOffset (header_in is_types) (2 ^ 64 - 1) s offset (Err e))
         result fault.new }
-    ensures no_unit { result ≢ DWARF_OK → unit.new ≡ unit.old }
+
+    // An error of a field says where the next unit may begin. No error writes anything else.
+    ensures stepped { let s = section_of section.now is_big in
+        result ≢ DWARF_OK → result ≢ DWARF_END → StepsOver s offset
+        (unit.old.next, unit.old.unit_length) (unit.new.next, unit.new.unit_length) }
+    ensures kept { result ≢ DWARF_OK → unit.new
+        ≡ record unit.old { next = unit.new.next; unit_length = unit.new.unit_length } }
+    ensures no_unit { result ≡ DWARF_END → unit.new ≡ unit.old }
     ensures no_fault { result ≡ DWARF_OK → fault.new ≡ fault.old }
 {
     if offset == section.len() {
@@ -86,74 +97,44 @@ pub extern "C" fn dwarf_unit_header(
     }
     let section = EndianSlice::new(section, order(is_big));
     let found = if is_types {
-        types_unit_at(section, offset)
+        unit_at::<_, DebugTypes<Slice<'_>>>(section, offset, unit)
     } else {
-        info_unit_at(section, offset)
+        unit_at::<_, DebugInfo<Slice<'_>>>(section, offset, unit)
     };
     match found {
-        Ok(found) => {
-            *unit = found;
-            DWARF_OK
-        }
+        Ok(()) => DWARF_OK,
         Err(error) => reject(error, fault),
     }
 }
 
-// Returns the unit at an offset of `.debug_info`.
-fn info_unit_at<R: Reader<Offset = usize>>(section: R, offset: usize) -> Result<DwarfUnit, Error>
-    requires clones { R.clone_is_free ≡ true }
-    ensures found { let s = R.view section in
-        IfOk result (TellsUnit (header_in false) s offset) }
-    ensures err { let s = R.view section in
-        IfErr result (λ e. ContributionAtOffset (header_in false) (2 ^ 64 - 1) s offset (Err e)) }
-{
-    let header = ContributionHeader::<R, InfoFields<R>>::at(&section, offset)?;
-    let (format, length, fields) = (header.format(), header.length(), header.fields().0);
-    let first_entry = header.into_entries().offset_id().0 as usize;
-    Ok(unit_from(offset, format, length, first_entry, &fields))
-}
-
-// Returns the unit at an offset of `.debug_types`.
-fn types_unit_at<R: Reader<Offset = usize>>(section: R, offset: usize) -> Result<DwarfUnit, Error>
-    requires clones { R.clone_is_free ≡ true }
-    ensures found { let s = R.view section in
-        IfOk result (TellsUnit (header_in true) s offset) }
-    ensures err { let s = R.view section in
-        IfErr result (λ e. ContributionAtOffset (header_in true) (2 ^ 64 - 1) s offset (Err e)) }
-{
-    let header = ContributionHeader::<R, TypesFields<R>>::at(&section, offset)?;
-    let (format, length, fields) = (header.format(), header.length(), header.fields().0);
-    let first_entry = header.into_entries().offset_id().0 as usize;
-    Ok(unit_from(offset, format, length, first_entry, &fields))
-}
-
-// Returns a unit with these fields, as C sees it.
-fn unit_from(
+// Writes the unit at an offset of a section; with an error, where it ends, if all of it is there.
+fn unit_at<R: Reader<Offset = usize>, U: UnitSection>(
+    section: R,
     offset: usize,
-    format: Format,
-    unit_length: usize,
-    first_entry: usize,
-    fields: &UnitFields<usize>,
-) -> DwarfUnit
-    requires within { offset + initial_length_size format + unit_length < 2 ^ 64 }
-    ensures { result ≡ record {
-      next = offset + initial_length_size format + unit_length;
-      unit_length = unit_length;
-      first_entry = first_entry;
-      abbrev_offset = fields.now.abbrev_offset;
-      identifier = identifier fields.now.unit_type;
-      type_offset = type_place fields.now.unit_type;
-      version = fields.now.version;
-      unit_type = type_number fields.now.unit_type;
-      address_size = fields.now.address_size;
-      word_size = word_size format;
-    } }
+    unit: &mut DwarfUnit,
+) -> Result<(), Error>
+    requires clones { R.clone_is_free ≡ true }
+    ensures found { let s = R.view section in
+        OnOk result (TellsUnit (unit_header U.CODE.0) s offset unit.new) }
+    ensures err { let s = R.view section in let header = unit_header U.CODE.0 in
+        IfErr result (λ e. ContributionAtOffset header (2 ^ 64 - 1) s offset (Err e)) }
+    ensures stepped { StepsOver (R.view section) offset
+        (unit.old.next, unit.old.unit_length) (unit.new.next, unit.new.unit_length) }
+    ensures kept { OnErr result (unit.new
+        ≡ record unit.old { next = unit.new.next; unit_length = unit.new.unit_length }) }
 {
+    let (format, fields, entries) = header_at::<R, SectionFields<R::Offset, U>>(
+        section,
+        offset,
+        &mut unit.next,
+        &mut unit.unit_length,
+    )?;
+    let fields = fields.0;
     let (unit_type, identifier, type_offset) = told(fields.unit_type);
-    DwarfUnit {
-        next: offset + usize::from(format.initial_length_size()) + unit_length,
-        unit_length,
-        first_entry,
+    *unit = DwarfUnit {
+        next: unit.next,
+        unit_length: unit.unit_length,
+        first_entry: entries.offset_id().0 as usize,
         abbrev_offset: fields.abbrev_offset,
         identifier,
         type_offset,
@@ -161,7 +142,8 @@ fn unit_from(
         unit_type,
         address_size: fields.address_size,
         word_size: format.word_size(),
-    }
+    };
+    Ok(())
 }
 
 // The number of a unit's type, what identifies the unit, and where its type is.
