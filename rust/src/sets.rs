@@ -27,7 +27,7 @@ enum Kind {
 /// # }
 /// ```
 pub fn address_sets(section: &[u8], order: ByteOrder) -> Sets<'_> {
-    Sets { section, order, kind: Kind::Addresses, offset: Some(0) }
+    Sets { section, order, kind: Kind::Addresses, offset: Some(0), after_error: None }
 }
 
 /// Returns the sets of string offsets of a whole `.debug_str_offsets`.
@@ -44,10 +44,11 @@ pub fn address_sets(section: &[u8], order: ByteOrder) -> Sets<'_> {
 /// # }
 /// ```
 pub fn str_offset_sets(section: &[u8], order: ByteOrder) -> Sets<'_> {
-    Sets { section, order, kind: Kind::StrOffsets, offset: Some(0) }
+    Sets { section, order, kind: Kind::StrOffsets, offset: Some(0), after_error: None }
 }
 
-/// The sets of a section, in the order of their offsets. If there is an error, it is the last item.
+/// The sets of a section, in the order of their offsets. If there is an error, it is the last item,
+/// unless [`resume`](Sets::resume) goes on after it.
 #[derive(Clone)]
 pub struct Sets<'s> {
     section: &'s [u8],
@@ -55,25 +56,67 @@ pub struct Sets<'s> {
     kind: Kind,
     // Where the next set begins, unless there was an error or the end.
     offset: Option<usize>,
+    // Where the set ends that had the last error, if that is known.
+    after_error: Option<usize>,
 }
 
 impl<'s> Sets<'s> {
-    fn at(&self, offset: usize) -> Result<Option<Set<'s>>> {
+    /// Returns the set at an offset of the section, or `None` at the section's end. The iterator
+    /// stays where it is.
+    ///
+    /// # Errors
+    ///
+    /// Those of the iterator, and `UnexpectedEof` at 0 if the offset is past the section's end.
+    ///
+    /// ```
+    /// use dwarf_read::{address_sets, ByteOrder};
+    ///
+    /// let set = [8, 0, 0, 0, 5, 0, 4, 0, 7, 0, 0, 0];
+    /// let section = [&set[..], &set].concat();
+    /// let second = address_sets(&section, ByteOrder::Little).at(12)?.unwrap();
+    /// assert_eq!((second.offset(), second.base(), second.get(0)?), (12, 20, 7));
+    /// # Ok::<(), dwarf_read::Error>(())
+    /// ```
+    pub fn at(&self, offset: usize) -> Result<Option<Set<'s>>> {
+        self.read(offset, &mut sys::Set::default())
+    }
+
+    /// Goes on after a set with an error. Returns whether it does: after an error of a set's length,
+    /// and if a set isn't all in the section, nothing says where the next one begins.
+    ///
+    /// ```
+    /// use dwarf_read::{address_sets, ByteOrder, ErrorKind};
+    ///
+    /// let of_version_6 = [4, 0, 0, 0, 6, 0, 4, 0];
+    /// let section = [&of_version_6[..], &[8, 0, 0, 0, 5, 0, 4, 0, 7, 0, 0, 0]].concat();
+    /// let mut sets = address_sets(&section, ByteOrder::Little);
+    /// assert_eq!(sets.next().unwrap().unwrap_err().kind(), ErrorKind::UnknownVersion);
+    /// assert!(sets.resume());
+    /// assert_eq!(sets.next().unwrap()?.get(0)?, 7);
+    /// # Ok::<(), dwarf_read::Error>(())
+    /// ```
+    pub fn resume(&mut self) -> bool {
+        let next = self.after_error.take();
+        self.offset = self.offset.or(next);
+        next.is_some()
+    }
+
+    // Reads the set at an offset. With an error, `header` has its end, or 0 if that isn't known.
+    fn read(&self, offset: usize, header: &mut sys::Set) -> Result<Option<Set<'s>>> {
         let call = match self.kind {
             Kind::Addresses => sys::dwarf_address_set,
             Kind::StrOffsets => sys::dwarf_str_offset_set,
         };
         let (bytes, len, is_big) = (self.section.as_ptr(), self.section.len(), self.order.is_big());
-        let mut header = sys::Set::default();
         // SAFETY: see `crate::sys`.
         let is_set = check_unless(sys::END, |fault| unsafe {
-            call(bytes, len, is_big, offset, &mut header, fault)
+            call(bytes, len, is_big, offset, header, fault)
         })?;
         let Sets { order, kind, .. } = *self;
         Ok(is_set.then(|| {
             // Nothing after the set is read.
             let section = &self.section[..header.next];
-            Set { section, order, kind, offset, header }
+            Set { section, order, kind, offset, header: *header }
         }))
     }
 }
@@ -83,8 +126,14 @@ impl<'s> Iterator for Sets<'s> {
 
     fn next(&mut self) -> Option<Self::Item> {
         let offset = self.offset.take()?;
-        let found = self.at(offset).transpose()?;
-        self.offset = found.as_ref().ok().map(|set| set.header.next);
+        let mut header = sys::Set::default();
+        let found = self.read(offset, &mut header).transpose()?;
+        let next = Some(header.next).filter(|&it| it > offset);
+        if found.is_ok() {
+            self.offset = next;
+        } else {
+            self.after_error = next;
+        }
         Some(found)
     }
 }

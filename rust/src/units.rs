@@ -24,7 +24,7 @@ use core::iter::FusedIterator;
 /// # Ok::<(), dwarf_read::Error>(())
 /// ```
 pub fn units(debug_info: &[u8], order: ByteOrder) -> Units<'_> {
-    Units { section: debug_info, order, is_types: false, offset: Some(0) }
+    Units { section: debug_info, order, is_types: false, offset: Some(0), after_error: None }
 }
 
 /// Returns the type units of a whole `.debug_types`, which DWARF 4 has.
@@ -40,10 +40,11 @@ pub fn units(debug_info: &[u8], order: ByteOrder) -> Units<'_> {
 /// # Ok::<(), dwarf_read::Error>(())
 /// ```
 pub fn type_units(debug_types: &[u8], order: ByteOrder) -> Units<'_> {
-    Units { section: debug_types, order, is_types: true, offset: Some(0) }
+    Units { section: debug_types, order, is_types: true, offset: Some(0), after_error: None }
 }
 
-/// The units of a section, in the order of their offsets. If there is an error, it is the last item.
+/// The units of a section, in the order of their offsets. If there is an error, it is the last item,
+/// unless [`resume`](Units::resume) goes on after it.
 ///
 /// The errors are the first of these:
 ///
@@ -60,17 +61,59 @@ pub struct Units<'s> {
     is_types: bool,
     // Where the next unit begins, unless there was an error or the end.
     offset: Option<usize>,
+    // Where the unit ends that had the last error, if that is known.
+    after_error: Option<usize>,
 }
 
 impl<'s> Units<'s> {
-    fn at(&self, offset: usize) -> Result<Option<Unit<'s>>> {
+    /// Returns the unit at an offset of the section, or `None` at the section's end. The iterator
+    /// stays where it is.
+    ///
+    /// # Errors
+    ///
+    /// Those of the iterator, and `UnexpectedEof` at 0 if the offset is past the section's end.
+    ///
+    /// ```
+    /// use dwarf_read::{units, ByteOrder};
+    ///
+    /// let unit = [8, 0, 0, 0, 5, 0, 3, 8, 0, 0, 0, 0];
+    /// let section = [&unit[..], &unit].concat();
+    /// let second = units(&section, ByteOrder::Little).at(12)?.unwrap();
+    /// assert_eq!((second.offset(), second.entries_offset()), (12, 24));
+    /// # Ok::<(), dwarf_read::Error>(())
+    /// ```
+    pub fn at(&self, offset: usize) -> Result<Option<Unit<'s>>> {
+        self.read(offset, &mut sys::Unit::default())
+    }
+
+    /// Goes on after a unit with an error. Returns whether it does: after an error of a unit's
+    /// length, and if a unit isn't all in the section, nothing says where the next one begins.
+    ///
+    /// ```
+    /// use dwarf_read::{units, ByteOrder, ErrorKind};
+    ///
+    /// let of_version_6 = [8, 0, 0, 0, 6, 0, 0, 0, 0, 0, 0, 0];
+    /// let section = [&of_version_6[..], &[8, 0, 0, 0, 5, 0, 3, 8, 0, 0, 0, 0]].concat();
+    /// let mut units = units(&section, ByteOrder::Little);
+    /// assert_eq!(units.next().unwrap().unwrap_err().kind(), ErrorKind::UnknownVersion);
+    /// assert!(units.resume());
+    /// assert_eq!(units.next().unwrap()?.offset(), 12);
+    /// # Ok::<(), dwarf_read::Error>(())
+    /// ```
+    pub fn resume(&mut self) -> bool {
+        let next = self.after_error.take();
+        self.offset = self.offset.or(next);
+        next.is_some()
+    }
+
+    // Reads the unit at an offset. With an error, `header` has its end, or 0 if that isn't known.
+    fn read(&self, offset: usize, header: &mut sys::Unit) -> Result<Option<Unit<'s>>> {
         let (bytes, len, is_big) = (self.section.as_ptr(), self.section.len(), self.order.is_big());
-        let mut header = sys::Unit::default();
         // SAFETY: see `crate::sys`.
         let is_unit = check_unless(sys::END, |fault| unsafe {
-            sys::dwarf_unit_header(bytes, len, is_big, self.is_types, offset, &mut header, fault)
+            sys::dwarf_unit_header(bytes, len, is_big, self.is_types, offset, header, fault)
         })?;
-        Ok(is_unit.then_some(Unit { section: self.section, offset, header }))
+        Ok(is_unit.then_some(Unit { section: self.section, offset, header: *header }))
     }
 }
 
@@ -79,8 +122,14 @@ impl<'s> Iterator for Units<'s> {
 
     fn next(&mut self) -> Option<Self::Item> {
         let offset = self.offset.take()?;
-        let found = self.at(offset).transpose()?;
-        self.offset = found.as_ref().ok().map(|unit| unit.header.next);
+        let mut header = sys::Unit::default();
+        let found = self.read(offset, &mut header).transpose()?;
+        let next = Some(header.next).filter(|&it| it > offset);
+        if found.is_ok() {
+            self.offset = next;
+        } else {
+            self.after_error = next;
+        }
         Some(found)
     }
 }

@@ -305,6 +305,76 @@ fn an_error_is_the_last_unit() {
     assert_eq!(shown, format!("{}, order: Big, offset: Some(0) }}", head));
 }
 
+// What follows a whole unit; the error there, and whether the walk can go on after it.
+#[rustfmt::skip]
+static ODD_UNITS: &[(&[u8], ErrorKind, u64, bool)] = &[
+    (&[8, 0, 0, 0, 6, 0, 3, 8, 0, 0, 0, 0], ErrorKind::UnknownVersion, 6, true),
+    (&[8, 0, 0, 0, 5, 0, 3, 3, 0, 0, 0, 0], ErrorKind::UnsupportedAddressSize, 3, true),
+    (&[8, 0, 0, 0, 5, 0, 0x80, 8, 0, 0, 0, 0], ErrorKind::UnknownUnitType, 0x80, true),
+    (&[7, 0, 0, 0, 5, 0, 3, 8, 0, 0, 0], ErrorKind::UnexpectedEof, 20, true),
+    (&[0, 0, 0, 0], ErrorKind::UnexpectedEof, 16, true),
+    (&[13, 0, 0, 0, 5, 0, 3, 8], ErrorKind::UnexpectedEof, 16, false),
+    (&[0xf0, 0xff, 0xff, 0xff], ErrorKind::UnknownReservedLength, 0xffff_fff0, false),
+    (&[0xff, 0xff, 0xff, 0xff, 0xff], ErrorKind::UnexpectedEof, 16, false),
+    (&[8, 0, 0], ErrorKind::UnexpectedEof, 12, false),
+];
+
+#[test]
+fn units_go_on_after_the_error_of_a_field() {
+    let whole = [8, 0, 0, 0, 5, 0, 3, 8, 0, 0, 0, 0];
+    for &(odd, kind, value, goes_on) in ODD_UNITS {
+        let after: &[u8] = if goes_on { &whole } else { &[] };
+        let section = [&whole[..], odd, after].concat();
+        let mut found = units(&section, ByteOrder::Little);
+        assert_eq!((found.next().unwrap().unwrap().offset(), found.resume()), (0, false));
+        let error = found.next().unwrap().unwrap_err();
+        assert_eq!((error.kind(), error.value()), (kind, value), "{:?}", odd);
+        assert!(found.next().is_none());
+        assert_eq!(found.resume(), goes_on, "{:?}", odd);
+        let next = found.next().map(|it| it.unwrap().offset());
+        assert_eq!(next, if goes_on { Some(12 + odd.len()) } else { None }, "{:?}", odd);
+        assert!(found.next().is_none() && !found.resume());
+        let at = |offset| units(&section, ByteOrder::Little).at(offset);
+        assert_eq!(at(0).unwrap().unwrap().entries_offset(), 12);
+        assert_eq!(at(12).unwrap_err(), error);
+        assert!(at(section.len()).unwrap().is_none());
+        assert_eq!(at(section.len() + 1).unwrap_err().value(), 0);
+    }
+}
+
+// The same for a set of addresses.
+#[rustfmt::skip]
+static ODD_SETS: &[(&[u8], ErrorKind, u64, bool)] = &[
+    (&[4, 0, 0, 0, 4, 0, 4, 0], ErrorKind::UnknownVersion, 4, true),
+    (&[4, 0, 0, 0, 5, 0, 3, 0], ErrorKind::UnsupportedAddressSize, 3, true),
+    (&[4, 0, 0, 0, 5, 0, 4, 1], ErrorKind::UnsupportedSegmentSize, 1, true),
+    (&[3, 0, 0, 0, 5, 0, 4], ErrorKind::UnexpectedEof, 19, true),
+    (&[9, 0, 0, 0, 5, 0, 4, 0], ErrorKind::UnexpectedEof, 16, false),
+    (&[0xf0, 0xff, 0xff, 0xff], ErrorKind::UnknownReservedLength, 0xffff_fff0, false),
+];
+
+#[test]
+fn sets_go_on_after_the_error_of_a_field() {
+    let whole = [8, 0, 0, 0, 5, 0, 4, 0, 7, 0, 0, 0];
+    for &(odd, kind, value, goes_on) in ODD_SETS {
+        let after: &[u8] = if goes_on { &whole } else { &[] };
+        let section = [&whole[..], odd, after].concat();
+        let mut found = address_sets(&section, ByteOrder::Little);
+        assert_eq!((found.next().unwrap().unwrap().offset(), found.resume()), (0, false));
+        let error = found.next().unwrap().unwrap_err();
+        assert_eq!((error.kind(), error.value()), (kind, value), "{:?}", odd);
+        assert!(found.next().is_none());
+        assert_eq!(found.resume(), goes_on, "{:?}", odd);
+        let next = found.next().map(|it| it.unwrap().offset());
+        assert_eq!(next, if goes_on { Some(12 + odd.len()) } else { None }, "{:?}", odd);
+        assert!(found.next().is_none() && !found.resume());
+        let at = |offset| address_sets(&section, ByteOrder::Little).at(offset);
+        assert_eq!(at(0).unwrap().unwrap().get(0), Ok(7));
+        assert_eq!(at(12).unwrap_err(), error);
+        assert!(at(section.len()).unwrap().is_none());
+    }
+}
+
 #[test]
 fn what_is_written_is_read() {
     for value in (0..64).flat_map(|it| [(1_u64 << it) - 1, 1 << it, u64::MAX >> it]) {
