@@ -103,6 +103,7 @@ impl Error {
     }
 
     /// Which error it is.
+    #[must_use]
     pub fn kind(&self) -> ErrorKind {
         let number = self.0.kind;
         let index = (number as usize).wrapping_sub(1);
@@ -113,6 +114,7 @@ impl Error {
     /// position, in bytes from the first byte that was passed. Otherwise it is the byte for
     /// children, the code, length, version, size or register that is wrong, or 0 for an error
     /// without a value.
+    #[must_use]
     pub fn value(&self) -> u64 {
         self.0.value
     }

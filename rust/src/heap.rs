@@ -30,6 +30,9 @@ fn size_of(size: usize, align: usize) -> usize {
     }
 }
 
+// SAFETY of the three: only the proved code calls them. It passes to the second and the third each block that it got
+// from the first two, as long as it has not freed it, and sizes that a block can have.
+
 #[no_mangle]
 unsafe extern "C" fn rattle_alloc(size: usize, align: usize) -> Tried {
     tried(malloc(size_of(size, align)))

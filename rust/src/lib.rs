@@ -25,6 +25,12 @@
 //! # }
 //! ```
 //!
+//! Match a constant by its path, as in `constants::DW_FORM_addr =>`: a name alone in a pattern gets the
+//! warning that it should be in upper case.
+//!
+//! It reads no entries of units, line programs, call frames or lists. gimli can't take a [`Table`], so
+//! these need a reader of your own.
+//!
 //! # Platforms
 //!
 //! The code is for Linux, FreeBSD, Windows and macOS on x86-64 and AArch64, for iOS, and for Linux
@@ -32,8 +38,9 @@
 //!
 //! # Features
 //!
-//! The crate needs `alloc`, and a C library. `std`, which is on by default, implements
-//! `std::error::Error` for [`Error`].
+//! The crate needs `alloc`, and a C library: the proved code allocates by its `malloc`, and not by
+//! your `#[global_allocator]`. `std`, which is on by default, implements `std::error::Error` for
+//! [`Error`].
 #![no_std]
 #![warn(missing_docs)]
 
@@ -101,6 +108,7 @@ impl Format {
     /// ```
     /// assert_eq!(dwarf_read::Format::Dwarf64.word_size(), 8);
     /// ```
+    #[must_use]
     pub fn word_size(self) -> u8 {
         match self {
             Format::Dwarf32 => 4,
@@ -290,6 +298,7 @@ pub fn address(
 /// assert_eq!(form_size(DW_FORM_ref_addr, Encoding { version: 2, ..encoding }), Some(8));
 /// assert_eq!(form_size(DW_FORM_udata, encoding), None);
 /// ```
+#[must_use]
 pub fn form_size(form: DwForm, encoding: Encoding) -> Option<usize> {
     let Encoding { address_size, format, version } = encoding;
     let (is_64, mut size) = (format == Format::Dwarf64, 0);

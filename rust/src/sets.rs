@@ -26,6 +26,7 @@ enum Kind {
 /// # Ok(())
 /// # }
 /// ```
+#[must_use]
 pub fn address_sets(section: &[u8], order: ByteOrder) -> Sets<'_> {
     Sets { section, order, kind: Kind::Addresses, offset: Some(0), after_error: None }
 }
@@ -43,6 +44,7 @@ pub fn address_sets(section: &[u8], order: ByteOrder) -> Sets<'_> {
 /// # Ok(())
 /// # }
 /// ```
+#[must_use]
 pub fn str_offset_sets(section: &[u8], order: ByteOrder) -> Sets<'_> {
     Sets { section, order, kind: Kind::StrOffsets, offset: Some(0), after_error: None }
 }
@@ -165,31 +167,37 @@ pub struct Set<'s> {
 
 impl<'s> Set<'s> {
     /// Returns the offset of the set in its section.
+    #[must_use]
     pub fn offset(&self) -> usize {
         self.offset
     }
 
     /// Returns the offset of the set's first entry in its section, which units name as their base.
+    #[must_use]
     pub fn base(&self) -> usize {
         self.header.first_entry
     }
 
     /// Returns how many bytes of the set follow its initial length.
+    #[must_use]
     pub fn unit_length(&self) -> usize {
         self.header.unit_length
     }
 
     /// Returns the format of the set.
+    #[must_use]
     pub fn format(&self) -> Format {
         Format::of_word_size(self.header.word_size)
     }
 
     /// Returns how many whole entries the set has. One that the set's end cuts isn't counted.
+    #[must_use]
     pub fn entry_count(&self) -> usize {
         self.header.entry_count
     }
 
     /// Returns how many bytes an entry has.
+    #[must_use]
     pub fn entry_size(&self) -> u8 {
         self.header.entry_size
     }
@@ -230,6 +238,7 @@ impl<'s> Set<'s> {
     /// assert!(set.entries().eq([Ok(1), Ok(2)]));
     /// # Ok::<(), dwarf_read::Error>(())
     /// ```
+    #[must_use]
     pub fn entries(&self) -> Entries<'s> {
         Entries { set: *self, index: Some(0) }
     }

@@ -212,6 +212,7 @@ impl Table {
     /// assert_eq!(table.get(1), None);
     /// # Ok::<(), dwarf_read::Error>(())
     /// ```
+    #[must_use]
     pub fn get(&self, code: u64) -> Option<Abbreviation<'_>> {
         // In most tables the codes count from 1.
         let guess = usize::try_from(code.wrapping_sub(1)).unwrap_or(usize::MAX);
@@ -229,33 +230,39 @@ impl Table {
     /// assert!(table.iter().map(|it| it.code()).eq([1, 2]));
     /// # Ok::<(), dwarf_read::Error>(())
     /// ```
+    #[must_use]
     pub fn iter(&self) -> Abbreviations<'_> {
         Abbreviations { table: self, rows: self.rows.iter() }
     }
 
     /// Returns how many abbreviations the table has.
+    #[must_use]
     pub fn len(&self) -> usize {
         self.rows.len()
     }
 
     /// Returns whether the table has no abbreviations.
+    #[must_use]
     pub fn is_empty(&self) -> bool {
         self.rows.is_empty()
     }
 
     /// Returns the offset in the section at which the table was read.
+    #[must_use]
     pub fn offset(&self) -> usize {
         self.offset
     }
 
     /// Returns the offset in the section after the code of value 0 that closes the table, or the
     /// section's length. Another table may begin there.
+    #[must_use]
     pub fn end(&self) -> usize {
         self.end
     }
 
     /// Returns whether a code of value 0 closes the table, and not the section's end. See
     /// [`read_strict`](Table::read_strict).
+    #[must_use]
     pub fn is_closed_by_null(&self) -> bool {
         self.is_closed_by_null
     }
@@ -307,6 +314,7 @@ impl<'t> IntoIterator for &'t Table {
 /// }
 /// # Ok::<(), dwarf_read::Error>(())
 /// ```
+#[must_use]
 pub fn tables(section: &[u8]) -> Tables<'_> {
     Tables { section, offset: Some(0), room: Table::default() }
 }
@@ -401,21 +409,25 @@ pub struct Abbreviation<'t> {
 
 impl<'t> Abbreviation<'t> {
     /// Returns the code of the abbreviation, which isn't 0.
+    #[must_use]
     pub fn code(&self) -> u64 {
         self.row.code
     }
 
     /// Returns the tag of the entries.
+    #[must_use]
     pub fn tag(&self) -> DwTag {
         DwTag(self.row.tag)
     }
 
     /// Returns whether the entries have children.
+    #[must_use]
     pub fn has_children(&self) -> bool {
         self.row.has_children == 1
     }
 
     /// Returns the attributes, in the order of the table.
+    #[must_use]
     pub fn attributes(&self) -> &'t [Attribute] {
         self.attributes
     }
@@ -448,11 +460,13 @@ pub struct Attribute(sys::Attribute);
 
 impl Attribute {
     /// Returns the attribute's name.
+    #[must_use]
     pub fn name(&self) -> DwAt {
         DwAt(self.0.name)
     }
 
     /// Returns the form of the values.
+    #[must_use]
     pub fn form(&self) -> DwForm {
         DwForm(self.0.form)
     }
@@ -468,6 +482,7 @@ impl Attribute {
     /// assert_eq!(attribute.implicit_const(), Some(1));
     /// # Ok::<(), dwarf_read::Error>(())
     /// ```
+    #[must_use]
     pub fn implicit_const(&self) -> Option<i64> {
         (self.form() == DW_FORM_implicit_const).then_some(self.0.implicit_const)
     }

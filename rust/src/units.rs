@@ -23,6 +23,7 @@ use core::iter::FusedIterator;
 /// }
 /// # Ok::<(), dwarf_read::Error>(())
 /// ```
+#[must_use]
 pub fn units(debug_info: &[u8], order: ByteOrder) -> Units<'_> {
     Units { section: debug_info, order, is_types: false, offset: Some(0), after_error: None }
 }
@@ -39,6 +40,7 @@ pub fn units(debug_info: &[u8], order: ByteOrder) -> Units<'_> {
 /// assert_eq!(unit.type_(), UnitType::Type { type_signature: 0xdeadbeef, type_offset: 23 });
 /// # Ok::<(), dwarf_read::Error>(())
 /// ```
+#[must_use]
 pub fn type_units(debug_types: &[u8], order: ByteOrder) -> Units<'_> {
     Units { section: debug_types, order, is_types: true, offset: Some(0), after_error: None }
 }
@@ -184,16 +186,19 @@ pub struct Unit<'s> {
 
 impl<'s> Unit<'s> {
     /// Returns the offset of the unit in its section.
+    #[must_use]
     pub fn offset(&self) -> usize {
         self.offset
     }
 
     /// Returns how many bytes of the unit follow its initial length.
+    #[must_use]
     pub fn unit_length(&self) -> usize {
         self.header.unit_length
     }
 
     /// Returns the unit's format, version and address size.
+    #[must_use]
     pub fn encoding(&self) -> Encoding {
         Encoding {
             address_size: self.header.address_size,
@@ -203,6 +208,7 @@ impl<'s> Unit<'s> {
     }
 
     /// Returns the unit's type, with what its header says that only units of this type have.
+    #[must_use]
     pub fn type_(&self) -> UnitType {
         let (identifier, type_offset) = (self.header.identifier, self.header.type_offset);
         match self.header.unit_type {
@@ -217,16 +223,19 @@ impl<'s> Unit<'s> {
 
     /// Returns the offset of the unit's table in `.debug_abbrev`, for
     /// [`Table::read`](crate::Table::read).
+    #[must_use]
     pub fn debug_abbrev_offset(&self) -> usize {
         self.header.abbrev_offset
     }
 
     /// Returns the offset of the unit's first entry in its section.
+    #[must_use]
     pub fn entries_offset(&self) -> usize {
         self.header.first_entry
     }
 
     /// Returns the bytes of the unit's entries.
+    #[must_use]
     pub fn entries(&self) -> &'s [u8] {
         &self.section[self.header.first_entry..self.header.next]
     }
