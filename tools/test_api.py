@@ -155,8 +155,12 @@ class Pages(unittest.TestCase):
         own = "use Rattle.low.proofs.Sums.{zero-add}\n-- zero-add\npub zero-add : (n : ℕ) → n ≡ n\nzero-add n = refl\n"
         again = "pub twice : (n : ℕ) → n ≡ n\ntwice zero = refl\ntwice (suc n) =\n    twice n\n"
         files = [("low", "crates/low/proofs/Sums.antt", own + again)]
-        rows = ((files, [], ["zero-add"]), (files, ["`zero-add`"], []))
-        rows += (([*files, ("low", "crates/low/src/laws.rt", "using(crate::proofs::Sums::zero-add)")], [], []),)
+        law = ("low", "crates/low/src/laws.rt", "using(crate::proofs::Sums::zero-add)")
+        rows: list[tuple[list[tuple[str, str, str]], list[str], list[str]]] = [
+            (files, [], ["zero-add"]),
+            (files, ["`zero-add`"], []),
+            ([*files, law], [], []),
+        ]
         for there, pages, wanted in rows:
             self.assertEqual([*api.uncited(there, pages)], [f"{files[0][1]}: nothing cites {it}" for it in wanted])
 
