@@ -14,11 +14,13 @@
 #define ADDRESS(pointer) ((uintptr_t)(pointer))
 #endif
 
-/* A thread's arena. By this model a signal handler reaches it without a call, which might allocate. */
-#if __STDC_HOSTED__
+/* A thread's arena. In ELF a signal handler reaches it, by this model, without a call that might allocate. */
+#if !__STDC_HOSTED__
+static struct dwarf_arena *here;
+#elif defined __ELF__
 static __thread struct dwarf_arena *here __attribute__((tls_model("initial-exec")));
 #else
-static struct dwarf_arena *here;
+static __thread struct dwarf_arena *here;
 #endif
 
 struct dwarf_arena *dwarf_arena_use(struct dwarf_arena *arena) {

@@ -6,8 +6,8 @@
  *
  * A thread says from which arena its calls take memory. Without one, and if the arena is too small, a call that needs
  * memory returns DWARF_OUT_OF_MEMORY. An arena never grows. A call gives back all that it has taken, and calls nothing
- * of the C library but memcpy, memmove and memset. So every call may be made in a signal handler that first names an
- * arena of its own, and at its end the one that was there.
+ * of the C library but memcpy, memmove and memset. So on Linux and FreeBSD every call may be made in a signal handler
+ * that first names an arena of its own, and at its end the one that was there.
  *
  * These functions are tested, not proved. libdwarf_read.so has those of dwarf_read_heap.c, and uses no arena.
  */
