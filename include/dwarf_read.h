@@ -50,6 +50,12 @@
 #include <string.h>
 #endif
 
+#ifdef __cplusplus
+#define DWARF_NULL nullptr
+#else
+#define DWARF_NULL NULL
+#endif
+
 /* The version of this header. dwarf_read_version writes that of the library. */
 #define DWARF_READ_VERSION_MAJOR 0
 #define DWARF_READ_VERSION_MINOR 5
@@ -266,14 +272,8 @@ uint32_t dwarf_unit_header(const uint8_t *section, size_t len, bool is_big, bool
 /*
  * ABBREVIATION TABLES (7.5.3).
  *
- * dwarf_table_load, below, reads a table into memory of its own. The two calls before it read into arrays of the
- * caller. They allocate memory for the table, and free it before they return. They return DWARF_OUT_OF_MEMORY if
- * an allocation fails. They may not be called in a signal handler.
- *
- * Each call parses the whole table. If dwarf_table_read returns DWARF_NO_ROOM, it has measured the table already. An
- * abbreviation has at least five bytes, and an attribute two, so arrays of (len - offset) / 5 abbreviations and of
- * (len - offset) / 2 attributes have room for every table from an offset on. They are 14.4 times as large as these
- * bytes: to make and to free them for each table costs more time than to read it.
+ * dwarf_table_load reads a table, dwarf_table_find finds an abbreviation in it, and dwarf_table_free gives its memory
+ * back.
  */
 
 /* How large a table is. */
@@ -300,6 +300,57 @@ struct dwarf_attribute_spec {
     int64_t implicit_const; /* the value in the table for DW_FORM_implicit_const, otherwise 0 */
 };
 
+/* A table. dwarf_table_load fills one; so does a caller that has read it into arrays of its own, with the `measure` that
+   dwarf_table_read wrote. */
+struct dwarf_table {
+    struct dwarf_abbreviation *abbreviations; /* as many as `measure` says, in the order of their codes */
+    struct dwarf_attribute_spec *attributes;  /* those of all abbreviations, in the same order */
+    struct dwarf_measure measure;
+};
+
+#if __STDC_HOSTED__
+/* Reads the table at an offset of .debug_abbrev into memory from malloc, as much as the table needs. Give it back
+   with dwarf_table_free, before another table is read into `table`. The errors are those of dwarf_table_measure,
+   also DWARF_OUT_OF_MEMORY. After an error the table has no abbreviations, and no memory. */
+static inline uint32_t dwarf_table_load(const uint8_t *section, size_t len, size_t offset,
+                                        struct dwarf_table *table, struct dwarf_fault *fault);
+
+/* Frees the memory of a table that was loaded. It then has no abbreviations. */
+static inline void dwarf_table_free(struct dwarf_table *table);
+#endif
+
+/* Finds the abbreviation with a code. Returns null if the table has none. */
+static inline const struct dwarf_abbreviation *
+dwarf_table_find(const struct dwarf_table *table, uint64_t code) {
+    const struct dwarf_abbreviation *rows = table->abbreviations;
+    size_t count = table->measure.abbreviations;
+    /* In a table whose codes count from 1, the index is the code minus 1. That of code 0 is past every table. */
+    if (code - 1 < count && rows[code - 1].code == code) {
+        return &rows[code - 1];
+    }
+    /* The codes before it are smaller, and none is 0. So its index is less than its code. */
+    size_t low = 0, high = code < count ? code : count;
+    while (low < high) {
+        size_t middle = low + (high - low) / 2;
+        if (rows[middle].code < code) {
+            low = middle + 1;
+        } else {
+            high = middle;
+        }
+    }
+    return low < count && rows[low].code == code ? &rows[low] : DWARF_NULL;
+}
+
+/*
+ * The two calls by which dwarf_table_load reads a table. They allocate memory for it, and free it before they return.
+ * They return DWARF_OUT_OF_MEMORY if an allocation fails. In a signal handler they need an arena (dwarf_read_arena.h).
+ *
+ * Each call parses the whole table. If dwarf_table_read returns DWARF_NO_ROOM, it has measured the table already. An
+ * abbreviation has at least five bytes, and an attribute two, so arrays of (len - offset) / 5 abbreviations and of
+ * (len - offset) / 2 attributes have room for every table from an offset on. They are 14.4 times as large as these
+ * bytes: to make and to free them for each table costs more time than to read it.
+ */
+
 /* Measures the table at an offset of .debug_abbrev. If the bytes there don't begin with a table, the error
    is the first of them:
     - DWARF_UNEXPECTED_EOF at 0 if the offset is past the end, and at `len` if an abbreviation is cut short;
@@ -321,36 +372,6 @@ uint32_t dwarf_table_read(const uint8_t *section, size_t len, size_t offset,
                           struct dwarf_abbreviation *abbreviations, size_t abbreviation_room,
                           struct dwarf_attribute_spec *attributes, size_t attribute_room,
                           struct dwarf_measure *measure, struct dwarf_fault *fault);
-
-/* A table. dwarf_table_load, below, fills one; so does a caller that has read it into arrays of its own, with the
-   `measure` that dwarf_table_read wrote. */
-struct dwarf_table {
-    struct dwarf_abbreviation *abbreviations; /* as many as `measure` says, in the order of their codes */
-    struct dwarf_attribute_spec *attributes;  /* those of all abbreviations, in the same order */
-    struct dwarf_measure measure;
-};
-
-/* Finds the abbreviation with a code. Returns null if the table has none. */
-static inline const struct dwarf_abbreviation *
-dwarf_table_find(const struct dwarf_table *table, uint64_t code) {
-    const struct dwarf_abbreviation *rows = table->abbreviations;
-    size_t count = table->measure.abbreviations;
-    /* In a table whose codes count from 1, the index is the code minus 1. That of code 0 is past every table. */
-    if (code - 1 < count && rows[code - 1].code == code) {
-        return &rows[code - 1];
-    }
-    /* The codes before it are smaller, and none is 0. So its index is less than its code. */
-    size_t low = 0, high = code < count ? code : count;
-    while (low < high) {
-        size_t middle = low + (high - low) / 2;
-        if (rows[middle].code < code) {
-            low = middle + 1;
-        } else {
-            high = middle;
-        }
-    }
-    return low < count && rows[low].code == code ? &rows[low] : NULL;
-}
 
 #if __STDC_HOSTED__
 #ifdef __cplusplus
@@ -374,22 +395,22 @@ static inline uint32_t dwarf_table_load_within(const uint8_t *section, size_t le
     struct dwarf_measure *measure = &table->measure;
     size_t size = room * row_size + attribute_room * attribute_size;
     void *block = malloc(size);
-    if (block == NULL) {
-        return dwarf_table_read(section, len, offset, NULL, 0, NULL, 0, measure, fault);
+    if (block == DWARF_NULL) {
+        return dwarf_table_read(section, len, offset, DWARF_NULL, 0, DWARF_NULL, 0, measure, fault);
     }
     dwarf_table_lay(table, block, room);
     uint32_t status = dwarf_table_read(section, len, offset, table->abbreviations, room, table->attributes,
                                        attribute_room, measure, fault);
     if (status != DWARF_OK || measure->abbreviations == 0) {
         free(block);
-        table->abbreviations = NULL;
-        table->attributes = NULL;
+        table->abbreviations = DWARF_NULL;
+        table->attributes = DWARF_NULL;
         return status;
     }
     /* A copy that takes no more than the table needs, if there is memory for it. */
     size_t rows = measure->abbreviations * row_size, attributes = measure->attributes * attribute_size;
-    void *fitted = rows + attributes < size ? malloc(rows + attributes) : NULL;
-    if (fitted != NULL) {
+    void *fitted = rows + attributes < size ? malloc(rows + attributes) : DWARF_NULL;
+    if (fitted != DWARF_NULL) {
         const struct dwarf_attribute_spec *read = table->attributes;
         memcpy(fitted, block, rows);
         dwarf_table_lay(table, fitted, measure->abbreviations);
@@ -399,12 +420,9 @@ static inline uint32_t dwarf_table_load_within(const uint8_t *section, size_t le
     return DWARF_OK;
 }
 
-/* Reads the table at an offset of .debug_abbrev into memory from malloc, as much as the table needs. Give it back
-   with dwarf_table_free, before another table is read into `table`. The errors are those of dwarf_table_measure,
-   also DWARF_OUT_OF_MEMORY. After an error the table has no abbreviations, and no memory. */
 static inline uint32_t dwarf_table_load(const uint8_t *section, size_t len, size_t offset,
                                         struct dwarf_table *table, struct dwarf_fault *fault) {
-    static const struct dwarf_table empty = {NULL, NULL, {0, 0, 0, 0}};
+    static const struct dwarf_table empty = {DWARF_NULL, DWARF_NULL, {0, 0, 0, 0}};
     size_t left = offset < len ? len - offset : 0;
     /* Room for most tables, in a block of 768 kilobytes, which malloc soon takes from what was freed. */
     size_t room = left / 5 < 8000 ? left / 5 : 8000, attribute_room = left / 2 < 32000 ? left / 2 : 32000;
@@ -424,9 +442,8 @@ static inline uint32_t dwarf_table_load(const uint8_t *section, size_t len, size
     return status;
 }
 
-/* Frees the memory of a table that was loaded. It then has no abbreviations. */
 static inline void dwarf_table_free(struct dwarf_table *table) {
-    static const struct dwarf_table empty = {NULL, NULL, {0, 0, 0, 0}};
+    static const struct dwarf_table empty = {DWARF_NULL, DWARF_NULL, {0, 0, 0, 0}};
     free(table->abbreviations);
     *table = empty;
 }
@@ -530,7 +547,7 @@ uint32_t dwarf_read_version(char *version, size_t room, size_t *len);
 
 /* Writes the text of an error. Returns DWARF_NO_NAME, and writes nothing, if no error has this number and this value.
    The call allocates memory for a text, and frees it before it returns. It returns DWARF_OUT_OF_MEMORY if an
-   allocation fails; then nothing is written. It may not be called in a signal handler. */
+   allocation fails; then nothing is written. In a signal handler it needs an arena (dwarf_read_arena.h). */
 uint32_t dwarf_fault_text(const struct dwarf_fault *fault, char *text, size_t room, size_t *len);
 
 /*
@@ -544,7 +561,7 @@ uint32_t dwarf_fault_text(const struct dwarf_fault *fault, char *text, size_t ro
 /* Puts the zero byte after what a call wrote, if there is room for it. */
 static inline const char *dwarf_string_ended(uint32_t status, char *text, size_t room, size_t len) {
     if (status != DWARF_OK || len >= room) {
-        return NULL;
+        return DWARF_NULL;
     }
     text[len] = 0;
     return text;
