@@ -18,6 +18,8 @@ assembler = kit.load("assembler", f"{kit.ROOT}/tools/assembler")
 CRATE = "dwarf_read_c"
 NAME = "aarch64"
 SOURCES = "0123  a source\n"
+# What says that a file of Windows may be linked with protected ones.
+FEATURE = '\t.def\t"@feat.00";\n\t.scl\t3;\n\t.type\t0;\n\t.endef\n\t.globl\t"@feat.00"\n"@feat.00" = 0\n'
 CODE = "\t.file\t\"rattle\"\n\tnop\n"
 
 
@@ -79,7 +81,6 @@ class Lines(unittest.TestCase):
         self.assertEqual(systems.code_for("".join(rows), "x86_64"), "".join(rows.values()))
 
     def test_systems(self) -> None:
-        feature = '"@feat.00"'
         # The system, lines of the compiler, and what stays of them.
         rows = [
             ("riscv64", '\t.attribute\t5, "rv64i2p1"\n', ""),
@@ -88,7 +89,7 @@ class Lines(unittest.TestCase):
             ("riscv64", "\tbeqz\ta0, .LBB0_2\n", "\tbeqz\ta0, .Ldwarf_read_BB0_2\n"),
             ("x86_64_windows", "\t.seh_startepilogue\n\tretq\n\t.seh_endepilogue\n", "\tretq\n"),
             ("aarch64_windows", "\t.seh_startepilogue\n", "\t.seh_startepilogue\n"),
-            ("aarch64_windows", f"\t.def\t{feature};\n\t.scl\t3;\n\t.type\t0;\n\t.endef\n\t.globl\t{feature}\n{feature} = 0\n", ""),
+            ("aarch64_windows", FEATURE, ""),
             ("x86_64_apple", "\t.build_version macos, 10, 12\n", ""),
             ("x86_64_apple", "LBB0_2:\n\tjne\tLBB0_2\n", "Ldwarf_read_BB0_2:\n\tjne\tLdwarf_read_BB0_2\n"),
             ("aarch64_apple", "Lloh0:\n\tbl\t_rattle_alloc\n", "Lloh0:\n\tbl\t_rattle_alloc\n"),

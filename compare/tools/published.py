@@ -12,7 +12,9 @@ COMMENT = re.compile(r"/\*.*?\*/|//[^\n]*", re.S)
 NAME = re.compile(r"\bDW_\w+")
 # An enumerator, of which a line may have several, or a macro. The value is a number, which may be shifted, or another
 # name.
-ENUMERATOR = re.compile(r"\b(DW_\w+)\s*=\s*(\w+(?:\s*<<\s*\d+)?)|^[ \t]*#[ \t]*define[ \t]+(DW_\w+)[ \t]+(\w+)[ \t]*$", re.M)
+ENUMERATOR = re.compile(
+    r"\b(DW_\w+)\s*=\s*(\w+(?:\s*<<\s*\d+)?)|^[ \t]*#[ \t]*define[ \t]+(DW_\w+)[ \t]+(\w+)[ \t]*$", re.M
+)
 # The arguments of a macro: a value, and the name after that of the family. Some values hold only for one
 # machine, which the family's name tells.
 HANDLED = re.compile(r"^HANDLE_(DW_[A-Z_]+?)(?:_PRED)?\((\w+),\s*(\w+)", re.M)
