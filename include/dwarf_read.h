@@ -342,8 +342,8 @@ dwarf_table_find(const struct dwarf_table *table, uint64_t code) {
 }
 
 /*
- * The two calls by which dwarf_table_load reads a table. They allocate memory for it, and free it before they return.
- * They return DWARF_OUT_OF_MEMORY if an allocation fails. In a signal handler they need an arena (dwarf_read_arena.h).
+ * dwarf_table_load reads a table with these two calls. They allocate memory for it, and free it before they return. They
+ * return DWARF_OUT_OF_MEMORY if an allocation fails. In a signal handler they need an arena (dwarf_read_arena.h).
  *
  * Each call parses the whole table. If dwarf_table_read returns DWARF_NO_ROOM, it has measured the table already. An
  * abbreviation has at least five bytes, and an attribute two, so arrays of (len - offset) / 5 abbreviations and of
