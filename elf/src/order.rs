@@ -14,7 +14,9 @@ pub struct Order {
 impl Order {
     pub fn new(count: u32, key: impl Fn(u32) -> u64) -> Result<Order> {
         let mut sorted = Vec::new();
-        if (1..count).any(|row| key(row - 1) > key(row)) {
+        let mut last = 0;
+        let falls = |row| std::mem::replace(&mut last, key(row)) > last;
+        if (0..count).any(falls) {
             reserve(&mut sorted, count as usize)?;
             sorted.extend(0..count);
             sorted.sort_unstable_by_key(|row| (key(*row), *row));

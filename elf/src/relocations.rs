@@ -125,6 +125,7 @@ pub struct Relocations<'d> {
     // The order of their places.
     order: Order,
     kinds: [(Types, Effect); 3],
+    past_start: (u64, &'static [u32]),
 }
 
 /// How many bytes a row has in a table of this kind.
@@ -141,6 +142,7 @@ pub fn is_known(machine: u16) -> bool {
 impl<'d> Relocations<'d> {
     pub fn new(file: &Elf<'d>, rows: &'d [u8], symbols: &'d [u8], has_addends: bool) -> Result<Relocations<'d>> {
         let kinds = [(ABSOLUTE, Effect::Replace), (ADDED, Effect::Add), (SUBTRACTED, Effect::Subtract)];
+        let past_start = PAST_START.iter().find(|(machine, ..)| *machine == file.machine);
         let mut table = Relocations {
             machine: file.machine,
             is_64: file.is_64,
@@ -150,6 +152,7 @@ impl<'d> Relocations<'d> {
             symbols,
             order: Order::default(),
             kinds: kinds.map(|(table, effect)| (types(table, file.machine), effect)),
+            past_start: past_start.map_or((0, &[]), |(_, past, kinds)| (*past, *kinds)),
         };
         let count = rows.len() / row_bytes(file.is_64, has_addends);
         table.order = Order::new(count.try_into().unwrap_or(u32::MAX), |number| table.row(number).place)?;
@@ -201,18 +204,18 @@ impl<'d> Relocations<'d> {
         });
         let (size, effect) = known.ok_or(Why::UnknownType(row.kind))?;
         let stored = data.get_mut(..size).ok_or(Why::PastEnd)?;
-        let before = number_of(stored, self.endian);
         let (value, section) = self.symbol(row.symbol).ok_or(Why::NoSymbol(row.symbol))?;
         // This symbol has no address yet, and an alignment instead.
         let value = if section == elf::SHN_COMMON { 0 } else { value };
-        let is_own = |kinds: &[u32]| kinds.contains(&row.kind);
-        let past = PAST_START.iter().find(|(machine, _, kinds)| *machine == self.machine && is_own(kinds));
-        let sum = value.wrapping_add(row.addend.unwrap_or(before)).wrapping_sub(past.map_or(0, |(_, by, _)| *by));
+        let before = || number_of(stored, self.endian);
+        let (past, of_kinds) = self.past_start;
+        let past = if of_kinds.contains(&row.kind) { past } else { 0 };
+        let sum = value.wrapping_add(row.addend.unwrap_or_else(before)).wrapping_sub(past);
         let value = match effect {
             Effect::Replace if !self.fits(sum, size) => return Err(Why::Overflow(sum, size)),
             Effect::Replace => sum,
-            Effect::Add => before.wrapping_add(sum),
-            Effect::Subtract => before.wrapping_sub(sum),
+            Effect::Add => before().wrapping_add(sum),
+            Effect::Subtract => before().wrapping_sub(sum),
         };
         match self.endian {
             Endianness::Little => stored.copy_from_slice(&value.to_le_bytes()[..size]),

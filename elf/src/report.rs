@@ -178,8 +178,8 @@ struct FileReport {
 impl Report {
     pub fn new(output: Box<dyn Write>, errors: Box<dyn Write>) -> Report {
         let (output, errors) = (RefCell::new(Output::new(output)), RefCell::new(errors));
-        let (status, file, begin, file_bytes) = Default::default();
-        Report { output, errors, status, file, begin, file_bytes }
+        let (status, begin, file_bytes) = (Cell::new(0), Cell::new(0), Cell::new(0));
+        Report { output, errors, status, file: RefCell::default(), begin, file_bytes }
     }
 
     /// One that prints to the standard streams. If the output is closed, that is told, and the exit status returned.
