@@ -142,7 +142,8 @@ impl<'d> DebugFile<'d> {
     fn units_at_most(&self) -> u64 {
         const LEAST_HEADER_BYTES: u64 = 11;
         let sections = self.units_of((false, true)).chain(self.units_of((true, true)));
-        sections.filter_map(|section| self.size(section).ok()).sum::<u64>() / LEAST_HEADER_BYTES
+        let bytes = sections.filter_map(|section| self.size(section).ok()).fold(0, u64::saturating_add);
+        bytes.min(most_inflated(self.elf.whole.len())) / LEAST_HEADER_BYTES
     }
 
     /// The section with a number, if it is a debug section.

@@ -31,6 +31,24 @@ fn sections_have_their_sizes_and_a_sum() {
 }
 
 #[test]
+fn sizes_may_be_too_large_for_a_sum() {
+    let claims = [&b"ZLIB"[..], &[0xff; 8]].concat();
+    let row: [(u64, u64); 2] = [(0, 12), (0, 1)];
+    let sections = [
+        section(".zdebug_info.dwo", &claims),
+        section(".zdebug_info.dwo", &claims),
+        section(".debug_cu_index", &index(&[&row[..]; 10], 5, &[1, 3])),
+    ];
+    let output = [
+        ".debug_info.dwo                  18446744073709551615           12",
+        ".debug_info.dwo                  18446744073709551615           12",
+        ".debug_cu_index                           184          184",
+        "total                            18446744073709551615          208  31.9 % of 653",
+    ];
+    assert_eq!(listed(&elf(&sections, OBJECT), "sections"), said(0, &(output.join("\n") + "\n"), &[]));
+}
+
+#[test]
 fn one_of_several_sections_can_be_listed() {
     let strings =
         [section(".debug_str", b"one\0"), section(".debug_str.dwo", b"two\0"), section(".debug_str", b"six\0")];
