@@ -107,16 +107,17 @@ pub fn parse(words: &Words) -> Result<Request, String> {
         lists_all: has("--all"),
         has_strings: has("--strings"),
     };
-    if let Some((option, own)) = options.iter().find_map(|(name, own)| Some((name, own.filter(|own| *own != command)?)))
-    {
-        return Err(format!("{option} is an option of {}, and not of {}", own.name(), command.name()));
-    }
-    check(&request)?;
+    check(&request, &options)?;
     Ok(request)
 }
 
-fn check(request: &Request) -> Result<(), String> {
+fn check(request: &Request, options: &[(&str, Option<Command>)]) -> Result<(), String> {
     let name = request.command.name();
+    for (option, own) in options {
+        if let Some(own) = own.filter(|own| *own != request.command) {
+            return Err(format!("{option} is an option of {}, and not of {name}", own.name()));
+        }
+    }
     if request.files.is_empty() {
         return Err(format!("{name} needs a FILE"));
     }
@@ -132,24 +133,22 @@ fn check(request: &Request) -> Result<(), String> {
     Ok(())
 }
 
-/// The command, the files, and an offset: the command is the last word, or the last before an offset, or else the first.
-fn command_of<'w>(words: &'w [&'w OsStr]) -> Result<(Command, &'w [&'w OsStr], Option<&'w OsStr>), String> {
+/// A command, its files, and its offset.
+type Found<'w> = (Command, &'w [&'w OsStr], Option<&'w OsStr>);
+
+/// The command is the last word, or the last before an offset, or else the first.
+fn command_of<'w>(words: &'w [&'w OsStr]) -> Result<Found<'w>, String> {
     let commands = COMMANDS.map(|(name, ..)| name).join(", ");
-    let (first, last) = match words {
-        [] => return Err(format!("a FILE and one of {commands} are needed")),
-        [first, .., last] => (*first, *last),
-        [one] => (*one, *one),
-    };
-    let (before, next) = words.split_at(words.len() - 1);
+    let (last, before) = words.split_last().ok_or_else(|| format!("a FILE and one of {commands} are needed"))?;
     if let Some(command) = Command::named(last) {
         return Ok((command, before, None));
     }
-    let has_digit = |word: &OsStr| word.as_bytes().first().map_or(false, u8::is_ascii_digit);
-    let second_last = before.split_last().and_then(|(word, files)| Some((Command::named(word)?, files, Some(next[0]))));
-    if let Some(found) = second_last.filter(|(_, files, _)| has_digit(last) && !files.is_empty()) {
+    let has_digit = last.as_bytes().first().map_or(false, u8::is_ascii_digit);
+    let second_last = before.split_last().and_then(|(word, files)| Some((Command::named(word)?, files, Some(*last))));
+    if let Some(found) = second_last.filter(|(_, files, _)| has_digit && !files.is_empty()) {
         return Ok(found);
     }
-    if let Some(command) = Command::named(first) {
+    if let Some(command) = Command::named(words[0]) {
         return Ok(match &words[1..] {
             [offset, files @ ..] if command.takes_offset() && !files.is_empty() && parse_offset(offset).is_ok() => {
                 (command, files, Some(*offset))
@@ -157,13 +156,12 @@ fn command_of<'w>(words: &'w [&'w OsStr]) -> Result<(Command, &'w [&'w OsStr], O
             files => (command, files, None),
         });
     }
-    second_last.ok_or_else(|| {
-        let is_offset = words.len() > 2 && has_digit(last);
-        let word = plain(if is_offset { words[words.len() - 2] } else { last }.as_bytes());
-        if words.len() == 1 {
-            return format!("with the FILE {word} one of {commands} is needed");
+    second_last.ok_or_else(|| match before {
+        [] => format!("with the FILE {} one of {commands} is needed", plain(last.as_bytes())),
+        [_, .., word] if has_digit => {
+            format!("{} is no command; it has to be one of {commands}", plain(word.as_bytes()))
         }
-        format!("{word} is no command; it has to be one of {commands}")
+        _ => format!("{} is no command; it has to be one of {commands}", plain(last.as_bytes())),
     })
 }
 
