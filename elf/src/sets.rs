@@ -4,7 +4,8 @@ use crate::arguments::Command;
 use crate::elf::slice;
 use crate::lengths::end_at;
 use crate::listing::{Listed, Listing};
-use crate::report::Result;
+use crate::report::{malformed, Result};
+use crate::sections::Section;
 use crate::text::{bits, put_string, put_title};
 use crate::units::{layouts, Layouts, SetLayout};
 use dwarf_read::{address, address_sets, str_offset, str_offset_sets, Error, Format, Set};
@@ -37,6 +38,10 @@ impl<'f, 'd> Listing<'f, 'd> {
                 return Ok(ranges);
             }
         };
+        let is_same = |other: &&Section<'_>| other.base == section.base && other.family() == section.family();
+        if self.file.sections.iter().filter(is_same).nth(1).is_some() {
+            return Err(malformed("is one of several such sections, and the index doesn't say which it is for"));
+        }
         let mut end = 0;
         let contributions = package.contributions(section.base)?;
         let contributions = contributions.into_iter().map(|(start, size)| (u64::from(start), u64::from(size)));

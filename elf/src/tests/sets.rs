@@ -159,6 +159,18 @@ fn contributions_that_overlap_are_listed_once() {
         "section 3 .debug_str_offsets.dwo: error at 0x0: unknown DWARF version: 9",
     ];
     assert_eq!(found, said(1, "set 0xc: length 8, 32-bit\n  0x7\n", &lines));
+    // Each row would be checked for each section.
+    let sections = [
+        section(".debug_info.dwo", &[unit(5, 2), unit(5, 2)].concat()),
+        section(".debug_str_offsets.dwo", &bad),
+        section(".debug_str_offsets.dwo", &good),
+        section(".debug_cu_index", &index(&rows, 5, &[1, 6])),
+    ];
+    let line =
+        "section 2 .debug_str_offsets.dwo is one of several such sections, and the index doesn't say which it is for";
+    let output = "section 2 .debug_str_offsets.dwo:\n\
+                  section 3 .debug_str_offsets.dwo:\nset 0x0: length 8, 32-bit\n  0x7\n";
+    assert_eq!(listed(&elf(&sections, OBJECT), "str-offsets"), said(1, output, &[line]));
     // Both are past the end, and so are the bytes between them.
     let rows: [&[(u64, u64)]; 2] = [&[(0, 12), (0x100, 12)], &[(12, 12), (0x200, 12)]];
     let found = package(&index(&rows, 5, &[1, 6]), &[&bad[..], &good].concat(), "str-offsets");
