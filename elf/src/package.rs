@@ -80,6 +80,10 @@ impl<'d> Package<'d> {
     /// Adds an index. Its hash table isn't needed to list all.
     pub fn add(&mut self, body: Cow<'d, [u8]>, endian: Endianness) -> Result<()> {
         let number = |at: usize| number_of(body.get(at..at + 4).unwrap_or_default(), endian);
+        // One is for compilation units, and one for type units.
+        if self.indexes.len() == 2 {
+            return Err(malformed("is a third index, and isn't read"));
+        }
         if body.len() < 16 {
             return Err(malformed("is too short for its header"));
         }

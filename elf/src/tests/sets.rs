@@ -104,6 +104,20 @@ fn tables_of_a_package_count_from_its_contributions() {
     let rows: [&[(u64, u64)]; 2] = [&[(0, 12), (0, 0x30), (0, 8)], &[(12, 12), (0x30, 0x50), (8, 8)]];
     let found = package(&index(&rows, 5, &[1, 3, 6]), &[0; 16], "abbrev");
     assert_eq!((found.0, found.1.as_str()), (0, "table 0x2:\ntable 0x32:\n"));
+    // More indexes would each be asked for each unit.
+    let sections = [
+        section(".debug_info.dwo", &unit(5, 2)),
+        section(".debug_abbrev.dwo", &[0; 0x30]),
+        section(".debug_cu_index", &index(&rows[..1], 5, &[1, 3, 6])),
+        section(".debug_tu_index", &index(&[], 5, &[1, 3, 6])),
+        section(".debug_cu_index", &index(&rows[1..], 5, &[1, 3, 6])),
+    ];
+    let lines = [
+        "section 5 .debug_cu_index is a third index, and isn't read",
+        "no unit names the bytes from 0x0 to 0x2 of section 2 .debug_abbrev.dwo, and --all lists the tables there",
+        "no unit names the bytes from 0x3 to 0x30 of section 2 .debug_abbrev.dwo, and --all lists the tables there",
+    ];
+    assert_eq!(listed(&elf(&sections, OBJECT), "abbrev"), said(1, "table 0x2:\n", &lines));
     // Of two rows for the same units the last counts.
     let rows: [&[(u64, u64)]; 2] = [&[(0, 24), (0, 0x30), (0, 8)], &[(0, 24), (0x30, 0x50), (8, 8)]];
     assert_eq!(package(&index(&rows, 5, &[1, 3, 6]), &[0; 16], "abbrev").1, "table 0x32:\n");
