@@ -80,7 +80,9 @@ fn list_sizes(file: &DebugFile<'_>, request: &Request) {
         }
         let raw = file.elf.raw(header);
         let stored = raw.len() as u64;
-        let size = section.map_or(Ok(stored), |section| file.size(section)).unwrap_or_else(|error| {
+        // Those of a debugger are in the program, and have no bytes in its debug file.
+        let dwarf = section.filter(|section| section.is_dwarf());
+        let size = dwarf.map_or(Ok(stored), |section| file.size(section)).unwrap_or_else(|error| {
             file.report.error(format_args!("section {} {name} {error}", header.number));
             // What the header says of bytes that can't be inflated.
             file.elf.compression(raw).ok().filter(|_| header.is_compressed()).map_or(0, |found| found.1)

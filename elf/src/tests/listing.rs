@@ -167,7 +167,8 @@ fn a_listing_has_a_most_size() {
 #[test]
 fn a_file_of_scripts_alone_is_stripped() {
     let folder = Folder::new("scripts");
-    let data = elf(&[section(".debug_str", b"one\0")], OBJECT);
+    let none = (".debug_gdb_scripts", 8, Vec::new(), 0, 0);
+    let data = elf(&[none, section(".debug_str", b"one\0")], OBJECT);
     let mut sum = flate2::Crc::new();
     sum.update(&data);
     let scripts = section(".debug_gdb_scripts", b"\x01x\0");
@@ -181,8 +182,9 @@ fn a_file_of_scripts_alone_is_stripped() {
     let missing = format!("{path}: the file has no debug sections but those of a debugger");
     let line = format!("{missing}; its debug information is in {debug}, which --follow lists");
     assert_eq!(run(&[&path, "sections"]), said(1, "", &[&line]));
-    let sizes = ".debug_str                                  4            4\n\
-                 total                                       4            4  1.4 % of 282\n";
+    let sizes = ".debug_gdb_scripts                          0            0\n\
+                 .debug_str                                  4            4\n\
+                 total                                       4            4  1.1 % of 365\n";
     let line = format!("{missing}, and {debug} is listed");
     assert_eq!(run(&["--follow", &path, "sections"]), said(0, sizes, &[&line]));
 }
