@@ -83,6 +83,25 @@ impl<'s> Sets<'s> {
         self.read(offset, &mut sys::Set::default())
     }
 
+    /// Returns the offset of the next set, or of the section's end. `None` after that end, and after
+    /// an error, unless [`resume`](Self::resume) goes on.
+    ///
+    /// ```
+    /// use dwarf_read::{address_sets, ByteOrder};
+    ///
+    /// let section = [8, 0, 0, 0, 5, 0, 4, 0, 7, 0, 0, 0];
+    /// let mut sets = address_sets(&section, ByteOrder::Little);
+    /// assert_eq!(sets.offset(), Some(0));
+    /// assert!(sets.next().is_some());
+    /// assert_eq!(sets.offset(), Some(12));
+    /// assert!(sets.next().is_none());
+    /// assert_eq!(sets.offset(), None);
+    /// ```
+    #[must_use]
+    pub fn offset(&self) -> Option<usize> {
+        self.offset
+    }
+
     /// Goes on after a set with an error. Returns whether it does: after an error of a set's length,
     /// and if a set isn't all in the section, nothing says where the next one begins.
     ///

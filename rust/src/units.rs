@@ -88,6 +88,25 @@ impl<'s> Units<'s> {
         self.read(offset, &mut sys::Unit::default())
     }
 
+    /// Returns the offset of the next unit, or of the section's end. `None` after that end, and after
+    /// an error, unless [`resume`](Self::resume) goes on.
+    ///
+    /// ```
+    /// use dwarf_read::{units, ByteOrder};
+    ///
+    /// let section = [8, 0, 0, 0, 5, 0, 3, 8, 0, 0, 0, 0];
+    /// let mut units = units(&section, ByteOrder::Little);
+    /// assert_eq!(units.offset(), Some(0));
+    /// assert!(units.next().is_some());
+    /// assert_eq!(units.offset(), Some(12));
+    /// assert!(units.next().is_none());
+    /// assert_eq!(units.offset(), None);
+    /// ```
+    #[must_use]
+    pub fn offset(&self) -> Option<usize> {
+        self.offset
+    }
+
     /// Goes on after a unit with an error. Returns whether it does: after an error of a unit's
     /// length, and if a unit isn't all in the section, nothing says where the next one begins.
     ///

@@ -330,9 +330,10 @@ fn units_go_on_after_the_error_of_a_field() {
         let error = found.next().unwrap().unwrap_err();
         assert_eq!((error.kind(), error.value()), (kind, value), "{:?}", odd);
         assert!(found.next().is_none());
-        assert_eq!(found.resume(), goes_on, "{:?}", odd);
-        let next = found.next().map(|it| it.unwrap().offset());
-        assert_eq!(next, if goes_on { Some(12 + odd.len()) } else { None }, "{:?}", odd);
+        assert_eq!((found.resume(), found.offset().is_some()), (goes_on, goes_on), "{:?}", odd);
+        let (place, next) = (found.offset(), found.next().map(|it| it.unwrap().offset()));
+        let wanted = if goes_on { Some(12 + odd.len()) } else { None };
+        assert_eq!((place, next), (wanted, wanted), "{:?}", odd);
         assert!(found.next().is_none() && !found.resume());
         let at = |offset| units(&section, ByteOrder::Little).at(offset);
         assert_eq!(at(0).unwrap().unwrap().entries_offset(), 12);
@@ -364,9 +365,10 @@ fn sets_go_on_after_the_error_of_a_field() {
         let error = found.next().unwrap().unwrap_err();
         assert_eq!((error.kind(), error.value()), (kind, value), "{:?}", odd);
         assert!(found.next().is_none());
-        assert_eq!(found.resume(), goes_on, "{:?}", odd);
-        let next = found.next().map(|it| it.unwrap().offset());
-        assert_eq!(next, if goes_on { Some(12 + odd.len()) } else { None }, "{:?}", odd);
+        assert_eq!((found.resume(), found.offset().is_some()), (goes_on, goes_on), "{:?}", odd);
+        let (place, next) = (found.offset(), found.next().map(|it| it.unwrap().offset()));
+        let wanted = if goes_on { Some(12 + odd.len()) } else { None };
+        assert_eq!((place, next), (wanted, wanted), "{:?}", odd);
         assert!(found.next().is_none() && !found.resume());
         let at = |offset| address_sets(&section, ByteOrder::Little).at(offset);
         assert_eq!(at(0).unwrap().unwrap().get(0), Ok(7));
