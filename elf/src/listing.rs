@@ -6,7 +6,7 @@ use crate::memory::fallible;
 use crate::report::{malformed, unlisted, Report, Result, LINES};
 use crate::sections::{is_relocations, DebugFile, Family, Section};
 use crate::text::{plain, put_string, put_table, put_title, put_unit};
-use crate::units::{tables, Layouts, Tables, Units};
+use crate::units::{is_padding, tables, Layouts, Tables, Units};
 use dwarf_read::{Error, ErrorKind, Table};
 use std::borrow::Cow;
 use std::collections::{BTreeMap, BTreeSet};
@@ -159,8 +159,8 @@ impl<'f, 'd> Listing<'f, 'd> {
     fn list_units(&self, units: &Units<'_, 'd>) -> Result<()> {
         for unit in units.iter() {
             self.report.expect_room()?;
-            let table = units.table(&unit).map_err(|error| units.error(unit.offset, error)).ok();
-            put_unit(&mut self.report.output(), &unit.header, unit.offset, table);
+            let table = units.table(&unit).map_err(|error| units.error(unit.offset(), error)).ok();
+            put_unit(&mut self.report.output(), &unit, table);
         }
         Ok(())
     }
@@ -216,10 +216,9 @@ impl<'f, 'd> Listing<'f, 'd> {
 
     // Lists the tables of a part of a section that follow each other.
     fn list_tables_in(&mut self, listed: &Listed<'_, 'd>, range: Range<u64>) -> Result<()> {
-        let bytes = slice(listed.bytes, 0, range.end);
         let mut at = range.start;
         while at < range.end {
-            at = if slice(bytes, at, 4) == [0; 4] {
+            at = if is_padding(&listed.bytes[at as usize..range.end as usize]) {
                 at + 4
             } else {
                 self.list_table(listed, range.end, at)?.unwrap_or(range.end)

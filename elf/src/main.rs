@@ -13,7 +13,6 @@ mod compressed;
 mod debug_link;
 mod elf;
 mod inputs;
-mod lengths;
 mod listing;
 mod memory;
 mod order;

@@ -2,12 +2,11 @@
 
 use crate::arguments::Command;
 use crate::elf::slice;
-use crate::lengths::end_at;
 use crate::listing::{Listed, Listing};
 use crate::report::{malformed, Result};
 use crate::sections::Section;
 use crate::text::{bits, put_string, put_title};
-use crate::units::{layouts, Layouts, SetLayout};
+use crate::units::{is_padding, layouts, Layouts, SetLayout};
 use dwarf_read::{address, address_sets, str_offset, str_offset_sets, Error, Format, Set};
 use std::collections::BTreeSet;
 use std::fmt::Write;
@@ -141,23 +140,25 @@ impl<'f, 'd> Listing<'f, 'd> {
     }
 
     // The sets of a part of a section, in turn, with their offsets. Groups of four zero bytes are padding, and a malformed
-    // set hides none after it: its length alone says where that is.
+    // set hides none after it.
     fn sets<'l>(
         &self, listed: &Listed<'l, 'd>, range: Range<u64>,
     ) -> impl Iterator<Item = (u64, std::result::Result<Set<'l>, Error>)> {
-        let bytes = slice(listed.bytes, 0, range.end);
-        let (endian, order, has_addresses) = (self.file.elf.endian, self.file.elf.order(), self.has_addresses());
-        let mut next = range.start;
-        std::iter::from_fn(move || {
-            while slice(bytes, next, 4) == [0; 4] {
-                next += 4;
-            }
-            let (at, rest) = (next, slice(bytes, next, u64::MAX));
-            let mut sets = if has_addresses { address_sets(rest, order) } else { str_offset_sets(rest, order) };
+        let bytes = &listed.bytes[range.start as usize..range.end as usize];
+        let sets_of = if self.has_addresses() { address_sets } else { str_offset_sets };
+        let mut sets = sets_of(bytes, self.file.elf.order());
+        std::iter::from_fn(move || loop {
+            let at = sets.offset()?;
             let set = sets.next()?;
-            next = end_at(bytes, endian, at).unwrap_or(range.end);
-            // An entry that the set's end cuts is an error.
-            Some((at, set.and_then(|set| set.entries().nth(set.entry_count()).map_or(Ok(set), |cut| cut.map(|_| set)))))
+            if set.is_err() {
+                sets.resume();
+            }
+            if !is_padding(&bytes[at..]) {
+                // An entry that the set's end cuts is an error.
+                let set =
+                    set.and_then(|set| set.entries().nth(set.entry_count()).map_or(Ok(set), |cut| cut.map(|_| set)));
+                return Some((range.start + at as u64, set));
+            }
         })
     }
 

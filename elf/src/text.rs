@@ -34,8 +34,8 @@ pub fn bits(format: Format) -> u8 {
 }
 
 /// Puts a unit, with the offset of its table if that is known.
-pub fn put_unit(output: &mut Output, unit: &Unit<'_>, offset: u64, table: Option<u64>) {
-    put_title(output, "unit ", offset, "");
+pub fn put_unit(output: &mut Output, unit: &Unit<'_>, table: Option<u64>) {
+    put_title(output, "unit ", unit.offset() as u64, "");
     let (encoding, kind) = (unit.encoding(), type_of(unit));
     let (length, bits) = (unit.unit_length(), bits(encoding.format));
     let _ = write!(output, ": length {length}, {bits}-bit, version {}, {kind}", encoding.version);

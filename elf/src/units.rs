@@ -1,13 +1,11 @@
 //! The units of a section, and what they say of the other sections.
 
-use crate::elf::slice;
-use crate::lengths::end_at;
 use crate::memory::reserve;
 use crate::package::Package;
 use crate::relocations::{Fault, Relocations, Why};
 use crate::report::{malformed, Result};
 use crate::sections::{name_in, DebugFile, Section};
-use dwarf_read::{type_units, units, Format};
+use dwarf_read::{type_units, units, Format, Unit};
 use std::borrow::Cow;
 use std::collections::{BTreeMap, BTreeSet};
 use std::fmt::Display;
@@ -19,13 +17,6 @@ pub struct Units<'f, 'd> {
     tables: Vec<Relocations<'d>>,
     bytes: Cow<'d, [u8]>,
     faults: Vec<Fault>,
-}
-
-/// A unit, and its offset in the section.
-#[derive(Debug, Clone, Copy)]
-pub struct Unit<'u> {
-    pub offset: u64,
-    pub header: dwarf_read::Unit<'u>,
 }
 
 impl<'f, 'd> Units<'f, 'd> {
@@ -45,51 +36,38 @@ impl<'f, 'd> Units<'f, 'd> {
 
     /// The units, each of which begins where the one before ends. What is wrong with one is reported.
     pub fn iter(&self) -> impl Iterator<Item = Unit<'_>> + '_ {
-        let mut next = 0;
+        let units_of = if self.section.is_one_of(&["debug_types"]) { type_units } else { units };
+        let mut units = units_of(&self.bytes, self.file.elf.order());
         std::iter::from_fn(move || loop {
-            let offset = next;
-            match slice(&self.bytes, offset, 4) {
-                [] => return None,
-                [0, 0, 0, 0] => next = self.end_of_padding(offset),
-                _ => match self.at(offset, &mut next) {
-                    Ok(header) => return Some(Unit { offset, header }),
-                    Err(error) => self.error(offset, error),
+            let offset = units.offset()?;
+            match units.next()? {
+                Ok(unit) => match self.fault_before(offset, unit.entries_offset()) {
+                    None => return Some(unit),
+                    Some(fault) => self.error(offset, fault),
                 },
+                Err(_) if is_padding(&self.bytes[offset..]) => {
+                    // Four zero bytes are a unit of no bytes.
+                    while units.resume() && units.offset().map_or(false, |at| is_padding(&self.bytes[at..])) {
+                        units.next();
+                    }
+                    let (section, count) = (self.section, units.offset().unwrap_or(offset) - offset);
+                    let text = "are zero, and passed over";
+                    self.file.report.error(format_args!("the {count} bytes at 0x{offset:x} of {section} {text}"));
+                }
+                Err(error) if units.resume() => self.error(offset, format_args!("is malformed: {error}")),
+                Err(error) => self.error(offset, format_args!("is malformed: {error}, and what follows isn't read")),
             }
         })
     }
 
-    // The unit at an offset. Then the next one is known, unless nothing says where that is.
-    fn at(&self, offset: u64, next: &mut u64) -> Result<dwarf_read::Unit<'_>> {
-        let (rest, order) = (&self.bytes[offset as usize..], self.file.elf.order());
-        let mut found =
-            if self.section.is_one_of(&["debug_types"]) { type_units(rest, order) } else { units(rest, order) };
-        let end = end_at(&self.bytes, self.file.elf.endian, offset);
-        *next = end.unwrap_or(self.bytes.len() as u64);
-        let unit = found.next().transpose().map_err(|error| {
-            let rest = if end.is_none() { ", and what follows isn't read" } else { "" };
-            malformed(format!("is malformed: {error}{rest}"))
-        })?;
-        let unit = unit.ok_or_else(|| malformed("is malformed"))?;
-        let header = offset..offset + unit.entries_offset() as u64;
-        let first = self.faults.partition_point(|fault| fault.place < header.start);
-        match self.faults.get(first) {
-            Some(fault) if fault.place < header.end => Err(malformed(fault.to_string())),
-            _ => Ok(unit),
-        }
-    }
-
-    fn end_of_padding(&self, offset: u64) -> u64 {
-        let zeros = self.bytes[offset as usize..].chunks_exact(4).take_while(|bytes| **bytes == [0; 4]).count();
-        let (section, count) = (self.section, 4 * zeros as u64);
-        self.file
-            .report
-            .error(format_args!("the {count} bytes at 0x{offset:x} of {section} are zero, and passed over"));
-        offset + count
+    /// The first relocation of a header that isn't applied.
+    fn fault_before(&self, start: usize, end: usize) -> Option<&Fault> {
+        let first = self.faults.partition_point(|fault| fault.place < start as u64);
+        self.faults.get(first).filter(|fault| fault.place < end as u64)
     }
 
     /// Reports what is wrong with the unit at an offset.
-    pub fn error(&self, offset: u64, error: impl Display) {
+    pub fn error(&self, offset: usize, error: impl Display) {
         self.file.report.error(format_args!("the unit at 0x{offset:x} of {} {error}", self.section));
     }
 
@@ -103,10 +81,10 @@ impl<'f, 'd> Units<'f, 'd> {
             [home] => return Ok(*home),
             _ => {}
         }
-        let encoding = unit.header.encoding();
+        let encoding = unit.encoding();
         let length_bytes = if encoding.format == Format::Dwarf64 { 12 } else { 4 };
         // From DWARF 5 on the unit's type and address size are before the offset of the table.
-        let place = unit.offset + length_bytes + if encoding.version < 5 { 2 } else { 4 };
+        let place = unit.offset() as u64 + length_bytes + if encoding.version < 5 { 2 } else { 4 };
         let number = self.tables.iter().find_map(|table| table.section_at(place));
         let found = number.and_then(|number| homes.iter().find(|(home, _)| home.header.number == u64::from(number)));
         found
@@ -116,12 +94,12 @@ impl<'f, 'd> Units<'f, 'd> {
 
     /// Where a unit's table is in its section: in a package the unit counts from its contribution.
     pub fn table(&self, unit: &Unit<'_>) -> Result<u64> {
-        let table = unit.header.debug_abbrev_offset() as u64;
+        let table = unit.debug_abbrev_offset() as u64;
         let package = match self.file.package_of(self.section.family()) {
             Some(package) => package,
             None => return Ok(table),
         };
-        match package.of_unit(self.section.base, unit.offset, b"debug_abbrev") {
+        match package.of_unit(self.section.base, unit.offset() as u64, b"debug_abbrev") {
             None => Err(malformed("has no row with a table in the package's index, so its table isn't found")),
             Some(range) if table >= range.end - range.start => {
                 let size = range.end - range.start;
@@ -132,6 +110,11 @@ impl<'f, 'd> Units<'f, 'd> {
             Some(range) => Ok(range.start + table),
         }
     }
+}
+
+/// Whether four zero bytes come first.
+pub fn is_padding(bytes: &[u8]) -> bool {
+    bytes.starts_with(&[0; 4])
 }
 
 /// A section of tables, with its size.
@@ -167,12 +150,12 @@ fn add_tables(units: &Units<'_, '_>, homes: &[Home<'_, '_>], found: &mut Tables)
                 if is_first && table > size {
                     let past = "past the end of";
                     units.error(
-                        unit.offset,
+                        unit.offset(),
                         format_args!("names the table at 0x{table:x}, {past} {home} (0x{size:x} bytes)"),
                     );
                 }
             }
-            Err(error) => units.error(unit.offset, error),
+            Err(error) => units.error(unit.offset(), error),
         }
     }
 }
@@ -202,10 +185,12 @@ pub fn layouts(file: &DebugFile<'_>, sets: &Section<'_>) -> Layouts {
         };
         for unit in units.iter() {
             let start = match package {
-                Some(package) => package.of_unit(section.base, unit.offset, sets.base).map(|range| range.start),
+                Some(package) => {
+                    package.of_unit(section.base, unit.offset() as u64, sets.base).map(|range| range.start)
+                }
                 None => Some(0),
             };
-            let encoding = unit.header.encoding();
+            let encoding = unit.encoding();
             let (address_size, word_size) = (encoding.address_size, encoding.format.word_size());
             found.insert((start, SetLayout { has_no_headers: encoding.version < 5, address_size, word_size }));
         }
