@@ -56,6 +56,7 @@ class Judging(unittest.TestCase):
             (head + CODE, CODE, another, (1, 0, 0)),
             (head + CODE, other, another, (0, 0, 1)),
             (stale + CODE, other, another, (0, 1, 0)),
+            (unknown + CODE, CODE, this, (0, 1, 0)),
             (unknown + CODE, other, this, (0, 1, 0)),
             (CODE, CODE, this, (0, 1, 0)),
         ]
