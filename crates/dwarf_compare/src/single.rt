@@ -6,7 +6,7 @@ ghost use Rattle.dwarf_read_core.specs.Answer.{Answer, Answers};
 ghost use Rattle.dwarf_read_core.specs.Cache.{IsFaithful, answer_of};
 ghost use Rattle.dwarf_read_core.specs.Grammar.{Table};
 ghost use Rattle.dwarf_read_core.specs.Input.{Input, section_of};
-ghost use Rattle.dwarf_read_core.specs.Leb128.{unsigned16, TakesNoEncoding, ReadsNumber, ReadsNoNumber, TakesEncoding};
+ghost use Rattle.dwarf_read_core.specs.Leb128.{unsigned16, TakesNoEncoding, ReadsLeb128, ReadsNoLeb128, TakesEncoding};
 ghost use Rattle.dwarf_compare.specs.Tags.{tag_in};
 ghost use Rattle.dwarf_fault.specs.Fault.{Reports};
 
@@ -31,10 +31,10 @@ pub extern "C" fn compare_short(
     fault: &mut DwarfFault,
 ) -> u32
     ensures read { result ≡ 0 → (left : Input)
-        × ReadsNumber unsigned16 (section_of bytes.now false) value.new left
+        × ReadsLeb128 unsigned16 (section_of bytes.now false) value.new left
         × (rest.new ≡ length left.bytes) }
     ensures rejected { result ≢ 0 → Reports (λ e. (left : Input)
-        × ReadsNoNumber unsigned16 (section_of bytes.now false) e left
+        × ReadsNoLeb128 unsigned16 (section_of bytes.now false) e left
         × (rest.new ≡ length left.bytes))
         result fault.new }
 {

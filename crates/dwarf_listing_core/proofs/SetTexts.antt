@@ -1,8 +1,8 @@
 -- Sets have exactly one text or error.
 use Rattle.dwarf_listing_core.proofs.Common.{◌-◌, ◌^◌, ◌<◌, ◌∷◌, ℕ, List, [], Result, Ok, Err, refl, Error, Input, HasOne, Remaining, Set, ListsItems, SetListing, HasSets, ListsLine, ListsSection, ListsSet}
-use Rattle.dwarf_read_core.specs.Headers.{AddressHeaderAt}
+use Rattle.dwarf_read_core.specs.Headers.{AddressHeaderRead}
 use Rattle.dwarf_read_core.specs.Items.{AreItems, no_items, value_first, only_error}
-use Rattle.dwarf_read_core.specs.Contributions.{ContributionAt}
+use Rattle.dwarf_read_core.specs.Contributions.{FirstContribution}
 use Rattle.dwarf_read_core.proofs.public.Contributions.{contribution_parts}
 use Rattle.dwarf_read_core.proofs.public.Entries.{size-positive}
 use Rattle.dwarf_read_core.proofs.public.Headers.{address_header-sized}
@@ -34,7 +34,7 @@ one_set listing s entries =
 
 -- a section has exactly one text or error if it has exactly one list of sets, and each set one list of entries
 pub one_section : {H : Type 0} (listing : SetListing H) (sets : Remaining)
-    → ((old new : Remaining) (s : Set H) → ContributionAt listing.header (2 ^ 64 - 1) old (Ok s, new)
+    → ((old new : Remaining) (s : Set H) → FirstContribution listing.header (2 ^ 64 - 1) old (Ok s, new)
     → HasOne (listing.represents (listing.entries s)))
     → HasOne (HasSets listing sets) → HasOne (ListsSection listing sets)
 one_section listing sets entries lists =
@@ -43,7 +43,7 @@ one_section listing sets entries lists =
 
 -- the address size of a set of addresses is above 0
 pub address_size : {greatest : ℕ} (old new : Remaining) (s : Set ℕ)
-    → ContributionAt AddressHeaderAt greatest old (Ok s, new) → 0 < s.header
+    → FirstContribution AddressHeaderRead greatest old (Ok s, new) → 0 < s.header
 address_size {greatest} old new s is =
-    let parts = contribution_parts AddressHeaderAt greatest old.offset old.rest s new.rest is.0 in
+    let parts = contribution_parts AddressHeaderRead greatest old.offset old.rest s new.rest is.0 in
     size-positive s.header (address_header-sized greatest s.format _ _ _ parts.said)

@@ -6,7 +6,7 @@ use Rattle.dwarf_read_core.specs.Endian.{is_big_at_run_time}
 use Rattle.dwarf_read_core.specs.Entries.{Entries, RepresentsAddresses, RepresentsStringOffsets}
 use Rattle.dwarf_read_core.specs.ErrorText.{hexadecimal}
 use Rattle.dwarf_read_core.specs.Format.{word_size}
-use Rattle.dwarf_read_core.specs.Headers.{AddressHeaderAt, Header, StringOffsetsHeaderAt}
+use Rattle.dwarf_read_core.specs.Headers.{AddressHeaderRead, Header, StringOffsetsHeaderRead}
 use Rattle.dwarf_read_core.specs.Contributions.{Remaining, Contribution as Set, RepresentsContributions, addresses_of, string_offsets_of}
 use Rattle.dwarf_listing_core.specs.Items.{Joins, ListsItemsOf}
 use Rattle.dwarf_listing_core.specs.Lines.{line}
@@ -50,7 +50,7 @@ pub record SetListing (H : Type 0) : Type 1 where
 abbrev pub address_listing : SetListing ℕ
 address_listing =
     record {
-      header = AddressHeaderAt;
+      header = AddressHeaderRead;
       entries = addresses_of;
       represents = RepresentsAddresses;
       header_line = λ s. address_header_line s.offset s.unit_length (word_size s.format * 8) s.header;
@@ -61,7 +61,7 @@ address_listing =
 abbrev pub offset_listing : ℕ → SetListing (Unit {0})
 offset_listing greatest =
     record {
-      header = StringOffsetsHeaderAt;
+      header = StringOffsetsHeaderRead;
       entries = string_offsets_of;
       represents = RepresentsStringOffsets greatest;
       header_line = λ s. offset_header_line s.offset s.unit_length (word_size s.format * 8);

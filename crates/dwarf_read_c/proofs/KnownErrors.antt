@@ -4,18 +4,18 @@ use Rattle.dwarf_read_core.specs.declared.Format.{Format}
 use Rattle.std.specs.Prelude.{⊤, ◌==◌, ◌&&◌, nat_le}
 use Rattle.dwarf_read_core.specs.Format.{word_size}
 use Rattle.dwarf_read_core.specs.Answer.{Answers, IsFirstError}
-use Rattle.dwarf_read_core.specs.Headers.{AddressHeaderAt, Header, StringOffsetsHeaderAt, VersionRead}
+use Rattle.dwarf_read_core.specs.Headers.{AddressHeaderRead, Header, StringOffsetsHeaderRead, VersionRead}
 use Rattle.dwarf_read_core.specs.Readings.{AddressSizeRead, Choice, Given, Mapped, NumberRead, PartRead, Reading, Required, SkipRead, Then, Within, WordRead}
-use Rattle.dwarf_read_core.specs.InitialLength.{LengthAt}
+use Rattle.dwarf_read_core.specs.InitialLength.{LengthRead}
 use Rattle.dwarf_read_core.specs.Contributions.{ContributionAtOffset}
 use Rattle.dwarf_read_core.specs.Lookups.{ReadAt}
 use Rattle.dwarf_read_core.specs.Words.{AddressAt, PlaceRead, Slot, WordAt, distance}
 use Rattle.dwarf_unit_core.specs.Fields.{before_5, from_5, own_fields, type_fields, unit_header}
 use Rattle.dwarf_read_c.specs.Units.{header_in, type_before_5}
-use Rattle.dwarf_read_c.proofs.Common.{◌≢◌, Bool, true, false, ℕ, List, Ok, Err, inl, inr, arith, Error, Input, Kind, StringAt, error_number, IsKnown, HasNoNumber}
+use Rattle.dwarf_read_c.proofs.Common.{◌≢◌, Bool, true, false, ℕ, List, Ok, Err, inl, inr, arith, Error, Input, Kind, StringAt, error_number, IsKnown, HasNoLeb128}
 
 -- the error of bytes that begin with no number has a number of its own
-pub known_number : {k : Kind} {bytes : List ℕ} {e : Error} → HasNoNumber k bytes e → IsKnown e
+pub known_number : {k : Kind} {bytes : List ℕ} {e : Error} → HasNoLeb128 k bytes e → IsKnown e
 known_number absent = grind arith
 
 -- ---- readings
@@ -109,7 +109,7 @@ known_address greatest s section e =
 -- ---- sets
 
 -- the error of bytes without an initial length has a number of its own
-known_length : (greatest : ℕ) → HasKnown (LengthAt greatest)
+known_length : (greatest : ℕ) → HasKnown (LengthRead greatest)
 known_length greatest = record { known = λ old new e absent. grind arith }
 
 -- the error in place of a set has a number of its own, if each error of the header has
@@ -132,9 +132,9 @@ known_version =
 
 -- the error in place of a set of addresses has a number of its own
 pub known_address_set : {greatest : ℕ} {section : Input} {offset : ℕ} {e : Error}
-    → ContributionAtOffset AddressHeaderAt greatest section offset (Err e) → IsKnown e
+    → ContributionAtOffset AddressHeaderRead greatest section offset (Err e) → IsKnown e
 known_address_set absent =
-    known_set AddressHeaderAt (λ format.
+    known_set AddressHeaderRead (λ format.
     known_then _ _ known_version (λ five.
     known_then _ _ known_size (λ size.
     known_then _ _ (known_read 1) (λ segment.
@@ -143,9 +143,9 @@ known_address_set absent =
 
 -- the error in place of a set of string offsets has a number of its own
 pub known_str_offset_set : {greatest : ℕ} {section : Input} {offset : ℕ} {e : Error}
-    → ContributionAtOffset StringOffsetsHeaderAt greatest section offset (Err e) → IsKnown e
+    → ContributionAtOffset StringOffsetsHeaderRead greatest section offset (Err e) → IsKnown e
 known_str_offset_set absent =
-    known_set StringOffsetsHeaderAt (λ format.
+    known_set StringOffsetsHeaderRead (λ format.
     known_then _ _ known_version (λ five. known_then _ _ (known_read 2) (λ padding. known_value tt))) absent
 
 -- ---- units

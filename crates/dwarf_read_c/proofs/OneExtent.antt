@@ -2,7 +2,7 @@
 use Rattle.std.specs.Prelude.{⊤}
 use Rattle.dwarf_read_core.specs.declared.Format.{Format}
 use Rattle.dwarf_read_core.specs.Format.{initial_length_size}
-use Rattle.dwarf_read_core.specs.InitialLength.{LengthAt}
+use Rattle.dwarf_read_core.specs.InitialLength.{LengthRead}
 use Rattle.dwarf_read_core.specs.Input.{Takes}
 use Rattle.dwarf_read_core.specs.Once.{HasOne}
 use Rattle.dwarf_read_core.specs.Readings.{IsDecided}
@@ -25,7 +25,7 @@ extent_exactly_one section offset =
 
 -- the bytes of an extent end within the section
 pub extent-within : {section rest mid new : Input} {offset : ℕ} (size : Format × ℕ) → Takes offset section rest
-    → LengthAt (2 ^ 64 - 1) rest (Ok size, mid) → Takes size.1 mid new
+    → LengthRead (2 ^ 64 - 1) rest (Ok size, mid) → Takes size.1 mid new
     → offset + initial_length_size size.0 + size.1 ≤ length section.bytes
 extent-within {section} {rest} {mid} {offset = offset} size skipped measured skips =
     let front = length_taken measured in

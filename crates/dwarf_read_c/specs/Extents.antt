@@ -3,7 +3,7 @@ use Rattle.std.specs.Prelude.{◌≡◌, ℕ, ◌+◌, ◌-◌, ◌^◌, Result,
 use Rattle.dwarf_read_core.specs.declared.Error.{Error}
 use Rattle.dwarf_read_core.specs.declared.Format.{Format}
 use Rattle.dwarf_read_core.specs.Format.{initial_length_size}
-use Rattle.dwarf_read_core.specs.InitialLength.{LengthAt}
+use Rattle.dwarf_read_core.specs.InitialLength.{LengthRead}
 use Rattle.dwarf_read_core.specs.Input.{Input}
 use Rattle.dwarf_read_core.specs.Lookups.{ReadAt}
 use Rattle.dwarf_read_core.specs.Readings.{Given, Reading, SkipRead, ◌>>=◌}
@@ -11,7 +11,7 @@ use Rattle.dwarf_read_core.specs.Readings.{Given, Reading, SkipRead, ◌>>=◌}
 -- the format and the length of a contribution, all of whose bytes are there
 abbrev pub ExtentRead : Reading (Format × ℕ)
 ExtentRead = do
-  size ← LengthAt (2 ^ 64 - 1)
+  size ← LengthRead (2 ^ 64 - 1)
   _ ← SkipRead size.1
   Given (Ok size)
 

@@ -7,9 +7,9 @@ use Rattle.dwarf_read_core.specs.Shortest.{IsShortest}
 use Rattle.dwarf_read_c.specs.Room.{Puts}
 
 -- the error of bytes that begin with no number: they end before it does, or they are bad
-pub data HasNoNumber (k : Kind) (bytes : List ℕ) : Error → Type 0 where
-  cut : IsTruncated k bytes → HasNoNumber k bytes (eof (length bytes))
-  bad : IsMalformed k bytes → HasNoNumber k bytes (overflow_error k)
+pub data HasNoLeb128 (k : Kind) (bytes : List ℕ) : Error → Type 0 where
+  cut : IsTruncated k bytes → HasNoLeb128 k bytes (eof (length bytes))
+  bad : IsMalformed k bytes → HasNoLeb128 k bytes (overflow_error k)
 
 -- the shortest bytes of a number are written to the front, and their count is written
 pub record PutsShortest (k : Kind) (number : Number k) (old new : List ℕ) (len status : ℕ) : Type 0 where

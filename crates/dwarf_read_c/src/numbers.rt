@@ -1,9 +1,9 @@
 //! LEB128 numbers (DWARF 5, 7.6).
 
 ghost use Rattle.std.specs.Prelude.{◌≡◌, ◌≢◌};
-ghost use Rattle.dwarf_read_core.specs.Leb128.{unsigned64, signed64, HasNumber};
+ghost use Rattle.dwarf_read_core.specs.Leb128.{unsigned64, signed64, HasLeb128};
 ghost use Rattle.dwarf_read_c.specs.Fault.{Rejects};
-ghost use Rattle.dwarf_read_c.specs.Numbers.{HasNoNumber, PutsShortest};
+ghost use Rattle.dwarf_read_c.specs.Numbers.{HasNoLeb128, PutsShortest};
 
 use crate::room::put;
 use crate::status::DWARF_OK;
@@ -24,9 +24,9 @@ pub extern "C" fn dwarf_uleb128(
     len: &mut usize,
     fault: &mut DwarfFault,
 ) -> u32
-    ensures read { result ≡ DWARF_OK → HasNumber unsigned64 bytes.now value.new len.new }
+    ensures read { result ≡ DWARF_OK → HasLeb128 unsigned64 bytes.now value.new len.new }
     ensures rejected { result ≢ DWARF_OK
-        → Rejects (HasNoNumber unsigned64 bytes.now) result fault.new }
+        → Rejects (HasNoLeb128 unsigned64 bytes.now) result fault.new }
     ensures no_value { result ≢ DWARF_OK → (value.new ≡ value.old) × (len.new ≡ len.old) }
     ensures no_fault { result ≡ DWARF_OK → fault.new ≡ fault.old }
 {
@@ -54,9 +54,9 @@ pub extern "C" fn dwarf_sleb128(
     len: &mut usize,
     fault: &mut DwarfFault,
 ) -> u32
-    ensures read { result ≡ DWARF_OK → HasNumber signed64 bytes.now value.new len.new }
+    ensures read { result ≡ DWARF_OK → HasLeb128 signed64 bytes.now value.new len.new }
     ensures rejected { result ≢ DWARF_OK
-        → Rejects (HasNoNumber signed64 bytes.now) result fault.new }
+        → Rejects (HasNoLeb128 signed64 bytes.now) result fault.new }
     ensures no_value { result ≢ DWARF_OK → (value.new ≡ value.old) × (len.new ≡ len.old) }
     ensures no_fault { result ≡ DWARF_OK → fault.new ≡ fault.old }
 {

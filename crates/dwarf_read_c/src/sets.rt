@@ -1,7 +1,7 @@
 //! Sets of addresses (DWARF 5, 7.27) and of string offsets (7.26).
 
 ghost use Rattle.std.specs.Prelude.{◌≡◌, ◌≢◌, ◌↔◌, ◌-◌, ◌<◌, ◌≤◌, ◌^◌, true, length, Err, IfErr, OnErr, OnOk};
-ghost use Rattle.dwarf_read_core.specs.Headers.{AddressHeaderAt, StringOffsetsHeaderAt};
+ghost use Rattle.dwarf_read_core.specs.Headers.{AddressHeaderRead, StringOffsetsHeaderRead};
 ghost use Rattle.dwarf_read_core.specs.Contributions.{ContributionAtOffset, addresses_of, string_offsets_of};
 ghost use Rattle.dwarf_read_c.specs.Extents.{StepsOver};
 ghost use Rattle.dwarf_read_c.specs.Fault.{Rejects};
@@ -64,12 +64,12 @@ pub extern "C" fn dwarf_address_set_0_3(
     fault: &mut DwarfFault,
 ) -> u32
     ensures found { let s = section_of section.now is_big in
-        result ≡ DWARF_OK → TellsSet AddressHeaderAt addresses_of s offset set.new }
+        result ≡ DWARF_OK → TellsSet AddressHeaderRead addresses_of s offset set.new }
     ensures end { (result ≡ DWARF_END) ↔ (offset ≡ length section.now) }
     ensures end_fault { result ≡ DWARF_END → fault.new ≡ fault.old }
     ensures rejected { let s = section_of section.now is_big in
         result ≢ DWARF_OK → result ≢ DWARF_END
-        → Rejects (λ e. ContributionAtOffset AddressHeaderAt (2 ^ 64 - 1) s offset (Err e))
+        → Rejects (λ e. ContributionAtOffset AddressHeaderRead (2 ^ 64 - 1) s offset (Err e))
         result fault.new }
 
     // An error of a set that lies within the section says where the next set may begin. No error
@@ -112,12 +112,12 @@ pub extern "C" fn dwarf_str_offset_set_0_3(
     fault: &mut DwarfFault,
 ) -> u32
     ensures found { let s = section_of section.now is_big in
-        result ≡ DWARF_OK → TellsSet StringOffsetsHeaderAt string_offsets_of s offset set.new }
+        result ≡ DWARF_OK → TellsSet StringOffsetsHeaderRead string_offsets_of s offset set.new }
     ensures end { (result ≡ DWARF_END) ↔ (offset ≡ length section.now) }
     ensures end_fault { result ≡ DWARF_END → fault.new ≡ fault.old }
     ensures rejected { let s = section_of section.now is_big in
         result ≢ DWARF_OK → result ≢ DWARF_END
-        → Rejects (λ e. ContributionAtOffset StringOffsetsHeaderAt (2 ^ 64 - 1) s offset (Err e))
+        → Rejects (λ e. ContributionAtOffset StringOffsetsHeaderRead (2 ^ 64 - 1) s offset (Err e))
         result fault.new }
 
     // An error of a set that lies within the section says where the next set may begin. No error
@@ -149,9 +149,9 @@ fn address_set_at<R: Reader<Offset = usize>>(
     requires starts { (R.view section).position ≡ 0 }
     requires clones { R.clone_is_free ≡ true }
     ensures found { let s = R.view section in
-        OnOk result (TellsSet AddressHeaderAt addresses_of s offset set.new) }
+        OnOk result (TellsSet AddressHeaderRead addresses_of s offset set.new) }
     ensures err { let s = R.view section in
-        IfErr result (λ e. ContributionAtOffset AddressHeaderAt (2 ^ 64 - 1) s offset (Err e)) }
+        IfErr result (λ e. ContributionAtOffset AddressHeaderRead (2 ^ 64 - 1) s offset (Err e)) }
     ensures stepped { StepsOver (R.view section) offset
         (set.old.next, set.old.unit_length) (set.new.next, set.new.unit_length) }
     ensures kept { OnErr result (set.new
@@ -176,8 +176,8 @@ fn str_offset_set_at<R: Reader<Offset = usize>>(
     requires starts { (R.view section).position ≡ 0 }
     requires clones { R.clone_is_free ≡ true }
     ensures found { let s = R.view section in
-        OnOk result (TellsSet StringOffsetsHeaderAt string_offsets_of s offset set.new) }
-    ensures err { let s = R.view section in let header = StringOffsetsHeaderAt in
+        OnOk result (TellsSet StringOffsetsHeaderRead string_offsets_of s offset set.new) }
+    ensures err { let s = R.view section in let header = StringOffsetsHeaderRead in
         IfErr result (λ e. ContributionAtOffset header (2 ^ 64 - 1) s offset (Err e)) }
     ensures stepped { StepsOver (R.view section) offset
         (set.old.next, set.old.unit_length) (set.new.next, set.new.unit_length) }

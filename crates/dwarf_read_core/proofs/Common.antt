@@ -40,9 +40,9 @@ pub use Rattle.dwarf_reader_core.specs.Appended.{followed_by, IsNotEof}
 pub use Rattle.dwarf_reader_core.specs.Faults.{IsTooShort, eof_here, is_number_size, HasNoByte, ReadsNoWord, CloneRanOutOfMemory}
 pub use Rattle.dwarf_reader_core.specs.Faults.{ReadsNoAddress, eof}
 pub use Rattle.dwarf_reader_core.specs.Input.{Input, first, Takes, after, TakesNumber, TakesString, end_of}
-pub use Rattle.dwarf_reader_core.specs.Leb128.{Kind, Number, IsEncoding, NoneIsLast, IsNumber, IsMalformed, unsigned64}
-pub use Rattle.dwarf_reader_core.specs.Leb128.{unsigned16, signed64, overflow_error, limit, value, is_in_range, HasNumber}
-pub use Rattle.dwarf_reader_core.specs.Leb128.{IsTruncated, ReadsNumber, ReadsNoNumber}
+pub use Rattle.dwarf_reader_core.specs.Leb128.{Kind, Number, IsEncoding, NoneIsLast, IsLeb128, IsMalformed, unsigned64}
+pub use Rattle.dwarf_reader_core.specs.Leb128.{unsigned16, signed64, overflow_error, limit, value, is_in_range, HasLeb128}
+pub use Rattle.dwarf_reader_core.specs.Leb128.{IsTruncated, ReadsLeb128, ReadsNoLeb128}
 pub use Rattle.dwarf_reader_core.specs.Once.{HasOne}
 pub use Rattle.dwarf_reader_core.proofs.public.Consuming.{rest-length, takes-both}
 pub use Rattle.dwarf_read_core.specs.Answer.{Answer, IsFinal, IsFirstError, HasError, number_cut, number_bad, children_cut}

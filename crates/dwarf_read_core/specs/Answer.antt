@@ -4,7 +4,7 @@ use Rattle.std.specs.FinMap as finite
 use Rattle.std.specs.List.{Any}
 use Rattle.dwarf_base_core.specs.declared.error.Error.{Error}
 use Rattle.dwarf_base_core.specs.declared.error.Error.TheVariants.{AbbreviationTagZero, InvalidAbbreviationChildren, AttributeNameZero, AttributeFormZero, DuplicateAbbreviationCode, OutOfMemory, UnterminatedAbbreviations}
-use Rattle.dwarf_reader_core.specs.Leb128.{Kind, unsigned64, unsigned16, signed64, overflow_error, IsNumber, IsTruncated, IsMalformed}
+use Rattle.dwarf_reader_core.specs.Leb128.{Kind, unsigned64, unsigned16, signed64, overflow_error, IsLeb128, IsTruncated, IsMalformed}
 use Rattle.dwarf_reader_core.specs.Faults.{eof}
 use Rattle.dwarf_reader_core.specs.Input.{Input, end_of}
 use Rattle.dwarf_reader_core.specs.Appended.{IsNotEof}
@@ -16,10 +16,10 @@ pub data IsBeginning : List ℕ → Kind → Type 0 where
   before_code : IsBeginning [] unsigned64
   before_tag : (bytes : List ℕ) (code : ℕ) → IsCode bytes code → IsBeginning bytes unsigned16
   before_name : (bytes : List ℕ) (d : Declaration) → IsFront bytes d → IsBeginning bytes unsigned16
-  before_form : (bytes name : List ℕ) (d : Declaration) (n : ℕ) → IsFront bytes d → IsNumber unsigned16 name n
+  before_form : (bytes name : List ℕ) (d : Declaration) (n : ℕ) → IsFront bytes d → IsLeb128 unsigned16 name n
       → IsBeginning (bytes ++ name) unsigned16
   before_value : (bytes name form : List ℕ) (d : Declaration) (n : ℕ) → IsFront bytes d
-      → IsNumber unsigned16 name n → 0 < n → IsNumber unsigned16 form implicit_const
+      → IsLeb128 unsigned16 name n → 0 < n → IsLeb128 unsigned16 form implicit_const
       → IsBeginning (bytes ++ name ++ form) signed64
 
 -- bytes that begin like a declaration, and then have this error
@@ -29,15 +29,15 @@ pub data HasError (end : ℕ) : List ℕ → Error → Type 0 where
   number_bad : (front bytes : List ℕ) (k : Kind) → IsBeginning front k → IsMalformed k bytes
       → HasError end (front ++ bytes) (overflow_error k)
   children_cut : (front : List ℕ) (code tag : ℕ) → IsHead front code tag → HasError end front (eof end)
-  tag_zero : (front tag rest : List ℕ) (code : ℕ) → IsCode front code → IsNumber unsigned16 tag 0
+  tag_zero : (front tag rest : List ℕ) (code : ℕ) → IsCode front code → IsLeb128 unsigned16 tag 0
       → HasError end (front ++ tag ++ rest) AbbreviationTagZero
   children_bad : (front rest : List ℕ) (code tag byte : ℕ) → IsHead front code tag → 1 < byte
       → HasError end (front ++ byte ∷ rest) (InvalidAbbreviationChildren (record { 0 = byte }))
   name_zero : (front name form rest : List ℕ) (d : Declaration) (f : ℕ) → IsFront front d
-      → IsNumber unsigned16 name 0 → IsNumber unsigned16 form f → 0 < f
+      → IsLeb128 unsigned16 name 0 → IsLeb128 unsigned16 form f → 0 < f
       → HasError end (front ++ name ++ form ++ rest) AttributeNameZero
   form_zero : (front name form rest : List ℕ) (d : Declaration) (n : ℕ) → IsFront front d
-      → IsNumber unsigned16 name n → 0 < n → IsNumber unsigned16 form 0
+      → IsLeb128 unsigned16 name n → 0 < n → IsLeb128 unsigned16 form 0
       → HasError end (front ++ name ++ form ++ rest) AttributeFormZero
 
 -- the first error of bytes that don't begin with a table
@@ -91,7 +91,7 @@ IsFinal (Err e) = (position : ℕ) → e ≢ eof position
 abbrev pub TakesNoMemory : Input → ℕ → Type 0
 TakesNoMemory section offset =
     (length section.bytes ≤ offset) ⊎ ((zero_code rest : List ℕ) × (drop offset section.bytes ≡ zero_code ++ rest)
-    × IsNumber unsigned64 zero_code 0)
+    × IsLeb128 unsigned64 zero_code 0)
 
 -- if clones can't fail, memory doesn't run out where none is needed
 abbrev pub SparesMemory : {X : Type 0} → Bool → Input → ℕ → Result X Error → Type 0

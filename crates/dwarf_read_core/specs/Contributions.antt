@@ -6,7 +6,7 @@ use Rattle.dwarf_base_core.specs.declared.error.Error.{Error}
 use Rattle.dwarf_base_core.specs.Format.{initial_length_size, word_size}
 use Rattle.dwarf_reader_core.specs.Appended.{followed_by}
 use Rattle.dwarf_reader_core.specs.Faults.{CloneRanOutOfMemory}
-use Rattle.dwarf_reader_core.specs.InitialLength.{LengthAt}
+use Rattle.dwarf_reader_core.specs.InitialLength.{LengthRead}
 use Rattle.dwarf_reader_core.specs.Input.{Input}
 use Rattle.dwarf_reader_core.specs.Readings.{Given, PartRead, Reading, SkipRead, Within, ◌>>=◌}
 use Rattle.dwarf_read_core.specs.Entries.{Entries}
@@ -63,7 +63,7 @@ contribution_size s = initial_length_size s.format + s.unit_length
 -- bytes as that says, which are a header and the entries
 abbrev pub ContributionRead : {H : Type 0} → Header H → ℕ → ℕ → Reading (Contribution H)
 ContributionRead header greatest offset = do
-  size ← LengthAt greatest
+  size ← LengthRead greatest
   unit ← PartRead size.1
   said ← Within unit (header greatest size.0)
   Given (Ok (record {
@@ -78,7 +78,7 @@ ContributionRead header greatest offset = do
 abbrev pub ReadsNoContribution : {H : Type 0} → Header H → ℕ → Bool → ℕ → Input → Error → Input → Type 0
 ReadsNoContribution header greatest clone_is_free offset old e new =
     ContributionRead header greatest offset old (Err e, new)
-    ⊎ (CloneRanOutOfMemory clone_is_free e × (size : Format × ℕ) × LengthAt greatest old (Ok size, new))
+    ⊎ (CloneRanOutOfMemory clone_is_free e × (size : Format × ℕ) × LengthRead greatest old (Ok size, new))
 
 -- the result for the contribution at an offset of a section: the contribution, or the error that there is none
 abbrev pub ContributionAtOffset : {H : Type 0} → Header H → ℕ → Input → ℕ → Result (Contribution H) Error → Type 0
@@ -90,8 +90,8 @@ abbrev pub end_of_remaining : Remaining → ℕ
 end_of_remaining remaining = remaining.offset + length remaining.rest.bytes
 
 -- the first of the contributions that remain, and those that remain after it, which end where all end
-abbrev pub ContributionAt : {H : Type 0} → Header H → ℕ → Remaining → Result (Contribution H) Error × Remaining → Type 0
-ContributionAt header greatest old (result, new) =
+abbrev pub FirstContribution : {H : Type 0} → Header H → ℕ → Remaining → Result (Contribution H) Error × Remaining → Type 0
+FirstContribution header greatest old (result, new) =
     ContributionRead header greatest old.offset old.rest (result, new.rest)
     × (end_of_remaining new ≡ end_of_remaining old)
 
@@ -100,7 +100,7 @@ ContributionAt header greatest old (result, new) =
 abbrev pub RepresentsContributions : {H : Type 0} → Header H → ℕ → Remaining → List (Result (Contribution H) Error)
     → Type 0
 RepresentsContributions header greatest remaining items =
-    AreItems (λ (h : Remaining). h.rest) (ContributionAt header greatest) remaining items
+    AreItems (λ (h : Remaining). h.rest) (FirstContribution header greatest) remaining items
 
 -- the items of the contributions that remain of a reader
 abbrev pub RepresentsContributionsOf : {H R : Type 0} → (R → Input) → Header H → ℕ → RemainingOf R

@@ -20,8 +20,8 @@ VersionRead = do
   Required (version == 5) (UnknownVersion version)
 
 -- the header of a set of addresses says their size; after it is the segment size, which has to be 0
-abbrev pub AddressHeaderAt : Header ℕ
-AddressHeaderAt greatest format = do
+abbrev pub AddressHeaderRead : Header ℕ
+AddressHeaderRead greatest format = do
   _ ← VersionRead
   size ← AddressSizeRead
   segment ← NumberRead 1
@@ -29,8 +29,8 @@ AddressHeaderAt greatest format = do
   Given (Ok size)
 
 -- the header of a set of string offsets says nothing after its version but two bytes of any value
-abbrev pub StringOffsetsHeaderAt : Header (Unit {0})
-StringOffsetsHeaderAt greatest format = do
+abbrev pub StringOffsetsHeaderRead : Header (Unit {0})
+StringOffsetsHeaderRead greatest format = do
   _ ← VersionRead
   _ ← NumberRead 2
   Given (Ok tt)

@@ -27,6 +27,6 @@ pub data HasNoLength (greatest : ℕ) (old : Input) : Error → Input → Type 0
       → HasNoLength greatest old UnsupportedOffset new
 
 -- the result for the initial length at the front of an input, and what remains then
-abbrev pub LengthAt : ℕ → Input → Result (Format × ℕ) Error × Input → Type 0
-LengthAt greatest old (Ok x, new) = HasLength greatest old x.0 x.1 new
-LengthAt greatest old (Err e, new) = HasNoLength greatest old e new
+abbrev pub LengthRead : ℕ → Input → Result (Format × ℕ) Error × Input → Type 0
+LengthRead greatest old (Ok x, new) = HasLength greatest old x.0 x.1 new
+LengthRead greatest old (Err e, new) = HasNoLength greatest old e new

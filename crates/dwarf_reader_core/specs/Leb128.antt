@@ -62,16 +62,16 @@ overflow_error unsigned16 = BadUnsignedLeb128
 overflow_error signed64 = BadSignedLeb128
 
 -- the bytes encode this number of the kind, within its limit and its range
-pub record IsNumber (k : Kind) (bytes : List ℕ) (number : Number k) : Type 0 where
+pub record IsLeb128 (k : Kind) (bytes : List ℕ) (number : Number k) : Type 0 where
   pub encoding : IsEncoding bytes
   pub within : length bytes ≤ limit k
   pub means : value k bytes ≡ number
   pub in_range : IsTrue (is_in_range k number)
 
 -- the first n bytes encode the number
-pub record HasNumber (k : Kind) (bytes : List ℕ) (number : Number k) (n : ℕ) : Type 0 where
+pub record HasLeb128 (k : Kind) (bytes : List ℕ) (number : Number k) (n : ℕ) : Type 0 where
   pub enough : n ≤ length bytes
-  pub is_number : IsNumber k (take n bytes) number
+  pub is_number : IsLeb128 k (take n bytes) number
 
 -- the bytes end before the limit of the kind, and none of them is the last of an encoding, which is below 128
 pub record IsTruncated (k : Kind) (bytes : List ℕ) : Type 0 where
@@ -80,7 +80,7 @@ pub record IsTruncated (k : Kind) (bytes : List ℕ) : Type 0 where
 
 -- the bytes begin with no number of the kind, and not just because they end too early
 pub record IsMalformed (k : Kind) (bytes : List ℕ) : Type 0 where
-  pub no_number : (number : Number k) (n : ℕ) → HasNumber k bytes number n → ⊥
+  pub no_number : (number : Number k) (n : ℕ) → HasLeb128 k bytes number n → ⊥
   pub not_cut : IsTruncated k bytes → ⊥
 
 -- what is read from bytes
@@ -93,31 +93,31 @@ pub data Outcome (k : Kind) : Type 0 where
   Bad : Outcome k
 
 abbrev pub HasOutcome : (k : Kind) → List ℕ → Outcome k → Type 0
-HasOutcome k bytes (Value number n) = HasNumber k bytes number n
+HasOutcome k bytes (Value number n) = HasLeb128 k bytes number n
 HasOutcome k bytes End = IsTruncated k bytes
 HasOutcome k bytes Bad = IsMalformed k bytes
 
 -- a number is read, and its bytes are consumed
-pub record ReadsNumber (k : Kind) (old : Input) (number : Number k) (new : Input) : Type 0 where
+pub record ReadsLeb128 (k : Kind) (old : Input) (number : Number k) (new : Input) : Type 0 where
   pub len : ℕ
-  pub has : HasNumber k old.bytes number len
+  pub has : HasLeb128 k old.bytes number len
   pub left : new ≡ after len old
 
 -- the bytes end before the number does, and all are consumed
-pub record IsTruncatedNumber (k : Kind) (old : Input) (e : Error) (new : Input) : Type 0 where
+pub record IsTruncatedLeb128 (k : Kind) (old : Input) (e : Error) (new : Input) : Type 0 where
   pub cut : IsTruncated k old.bytes
   pub left : new ≡ after (length old.bytes) old
   pub fault : e ≡ eof_here new
 
 -- the bytes are bad, and as many as the limit of the kind are consumed
-pub record IsMalformedNumber (k : Kind) (old : Input) (e : Error) (new : Input) : Type 0 where
+pub record IsMalformedLeb128 (k : Kind) (old : Input) (e : Error) (new : Input) : Type 0 where
   pub bad : IsMalformed k old.bytes
   pub left : new ≡ after (limit k) old
   pub fault : e ≡ overflow_error k
 
 -- no number is read, with one of two errors
-abbrev pub ReadsNoNumber : Kind → Input → Error → Input → Type 0
-ReadsNoNumber k old e new = IsTruncatedNumber k old e new ⊎ IsMalformedNumber k old e new
+abbrev pub ReadsNoLeb128 : Kind → Input → Error → Input → Type 0
+ReadsNoLeb128 k old e new = IsTruncatedLeb128 k old e new ⊎ IsMalformedLeb128 k old e new
 
 -- an encoding of any length is consumed
 pub record TakesEncoding (old new : Input) : Type 0 where
@@ -139,6 +139,6 @@ pub record TakesNoEncoding (old : Input) (e : Error) (new : Input) : Type 0 wher
 -- a number is read, and it is at least the bound
 pub record IsOver (bound : ℕ) (old : Input) (e : Error) (new : Input) : Type 0 where
   pub number : ℕ
-  pub taken : ReadsNumber unsigned64 old number new
+  pub taken : ReadsLeb128 unsigned64 old number new
   pub over : bound ≤ number
   pub fault : e ≡ BadUnsignedLeb128

@@ -4,7 +4,7 @@ use Rattle.dwarf_base_core.specs.declared.error.Error.{Error}
 use Rattle.dwarf_reader_core.specs.Appended.{IsNotEof, followed_by}
 use Rattle.dwarf_reader_core.specs.Faults.{HasNoByte, IsTooShort, IsUnsupportedAddressSize, ReadsNoAddress, ReadsNoOffset, ReadsNoWord, eof, is_number_size}
 use Rattle.dwarf_reader_core.specs.Input.{Input, Takes, TakesByte, TakesNumber, TakesSigned, TakesString, first}
-use Rattle.dwarf_reader_core.specs.Leb128.{IsOver, Kind, Number, ReadsNoNumber, ReadsNumber, TakesEncoding, TakesNoEncoding, unsigned64}
+use Rattle.dwarf_reader_core.specs.Leb128.{IsOver, Kind, Number, ReadsNoLeb128, ReadsLeb128, TakesEncoding, TakesNoEncoding, unsigned64}
 use Rattle.dwarf_reader_core.specs.Once.{HasOne}
 
 -- a reading relates an input to a value or an error, and to what remains after either
@@ -45,13 +45,13 @@ SignedRead n old (Err e, new) = IsTooShort n old e new
 
 -- a LEB128 number of a kind
 abbrev pub Leb128Read : (k : Kind) → Reading (Number k)
-Leb128Read k old (Ok x, new) = ReadsNumber k old x new
-Leb128Read k old (Err e, new) = ReadsNoNumber k old e new
+Leb128Read k old (Ok x, new) = ReadsLeb128 k old x new
+Leb128Read k old (Err e, new) = ReadsNoLeb128 k old e new
 
 -- an unsigned LEB128 number below a bound
 abbrev pub BoundedRead : ℕ → Reading ℕ
-BoundedRead bound old (Ok x, new) = ReadsNumber unsigned64 old x new × (x < bound)
-BoundedRead bound old (Err e, new) = ReadsNoNumber unsigned64 old e new ⊎ IsOver bound old e new
+BoundedRead bound old (Ok x, new) = ReadsLeb128 unsigned64 old x new × (x < bound)
+BoundedRead bound old (Err e, new) = ReadsNoLeb128 unsigned64 old e new ⊎ IsOver bound old e new
 
 -- a LEB128 encoding of any length, which is skipped
 abbrev pub EncodingRead : Reading ⊤

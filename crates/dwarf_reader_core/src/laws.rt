@@ -6,9 +6,9 @@ ghost use Rattle.dwarf_base_core.specs.declared.error.Error.{Error};
 ghost use Rattle.dwarf_base_core.specs.declared.error.Error.TheVariants.{UnknownVersion, UnsupportedSegmentSize};
 ghost use Rattle.dwarf_reader_core.specs.Input.{Input, Takes, TakesNumber, TakesSigned, section_of};
 ghost use Rattle.dwarf_reader_core.specs.Faults.{IsCutIn, IsTooShort, ReadsNoOffset, eof, is_number_size};
-ghost use Rattle.dwarf_reader_core.specs.Headers.{AddressHeaderAt, StringOffsetsHeaderAt};
-ghost use Rattle.dwarf_reader_core.specs.InitialLength.{LengthAt};
-ghost use Rattle.dwarf_reader_core.specs.Leb128.{unsigned64, unsigned16, signed64, HasNumber, HasOutcome, IsEncoding, IsMalformed, IsOver, Kind, Number, ReadsNoNumber, ReadsNumber, TakesEncoding, TakesNoEncoding, is_in_range, limit};
+ghost use Rattle.dwarf_reader_core.specs.Headers.{AddressHeaderRead, StringOffsetsHeaderRead};
+ghost use Rattle.dwarf_reader_core.specs.InitialLength.{LengthRead};
+ghost use Rattle.dwarf_reader_core.specs.Leb128.{unsigned64, unsigned16, signed64, HasLeb128, HasOutcome, IsEncoding, IsMalformed, IsOver, Kind, Number, ReadsNoLeb128, ReadsLeb128, TakesEncoding, TakesNoEncoding, is_in_range, limit};
 ghost use Rattle.dwarf_reader_core.specs.Once.{HasOne};
 ghost use Rattle.dwarf_reader_core.specs.Readings.{AddressRead, AddressSizeRead, BoundedRead, BytesRead, EncodingRead, IsRead, Leb128Read, NumberRead, OffsetRead, PartRead, SignedRead, SkipRead, StringRead, WordRead};
 ghost use Rattle.dwarf_reader_core.specs.Shortest.{Encodes, IsShortest};
@@ -27,7 +27,7 @@ pub fn exactly_one_outcome()
 #[tactic(auto, using(crate::proofs::leb::Malformed::bad_bytes))]
 pub fn bad_bytes_stay_bad()
     ensures { (k : Kind) (bytes : List ℕ) → IsMalformed k bytes
-        ↔ ((more : List ℕ) (number : Number k) (n : ℕ) → HasNumber k (bytes ++ more) number n → ⊥) }
+        ↔ ((more : List ℕ) (number : Number k) (n : ℕ) → HasLeb128 k (bytes ++ more) number n → ⊥) }
 {}
 
 /// No encoding begins another.
@@ -45,11 +45,11 @@ pub fn exactly_one_shortest()
 
 /// Bytes that encode a number are read as that number, whatever follows, if they are within the
 /// limit of its kind, and the number is in its range.
-#[tactic(auto, using(crate::proofs::leb::Shortest::HasNumber_append))]
+#[tactic(auto, using(crate::proofs::leb::Shortest::HasLeb128_append))]
 pub fn written_is_read()
     ensures { (k : Kind) (number : Number k) (bytes rest : List ℕ) → Encodes k bytes number
         → length bytes ≤ limit k → IsTrue (is_in_range k number)
-        → HasNumber k (bytes ++ rest) number (length bytes) }
+        → HasLeb128 k (bytes ++ rest) number (length bytes) }
 {}
 
 /// An `UnexpectedEof` in place of a header or an initial length is that of the first field that isn't
@@ -57,13 +57,13 @@ pub fn written_is_read()
 #[tactic(auto, using(crate::proofs::public::Headers::missing_fields))]
 pub fn missing_bytes_of_headers()
     ensures address { (greatest : ℕ) (format : Format) (unit new : Input) (position : ℕ)
-        → AddressHeaderAt greatest format unit (Err (eof position), new)
+        → AddressHeaderRead greatest format unit (Err (eof position), new)
         → IsCutIn unit (2 ∷ 1 ∷ 1 ∷ []) (eof position) }
     ensures string_offsets { (greatest : ℕ) (format : Format) (unit new : Input) (position : ℕ)
-        → StringOffsetsHeaderAt greatest format unit (Err (eof position), new)
+        → StringOffsetsHeaderRead greatest format unit (Err (eof position), new)
         → IsCutIn unit (2 ∷ 2 ∷ []) (eof position) }
     ensures initial_length { (greatest : ℕ) (old new : Input) (position : ℕ)
-        → LengthAt greatest old (Err (eof position), new)
+        → LengthRead greatest old (Err (eof position), new)
         → IsCutIn old (4 ∷ 8 ∷ []) (eof position) }
 {}
 
@@ -71,9 +71,9 @@ pub fn missing_bytes_of_headers()
 #[tactic(auto, using(crate::proofs::public::Headers::four_bytes))]
 pub fn headers_of_sets_have_four_bytes()
     ensures address { (greatest : ℕ) (format : Format) (unit rest : Input) (size : ℕ)
-        → AddressHeaderAt greatest format unit (Ok size, rest) → Takes 4 unit rest }
+        → AddressHeaderRead greatest format unit (Ok size, rest) → Takes 4 unit rest }
     ensures string_offsets { (greatest : ℕ) (format : Format) (unit rest : Input)
-        → StringOffsetsHeaderAt greatest format unit (Ok tt, rest) → Takes 4 unit rest }
+        → StringOffsetsHeaderRead greatest format unit (Ok tt, rest) → Takes 4 unit rest }
 {}
 
 /// What a call reads is determined by the bytes: there is exactly one result, and exactly one input
@@ -90,7 +90,7 @@ pub fn exactly_one_read()
     ensures leb128 { (k : Kind) → IsRead (Leb128Read k) }
     ensures bounded_leb128 { (bound : ℕ) → IsRead (BoundedRead bound) }
     ensures skipped_leb128 { IsRead EncodingRead }
-    ensures initial_length { (greatest : ℕ) → IsRead (LengthAt greatest) }
+    ensures initial_length { (greatest : ℕ) → IsRead (LengthRead greatest) }
     ensures address_size { IsRead AddressSizeRead }
     ensures address { (size : ℕ) → IsRead (AddressRead size) }
     ensures word { (greatest n : ℕ) → IsRead (WordRead greatest n) }
@@ -107,11 +107,11 @@ pub fn promises_are_read()
         → IfOk result (λ x. TakesSigned n old x new)
         → IfErr result (λ e. IsTooShort n old e new) → SignedRead n old (result, new) }
     ensures leb128 { (k : Kind) (old new : Input) (result : Result (Number k) Error)
-        → IfOk result (λ x. ReadsNumber k old x new)
-        → IfErr result (λ e. ReadsNoNumber k old e new) → Leb128Read k old (result, new) }
+        → IfOk result (λ x. ReadsLeb128 k old x new)
+        → IfErr result (λ e. ReadsNoLeb128 k old e new) → Leb128Read k old (result, new) }
     ensures bounded_leb128 { (bound : ℕ) (old new : Input) (result : Result ℕ Error)
-        → IfOk result (λ x. ReadsNumber unsigned64 old x new) → IfOk result (λ x. x < bound)
-        → IfErr result (λ e. ReadsNoNumber unsigned64 old e new ⊎ IsOver bound old e new)
+        → IfOk result (λ x. ReadsLeb128 unsigned64 old x new) → IfOk result (λ x. x < bound)
+        → IfErr result (λ e. ReadsNoLeb128 unsigned64 old e new ⊎ IsOver bound old e new)
         → BoundedRead bound old (result, new) }
     ensures skipped_leb128 { (old new : Input) (result : Result ⊤ Error)
         → OnOk result (TakesEncoding old new) → IfErr result (λ e. TakesNoEncoding old e new)
@@ -128,17 +128,17 @@ pub fn promises_are_read()
 /// isn't supported is an error, and the bytes up to it are consumed.
 pub fn headers_of_sets_by_their_bytes()
     ensures address { (greatest : ℕ) (format : Format) (bytes : List ℕ)
-        → AddressHeaderAt greatest format (section_of (5 ∷ 0 ∷ 8 ∷ 0 ∷ bytes) false)
+        → AddressHeaderRead greatest format (section_of (5 ∷ 0 ∷ 8 ∷ 0 ∷ bytes) false)
         (Ok 8, record { bytes = bytes; position = 4; is_big = false }) }
     ensures version { (greatest : ℕ) (format : Format) (bytes : List ℕ)
-        → AddressHeaderAt greatest format (section_of (4 ∷ 0 ∷ bytes) false)
+        → AddressHeaderRead greatest format (section_of (4 ∷ 0 ∷ bytes) false)
         (Err (UnknownVersion 4), record { bytes = bytes; position = 2; is_big = false }) }
     ensures segment_size { (greatest : ℕ) (format : Format) (bytes : List ℕ)
-        → AddressHeaderAt greatest format (section_of (5 ∷ 0 ∷ 8 ∷ 1 ∷ bytes) false) (
+        → AddressHeaderRead greatest format (section_of (5 ∷ 0 ∷ 8 ∷ 1 ∷ bytes) false) (
           Err (UnsupportedSegmentSize 1),
           record { bytes = bytes; position = 4; is_big = false },
         ) }
     ensures string_offsets { (greatest : ℕ) (format : Format) (bytes : List ℕ)
-        → StringOffsetsHeaderAt greatest format (section_of (0 ∷ 5 ∷ 7 ∷ 9 ∷ bytes) true)
+        → StringOffsetsHeaderRead greatest format (section_of (0 ∷ 5 ∷ 7 ∷ 9 ∷ bytes) true)
         (Ok tt, record { bytes = bytes; position = 4; is_big = true }) }
 {}

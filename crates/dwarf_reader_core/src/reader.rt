@@ -8,7 +8,7 @@ ghost use Rattle.dwarf_base_core.specs.declared.error.Error.TheVariants.{BadUtf8
 ghost use Rattle.dwarf_base_core.specs.Format.{word_size};
 ghost use Rattle.dwarf_reader_core.specs.Input.{Input, first, IsPartOf, IsBounded, IsFirst, Covers, Takes, TakesByte, TakesNumber, TakesSigned, TakesString};
 ghost use Rattle.dwarf_reader_core.specs.Faults.{IsTooShort, IsUnsupportedAddressSize, HasNoByte, ReadsNoAddress, ReadsNoOffset, ReadsNoWord, CloneRanOutOfMemory, is_number_size};
-ghost use Rattle.dwarf_reader_core.specs.Leb128.{unsigned64, unsigned16, signed64, IsOver, TakesNoEncoding, ReadsNumber, ReadsNoNumber, TakesEncoding};
+ghost use Rattle.dwarf_reader_core.specs.Leb128.{unsigned64, unsigned16, signed64, IsOver, TakesNoEncoding, ReadsLeb128, ReadsNoLeb128, TakesEncoding};
 ghost use Rattle.dwarf_reader_core.specs.InitialLength.{HasLength, HasNoLength};
 
 use crate::leb128::{
@@ -430,9 +430,9 @@ pub trait Reader: Debug + Drop + Sized {
     /// [as for all numbers](crate::leb128#limits-and-errors).
     #[inline(always)]
     fn read_uleb128(&mut self) -> Result<u64>
-        ensures ok { IfOk result (λ v. ReadsNumber unsigned64 (view self.old) v (view self.new)) }
+        ensures ok { IfOk result (λ v. ReadsLeb128 unsigned64 (view self.old) v (view self.new)) }
         ensures err { IfErr result
-            (λ e. ReadsNoNumber unsigned64 (view self.old) e (view self.new)) }
+            (λ e. ReadsNoLeb128 unsigned64 (view self.old) e (view self.new)) }
         ensures order { order self.new ≡ order self.old }
     {
         read_uleb128!(self)
@@ -446,8 +446,8 @@ pub trait Reader: Debug + Drop + Sized {
     /// number is 2^32 or more. Its bytes are consumed then.
     #[inline]
     fn read_uleb128_u32(&mut self) -> Result<u32>
-        ensures ok { IfOk result (λ v. ReadsNumber unsigned64 (view self.old) v (view self.new)) }
-        ensures err { IfErr result (λ e. ReadsNoNumber unsigned64 (view self.old) e (view self.new)
+        ensures ok { IfOk result (λ v. ReadsLeb128 unsigned64 (view self.old) v (view self.new)) }
+        ensures err { IfErr result (λ e. ReadsNoLeb128 unsigned64 (view self.old) e (view self.new)
             ⊎ IsOver (2 ^ 32) (view self.old) e (view self.new)) }
         ensures order { order self.new ≡ order self.old }
     {
@@ -463,9 +463,9 @@ pub trait Reader: Debug + Drop + Sized {
     /// [as for all numbers](crate::leb128#limits-and-errors).
     #[inline(always)]
     fn read_uleb128_u16(&mut self) -> Result<u16>
-        ensures ok { IfOk result (λ v. ReadsNumber unsigned16 (view self.old) v (view self.new)) }
+        ensures ok { IfOk result (λ v. ReadsLeb128 unsigned16 (view self.old) v (view self.new)) }
         ensures err { IfErr result
-            (λ e. ReadsNoNumber unsigned16 (view self.old) e (view self.new)) }
+            (λ e. ReadsNoLeb128 unsigned16 (view self.old) e (view self.new)) }
         ensures order { order self.new ≡ order self.old }
     {
         let first = self.read_u8()?;
@@ -493,8 +493,8 @@ pub trait Reader: Debug + Drop + Sized {
     /// [as for all numbers](crate::leb128#limits-and-errors).
     #[inline(always)]
     fn read_sleb128(&mut self) -> Result<i64>
-        ensures ok { IfOk result (λ v. ReadsNumber signed64 (view self.old) v (view self.new)) }
-        ensures err { IfErr result (λ e. ReadsNoNumber signed64 (view self.old) e (view self.new)) }
+        ensures ok { IfOk result (λ v. ReadsLeb128 signed64 (view self.old) v (view self.new)) }
+        ensures err { IfErr result (λ e. ReadsNoLeb128 signed64 (view self.old) e (view self.new)) }
         ensures order { order self.new ≡ order self.old }
     {
         read_sleb128!(self)

@@ -12,7 +12,7 @@ use Rattle.dwarf_reader_core.proofs.public.Readings.{initial_length-is, part-is,
 use Rattle.dwarf_reader_core.proofs.public.InitialLengths.{length_taken}
 use Rattle.dwarf_reader_core.specs.Headers.{Header, IsHeader}
 use Rattle.dwarf_read_core.specs.Items.{only_error}
-use Rattle.dwarf_read_core.specs.Contributions.{ContributionAt, ContributionRead, ReadsNoContribution, contribution_size}
+use Rattle.dwarf_read_core.specs.Contributions.{FirstContribution, ContributionRead, ReadsNoContribution, contribution_size}
 use Rattle.dwarf_read_core.proofs.contributions.ItemLists.{bytes-still_some, items-same, TakesLeast, items-exactly_one, items-bounded, item-first, error-first, first-is, items-none}
 
 -- as many bytes fewer remain as a contribution that is taken has
@@ -75,13 +75,13 @@ module _ {H : Type 0} {header : Header H} (is_header : IsHeader header) (greates
   -- what is read of the bytes is the first of the contributions that remain
   contribution_read-first : (offset : ℕ) (old new : Input) (r : Result (Contribution H) Error)
       → ContributionRead header greatest offset old (r, new)
-      → ContributionAt header greatest (contributions_at offset old) (r, after_read offset old new)
+      → FirstContribution header greatest (contributions_at offset old) (r, after_read offset old new)
   contribution_read-first offset old new r is =
       let taken = (contribution-decided offset).taken old new r is in
       (is, omega (arith, rest-length taken.0 old new taken.1, taken.1.enough))
 
   -- there is exactly one result for the first of the contributions that remain
-  pub contribution_exactly_one : (remaining : Remaining) → HasOne (ContributionAt header greatest remaining)
+  pub contribution_exactly_one : (remaining : Remaining) → HasOne (FirstContribution header greatest remaining)
   contribution_exactly_one remaining =
       let offset = remaining.offset in
       let old = remaining.rest in
@@ -98,7 +98,7 @@ module _ {H : Type 0} {header : Header H} (is_header : IsHeader header) (greates
       )
 
   -- a contribution has its initial length, and as many bytes as that says
-  pub contribution_least : TakesLeast (λ (h : Remaining). h.rest) (ContributionAt header greatest) contribution_size
+  pub contribution_least : TakesLeast (λ (h : Remaining). h.rest) (FirstContribution header greatest) contribution_size
   contribution_least = record {
     by = λ old new s is.
         omega (arith, contribution_bound (contribution_takes header greatest old.offset old.rest s new.rest is.0));
@@ -122,8 +122,8 @@ module _ {H : Type 0} {header : Header H} (is_header : IsHeader header) (greates
 
   -- the first of the contributions that remain stays so
   first-more : (more : List ℕ) (old new : Remaining) (r : Result (Contribution H) Error)
-      → ContributionAt header greatest old (r, new) → IfErr r IsNotEof
-      → ContributionAt header greatest (followed_remaining more old) (r, followed_remaining more new)
+      → FirstContribution header greatest old (r, new) → IfErr r IsNotEof
+      → FirstContribution header greatest (followed_remaining more old) (r, followed_remaining more new)
   first-more more old new r is settled = (
     (contribution-decided old.offset).more old.rest new.rest r more is.0 settled,
     omega (arith, is.1, length-append old.rest.bytes more, length-append new.rest.bytes more),
@@ -154,7 +154,7 @@ module _ {H : Type 0} {header : Header H} (is_header : IsHeader header) (greates
   module _ (offset : ℕ) (rest : Input) {at : ℕ} (new : Input) {e : Error} (is_free : Bool) (some : rest.bytes ≢ [])
       (fails : ReadsNoContribution header greatest is_free at rest e new) (same : at ≡ offset) where
     -- an error in place of a contribution is the one there, or memory ran out
-    fails_there : ContributionAt header greatest (contributions_at offset rest) (Err e, after_read offset rest new)
+    fails_there : FirstContribution header greatest (contributions_at offset rest) (Err e, after_read offset rest new)
         ⊎ CloneRanOutOfMemory is_free e
     fails_there = elim fails [
       | inl lacks ↦
@@ -186,7 +186,7 @@ module _ {H : Type 0} {header : Header H} (is_header : IsHeader header) (greates
       (read : ContributionRead header greatest at rest (Ok s, left))
       (same : at ≡ offset) (following : place ≡ offset + (length rest.bytes - length left.bytes)) where
     -- a contribution that is read at `at`, the offset as the code computes it, is at the offset
-    is_there : ContributionAt header greatest (contributions_at offset rest) (Ok s, contributions_at place left)
+    is_there : FirstContribution header greatest (contributions_at offset rest) (Ok s, contributions_at place left)
     is_there = (
       subst (λ n. ContributionRead header greatest n rest (Ok s, left)) same read,
       omega (arith, following, contribution_bound (contribution_takes header greatest at rest s left read)),

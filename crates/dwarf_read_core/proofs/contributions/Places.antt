@@ -12,7 +12,7 @@ use Rattle.dwarf_read_core.specs.Items.{AreItems, no_items, value_first, only_er
 use Rattle.dwarf_read_core.specs.Ranges.{RangeAt}
 use Rattle.dwarf_read_core.proofs.lookups.Ranges.{after-first, range_taken}
 use Rattle.dwarf_read_core.proofs.lookups.Results.{read_at-reached}
-use Rattle.dwarf_read_core.specs.Contributions.{ContributionAt, ContributionRead, RepresentsContributions, contribution_size, end_of_remaining}
+use Rattle.dwarf_read_core.specs.Contributions.{FirstContribution, ContributionRead, RepresentsContributions, contribution_size, end_of_remaining}
 
 -- a part of what remains after k bytes is a part of all, k bytes later
 range_after : {k offset n : ℕ} {rest part : Input} → k ≤ length rest.bytes → RangeAt (after k rest) offset n (Ok part)
@@ -81,7 +81,7 @@ module _ {H : Type 0} {header : Header H} (is_header : IsHeader header) (greates
   -- a contribution of a list is at the front of what remains when some bytes are passed
   contribution_passed : {remaining : Remaining} {items : List (Result (Contribution H) Error)} (index : ℕ)
       {s : Contribution H}
-      → AreItems (λ (h : Remaining). h.rest) (ContributionAt header greatest) remaining items
+      → AreItems (λ (h : Remaining). h.rest) (FirstContribution header greatest) remaining items
       → slice_get items index ≡ Some (Ok s)
       → (far : ℕ) × (far ≤ length remaining.rest.bytes) × BeginsWith (placed remaining far) s
   contribution_passed index (no_items empty) is = absurd cc

@@ -1,5 +1,5 @@
 -- Some appended zero bytes change each result that depends on where the section ends.
-use Rattle.dwarf_read_core.proofs.Common.{◌≡◌, ◌≢◌, inl, inr, ℕ, ◌-◌, ◌<◌, ◌≤◌, List, [], ◌∷◌, ◌++◌, length, Result, Ok, Err, refl, subst, arith, append-nil, length-append, drop-append-le, eof, end_of, Input, Error, Table, closed, by_code_of, by_null, IsNumber, unsigned64, IsTableBefore, closed_by_null, closed_by_end, Answer, outside, table, first_error, StrictAnswer, IsStrictlyFinal, IsFinal, followed_by}
+use Rattle.dwarf_read_core.proofs.Common.{◌≡◌, ◌≢◌, inl, inr, ℕ, ◌-◌, ◌<◌, ◌≤◌, List, [], ◌∷◌, ◌++◌, length, Result, Ok, Err, refl, subst, arith, append-nil, length-append, drop-append-le, eof, end_of, Input, Error, Table, closed, by_code_of, by_null, IsLeb128, unsigned64, IsTableBefore, closed_by_null, closed_by_end, Answer, outside, table, first_error, StrictAnswer, IsStrictlyFinal, IsFinal, followed_by}
 use Rattle.std.proofs.Common.{replicate}
 use Rattle.std.proofs.lemmas.List.{length-replicate}
 use Rattle.dwarf_read_core.specs.Answer.{unterminated}
@@ -11,7 +11,7 @@ use Rattle.dwarf_read_core.proofs.tables.EndFaults.{at_start, at_end, first_at_e
 -- ---- tables that the end closes
 
 -- a zero byte is the code 0
-zero_is_code : IsNumber unsigned64 (0 ∷ []) 0
+zero_is_code : IsLeb128 unsigned64 (0 ∷ []) 0
 zero_is_code = grind arith
 
 -- bytes of a table that no code of value 0 closes are one that such a code closes when a zero byte follows

@@ -1,5 +1,5 @@
 -- What the grammar has at the front is read, and so is each of its errors.
-use Rattle.dwarf_read_core.proofs.Common.{common_steps, ◌≡◌, ◌≢◌, ℕ, Bool, eqb, List, [], ◌∷◌, ◌++◌, Option, Some, None, Result, Ok, Err, refl, sym, ap, ◌∙◌, append_assoc, arith, ne_eqb, append-nil, nil_from_length, Error, AttributeNameZero, AttributeFormZero, Kind, unsigned64, unsigned16, overflow_error, IsNumber, eof, Declaration, implicit_const, children_byte, IsCode, IsHead, IsFront, IsDeclaration, IsBeginning, before_code, before_tag, before_name, before_form, before_value, HasError, number_cut, number_bad, children_cut, tag_zero, children_bad, name_zero, form_zero, ◌>>=◌, number_at, value_at, specification_at, attributes_in, tag_at, children_at, declaration_of, declared_at, coded_at, declaration_at}
+use Rattle.dwarf_read_core.proofs.Common.{common_steps, ◌≡◌, ◌≢◌, ℕ, Bool, eqb, List, [], ◌∷◌, ◌++◌, Option, Some, None, Result, Ok, Err, refl, sym, ap, ◌∙◌, append_assoc, arith, ne_eqb, append-nil, nil_from_length, Error, AttributeNameZero, AttributeFormZero, Kind, unsigned64, unsigned16, overflow_error, IsLeb128, eof, Declaration, implicit_const, children_byte, IsCode, IsHead, IsFront, IsDeclaration, IsBeginning, before_code, before_tag, before_name, before_form, before_value, HasError, number_cut, number_bad, children_cut, tag_zero, children_bad, name_zero, form_zero, ◌>>=◌, number_at, value_at, specification_at, attributes_in, tag_at, children_at, declaration_of, declared_at, coded_at, declaration_at}
 use Rattle.dwarf_read_core.proofs.tables.ReadingNumbers.{encoding-begins, positive-nonzero, number_at-string, number_at-cut, number_at-bad}
 use Rattle.dwarf_read_core.proofs.tables.ReadingAttributes.{with_front, AttributesRead, attributes_fail, attributes_again, attributes_end}
 
@@ -64,7 +64,7 @@ declaration_again end bytes rest d is =
     (rw (attributes_end end is.null rest is.is_null, append-nil) refl)
 
 -- a code of value 0 is read as the end of the table, and the rest remains
-pub zero_again : (end : ℕ) (bytes rest : List ℕ) → IsNumber unsigned64 bytes 0
+pub zero_again : (end : ℕ) (bytes rest : List ℕ) → IsLeb128 unsigned64 bytes 0
     → declaration_at end (bytes ++ rest) ≡ Ok (None, rest)
 unfolding declaration_at coded_at
 zero_again end bytes rest is =

@@ -1,5 +1,5 @@
 -- A declaration that is read, or its error, is what the grammar says.
-use Rattle.dwarf_read_core.proofs.Common.{common_steps, ◌≡◌, ◌≢◌, ℕ, ◌<◌, Bool, true, false, eqb, List, [], ◌∷◌, ◌++◌, length, Option, Some, None, Ok, refl, sym, ap, subst, append_assoc, arith, eqb-true, eqb-false, length-append, append-nil, nil_from_length, AbbreviationTagZero, InvalidAbbreviationChildren, unsigned64, unsigned16, IsNumber, eof, Declaration, children_byte, IsCode, IsHead, IsFront, IsDeclaration, before_code, before_tag, HasError, children_cut, tag_zero, children_bad, tag_at, children_at, declaration_of, declared_at, coded_at, declaration_at, HasOutcome, returned, failed, outcome-bind, outcome-cond, outcome-map, outcome-ok}
+use Rattle.dwarf_read_core.proofs.Common.{common_steps, ◌≡◌, ◌≢◌, ℕ, ◌<◌, Bool, true, false, eqb, List, [], ◌∷◌, ◌++◌, length, Option, Some, None, Ok, refl, sym, ap, subst, append_assoc, arith, eqb-true, eqb-false, length-append, append-nil, nil_from_length, AbbreviationTagZero, InvalidAbbreviationChildren, unsigned64, unsigned16, IsLeb128, eof, Declaration, children_byte, IsCode, IsHead, IsFront, IsDeclaration, before_code, before_tag, HasError, children_cut, tag_zero, children_bad, tag_at, children_at, declaration_of, declared_at, coded_at, declaration_at, HasOutcome, returned, failed, outcome-bind, outcome-cond, outcome-map, outcome-ok}
 use Rattle.dwarf_read_core.proofs.tables.ReadingNumbers.{encoding-nonempty, number-positive, Found}
 use Rattle.dwarf_read_core.proofs.tables.ReadingSpecifications.{number_after}
 use Rattle.dwarf_read_core.proofs.tables.ReadingAttributes.{attributes_after}
@@ -17,7 +17,7 @@ tag_after end front bytes whole code parts is =
     outcome-bind _ (number_after unsigned16 end front bytes whole parts (before_tag front code is)) (λ x f.
     outcome-cond (eqb x.0 0)
     (λ t. failed AbbreviationTagZero (rw (parts, f.parts, sym (append_assoc front f.front x.1))
-    (tag_zero front f.front x.1 code is (subst (IsNumber unsigned16 f.front) (eqb-true x.0 0 t) f.string))))
+    (tag_zero front f.front x.1 code is (subst (IsLeb128 unsigned16 f.front) (eqb-true x.0 0 t) f.string))))
     (λ t. returned x (record { found = f; tagged = number-positive x.0 t })))
 
 -- a flag for children is read after a code and a tag, or an error of all of them together
@@ -71,7 +71,7 @@ declared_after end code front bytes whole parts is =
 pub record ZeroFound (bytes rest : List ℕ) : Type 0 where
   pub front : List ℕ
   pub parts : bytes ≡ front ++ rest
-  pub is_zero : IsNumber unsigned64 front 0
+  pub is_zero : IsLeb128 unsigned64 front 0
 
 -- the table ends: no bytes remain, or a code of value 0 is at the front
 pub data EndFound : List ℕ → List ℕ → Type 0 where
@@ -98,7 +98,7 @@ declaration_outcome end bytes =
     (λ z. returned (None, code.1) (at_zero bytes code.1 (record {
       front = f.front;
       parts = f.parts;
-      is_zero = subst (IsNumber unsigned64 f.front) (eqb-true code.0 0 z) f.string;
+      is_zero = subst (IsLeb128 unsigned64 f.front) (eqb-true code.0 0 z) f.string;
     })))
     (λ z. outcome-bind _ (declared_after end code.0 f.front code.1 bytes f.parts
     (record { is_code = f.string; nonzero = number-positive code.0 z })) (λ d h. returned (Some d.0, d.1) h)))))

@@ -1,5 +1,5 @@
 -- The function that reads a LEB128 number returns what the definition says, and nothing else.
-use Rattle.dwarf_read_core.proofs.Common.{common_steps, ◌≡◌, ℕ, zero, suc, ◌<◌, ◌≤◌, false, eqb, ltb, List, [], ◌∷◌, ◌++◌, length, drop, Option, Some, None, Result, Ok, Err, refl, sym, ap, ◌∙◌, arith, ◌⊎◌, inl, inr, length-append, take-append-drop, take, ne_eqb, ltb-true, lt-ltb, le-ltb, Error, Kind, Number, limit, value, is_in_range, overflow_error, IsEncoding, NoneIsLast, IsNumber, HasNumber, IsTruncated, IsMalformed, ReadsNumber, ReadsNoNumber, Input, end_of, eof, encoding_at, number_from, number_at, HasOutcome, returned, failed, outcome-cond, IfOk, MatchOption, nat_tests}
+use Rattle.dwarf_read_core.proofs.Common.{common_steps, ◌≡◌, ℕ, zero, suc, ◌<◌, ◌≤◌, false, eqb, ltb, List, [], ◌∷◌, ◌++◌, length, drop, Option, Some, None, Result, Ok, Err, refl, sym, ap, ◌∙◌, arith, ◌⊎◌, inl, inr, length-append, take-append-drop, take, ne_eqb, ltb-true, lt-ltb, le-ltb, Error, Kind, Number, limit, value, is_in_range, overflow_error, IsEncoding, NoneIsLast, IsLeb128, HasLeb128, IsTruncated, IsMalformed, ReadsLeb128, ReadsNoLeb128, Input, end_of, eof, encoding_at, number_from, number_at, HasOutcome, returned, failed, outcome-cond, IfOk, MatchOption, nat_tests}
 use Rattle.std.proofs.Math.Seq.{take-append_seam}
 use Rattle.dwarf_reader_core.proofs.public.Consuming.{end_of-after}
 
@@ -56,7 +56,7 @@ encoding_at-unended (suc n) (b ∷ bytes) high = rw (le-ltb b 128 high.0, encodi
 -- ---- the number at the front
 
 -- a number that bytes encode is read from their front, and what follows them remains
-pub number_at-string : (k : Kind) (end : ℕ) (front rest : List ℕ) (number : Number k) → IsNumber k front number
+pub number_at-string : (k : Kind) (end : ℕ) (front rest : List ℕ) (number : Number k) → IsLeb128 k front number
     → number_at k end (front ++ rest) ≡ Ok (number, rest)
 unfolding number_at
 number_at-string k end front rest number s = grind (arith, encoding_at-string)
@@ -70,10 +70,10 @@ number_at-cut k end bytes c = grind (arith, encoding_at-unended)
 pub record Found (k : Kind) (bytes : List ℕ) (number : Number k) (rest : List ℕ) : Type 0 where
   pub front : List ℕ
   pub parts : bytes ≡ front ++ rest
-  pub string : IsNumber k front number
+  pub string : IsLeb128 k front number
 
 -- a number that the first n bytes encode is read, and the bytes after them remain
-pub number_at-has : (k : Kind) (end : ℕ) (bytes : List ℕ) (number : Number k) (n : ℕ) → HasNumber k bytes number n
+pub number_at-has : (k : Kind) (end : ℕ) (bytes : List ℕ) (number : Number k) (n : ℕ) → HasLeb128 k bytes number n
     → number_at k end bytes ≡ Ok (number, drop n bytes)
 number_at-has k end bytes number n h =
     ap (number_at k end) (sym (take-append-drop n bytes))
@@ -114,7 +114,7 @@ number_outcome k end bytes = go (encoding_at (limit k) bytes) (encoding_split (l
 
 -- a number that is read is encoded by as many bytes as were consumed
 pub found_has : {k : Kind} {bytes : List ℕ} {number : Number k} {rest : List ℕ} → (f : Found k bytes number rest)
-    → HasNumber k bytes number (length f.front)
+    → HasLeb128 k bytes number (length f.front)
 found_has {k = k} {bytes = bytes} {number = number} {rest = rest} f =
     grind (arith, common_steps, length-append, take-append_seam)
 
@@ -138,17 +138,17 @@ number_at-bad k end bytes b = go (number_outcome k end bytes)
 -- ---- what a reader reads, and what the function reads
 
 -- the error that a reader returns in place of a number is what the function reads
-pub number_not_read : {k : Kind} {old : Input} {e : Error} {new : Input} → ReadsNoNumber k old e new
+pub number_not_read : {k : Kind} {old : Input} {e : Error} {new : Input} → ReadsNoLeb128 k old e new
     → number_at k (end_of old) old.bytes ≡ Err e
 number_not_read r = grind (arith, number_at-cut, number_at-bad)
 
 -- the number that a reader reads is what the function reads, and the same bytes remain
 pub number_read : {k : Kind} {old : Input} {number : Number k} {new : Input} (end : ℕ)
-    → ReadsNumber k old number new → number_at k end old.bytes ≡ Ok (number, new.bytes)
+    → ReadsLeb128 k old number new → number_at k end old.bytes ≡ Ok (number, new.bytes)
 number_read {k = k} {old = old} {number = number} end r = grind (arith, number_at-has)
 
 -- reading a number doesn't change the position of the end
-pub end_stays : {k : Kind} {old : Input} {number : Number k} {new : Input} → ReadsNumber k old number new
+pub end_stays : {k : Kind} {old : Input} {number : Number k} {new : Input} → ReadsLeb128 k old number new
     → end_of new ≡ end_of old
 end_stays {old = old} r = ap end_of r.left ∙ end_of-after r.len old r.has.enough
 

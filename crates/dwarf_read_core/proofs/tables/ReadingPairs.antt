@@ -1,5 +1,5 @@
 -- The name and the form of an attribute, which are read together.
-use Rattle.dwarf_read_core.proofs.Common.{arith, refl, sym, ap, ◌≡◌, ◌==◌, ◌∙◌, ℕ, ◌<◌, List, [], ◌∷◌, take, Option, Some, None, Result, Ok, Err, Error, AttributeNameZero, AttributeFormZero, inl, inr, Input, end_of, ReadsNumber, Specification, ◌>>=◌, number_at, value_at, specification_of, specification_at}
+use Rattle.dwarf_read_core.proofs.Common.{arith, refl, sym, ap, ◌≡◌, ◌==◌, ◌∙◌, ℕ, ◌<◌, List, [], ◌∷◌, take, Option, Some, None, Result, Ok, Err, Error, AttributeNameZero, AttributeFormZero, inl, inr, Input, end_of, ReadsLeb128, Specification, ◌>>=◌, number_at, value_at, specification_of, specification_at}
 use Rattle.std.specs.Prelude.{slice_index, if◌then◌else◌}
 use Rattle.dwarf_reader_core.specs.Input.{Takes, after}
 use Rattle.dwarf_reader_core.specs.Leb128.{unsigned16}
@@ -9,7 +9,7 @@ use Rattle.dwarf_read_core.proofs.tables.ReadingNumbers.{end_stays, number_not_r
 
 -- a byte below 128 is the number that it encodes
 short_number : (old : Input) (b : ℕ) (rest : List ℕ) → old.bytes ≡ b ∷ rest → b < 128
-    → ReadsNumber unsigned16 old b (after 1 old)
+    → ReadsLeb128 unsigned16 old b (after 1 old)
 short_number old b rest same short = grind arith
 
 -- two such bytes are the numbers of a name and a form

@@ -1,5 +1,5 @@
 -- A specification that is read, or its error, is what the grammar says, and conversely.
-use Rattle.dwarf_read_core.proofs.Common.{common_steps, ◌≡◌, ℕ, ◌<◌, ◌≤◌, true, eqb, ℤ, List, [], ◌++◌, length, Option, Some, None, Ok, refl, subst, append_assoc, arith, length-append, eqb-true, eqb-false, eq-eqb, ne_eqb, AttributeNameZero, AttributeFormZero, Kind, unsigned16, signed64, IsNumber, Specification, Declaration, implicit_const, IsImplicit, IsSpecification, IsNull, IsFront, IsBeginning, before_name, before_form, before_value, HasError, number_cut, number_bad, name_zero, form_zero, number_at, value_at, specification_of, specification_at, HasOutcome, returned, failed, outcome-bind, outcome-cond, outcome-map}
+use Rattle.dwarf_read_core.proofs.Common.{common_steps, ◌≡◌, ℕ, ◌<◌, ◌≤◌, true, eqb, ℤ, List, [], ◌++◌, length, Option, Some, None, Ok, refl, subst, append_assoc, arith, length-append, eqb-true, eqb-false, eq-eqb, ne_eqb, AttributeNameZero, AttributeFormZero, Kind, unsigned16, signed64, IsLeb128, Specification, Declaration, implicit_const, IsImplicit, IsSpecification, IsNull, IsFront, IsBeginning, before_name, before_form, before_value, HasError, number_cut, number_bad, name_zero, form_zero, number_at, value_at, specification_of, specification_at, HasOutcome, returned, failed, outcome-bind, outcome-cond, outcome-map}
 use Rattle.dwarf_read_core.proofs.tables.ReadingNumbers.{encoding-nonempty, number-positive, number_at-string, number_outcome, number_shorter, Found}
 
 -- ---- what is read, value or error, is in the grammar
@@ -58,10 +58,10 @@ specification_after end front bytes whole d parts is =
     outcome-bind _ (number_after unsigned16 end (front ++ n.front) name.1 whole
     (rw (parts, n.parts) (simp append_assoc)) (before_form front n.front d name.0 is n.string)) (λ form f.
     let grouped : whole ≡ front ++ n.front ++ f.front ++ form.1 = rw (parts, n.parts, f.parts) (simp append_assoc) in
-    let no_name : eqb name.0 0 ≡ true → IsNumber unsigned16 n.front 0 =
-    λ s. subst (IsNumber unsigned16 n.front) (eqb-true name.0 0 s) n.string in
-    let no_form : eqb form.0 0 ≡ true → IsNumber unsigned16 f.front 0 =
-    λ t. subst (IsNumber unsigned16 f.front) (eqb-true form.0 0 t) f.string in
+    let no_name : eqb name.0 0 ≡ true → IsLeb128 unsigned16 n.front 0 =
+    λ s. subst (IsLeb128 unsigned16 n.front) (eqb-true name.0 0 s) n.string in
+    let no_form : eqb form.0 0 ≡ true → IsLeb128 unsigned16 f.front 0 =
+    λ t. subst (IsLeb128 unsigned16 f.front) (eqb-true form.0 0 t) f.string in
     outcome-cond (eqb name.0 0)
     (λ s. outcome-cond (eqb form.0 0)
     (λ t. returned (None, form.1) (record {
@@ -76,7 +76,7 @@ specification_after end front bytes whole d parts is =
     (form_zero front n.front f.front form.1 d name.0 is n.string (number-positive name.0 s) (no_form t))))
     (λ t. outcome-bind _ (value_after end form.0 (front ++ n.front ++ f.front) form.1 whole grouped (λ e.
     before_value front n.front f.front d name.0 is n.string (number-positive name.0 s)
-    (subst (IsNumber unsigned16 f.front) e f.string)))
+    (subst (IsLeb128 unsigned16 f.front) e f.string)))
     (λ value v. returned (Some (specification_of name.0 form.0 value.0), value.1) (record {
       front = n.front ++ f.front ++ v.front;
       parts = rw (n.parts, f.parts, v.parts) (simp append_assoc);

@@ -1,5 +1,5 @@
 -- Where a table ends: at one offset, which stays when bytes are appended.
-use Rattle.dwarf_read_core.proofs.Common.{◌≡◌, ℕ, ◌-◌, ◌<◌, List, [], ◌∷◌, ◌++◌, length, Some, None, Ok, refl, ap, arith, append_assoc, length-append, length-drop, drop-append-le, Input, followed_by, Declaration, Table, by_null, Sequence, IsDeclaration, IsNumber, unsigned64, IsTableBefore, closed_by_null, closed_by_end, HasOne, Answer, table, declaration_at}
+use Rattle.dwarf_read_core.proofs.Common.{◌≡◌, ℕ, ◌-◌, ◌<◌, List, [], ◌∷◌, ◌++◌, length, Some, None, Ok, refl, ap, arith, append_assoc, length-append, length-drop, drop-append-le, Input, followed_by, Declaration, Table, by_null, Sequence, IsDeclaration, IsLeb128, unsigned64, IsTableBefore, closed_by_null, closed_by_end, HasOne, Answer, table, declaration_at}
 use Rattle.dwarf_read_core.specs.Answer.{TableEndsAt}
 use Rattle.dwarf_read_core.proofs.tables.AppendedBytes.{table_more}
 use Rattle.dwarf_read_core.proofs.tables.ReadingIsComplete.{declaration_again, zero_again}
@@ -11,7 +11,7 @@ record IsClosed (bytes rest : List ℕ) (ds : List Declaration) : Type 0 where
   zero_code : List ℕ
   parts : bytes ≡ front ++ zero_code ++ rest
   are : Sequence IsDeclaration front ds
-  encodes : IsNumber unsigned64 zero_code 0
+  encodes : IsLeb128 unsigned64 zero_code 0
 
 -- the code of value 0 is read if no declaration is before it
 zero_read : {bytes rest : List ℕ} → IsClosed bytes rest [] → declaration_at 0 bytes ≡ Ok (None, rest)

@@ -8,7 +8,7 @@ ghost use Rattle.dwarf_reader_core.specs.Faults.{CloneRanOutOfMemory, is_number_
 ghost use Rattle.dwarf_read_core.specs.Entries.{RepresentsAddresses};
 ghost use Rattle.dwarf_read_core.specs.Items.{GivesFirst};
 ghost use Rattle.dwarf_read_core.specs.Lookups.{UnlessCloneRanOut, Stays};
-ghost use Rattle.dwarf_reader_core.specs.Headers.{AddressHeaderAt};
+ghost use Rattle.dwarf_reader_core.specs.Headers.{AddressHeaderRead};
 ghost use Rattle.dwarf_read_core.specs.Contributions.{addresses_of, remaining_of, seen_by};
 ghost use Rattle.dwarf_read_core.specs.Words.{AddressAt, slot};
 
@@ -189,7 +189,7 @@ impl<R: Reader> HeaderFields<R> for AddressSize {
 
     ghost said = { λ size. size };
 
-    ghost header = { AddressHeaderAt };
+    ghost header = { AddressHeaderRead };
 
     const NAME: &'static str = "AddrHeader";
 

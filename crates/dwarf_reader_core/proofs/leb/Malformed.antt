@@ -1,7 +1,7 @@
 -- Bytes are bad exactly if no bytes after them make them begin with a number.
-use Rattle.dwarf_reader_core.proofs.Common.{◌≡◌, ℕ, ◌*◌, ◌^◌, ◌<◌, ◌≤◌, ◌↔◌, List, [], ◌∷◌, ◌++◌, length, take, refl, arith, IsTrue, take_all, length-append, Kind, unsigned64, unsigned16, signed64, Number, value, limit, is_in_range, unsigned_value, HasNumber, IsTruncated}
+use Rattle.dwarf_reader_core.proofs.Common.{◌≡◌, ℕ, ◌*◌, ◌^◌, ◌<◌, ◌≤◌, ◌↔◌, List, [], ◌∷◌, ◌++◌, length, take, refl, arith, IsTrue, take_all, length-append, Kind, unsigned64, unsigned16, signed64, Number, value, limit, is_in_range, unsigned_value, HasLeb128, IsTruncated}
 use Rattle.std.proofs.Common.{append-nil}
-use Rattle.dwarf_reader_core.specs.Leb128.{IsMalformed, IsNumber}
+use Rattle.dwarf_reader_core.specs.Leb128.{IsMalformed, IsLeb128}
 use Rattle.dwarf_reader_core.proofs.public.BadNumbers.{bad_more}
 use Rattle.dwarf_reader_core.proofs.leb.Encodings.{IsEncoding-push, unsigned_value-push, is_negative-push, worth_below}
 
@@ -23,11 +23,11 @@ zero_fits signed64 bytes short = grind (arith, zero_adds_nothing bytes 9 (omega 
 
 -- bytes that end too early begin with a number if a zero byte follows
 zero_ends : (k : Kind) (bytes : List ℕ) → IsTruncated k bytes
-    → HasNumber k (bytes ++ 0 ∷ []) (value k (bytes ++ 0 ∷ [])) (length (bytes ++ 0 ∷ []))
+    → HasLeb128 k (bytes ++ 0 ∷ []) (value k (bytes ++ 0 ∷ [])) (length (bytes ++ 0 ∷ []))
 zero_ends k bytes cut =
     let whole = bytes ++ 0 ∷ [] in
     let long = length-append bytes (0 ∷ []) in
-    let number : IsNumber k whole (value k whole) = record {
+    let number : IsLeb128 k whole (value k whole) = record {
       encoding = IsEncoding-push bytes 0 cut.unended (omega arith);
       within = omega (arith, long, cut.short);
       means = refl;
@@ -37,7 +37,7 @@ zero_ends k bytes cut =
 
 -- bytes are bad exactly if no bytes after them make them begin with a number
 pub bad_bytes : (k : Kind) (bytes : List ℕ) → IsMalformed k bytes
-    ↔ ((more : List ℕ) (number : Number k) (n : ℕ) → HasNumber k (bytes ++ more) number n → ⊥)
+    ↔ ((more : List ℕ) (number : Number k) (n : ℕ) → HasLeb128 k (bytes ++ more) number n → ⊥)
 bad_bytes k bytes = (
   λ bad more. (bad_more k bytes more bad).no_number,
   λ never. record {

@@ -1,5 +1,5 @@
 -- Every list of bytes has exactly one outcome.
-use Rattle.dwarf_reader_core.proofs.Common.{◌≡◌, ℕ, zero, suc, ◌^◌, ◌<◌, ◌≤◌, pow-le-pow_right, List, [], ◌∷◌, length, take, drop, refl, sym, ap, ◌∙◌, arith, inl, inr, ◌⊎◌, Bool, true, false, take_all, length-take-le, take-append-drop, cases_lt, IsEncoding, NoneIsLast, Kind, Number, value, limit, is_in_range, Outcome, Value, End, Bad, HasNumber, IsTrue, IsTruncated, HasOutcome, HasOne}
+use Rattle.dwarf_reader_core.proofs.Common.{◌≡◌, ℕ, zero, suc, ◌^◌, ◌<◌, ◌≤◌, pow-le-pow_right, List, [], ◌∷◌, length, take, drop, refl, sym, ap, ◌∙◌, arith, inl, inr, ◌⊎◌, Bool, true, false, take_all, length-take-le, take-append-drop, cases_lt, IsEncoding, NoneIsLast, Kind, Number, value, limit, is_in_range, Outcome, Value, End, Bad, HasLeb128, IsTrue, IsTruncated, HasOutcome, HasOne}
 use Rattle.dwarf_reader_core.specs.Leb128.{IsMalformed, signed64, unsigned16, unsigned64}
 use Rattle.dwarf_reader_core.proofs.leb.Encodings.{IsEncoding-cons, past_none, encodings_same, worth_below}
 
@@ -68,7 +68,7 @@ module _ (k : Kind) (bytes : List ℕ) where
   encoding-not_cut n enough encoding cut = encoding-not_none bytes n enough encoding cut.unended
 
   -- two numbers at the front of the same bytes have the same value and the same length
-  number-same : (v w : Number k) (m n : ℕ) → HasNumber k bytes v m → HasNumber k bytes w n → (v ≡ w) × (m ≡ n)
+  number-same : (v w : Number k) (m n : ℕ) → HasLeb128 k bytes v m → HasLeb128 k bytes w n → (v ≡ w) × (m ≡ n)
   number-same v w m n f g =
       let e = length-same bytes m n f.enough g.enough f.is_number.encoding g.is_number.encoding in
       (sym f.is_number.means ∙ ap (λ i. value k (take i bytes)) e ∙ g.is_number.means, e)
@@ -82,7 +82,7 @@ module _ (k : Kind) (bytes : List ℕ) where
       → (o : Outcome k) × HasOutcome k bytes o
   judged e true h = (Value (value k (take e.len bytes)) e.len, grind (arith, length-take-le))
   judged e false h =
-      let none : (v : Number k) (n : ℕ) → HasNumber k bytes v n → ⊥ = λ v n found.
+      let none : (v : Number k) (n : ℕ) → HasLeb128 k bytes v n → ⊥ = λ v n found.
       let same = length-same bytes e.len n e.enough found.enough e.encoding found.is_number.encoding in cc in
       (Bad, record { no_number = none; not_cut = encoding-not_cut e.len e.enough e.encoding })
 

@@ -1,7 +1,7 @@
 -- Reading a LEB128 number, one byte after the other.
 use Rattle.dwarf_reader_core.proofs.Common.{common_steps, List, ◌-◌, ◌≡◌, ℕ, ◌+◌, ◌*◌, ◌%◌, ◌^◌, ◌<◌, ◌≤◌, [], ◌∷◌, ◌++◌, length, get_or, take, refl, sym, ap, ◌∙◌, arith, inl, inr, IsTrue, ◌↔◌, ◌≢◌, Bool, ℤ, pos, ◌-ℤ◌, nat_le, if◌then◌else◌, lt-ltb, ltb-true, bit_or, to_z, of_z, w64, FitsSigned, length-take-le, take_all, Error, IsTooShort, Input, after, Takes, TakesByte, ints, to_z-of_z}
 use Rattle.dwarf_base_core.specs.declared.error.Error.TheVariants.{BadUnsignedLeb128, BadSignedLeb128}
-use Rattle.dwarf_reader_core.specs.Leb128.{unsigned64, unsigned16, signed64, IsEncoding, NoneIsLast, unsigned_value, signed_value, is_negative, Kind, Number, value as value_of, limit, is_in_range, overflow_error, HasNumber, IsTruncated, ReadsNumber, ReadsNoNumber, TakesNoEncoding, TakesEncoding}
+use Rattle.dwarf_reader_core.specs.Leb128.{unsigned64, unsigned16, signed64, IsEncoding, NoneIsLast, unsigned_value, signed_value, is_negative, Kind, Number, value as value_of, limit, is_in_range, overflow_error, HasLeb128, IsTruncated, ReadsLeb128, ReadsNoLeb128, TakesNoEncoding, TakesEncoding}
 use Rattle.dwarf_reader_core.proofs.leb.Encodings.{i64-in_range, IsEncoding-cons, NoneIsLast-push, IsEncoding-push, IsEncoding-last, unsigned_value-push, worth_below, past_none, is_negative-push}
 use Rattle.dwarf_reader_core.proofs.leb.Bits.{pow_digits, or_digit, tenth_out}
 use Rattle.dwarf_reader_core.proofs.public.Consuming.{after-after, after-zero, byte_front}
@@ -45,7 +45,7 @@ begun_cut {old} {k = k} b ends =
 
 -- a number that bytes are missing for, within the limit of its kind, is rejected
 pub cut_rejects : {old mid new : Input} {k value : ℕ} {e : Error} (kind : Kind) → Begun old k mid value
-    → k < limit kind → IsTooShort 1 mid e new → ReadsNoNumber kind old e new
+    → k < limit kind → IsTooShort 1 mid e new → ReadsNoLeb128 kind old e new
 cut_rejects kind b within ends =
     let cut = begun_cut b ends in
     let short : IsTruncated kind _ = record { short = rw (cut.1) at within; unended = cut.0.none } in
@@ -83,17 +83,17 @@ module _ {old mid new : Input} {k value byte : ℕ} (b : Begun old k mid value) 
 
   -- the number is read if its encoding ends within the limit and its value is in the range of the kind
   next_reads : (kind : Kind) (v : Number kind) → byte < 128 → k < limit kind
-      → value_of kind (take (k + 1) old.bytes) ≡ v → IsTrue (is_in_range kind v) → ReadsNumber kind old v new
+      → value_of kind (take (k + 1) old.bytes) ≡ v → IsTrue (is_in_range kind v) → ReadsLeb128 kind old v new
   next_reads kind v last short means in_range =
-      let has : HasNumber kind old.bytes v (k + 1) = grind (arith, next, next_ends, length-take-le) in
+      let has : HasLeb128 kind old.bytes v (k + 1) = grind (arith, next, next_ends, length-take-le) in
       record { len = k + 1; has = has; left = next.2 }
 
   -- reading fails at the limit if no encoding that ends there has a value in range
   next_rejects : (kind : Kind) → k + 1 ≡ limit kind
       → (byte < 128 → IsTrue (is_in_range kind (value_of kind (take (k + 1) old.bytes))) → ⊥)
-      → ReadsNoNumber kind old (overflow_error kind) new
+      → ReadsNoLeb128 kind old (overflow_error kind) new
   next_rejects kind whole out =
-      let none : (v : Number kind) (m : ℕ) → HasNumber kind old.bytes v m → ⊥ = λ v m found.
+      let none : (v : Number kind) (m : ℕ) → HasLeb128 kind old.bytes v m → ⊥ = λ v m found.
       let past = past_none old.bytes k m b.enough b.none found.is_number.encoding in
       let m_is : m ≡ k + 1 = omega (arith, past, found.is_number.within, length-take-le m old.bytes found.enough) in
       let has = rw m_is at found.is_number in
@@ -112,13 +112,13 @@ module _ {old mid new : Input} {k value byte : ℕ} (b : Begun old k mid value) 
 
   -- a byte without a continuation bit ends an unsigned number, within ten bytes and 64 bits
   pub reads_unsigned : (worth : ℕ) → byte < 128 → k < 10 → worth ≡ value + byte % 128 * 2 ^ (7 * k) → worth < 2 ^ 64
-      → ReadsNumber unsigned64 old worth new
+      → ReadsLeb128 unsigned64 old worth new
   reads_unsigned worth last short is fits =
       next_reads unsigned64 worth last short (next_worth ∙ sym is) (lt-ltb _ _ fits)
 
   -- a tenth byte of 0 or 1 ends an unsigned number
   pub reads_tenth_unsigned : (digit : ℕ) → k ≡ 9 → byte ≤ 1 → digit ≡ byte
-      → ReadsNumber unsigned64 old (bit_or value (digit * 2 ^ 63 % 2 ^ 64)) new
+      → ReadsLeb128 unsigned64 old (bit_or value (digit * 2 ^ 63 % 2 ^ 64)) new
   reads_tenth_unsigned digit nine small same =
       let worth = rw nine at next_worth in
       let below = begun_below_nine b nine in
@@ -127,18 +127,18 @@ module _ {old mid new : Input} {k value byte : ℕ} (b : Begun old k mid value) 
       (lt-ltb _ _ (omega (arith, sum)))
 
   -- ten bytes are no unsigned number if the tenth is above 1
-  pub rejects_tenth_unsigned : k ≡ 9 → 1 < byte → ReadsNoNumber unsigned64 old BadUnsignedLeb128 new
+  pub rejects_tenth_unsigned : k ≡ 9 → 1 < byte → ReadsNoLeb128 unsigned64 old BadUnsignedLeb128 new
   rejects_tenth_unsigned nine large =
       let worth = rw nine at next_worth in
       next_rejects unsigned64 (omega arith) (λ last has. omega (arith, worth, ltb-true _ _ (rw nine at has)))
 
   -- a byte without a continuation bit ends a short unsigned number, within three bytes and 16 bits
   pub reads_short : (worth : ℕ) → byte < 128 → k < 3 → worth ≡ value + byte % 128 * 2 ^ (7 * k) → worth < 2 ^ 16
-      → ReadsNumber unsigned16 old worth new
+      → ReadsLeb128 unsigned16 old worth new
   reads_short worth last short is fits = next_reads unsigned16 worth last short (next_worth ∙ sym is) (lt-ltb _ _ fits)
 
   -- three bytes are no short unsigned number if the third is above 3
-  pub rejects_third_short : k ≡ 2 → 3 < byte → ReadsNoNumber unsigned16 old BadUnsignedLeb128 new
+  pub rejects_third_short : k ≡ 2 → 3 < byte → ReadsNoLeb128 unsigned16 old BadUnsignedLeb128 new
   rejects_third_short two large =
       let worth = rw two at next_worth in
       next_rejects unsigned16 (omega arith) (λ last has. omega (arith, worth, ltb-true _ _ (rw two at has)))
@@ -147,7 +147,7 @@ module _ {old mid new : Input} {k value byte : ℕ} (b : Begun old k mid value) 
   pub reads_signed : (v : ℤ) (worth bits : ℕ) (sign : Bool) → byte < 128 → k < 10
       → worth ≡ value + byte % 128 * 2 ^ (7 * k) → bits ≡ 7 * k + 7 → (IsTrue sign ↔ (64 ≤ byte % 128))
       → v ≡ pos worth -ℤ pos (if sign then 2 ^ bits else 0) → FitsSigned w64 v
-      → ReadsNumber signed64 old (to_z w64 (of_z w64 v)) new
+      → ReadsLeb128 signed64 old (to_z w64 (of_z w64 v)) new
   reads_signed v worth bits sign last short is bits_is sign_is v_is fits =
       let value_is = next_signed worth bits sign is bits_is sign_is ∙ sym v_is in
       rw to_z-of_z (next_reads signed64 v last short value_is (i64-in_range v fits))
@@ -155,14 +155,14 @@ module _ {old mid new : Input} {k value byte : ℕ} (b : Begun old k mid value) 
   -- a tenth byte of 0 or 127 ends a signed number
   pub reads_tenth_signed : (v : ℤ) (sign : Bool) → k ≡ 9 → byte ≡ (if sign then 127 else 0)
       → v ≡ pos value -ℤ pos (if sign then 2 ^ 63 else 0) → FitsSigned w64 v
-      → ReadsNumber signed64 old (to_z w64 (of_z w64 v)) new
+      → ReadsLeb128 signed64 old (to_z w64 (of_z w64 v)) new
   reads_tenth_signed v sign nine byte_is v_is fits =
       let is = next_signed (value + byte % 128 * 2 ^ 63) 70 sign (rw nine refl) (omega arith) (grind arith) in
       let value_is : signed_value (take (k + 1) old.bytes) ≡ v = grind (arith, ints) in
       rw to_z-of_z (next_reads signed64 v (grind arith) (omega arith) value_is (i64-in_range v fits))
 
   -- ten bytes are no signed number if the tenth is neither 0 nor 127
-  pub rejects_tenth_signed : k ≡ 9 → byte ≢ 0 → byte ≢ 127 → ReadsNoNumber signed64 old BadSignedLeb128 new
+  pub rejects_tenth_signed : k ≡ 9 → byte ≢ 0 → byte ≢ 127 → ReadsNoLeb128 signed64 old BadSignedLeb128 new
   rejects_tenth_signed nine nonzero other = next_rejects signed64 (omega arith) (λ last has.
       tenth_out value (byte % 128) _ (begun_below_nine b nine) (omega arith) (omega arith) (omega arith)
       (next_signed _ 70 (nat_le 64 (byte % 128)) (rw nine refl) (omega arith) (grind arith)) has)

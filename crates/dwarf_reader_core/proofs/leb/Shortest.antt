@@ -1,5 +1,5 @@
 -- The shortest encodings of numbers, from the last byte on.
-use Rattle.dwarf_reader_core.proofs.Common.{◌≡◌, ◌≢◌, ℕ, ◌+◌, ◌*◌, ◌%◌, ◌<◌, ◌≤◌, Bool, cond, List, [], ◌∷◌, ◌++◌, length, IsTrue, arith, refl, sym, ◌∙◌, pos, ◌+ℤ◌, ◌-ℤ◌, ◌*ℤ◌, pow-suc, ints, length-append, take-append-le, take_all, All-head, All-tail, All-nil, All-cons, IsEncoding, Kind, unsigned64, unsigned16, signed64, Number, value, limit, is_in_range, HasNumber, Encodes, IsShortest}
+use Rattle.dwarf_reader_core.proofs.Common.{◌≡◌, ◌≢◌, ℕ, ◌+◌, ◌*◌, ◌%◌, ◌<◌, ◌≤◌, Bool, cond, List, [], ◌∷◌, ◌++◌, length, IsTrue, arith, refl, sym, ◌∙◌, pos, ◌+ℤ◌, ◌-ℤ◌, ◌*ℤ◌, pow-suc, ints, length-append, take-append-le, take_all, All-head, All-tail, All-nil, All-cons, IsEncoding, Kind, unsigned64, unsigned16, signed64, Number, value, limit, is_in_range, HasLeb128, Encodes, IsShortest}
 use Rattle.dwarf_reader_core.proofs.leb.Encodings.{IsEncoding-cons}
 
 -- the number that has this lowest digit and this number above it
@@ -94,6 +94,6 @@ module _ (k : Kind) (number above : Number k) (digit : ℕ) (tail : List ℕ) (s
       }
 
 -- bytes within the limit of a kind that encode a number in its range are read as that number, whatever follows
-pub HasNumber_append : (k : Kind) (number : Number k) (bytes rest : List ℕ) → Encodes k bytes number
-    → length bytes ≤ limit k → IsTrue (is_in_range k number) → HasNumber k (bytes ++ rest) number (length bytes)
-HasNumber_append k number bytes rest encodes within in_range = grind (arith, take-append-le, take_all, length-append)
+pub HasLeb128_append : (k : Kind) (number : Number k) (bytes rest : List ℕ) → Encodes k bytes number
+    → length bytes ≤ limit k → IsTrue (is_in_range k number) → HasLeb128 k (bytes ++ rest) number (length bytes)
+HasLeb128_append k number bytes rest encodes within in_range = grind (arith, take-append-le, take_all, length-append)

@@ -4,7 +4,7 @@ use Rattle.dwarf_reader_core.proofs.Common.{◌≡◌, ℕ, IsTrue, [], ◌∷�
 use Rattle.dwarf_base_core.specs.declared.common.Format.{Format}
 use Rattle.dwarf_base_core.specs.declared.error.Error.TheVariants.{UnknownVersion, UnsupportedSegmentSize}
 use Rattle.dwarf_reader_core.specs.Faults.{IsCutIn, is_number_size}
-use Rattle.dwarf_reader_core.specs.Headers.{AddressHeaderAt, IsHeader, StringOffsetsHeaderAt, VersionRead}
+use Rattle.dwarf_reader_core.specs.Headers.{AddressHeaderRead, IsHeader, StringOffsetsHeaderRead, VersionRead}
 use Rattle.dwarf_reader_core.specs.Readings.{IsRead}
 use Rattle.dwarf_reader_core.proofs.public.MissingFields.{HasSizes, address_size-sizes, field-sizes, initial_length_cut, number-sizes, required-sizes, test-sizes, value-sizes}
 use Rattle.dwarf_reader_core.proofs.public.Readings.{address_size-is, number-is, required-is, required-ok, then-is, value-is}
@@ -17,7 +17,7 @@ version-is =
     then-is (number-is 2) (λ version. required-is (version == 5) (UnknownVersion version) (λ position same. grind arith))
 
 -- the header of a set of addresses is one
-pub address_header : IsHeader AddressHeaderAt
+pub address_header : IsHeader AddressHeaderRead
 address_header greatest format =
     then-is version-is (λ known.
     then-is address_size-is (λ size.
@@ -26,7 +26,7 @@ address_header greatest format =
     value-is size))))
 
 -- so is that of a set of string offsets
-pub string_offsets_header : IsHeader StringOffsetsHeaderAt
+pub string_offsets_header : IsHeader StringOffsetsHeaderRead
 string_offsets_header greatest format =
     then-is version-is (λ known. then-is (number-is 2) (λ padding. value-is tt))
 
@@ -45,7 +45,7 @@ version-sizes =
 
 module _ (greatest : ℕ) (format : Format) where
   -- the sizes of a header of addresses have one byte each
-  pub address_header-sizes : HasSizes (2 ∷ 1 ∷ 1 ∷ []) 4 (AddressHeaderAt greatest format)
+  pub address_header-sizes : HasSizes (2 ∷ 1 ∷ 1 ∷ []) 4 (AddressHeaderRead greatest format)
   address_header-sizes =
       field-sizes version-sizes (λ known.
       field-sizes address_size-sizes (λ size.
@@ -54,19 +54,19 @@ module _ (greatest : ℕ) (format : Format) where
       value-sizes size))))
 
   -- the padding of a header of string offsets has two
-  pub string_offsets_header-sizes : HasSizes (2 ∷ 2 ∷ []) 4 (StringOffsetsHeaderAt greatest format)
+  pub string_offsets_header-sizes : HasSizes (2 ∷ 2 ∷ []) 4 (StringOffsetsHeaderRead greatest format)
   string_offsets_header-sizes =
       field-sizes version-sizes (λ known.
       field-sizes (number-sizes 2) (λ padding. value-sizes tt))
 
 -- a header of addresses has four bytes
 pub address_header-four : (greatest : ℕ) (format : Format) (unit rest : Input) (size : ℕ)
-    → AddressHeaderAt greatest format unit (Ok size, rest) → Takes 4 unit rest
+    → AddressHeaderRead greatest format unit (Ok size, rest) → Takes 4 unit rest
 address_header-four greatest format unit rest size is = (address_header-sizes greatest format).takes unit rest size is
 
 -- so has one of string offsets
 pub offsets_header-four : (greatest : ℕ) (format : Format) (unit rest : Input)
-    → StringOffsetsHeaderAt greatest format unit (Ok tt, rest) → Takes 4 unit rest
+    → StringOffsetsHeaderRead greatest format unit (Ok tt, rest) → Takes 4 unit rest
 offsets_header-four greatest format unit rest is = (string_offsets_header-sizes greatest format).takes unit rest tt is
 
 -- how many bytes the headers of sets have
@@ -74,18 +74,18 @@ pub ruleset four_bytes = (address_header-four, offsets_header-four)
 
 -- what a header of addresses says is a size of addresses
 pub address_header-sized : (greatest : ℕ) (format : Format) (unit rest : Input) (size : ℕ)
-    → AddressHeaderAt greatest format unit (Ok size, rest) → IsTrue (is_number_size size)
+    → AddressHeaderRead greatest format unit (Ok size, rest) → IsTrue (is_number_size size)
 address_header-sized greatest format unit rest size (_, _, _, (read, _, sized, (_, _, _, (_, _, _, same)))) =
     grind (arith, sized.1)
 
 -- the bytes of a header of addresses are cut in one of its fields
 pub address_header_cut : (greatest : ℕ) (format : Format) (unit new : Input) (position : ℕ)
-    → AddressHeaderAt greatest format unit (Err (eof position), new) → IsCutIn unit (2 ∷ 1 ∷ 1 ∷ []) (eof position)
+    → AddressHeaderRead greatest format unit (Err (eof position), new) → IsCutIn unit (2 ∷ 1 ∷ 1 ∷ []) (eof position)
 address_header_cut greatest format unit new position is = (address_header-sizes greatest format).cut unit new position is
 
 -- those of a header of string offsets, too
 pub offsets_header_cut : (greatest : ℕ) (format : Format) (unit new : Input) (position : ℕ)
-    → StringOffsetsHeaderAt greatest format unit (Err (eof position), new) → IsCutIn unit (2 ∷ 2 ∷ []) (eof position)
+    → StringOffsetsHeaderRead greatest format unit (Err (eof position), new) → IsCutIn unit (2 ∷ 2 ∷ []) (eof position)
 offsets_header_cut greatest format unit new position is =
     (string_offsets_header-sizes greatest format).cut unit new position is
 

@@ -5,7 +5,7 @@ use Rattle.dwarf_base_core.specs.declared.common.Format.TheVariants.{Dwarf32, Dw
 use Rattle.dwarf_base_core.specs.declared.error.Error.TheVariants.{UnknownReservedLength, UnsupportedOffset}
 use Rattle.dwarf_base_core.specs.Format.{initial_length_size}
 use Rattle.dwarf_reader_core.specs.Appended.{followed_by, IsNotEof}
-use Rattle.dwarf_reader_core.specs.InitialLength.{HasLength, in_four_bytes, in_eight_bytes, HasNoLength, four_cut, reserved, eight_cut, too_great, LengthAt}
+use Rattle.dwarf_reader_core.specs.InitialLength.{HasLength, in_four_bytes, in_eight_bytes, HasNoLength, four_cut, reserved, eight_cut, too_great, LengthRead}
 use Rattle.dwarf_reader_core.proofs.public.Consuming.{front, front-cut, front-taken, number_more, takes-both}
 use Rattle.dwarf_reader_core.proofs.public.Once.{one_by_equality, one_unless}
 
@@ -17,7 +17,7 @@ Outcome = Result (Format × ℕ) Error × Input
 
 -- after 0xffffffff every result is that of the eight bytes that follow
 long_only : (greatest : ℕ) (old : Input) → TakesNumber 4 old 0xffff_ffff (after 4 old)
-    → HasOne (LengthAt greatest old)
+    → HasOne (LengthRead greatest old)
 long_only greatest old four =
     let mid = after 4 old in
     one_unless (length mid.bytes) 8 (Err (eof_here mid), mid) (λ short. eight_cut four (front-cut 8 mid short))
@@ -31,7 +31,7 @@ long_only greatest old four =
     )))
 
 -- every input has exactly one result for an initial length
-pub lengths_exactly_one : (greatest : ℕ) (old : Input) → HasOne (LengthAt greatest old)
+pub lengths_exactly_one : (greatest : ℕ) (old : Input) → HasOne (LengthRead greatest old)
 lengths_exactly_one greatest old =
     let n = front 4 old in
     let mid = after 4 old in

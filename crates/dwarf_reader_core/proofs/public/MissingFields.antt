@@ -5,7 +5,7 @@ use Rattle.dwarf_reader_core.specs.Appended.{IsNotEof}
 use Rattle.dwarf_reader_core.specs.Faults.{IsCutIn}
 use Rattle.dwarf_reader_core.specs.Readings.{AddressSizeRead, Given, NumberRead, Reading, Required, Then}
 use Rattle.dwarf_reader_core.proofs.public.Consuming.{after-zero, takes-both}
-use Rattle.dwarf_reader_core.specs.InitialLength.{HasNoLength, LengthAt, eight_cut, four_cut, reserved, too_great}
+use Rattle.dwarf_reader_core.specs.InitialLength.{HasNoLength, LengthRead, eight_cut, four_cut, reserved, too_great}
 
 -- ---- errors
 
@@ -142,5 +142,5 @@ length_cut greatest old new (too_great four eight over) position same = absurd (
 
 -- the bytes of an initial length are cut in one of its fields
 pub initial_length_cut : (greatest : ℕ) (old new : Input) (position : ℕ)
-    → LengthAt greatest old (Err (eof position), new) → IsCutIn old (4 ∷ 8 ∷ []) (eof position)
+    → LengthRead greatest old (Err (eof position), new) → IsCutIn old (4 ∷ 8 ∷ []) (eof position)
 initial_length_cut greatest old new position is = length_cut greatest old new is position refl

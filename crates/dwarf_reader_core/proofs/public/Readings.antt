@@ -7,8 +7,8 @@ use Rattle.dwarf_base_core.specs.declared.common.Format.{Format}
 use Rattle.dwarf_base_core.specs.declared.error.Error.TheVariants.{BadUnsignedLeb128, UnsupportedAddressSize, UnsupportedOffset, UnsupportedOffsetSize}
 use Rattle.dwarf_reader_core.specs.Appended.{IsNotEof, followed_by}
 use Rattle.dwarf_reader_core.specs.Faults.{is_number_size}
-use Rattle.dwarf_reader_core.specs.InitialLength.{HasNoLength, LengthAt, eight_cut, four_cut, reserved, too_great}
-use Rattle.dwarf_reader_core.specs.Leb128.{ReadsNumber, overflow_error}
+use Rattle.dwarf_reader_core.specs.InitialLength.{HasNoLength, LengthRead, eight_cut, four_cut, reserved, too_great}
+use Rattle.dwarf_reader_core.specs.Leb128.{ReadsLeb128, overflow_error}
 use Rattle.dwarf_reader_core.specs.Readings.{AddressRead, AddressSizeRead, BoundedRead, BytesRead, Choice, EncodingRead, Given, IsDecided, IsRead, Leb128Read, Mapped, NumberRead, OffsetRead, PartRead, Reading, Required, SignedRead, SkipRead, StringRead, Then, Within, WordRead}
 use Rattle.dwarf_reader_core.proofs.leb.Outcomes.{encoding-not_none, encoding_or_none, length-same, malformed-long, outcome-exactly_one}
 use Rattle.dwarf_reader_core.proofs.public.BadNumbers.{bad_more}
@@ -545,8 +545,8 @@ module _ (k : Kind) where
         in same ∙ ap leb_result (only Bad is.bad)
 
   -- a number is read with more bytes appended, too
-  leb_number-more : (old new : Input) (x : Number k) (more : List ℕ) → ReadsNumber k old x new
-      → ReadsNumber k (followed_by old more) x (followed_by new more)
+  leb_number-more : (old new : Input) (x : Number k) (more : List ℕ) → ReadsLeb128 k old x new
+      → ReadsLeb128 k (followed_by old more) x (followed_by new more)
   leb_number-more old new x more is = record {
     len = is.len;
     has = record {
@@ -673,8 +673,8 @@ encoding-is = record {
 
 -- appended bytes change an initial length only where bytes were missing
 length_at-more : (greatest : ℕ) (old new : Input) (result : Result (Format × ℕ) Error) (more : List ℕ)
-    → LengthAt greatest old (result, new) → IfErr result IsNotEof
-    → LengthAt greatest (followed_by old more) (result, followed_by new more)
+    → LengthRead greatest old (result, new) → IfErr result IsNotEof
+    → LengthRead greatest (followed_by old more) (result, followed_by new more)
 length_at-more greatest old new (Ok x) more is settled = length_more more is
 length_at-more greatest old new (Err e) more is settled = no_length-more more is settled
 
@@ -699,12 +699,12 @@ no_length-taken (too_great four eight over) = both-taken (number-taken four) (nu
 
 -- an initial length, or the error in place of one, takes some of the bytes
 length_at-taken : (greatest : ℕ) (old new : Input) (result : Result (Format × ℕ) Error)
-    → LengthAt greatest old (result, new) → (n : ℕ) × Takes n old new
+    → LengthRead greatest old (result, new) → (n : ℕ) × Takes n old new
 length_at-taken greatest old new (Ok x) is = (_, length_taken is)
 length_at-taken greatest old new (Err e) is = no_length-taken is
 
 -- an initial length is a reading
-pub initial_length-is : (greatest : ℕ) → IsRead (LengthAt greatest)
+pub initial_length-is : (greatest : ℕ) → IsRead (LengthRead greatest)
 initial_length-is greatest = record {
   decided = record {
     one = lengths_exactly_one greatest;

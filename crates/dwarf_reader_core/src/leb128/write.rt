@@ -1,7 +1,7 @@
 //! Writing LEB128 numbers, each in as few bytes as it can have.
 
 ghost use Rattle.std.specs.Prelude.{◌≡◌, ◌%◌, ◌↔◌, IsTrue, ℕ, ◌≤◌, ◌≤ℤ◌, pos, negsuc, List, ◌++◌, length};
-ghost use Rattle.dwarf_reader_core.specs.Leb128.{unsigned64, signed64, IsEncoding, HasNumber};
+ghost use Rattle.dwarf_reader_core.specs.Leb128.{unsigned64, signed64, IsEncoding, HasLeb128};
 ghost use Rattle.dwarf_reader_core.specs.Shortest.{IsShortest, IsShortestLength};
 
 #[cfg(test)]
@@ -64,7 +64,7 @@ impl Leb128 {
         ensures shortest { IsShortest unsigned64 value result }
         ensures within { length result ≤ 10 }
         ensures read { (rest : List ℕ)
-            → HasNumber unsigned64 (result ++ rest) value (length result) }
+            → HasLeb128 unsigned64 (result ++ rest) value (length result) }
     {
         let mut bytes = [0; 10];
         let mut len = 0;
@@ -89,7 +89,7 @@ impl Leb128 {
     pub fn signed(value: i64) -> Leb128
         ensures shortest { IsShortest signed64 value result }
         ensures within { length result ≤ 10 }
-        ensures read { (rest : List ℕ) → HasNumber signed64 (result ++ rest) value (length result) }
+        ensures read { (rest : List ℕ) → HasLeb128 signed64 (result ++ rest) value (length result) }
     {
         let mut bytes = [0; 10];
         let mut len = 0;

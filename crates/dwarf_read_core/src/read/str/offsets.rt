@@ -5,7 +5,7 @@ ghost use Rattle.std.specs.Result.{result_transpose};
 ghost use Rattle.dwarf_reader_core.specs.Faults.{CloneRanOutOfMemory};
 ghost use Rattle.dwarf_read_core.specs.Entries.{RepresentsStringOffsets};
 ghost use Rattle.dwarf_read_core.specs.Items.{GivesFirst};
-ghost use Rattle.dwarf_reader_core.specs.Headers.{StringOffsetsHeaderAt};
+ghost use Rattle.dwarf_reader_core.specs.Headers.{StringOffsetsHeaderRead};
 ghost use Rattle.dwarf_read_core.specs.Contributions.{seen_by, string_offsets_of};
 
 use crate::read::contributions::{
@@ -48,7 +48,7 @@ impl<R: Reader> HeaderFields<R> for NoFields {
 
     ghost said = { λ none. none };
 
-    ghost header = { StringOffsetsHeaderAt };
+    ghost header = { StringOffsetsHeaderRead };
 
     const NAME: &'static str = "StrOffsetsHeader";
 

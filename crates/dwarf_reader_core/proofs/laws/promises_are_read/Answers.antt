@@ -1,7 +1,7 @@
 use Rattle.std.specs.Prelude.{IfErr, IfOk, OnOk}
 use Rattle.dwarf_reader_core.proofs.Common.{IsTooShort, IsTrue, List, Takes, take, unsigned64, ℕ, ◌<◌, ◌≡◌, ◌≤◌, ◌⊎◌, Err, Error, Input, Ok, Result, TakesNumber}
 use Rattle.dwarf_reader_core.specs.Faults.{ReadsNoOffset, is_number_size}
-use Rattle.dwarf_reader_core.specs.Leb128.{IsOver, ReadsNoNumber, ReadsNumber}
+use Rattle.dwarf_reader_core.specs.Leb128.{IsOver, ReadsNoLeb128, ReadsLeb128}
 use Rattle.dwarf_reader_core.specs.Readings.{BoundedRead, BytesRead, EncodingRead, Leb128Read, OffsetRead, Reading, SignedRead}
 use Rattle.dwarf_reader_core.proofs.laws.promises_are_read.Goals as goal
 
@@ -20,8 +20,8 @@ bytes-read n old new (Err e) filled ok err = err
 
 -- a number below a bound
 bounded-read : (bound : ℕ) (old new : Input) (result : Result ℕ Error)
-    → IfOk result (λ x. ReadsNumber unsigned64 old x new) → IfOk result (λ x. x < bound)
-    → IfErr result (λ e. ReadsNoNumber unsigned64 old e new ⊎ IsOver bound old e new)
+    → IfOk result (λ x. ReadsLeb128 unsigned64 old x new) → IfOk result (λ x. x < bound)
+    → IfErr result (λ e. ReadsNoLeb128 unsigned64 old e new ⊎ IsOver bound old e new)
     → BoundedRead bound old (result, new)
 bounded-read bound old new (Ok x) ok below err = (ok, below)
 bounded-read bound old new (Err e) ok below err = err
