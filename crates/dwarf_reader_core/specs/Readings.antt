@@ -1,8 +1,9 @@
 -- Readings: what a call reads at the front of an input, and what remains then.
 use Rattle.std.specs.Prelude.{◌≡◌, ◌<◌, ◌≤◌, ℕ, ℤ, ⊤, Bool, true, false, List, take, Result, Ok, Err, IfErr, ◌⊎◌, IsTrue, if◌then◌else◌}
 use Rattle.dwarf_base_core.specs.declared.error.Error.{Error}
+use Rattle.dwarf_base_core.specs.declared.error.Error.TheVariants.{UnsupportedOffset}
 use Rattle.dwarf_reader_core.specs.Appended.{IsNotEof, followed_by}
-use Rattle.dwarf_reader_core.specs.Faults.{HasNoByte, IsTooShort, IsUnsupportedAddressSize, ReadsNoAddress, ReadsNoOffset, ReadsNoWord, eof, is_number_size}
+use Rattle.dwarf_reader_core.specs.Faults.{CloneRanOutOfMemory, HasNoByte, IsTooShort, IsUnsupportedAddressSize, ReadsNoAddress, ReadsNoOffset, ReadsNoWord, eof, is_number_size}
 use Rattle.dwarf_reader_core.specs.Input.{Input, Takes, TakesByte, TakesNumber, TakesSigned, TakesString, first}
 use Rattle.dwarf_reader_core.specs.Leb128.{IsOver, Kind, Number, ReadsNoLeb128, ReadsLeb128, TakesEncoding, TakesNoEncoding, unsigned64}
 use Rattle.dwarf_reader_core.specs.Once.{HasOne}
@@ -100,6 +101,12 @@ infixl 10 ◌>>=◌
 abbrev pub ◌>>=◌ : {A B : Type 0} → Reading A → (A → Reading B) → Reading B
 At >>= Next = Then At Next
 
+-- a number that is read in this way, and has to be an offset
+abbrev pub AsOffset : ℕ → Reading ℕ → Reading ℕ
+AsOffset greatest At old (Ok x, new) = At old (Ok x, new) × (x ≤ greatest)
+AsOffset greatest At old (Err e, new) =
+    At old (Err e, new) ⊎ ((x : ℕ) × At old (Ok x, new) × (greatest < x) × (e ≡ UnsupportedOffset))
+
 -- a reading of a part of the bytes, which was read before; what remains of the part comes with the value
 abbrev pub Within : {A : Type 0} → Input → Reading A → Reading (A × Input)
 Within part At old (Ok x, new) = At part (Ok x.0, x.1) × (new ≡ old)
@@ -120,6 +127,11 @@ Choice false One Other old read = Other old read
 abbrev pub Reads : {X A : Type 0} → Reading A → (X → A) → Input → Result X Error → Input → Type 0
 Reads At seen old (Ok x) new = At old (Ok (seen x), new)
 Reads At seen old (Err e) new = At old (Err e, new)
+
+-- the same, if a clone of the reader doesn't run out of memory
+abbrev pub ReadsIfCloned : {X A : Type 0} → Bool → Reading A → (X → A) → Input → Result X Error → Input → Type 0
+ReadsIfCloned clone_is_free At seen old (Ok x) new = At old (Ok (seen x), new)
+ReadsIfCloned clone_is_free At seen old (Err e) new = At old (Err e, new) ⊎ CloneRanOutOfMemory clone_is_free e
 
 -- ---- what holds of each
 

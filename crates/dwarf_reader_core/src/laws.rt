@@ -10,7 +10,7 @@ ghost use Rattle.dwarf_reader_core.specs.Headers.{AddressHeaderRead, StringOffse
 ghost use Rattle.dwarf_reader_core.specs.InitialLength.{LengthRead};
 ghost use Rattle.dwarf_reader_core.specs.Leb128.{unsigned64, unsigned16, signed64, HasLeb128, HasOutcome, IsEncoding, IsMalformed, IsOver, Kind, Number, ReadsNoLeb128, ReadsLeb128, TakesEncoding, TakesNoEncoding, is_in_range, limit};
 ghost use Rattle.dwarf_reader_core.specs.Once.{HasOne};
-ghost use Rattle.dwarf_reader_core.specs.Readings.{AddressRead, AddressSizeRead, BoundedRead, BytesRead, EncodingRead, IsRead, Leb128Read, NumberRead, OffsetRead, PartRead, SignedRead, SkipRead, StringRead, WordRead};
+ghost use Rattle.dwarf_reader_core.specs.Readings.{AddressRead, AddressSizeRead, AsOffset, BoundedRead, BytesRead, EncodingRead, IsRead, Leb128Read, NumberRead, OffsetRead, PartRead, SignedRead, SkipRead, StringRead, WordRead};
 ghost use Rattle.dwarf_reader_core.specs.Shortest.{Encodes, IsShortest};
 
 use dwarf_base_core::laws::numbers_of_bytes;
@@ -121,6 +121,13 @@ pub fn promises_are_read()
         → IfOk result (λ x. x ≤ greatest)
         → IfErr result (λ e. ReadsNoOffset greatest size old e new)
         → OffsetRead greatest size old (result, new) }
+{}
+
+/// A number of `n` bytes that has to be an offset is a word.
+#[tactic(auto, using(crate::proofs::public::Readings::words))]
+pub fn words_are_offsets()
+    ensures { (greatest n : ℕ) (old new : Input) (result : Result ℕ Error)
+        → AsOffset greatest (NumberRead n) old (result, new) ↔ WordRead greatest n old (result, new) }
 {}
 
 /// Headers of sets by their bytes. One of addresses has a version, an address size and a segment

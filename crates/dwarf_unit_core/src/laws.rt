@@ -34,7 +34,12 @@ pub fn headers_of_units_by_their_bytes<R: Reader>()
     ensures info { (greatest : ℕ) (bytes : List ℕ) → 16 ≤ greatest
         → ⟦<InfoFields<R> as HeaderFields<R>>⟧.header greatest Dwarf32
         (section_of (4 ∷ 0 ∷ 16 ∷ 0 ∷ 0 ∷ 0 ∷ 8 ∷ bytes) false) (
-          Ok (record { version = 4; address_size = 8; abbrev_offset = 16; unit_type = Compilation }),
+          Ok (record {
+            version = 4;
+            address_size = 8;
+            abbrev_offset = 16;
+            unit_type = Compilation;
+          }),
           record { bytes = bytes; position = 7; is_big = false },
         ) }
     ensures unit_64 { (greatest : ℕ) (bytes : List ℕ) → 16 ≤ greatest

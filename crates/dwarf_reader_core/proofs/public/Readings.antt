@@ -1,6 +1,6 @@
 -- Each reading has exactly one result, which appended bytes change only where bytes were missing; and so has each
 -- reading that is made of others.
-use Rattle.std.specs.Prelude.{IfErr, if◌then◌else◌, nat_le, nat_lt, ◌≢◌}
+use Rattle.std.specs.Prelude.{IfErr, if◌then◌else◌, nat_le, nat_lt, ◌≢◌, ◌↔◌}
 use Rattle.dwarf_reader_core.proofs.Common.{Bool, true, ◌≡◌, ◌∙◌, ◌+◌, ℕ, ℤ, ⊤, ◌≤◌, false, List, length, take, Result, Ok, Err, refl, sym, ap, inl, inr, arith, HasNoByte, HasOutcome, IsEncoding, NoneIsLast, IsTooShort, Kind, Number, Outcome, Value, End, Bad, limit, unsigned64, Error, Input, after, eof, eof_here, first, Takes, TakesNumber, TakesString, length-append, take-append-le, drop-append-le}
 use Rattle.dwarf_base_core.specs.Number.{signed_number}
 use Rattle.dwarf_base_core.specs.declared.common.Format.{Format}
@@ -9,7 +9,7 @@ use Rattle.dwarf_reader_core.specs.Appended.{IsNotEof, followed_by}
 use Rattle.dwarf_reader_core.specs.Faults.{is_number_size}
 use Rattle.dwarf_reader_core.specs.InitialLength.{HasNoLength, LengthRead, eight_cut, four_cut, reserved, too_great}
 use Rattle.dwarf_reader_core.specs.Leb128.{ReadsLeb128, overflow_error}
-use Rattle.dwarf_reader_core.specs.Readings.{AddressRead, AddressSizeRead, BoundedRead, BytesRead, Choice, EncodingRead, Given, IsDecided, IsRead, Leb128Read, Mapped, NumberRead, OffsetRead, PartRead, Reading, Required, SignedRead, SkipRead, StringRead, Then, Within, WordRead}
+use Rattle.dwarf_reader_core.specs.Readings.{AddressRead, AddressSizeRead, AsOffset, BoundedRead, BytesRead, Choice, EncodingRead, Given, IsDecided, IsRead, Leb128Read, Mapped, NumberRead, OffsetRead, PartRead, Reading, Required, SignedRead, SkipRead, StringRead, Then, Within, WordRead}
 use Rattle.dwarf_reader_core.proofs.leb.Outcomes.{encoding-not_none, encoding_or_none, length-same, malformed-long, outcome-exactly_one}
 use Rattle.dwarf_reader_core.proofs.public.BadNumbers.{bad_more}
 use Rattle.dwarf_reader_core.proofs.public.Consuming.{after-zero, front, front-cut, front-taken, number_more, takes-both, takes-more}
@@ -271,6 +271,27 @@ pub checked-is : {A : Type 0} (holds : Bool) (x : A) (e : Error) → ((position 
 checked-is true x e settled = value-is x
 checked-is false x e settled = given-is (Err e) (λ position same. settled position (err-equal same))
 
+module _ (greatest : ℕ) {At : Reading ℕ} (number : IsRead At) where
+  -- a number that is checked to be an offset
+  abbrev CheckedOffset : Reading ℕ
+  CheckedOffset = Then At (λ x. CheckedRead (nat_le x greatest) x UnsupportedOffset)
+
+  -- what it reads is a number that has to be an offset
+  as_offset-to : (old : Input) (r : Result ℕ Error × Input) → CheckedOffset old r → AsOffset greatest At old r
+  as_offset-to old (Ok x, new) is = grind arith
+  as_offset-to old (Err e, new) is = grind arith
+
+  -- and a number that has to be an offset is what it reads
+  as_offset-from : (old : Input) (r : Result ℕ Error × Input) → AsOffset greatest At old r → CheckedOffset old r
+  as_offset-from old (Ok x, new) is = grind arith
+  as_offset-from old (Err e, new) is = grind arith
+
+  -- a number that has to be an offset is a reading
+  pub as_offset-is : IsRead (AsOffset greatest At)
+  as_offset-is =
+      same-is as_offset-to as_offset-from
+      (then-is number (λ x. checked-is _ x UnsupportedOffset (λ position same. grind arith)))
+
 -- ---- bytes and numbers
 
 -- bytes that are missing are missing where the input remains
@@ -406,6 +427,12 @@ module _ (greatest n : ℕ) where
   word-is =
       same-is word-to word-from
       (then-is (number-is n) (λ x. checked-is _ x UnsupportedOffset (λ position same. grind arith)))
+
+-- a number of n bytes that has to be an offset is a word
+pub words : (greatest n : ℕ) (old new : Input) (result : Result ℕ Error)
+    → AsOffset greatest (NumberRead n) old (result, new) ↔ WordRead greatest n old (result, new)
+words greatest n old new (Ok x) = (λ is. is, λ is. is)
+words greatest n old new (Err e) = (λ is. grind arith, λ is. grind arith)
 
 module _ (size : ℕ) where
   -- a number of a size that is checked
