@@ -1,0 +1,1 @@
+"""What the commands in the folder above do; `commands` has a table of them."""

@@ -1,0 +1,130 @@
+"""Runs the worked cases of dwarf_list, which are data, and compares what it prints.
+
+    tools/cases               by ./dwarf_list if its assembler file is of these sources, or by an unproved program
+    tools/cases --built       by ./dwarf_list
+
+The cases are in crates/dwarf_list/cases, in blocks for a console. A line that begins with `$ dwarf_list` is a run with
+these arguments, quoted as for a shell, and after `<` with these bytes of standard input, in hexadecimal. Lines that
+begin with `> ` continue it. What follows is what the run prints, to standard output, or to standard error if its
+status isn't 0. Each line ends with a newline, the last one too. A byte that isn't ASCII is written `\\xff`, and ` ...`
+is any rest of a line. The last line of a run is its exit status in brackets, if that isn't 0.
+
+Each case that fails is printed with what came. The last line is `N passed, M failed`. The exit status is 0 if nothing
+failed, 1 if a case did or the program can't be run, and 2 for a wrong command line or without the kit.
+"""
+import glob
+import os
+import re
+import shlex
+import subprocess
+import sys
+from dataclasses import dataclass, field
+from typing import Optional
+
+from workshop import frame, kit
+from workshop.code import assembler, products, unproved
+
+CRATE = "dwarf_list"
+RUN = re.compile(rf"\$ {CRATE}(?: (.*))?")
+STATUS = re.compile(r"\[(\d+)\]")
+
+
+@dataclass
+class Case:
+    """A run of the program, and what it has to print."""
+
+    place: str
+    command: str
+    lines: list[str] = field(default_factory=list)
+    status: int = 0
+
+    def words(self) -> list[str]:
+        return shlex.split(self.command.partition("<")[0])
+
+    def input(self) -> bytes:
+        return bytes.fromhex(self.command.partition("<")[2])
+
+    def is_met(self, output: bytes, error: bytes, status: int) -> bool:
+        """Whether the program printed what it has to."""
+        printed, other = (error, output) if self.status else (output, error)
+        if other or status != self.status or printed and not printed.endswith(b"\n"):
+            return False
+        found = lines_of(printed)
+        return len(found) == len(self.lines) and all(map(is_like, found, self.lines))
+
+
+def lines_of(printed: bytes) -> list[str]:
+    return printed.decode("ascii", "backslashreplace").removesuffix("\n").split("\n") if printed else []
+
+
+def is_like(found: str, wanted: str) -> bool:
+    return found.startswith(wanted[:-3]) if wanted.endswith(" ...") else found == wanted
+
+
+def cases_of(path: str) -> list[Case]:
+    """The cases of a file. A line that is of none ends the run."""
+    found: list[Case] = []
+    is_open = False
+    for number, line in enumerate(kit.text_of(path).splitlines(), 1):
+        place = f"{os.path.relpath(path, kit.ROOT)}:{number}"
+        run = RUN.fullmatch(line)
+        status = STATUS.fullmatch(line)
+        last = found[-1] if found else None
+        if line.startswith("```"):
+            is_open = line == "```console"
+        elif is_open and run:
+            found.append(Case(place, run[1] or ""))
+        elif is_open and not last:
+            sys.exit(f"cases: {place}: this line is of no run")
+        elif is_open and last and line.startswith("> ") and not last.lines:
+            last.command += line[1:]
+        elif is_open and last and status:
+            last.status = int(status[1])
+        elif is_open and last:
+            last.lines.append(line)
+    return found
+
+
+def all_cases() -> list[Case]:
+    return [it for path in sorted(glob.glob(f"{kit.ROOT}/crates/{CRATE}/cases/*.md")) for it in cases_of(path)]
+
+
+def run(case: Case, *program: str) -> tuple[bytes, bytes, int]:
+    """What a program prints to both outputs in a case, and its status."""
+    words = [*program, *case.words()]
+    ran = subprocess.run(words, input=case.input(), capture_output=True, timeout=60, check=False)
+    return ran.stdout, ran.stderr, ran.returncode
+
+
+def find_program(is_built: bool) -> Optional[str]:
+    """Where the program is that runs the cases, or None if it can't be built."""
+    if not is_built and not assembler.are_of(CRATE, products.code_of(CRATE)):
+        print("cases: the sources changed, so the program is built of them, unproved", flush=True)
+        return unproved.build_once(CRATE)
+    ran = kit.run([f"{kit.ROOT}/{CRATE}", "--path"], stderr=None)
+    return None if ran.returncode else ran.stdout.strip()
+
+
+def tell(case: Case, came: tuple[bytes, bytes, int]) -> None:
+    print(f"{case.place}: {CRATE} {case.command}\n  prints")
+    for line in [*lines_of(came[0]), *lines_of(came[1]), f"[{came[2]}]"]:
+        print(f"    {line}")
+
+
+def main(words: list[str]) -> int:
+    if words not in ([], ["--built"]):
+        return frame.usage(__doc__, words)
+    cases = all_cases()
+    program = find_program(bool(words))
+    if not program:
+        print(f"cases: no {CRATE} is built")
+        print(f"0 passed, {len(cases)} failed")
+        return 1
+    failed = 0
+    for case in cases:
+        came = run(case, program)
+        if not case.is_met(*came):
+            failed += 1
+            tell(case, came)
+    print(f"{len(cases) - failed} passed, {failed} failed")
+    return 1 if failed or not cases else 0

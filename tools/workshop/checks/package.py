@@ -1,0 +1,449 @@
+"""Makes Debian packages of what `tools/install` installs, a tar of the same files, and a tar for programs that contain
+the library.
+
+    tools/package [FOLDER]    writes them to a folder, or to the one where it runs
+    tools/package --check     makes them in a scratch folder, and tries them
+
+The packages are libdwarf-read0.5, the shared library, whose name has the minor version; libdwarf-read-dev, what a
+program is compiled and linked with; and dwarf-read, the programs. The tar is dwarf-read-VERSION-linux-amd64.tar.gz.
+Nothing has to be proved, since `tools/install` takes the proved code from the assembler files. Besides what it installs,
+the packages have docs/C.md without what is for a clone, the examples and tests in C, the changelog and PROVENANCE; and
+in share/dwarf-read the crate for Rust and the sources for C. PROVENANCE names the commit, the kit and the crates with
+their numbers of functions, and has the checksum of each other file. The tar has a README too, and its files
+find each other in any folder. dwarf-read-VERSION-vendor.tar.gz has one folder with the sources of the library for C,
+the code for each processor in one file, and the licences. The same programs and tools give the same bytes. While files
+have changes that are in no commit, nothing is made, but `--check` works.
+
+In the check, lintian may find no error and no warning, and all files have to be the same if they are made again. What
+is unpacked has to work where it is, the tar in a folder with a space in its name: the programs without the kit, and the
+library from C, C++ and Rust, shared and as an archive. A program is compiled in the folder for programs that contain the
+library, with nothing else there. A line is printed for each check. What can't be tried here is named and counted as
+skipped, and the last line is `N passed, M failed, K skipped`. The exit status is 0 if nothing failed, 1 if something
+did, and 2 for a wrong command line.
+"""
+import filecmp
+import glob
+import os
+import re
+import shlex
+import shutil
+import subprocess
+import sys
+import tempfile
+import textwrap
+from collections.abc import Mapping
+from typing import Any, NoReturn
+
+from workshop import frame, kit
+
+NAME = "dwarf-read"
+LIBDIR = "lib/x86_64-linux-gnu"
+DEBIAN = f"{kit.ROOT}/packaging/debian"
+DEV = "libdwarf-read-dev"
+DOC = f"share/doc/{NAME}"
+# The sources that a program can be compiled with, in the folders that they have in the repository.
+SOURCES = f"share/{NAME}"
+# What the package for programs in other languages has. The programs' package has the rest, but the shared library.
+OF_DOC = ("C.md", "examples/", "tests/")
+OF_DEV = ("include/", f"{LIBDIR}/", f"{SOURCES}/include/", f"{SOURCES}/rust/", *(f"{DOC}/{it}" for it in OF_DOC))
+# The folders below /usr of the packages, in their order.
+FOLDERS = ({"lib", "share"}, {"include", "lib", "share"}, {"bin", "libexec", "share"})
+# What each package has.
+OF_EACH = (f"{DOC}/changelog.gz", f"{DOC}/copyright")
+# What none has, since Debian's own files have these texts.
+OF_TAR = (f"{DOC}/LICENSE-APACHE", f"{DOC}/LICENSE-MIT")
+# The crates of what is installed.
+CRATES = ("dwarf_list", "dwarf_read_c")
+# How many checks are made where nothing has to be skipped.
+CHECKS = 69
+BINARIES = ("libexec/dwarf-read/dwarf_list", "bin/dwarf_elf")
+OF_DEBIAN = ("dpkg-deb", "dpkg-shlibdeps", "dpkg-gencontrol")
+NEEDED = ("git", "cargo", "cc", "ar", "strip", "tar", "gzip", "nm", "readelf", "sha256sum", *OF_DEBIAN)
+SECTION = bytes.fromhex("0111010308000000")
+CMAKE_LISTS = """\
+cmake_minimum_required(VERSION 3.13)
+project(show C)
+find_package(dwarf_read {version} REQUIRED)
+add_executable(show "{source}")
+target_link_libraries(show dwarf_read::dwarf_read)
+add_executable(show_shared "{source}")
+target_link_libraries(show_shared dwarf_read::dwarf_read_shared)
+"""
+# The parts of docs/C.md that are for a clone, and what the installed page names: files, and folders of a clone.
+OF_CLONE = re.compile(
+    r"^The library's proved code is in this repository.*?(?=^\[`dwarf_read\.h`\])"
+    r"|^## (?:Install the library|Copy the library into a program|CMake|Platforms|The assembler files)\n.*?(?=^## )",
+    re.M | re.S,
+)
+# A line of include/dwarf_read.S that brings in the code for a processor.
+CODE = re.compile(r'^#include "(\.\./.*)"\n', re.M)
+NAMED = re.compile(r"`((?:[\w.-]+/)*[\w-]+\.(?:c|h|a|md|rs|so[\d.]*)|(?:[\w.-]+/)+)`")
+
+
+def fail(why: str) -> NoReturn:
+    """Ends the run."""
+    sys.exit(f"package: {why}")
+
+
+def output(*words: str, cwd: str = kit.ROOT, **how: Any) -> str:
+    """What a command prints, without the end of its last line. A command that fails ends the run."""
+    ran = subprocess.run(words, cwd=cwd, stdout=subprocess.PIPE, text=True, check=False, **how)
+    if ran.returncode:
+        fail(f"{words[0]} ended with status {ran.returncode}")
+    return str(ran.stdout).rstrip("\n")
+
+
+class Package:
+    """The packages and the tar, which are made in a new folder."""
+
+    def __init__(self, work: str) -> None:
+        self.work = work
+        self.tree = f"{work}/tree"
+        self.root = f"{work}/tree/usr"
+        self.version = kit.VERSION
+        self.commit, self.time, self.date = output("git", "log", "-1", "--format=%H%n%ct%n%cD").split("\n")
+        self.changes = output("git", "status", "--porcelain")
+        minor = self.version.rpartition(".")[0]
+        self.folder = f"{NAME}-{self.version}"
+        self.shared = f"libdwarf_read.so.{minor}"
+        self.of_shared = f"libdwarf-read{minor}"
+        self.packages = (self.of_shared, DEV, NAME)
+        self.debs = [f"{it}_{self.version}_amd64.deb" for it in self.packages]
+        self.tar = f"{self.folder}-linux-amd64.tar.gz"
+        self.vendor = f"{self.folder}-vendor.tar.gz"
+        self.files = [*self.debs, self.tar, self.vendor]
+        self.environment = {**os.environ, "LIBDIR": LIBDIR, "SOURCE_DATE_EPOCH": self.time, "LC_ALL": "C.UTF-8"}
+
+    def make(self) -> None:
+        """Makes the packages and the tar."""
+        output(f"{kit.ROOT}/tools/install", "/usr", self.tree, env=self.environment)
+        notes = ["-R", ".comment", "-R", ".note"]
+        binaries = [*BINARIES, f"{LIBDIR}/{self.shared}"]
+        output("strip", "--strip-unneeded", *notes, *(f"{self.root}/{it}" for it in binaries))
+        output("strip", "--strip-debug", *notes, f"{self.root}/{LIBDIR}/libdwarf_read.a")
+        self.put_documentation()
+        kit.put(f"{self.work}/changelog", self.changelog())
+        control = kit.text_of(f"{DEBIAN}/control").replace("@SHARED@", self.of_shared)
+        kit.put(f"{self.work}/source/debian/control", control)
+        for it in self.packages:
+            self.pack(it)
+        self.pack_tar()
+        self.pack_vendor()
+
+    def put_documentation(self) -> None:
+        """Puts all but PROVENANCE into share/doc, and compresses the manual pages."""
+        kit.put(f"{self.root}/{DOC}/C.md", self.page())
+        for it in output("git", "ls-files", "examples", "tests").splitlines():
+            kit.put(f"{self.root}/{DOC}/{it}", kit.text_of(f"{kit.ROOT}/{it}"))
+        # The licences are in the copyright.
+        names = ("include/*.S", "include/*.c", "rust", ":!rust/LICENSE-*")
+        for it in output("git", "ls-files", *names).splitlines():
+            kit.put(f"{self.root}/{SOURCES}/{it}", kit.text_of(f"{kit.ROOT}/{it}"))
+        kit.put(f"{self.root}/{DOC}/changelog", self.changelog())
+        output("gzip", "-9n", f"{self.root}/{DOC}/changelog", *glob.glob(f"{self.root}/share/man/man1/*"))
+
+    def page(self) -> str:
+        """docs/C.md as it is installed, without what is for a clone, and without links to pages that aren't there."""
+        page, count = OF_CLONE.subn("", kit.text_of(f"{kit.ROOT}/docs/C.md"))
+        if count != 6:
+            fail("docs/C.md hasn't the six parts for a clone")
+        return re.sub(r"\[([^]]*)\]\((?!https?:)[^)]*\)", r"\1", page)
+
+    def sums(self, command: str, top: str, root: str, without: str = "") -> str:
+        """The checksums of the files below a folder, by their paths in another. One of them may be left out."""
+        files = [os.path.relpath(it, top) for it in kit.files_below(root) if not os.path.islink(it) and it != without]
+        return output(command, *sorted(files), cwd=top)
+
+    def changelog(self) -> str:
+        """The section of the version in CHANGELOG.md, in Debian's form."""
+        _, _, rest = kit.text_of(f"{kit.ROOT}/CHANGELOG.md").partition(f"\n## {self.version}\n")
+        section = rest.partition("\n## ")[0]
+        # A paragraph, an item, or a heading such as `### Added`, which Debian's form has as `[ Added ]`.
+        parts = [" ".join(it.split()) for it in re.split(r"\n(?=- |### )|\n\n", section)]
+        lines = []
+        for part in filter(None, parts):
+            if part.startswith("### "):
+                lines.append(f"  [ {part[4:]} ]")
+            else:
+                text = part.removeprefix("- ")
+                lines.append(textwrap.fill(text, 78, initial_indent="  * ", subsequent_indent="    "))
+        if not lines:
+            fail(f"CHANGELOG.md has no section for {self.version}")
+        maintainer = re.findall(r"^Maintainer: (.*)$", kit.text_of(f"{DEBIAN}/control"), re.M)[0]
+        first = f"{NAME} ({self.version}) unstable; urgency=medium"
+        last = f" -- {maintainer}  {self.date}"
+        return "\n\n".join([first, "\n".join(lines), last]) + "\n"
+
+    def provenance(self, top: str, root: str, package: str = NAME) -> str:
+        """The page that says what is proved, with the checksums of the files below a folder, by their paths in
+        another."""
+        crates = [it for it in kit.CRATES if it in CRATES or any(it in kit.below(above) for above in CRATES)]
+        used = sorted({it for crate in crates for it in kit.CRATES[crate]} - set(kit.CRATES))
+        counts = {it: sum(len(kit.FN.findall(text)) for _, text in kit.sources(it, False)) for it in crates}
+        unnamed = [it for it in used if it not in kit.text_of(f"{DEBIAN}/copyright")]
+        if unnamed:
+            fail(f"packaging/debian/copyright doesn't name {unnamed[0]}, a crate of the kit")
+        return kit.text_of(f"{DEBIAN}/PROVENANCE").format(
+            version=self.version,
+            commit=self.commit + (" with changes that are in no commit" if self.changes else ""),
+            kit=re.findall(r"^ \* Kit: (.*)$", kit.text_of(f"{kit.ROOT}/program/proved/x86_64.s"), re.M)[0],
+            compiler=output(os.environ.get("CC", "cc"), "--version").partition("\n")[0],
+            crates="\n".join(f"    {it:20} {count:3} functions" for it, count in counts.items()),
+            used=", ".join(used),
+            sums=self.sums("sha256sum", top, root, f"{root}/share/doc/{package}/PROVENANCE"),
+        )
+
+    def has(self, package: str, path: str) -> bool:
+        """Whether a package has a file, which is named by its path below /usr."""
+        if path in OF_EACH:
+            return True
+        if path in OF_TAR:
+            return False
+        if path == f"{LIBDIR}/{self.shared}":
+            return package == self.of_shared
+        return package == (DEV if path.startswith(OF_DEV) else NAME)
+
+    def pack(self, package: str) -> None:
+        """Makes a Debian package of its part of the files."""
+        tree = f"{self.work}/{package}"
+        for it in kit.files_below(self.root):
+            path = os.path.relpath(it, self.root)
+            if self.has(package, path):
+                made = f"{tree}/usr/{path.replace(DOC, f'share/doc/{package}')}"
+                os.makedirs(os.path.dirname(made), exist_ok=True)
+                shutil.copy2(it, made, follow_symlinks=False)
+        kit.put(f"{tree}/usr/share/doc/{package}/PROVENANCE", self.provenance(tree, f"{tree}/usr", package))
+        sums = self.sums("md5sum", tree, f"{tree}/usr")
+        kit.put(f"{tree}/DEBIAN/md5sums", f"{sums}\n")
+        if package == self.of_shared:
+            name, minor = self.shared.split(".so.")
+            kit.put(f"{tree}/DEBIAN/shlibs", f"{name} {minor} {package} (>= {self.version})\n")
+            kit.put(f"{tree}/DEBIAN/triggers", "activate-noawait ldconfig\n")
+        self.control(package, tree)
+        words = ["--root-owner-group", "--build", tree, f"{self.work}/{package}_{self.version}_amd64.deb"]
+        output("dpkg-deb", *words, env=self.environment)
+
+    def control(self, package: str, tree: str) -> None:
+        """Writes the control file of a package, with what its programs or its library need."""
+        binaries = [f"{tree}/usr/{it}" for it in (*BINARIES, f"{LIBDIR}/{self.shared}")]
+        binaries = [it for it in binaries if os.path.isfile(it)]
+        # Warns that the programs are outside of the folder where it runs.
+        words = ["dpkg-shlibdeps", "-O", *binaries]
+        needed = output(*words, cwd=f"{self.work}/source", stderr=subprocess.DEVNULL) if binaries else ""
+        kit.put(f"{self.work}/variables", f"{needed}\n")
+        words = [f"-p{package}", f"-c{self.work}/source/debian/control", f"-l{self.work}/changelog"]
+        words += [f"-T{self.work}/variables", f"-P{tree}", f"-f{self.work}/files"]
+        output("dpkg-gencontrol", *words, env=self.environment)
+
+    def pack_tar(self) -> None:
+        """Makes the tar, of the same files. pkg-config finds them by where its own file is."""
+        path = f"{self.root}/{LIBDIR}/pkgconfig/dwarf_read.pc"
+        up = os.path.relpath(self.root, os.path.dirname(path))
+        kit.put(path, kit.text_of(path).replace("prefix=/usr\n", f"prefix=${{pcfiledir}}/{up}\n", 1))
+        said = kit.text_of(f"{DEBIAN}/README").format(version=self.version, libdir=LIBDIR)
+        kit.put(f"{self.root}/README", said)
+        kit.put(f"{self.root}/{DOC}/PROVENANCE", self.provenance(self.root, self.root))
+        self.tar_up(self.tar, self.tree, "usr", "--transform", f"s,^usr,{self.folder},")
+
+    def pack_vendor(self) -> None:
+        """Makes the tar for programs that contain the library."""
+        folder = self.vendor.removesuffix(".tar.gz")
+        for it in output("git", "ls-files", "*.h", "*.c", cwd=f"{kit.ROOT}/include").splitlines():
+            kit.put(f"{self.work}/{folder}/{it}", kit.text_of(f"{kit.ROOT}/include/{it}"))
+        for it in ("LICENSE-APACHE", "LICENSE-MIT"):
+            kit.put(f"{self.work}/{folder}/{it}", kit.text_of(f"{kit.ROOT}/{it}"))
+        text = kit.text_of(f"{kit.ROOT}/include/dwarf_read.S").replace("-I include ", "").replace(" include/", " ")
+        text = CODE.sub(lambda found: kit.text_of(f"{kit.ROOT}/include/{found[1]}"), text)
+        kit.put(f"{self.work}/{folder}/dwarf_read.S", text)
+        self.tar_up(self.vendor, self.work, folder)
+
+    def tar_up(self, name: str, above: str, folder: str, *words: str) -> None:
+        """Makes a tar of a folder, with the same bytes each time."""
+        same = ["--sort=name", f"--mtime=@{self.time}", "--owner=0", "--group=0", "--numeric-owner", "--format=gnu"]
+        output("tar", *same, *words, "-I", "gzip -9n", "-C", above, "-cf", f"{self.work}/{name}", folder)
+
+
+def try_files(now: frame.Checks, made: Package) -> tuple[str, str]:
+    """What is in the packages and in the tar. Returns the folders that are like /usr, once either is unpacked."""
+    if now.has("lintian", "lintian"):
+        now.run("lintian", ["lintian", "--fail-on", "error,warning", *made.debs], cwd=made.work)
+    again = Package(f"{now.work}/again")
+    again.make()
+    for it in made.files:
+        now.tell(filecmp.cmp(f"{made.work}/{it}", f"{again.work}/{it}", False), f"{it} is the same again")
+    os.mkdir(f"{now.work}/a tar")
+    for it in made.debs:
+        now.run(f"unpacking {it}", ["dpkg-deb", "-x", f"{made.work}/{it}", f"{now.work}/deb"])
+    now.run("unpacking the tar", ["tar", "-xzf", f"{made.work}/{made.tar}", "-C", f"{now.work}/a tar"])
+    tar = f"{now.work}/a tar/{made.folder}"
+    pages = [(it, f"{now.work}/deb", f"usr/share/doc/{it}") for it in made.packages]
+    for name, top, page in (*pages, ("the tar", tar, DOC)):
+        sums = f"grep -E '^[0-9a-f]{{64}}  ' {page}/PROVENANCE | sha256sum --check --quiet --strict"
+        now.run(f"the checksums of {name}", ["sh", "-c", sums], cwd=top)
+    for it, folders in zip(made.packages, FOLDERS):
+        found = {*os.listdir(f"{made.work}/{it}/usr")}
+        now.tell(found == folders, f"{it} has {', '.join(sorted(found))}")
+    for it in made.packages:
+        said = output("dpkg-deb", "-f", f"{made.work}/{it}_{made.version}_amd64.deb", "Depends")
+        well = all(re.fullmatch(r"\S+ \((?:>=|=) \S+\)", one) for one in said.split(", "))
+        well = well and (it != DEV or said == f"{made.of_shared} (= {made.version})")
+        now.tell(well and "python" not in said, f"{it} depends on {said}")
+    return f"{now.work}/deb/usr", tar
+
+
+def try_page(now: frame.Checks, root: str, doc: str) -> None:
+    """The installed page names files that are installed, and nothing of a clone."""
+    page = kit.text_of(f"{root}/{doc}/C.md")
+    there = kit.files_below(root)
+    unknown = [it for it in NAMED.findall(page) if not any(path.endswith(f"/{it}") for path in there)]
+    unknown += re.findall(r"\b(?:tools|crates)/|\bclone\b|\bPROVED\b", page)
+    now.tell(NAMED.search(page) and not unknown, f"C.md names what is installed{''.join(f', {it}' for it in unknown)}")
+
+
+def try_programs(now: frame.Checks, root: str) -> tuple[bytes, int]:
+    """The programs run below a folder, without the kit. Returns what dwarf_list prints, and its status."""
+    alone = {"PATH": "/usr/bin:/bin"}
+    start = f"{root}/bin/dwarf_list"
+    table, table_status = now.output([start, "abbrev", "0"], "section", env=alone)
+    well = table_status == 0 and table.startswith(b"1 DW_TAG_compile_unit yes\n")
+    now.tell(well, "dwarf_list without the kit")
+    said, status = now.output([start, "--help"], "section", env=alone)
+    now.tell(said.startswith(b"usage: dwarf_list ") and status == 0, "dwarf_list --help")
+    said, status = now.output([start, "--version"], "section", env=alone)
+    now.tell(said.startswith(f"dwarf_list {kit.VERSION}, proved, ".encode()) and status == 0, "dwarf_list --version")
+    words = ["cc", "-g", "-c", f"-I{root}/include", f"{kit.ROOT}/examples/c/dwarf_show.c", "-o", "object.o"]
+    now.run("an object file", words)
+    for command in ("abbrev", "abbrev 0"):
+        words = [f"{root}/bin/dwarf_elf", f"{now.work}/object.o", *command.split()]
+        listed, status = now.output(words, "section", env=alone)
+        now.tell(status == 0 and b" DW_TAG_compile_unit yes\n" in listed, f"dwarf_elf {command}")
+    return table, table_status
+
+
+def try_library(
+    now: frame.Checks, root: str, doc: str, environment: Mapping[str, str], wanted: tuple[bytes, int]
+) -> None:
+    """Programs in C, C++ and Rust over the library, as pkg-config finds it below the folder."""
+    if not now.has("the library", "pkg-config", count=9):
+        return
+    at = {**os.environ, "PKG_CONFIG_LIBDIR": f"{root}/{LIBDIR}/pkgconfig", **environment}
+    flags = shlex.split(output("pkg-config", "--cflags", "--libs", "dwarf_read", env=at))
+    source = f"{root}/{doc}/examples/c/dwarf_show.c"
+    loaded = {**os.environ, "LD_LIBRARY_PATH": f"{root}/{LIBDIR}"}
+    archive = ["-l:libdwarf_read.a" if it == "-ldwarf_read" else it for it in flags]
+    for compiler, language, given in (("cc", "c", flags), ("c++", "c++", flags), ("cc", "c", archive)):
+        words = [compiler, "-x", language, source, "-x", "none", *given, "-o", "show"]
+        what = f"a program by {compiler} with {given[-1]}"
+        if now.has(what, compiler, count=2) and now.run(what, words):
+            env = os.environ if given is archive else loaded
+            now.tell(now.output([f"{now.work}/show", "abbrev", "0"], "section", env=env) == wanted, "what it prints")
+    words = ["cargo", "run", "--quiet", "--offline", "--manifest-path", f"{root}/{SOURCES}/rust/Cargo.toml"]
+    words += ["--target-dir", f"{now.work}/cargo", "--example", "dwarf_show", "abbrev", "0"]
+    if now.has("a program by cargo", "cargo"):
+        now.tell(now.output(words, "section") == wanted, "a program by cargo, and what it prints")
+    words = ["cc", "-I", f"{root}/include", source]
+    words += [f"{root}/{SOURCES}/include/{it}" for it in ("dwarf_read_heap.c", "dwarf_read.S")]
+    if now.run("a program with the sources of the library", [*words, "-o", "show"]):
+        now.tell(now.output([f"{now.work}/show", "abbrev", "0"], "section") == wanted, "what it prints")
+
+
+def try_exports(now: frame.Checks, root: str) -> None:
+    """What the shared library exports: the calls that the header declares, with the version."""
+    version = kit.VERSION.rpartition(".")[0]
+    shared = f"{root}/{LIBDIR}/libdwarf_read.so.{version}"
+    header = kit.text_of(f"{root}/include/dwarf_read.h")
+    calls = re.findall(r"^uint32_t (dwarf_\w+)\(", header, re.M)
+    symbols = dict(re.findall(r"^#define (dwarf_\w+) (\1_\d+_\d+)$", header, re.M))
+    said = output("nm", "-D", "--defined-only", "--with-symbol-versions", shared)
+    wanted = {f"{symbols.get(it, it)}@@DWARF_READ_{version}" for it in calls} | {f"DWARF_READ_{version}"}
+    now.tell(calls and set(re.findall(r" [A-Z] (\S+)$", said, re.M)) == wanted, f"it exports {len(calls)} calls alone")
+    soname = re.findall(r"SONAME.*\[(.*)\]", output("readelf", "-d", shared))
+    now.tell(soname == [os.path.basename(shared)], f"its soname is {''.join(soname)}")
+
+
+def try_cmake(now: frame.Checks, root: str, doc: str, wanted: tuple[bytes, int]) -> None:
+    """Programs over the archive and the shared library, as CMake finds them below the folder."""
+    if not now.has("a program by CMake", "cmake", count=5):
+        return
+    source = f"{root}/{doc}/examples/c/dwarf_show.c"
+    words = ["cmake", "-S", "by_cmake", "-B", "by_cmake/out", f"-DCMAKE_PREFIX_PATH={root}"]
+    # A program is compiled for one minor version.
+    major, minor, _ = map(int, kit.VERSION.split("."))
+    others = [f"{major}.{it}" for it in (minor - 1, minor + 1) if it >= 0]
+    refused = []
+    for it in others:
+        kit.put(f"{now.work}/by_cmake/CMakeLists.txt", CMAKE_LISTS.format(source=source, version=it))
+        ran = kit.run(words, cwd=now.work)
+        refused.append(ran.returncode and "considered but" in ran.stdout)
+        shutil.rmtree(f"{now.work}/by_cmake/out", ignore_errors=True)
+    now.tell(all(refused), f"CMake finds no version {' or '.join(others)}")
+    kit.put(f"{now.work}/by_cmake/CMakeLists.txt", CMAKE_LISTS.format(source=source, version=kit.VERSION))
+    if now.run("CMake finds the library", words):
+        if now.run("programs by CMake", ["cmake", "--build", "by_cmake/out"]):
+            for it in ("show", "show_shared"):
+                listed = now.output([f"{now.work}/by_cmake/out/{it}", "abbrev", "0"], "section")
+                now.tell(listed == wanted, f"what {it} prints")
+    shutil.rmtree(f"{now.work}/by_cmake")
+
+
+def try_vendor(now: frame.Checks, made: Package, wanted: tuple[bytes, int]) -> None:
+    """A program in a folder that has what the tar for such programs has, and nothing else."""
+    folder = f"{now.work}/vendor"
+    os.mkdir(folder)
+    words = ["tar", "-xzf", f"{made.work}/{made.vendor}", "-C", folder, "--strip-components=1"]
+    if now.run(f"unpacking {made.vendor}", words):
+        shutil.copy(f"{kit.ROOT}/examples/c/dwarf_show.c", f"{folder}/program.c")
+        line = re.findall(r"^ \* +(cc .*)$", kit.text_of(f"{folder}/dwarf_read.S"), re.M)[0]
+        if now.run(f"in its folder, {line}", ["sh", "-c", line], cwd=folder):
+            now.tell(now.output([f"{folder}/a.out", "abbrev", "0"], "section") == wanted, "what it prints")
+
+
+def check(work: str) -> int:
+    """Makes and tries the package, and returns the exit status."""
+    now = frame.Checks("package", work)
+    if not now.has("all of it", *NEEDED, count=CHECKS):
+        return now.end(CHECKS)
+    if subprocess.run(["git", "rev-parse", "HEAD"], cwd=kit.ROOT, capture_output=True, check=False).returncode:
+        now.skip("all of it", "git knows of no commit", CHECKS)
+        return now.end(CHECKS)
+    kit.put(f"{work}/section", SECTION)
+    kit.put(f"{work}/offsets", "0\n")
+    made = Package(f"{work}/made")
+    made.make()
+    deb, tar = try_files(now, made)
+    # The package's own files say where they are once they are installed.
+    of_deb = {"PKG_CONFIG_SYSROOT_DIR": f"{work}/deb"}
+    of_deb.update({f"PKG_CONFIG_ALLOW_SYSTEM_{it}": "1" for it in ("CFLAGS", "LIBS")})
+    environments: dict[str, tuple[str, dict[str, str]]] = {deb: (f"share/doc/{DEV}", of_deb), tar: (DOC, {})}
+    for root, (doc, environment) in environments.items():
+        print(f"package: in {root}:", flush=True)
+        wanted = try_programs(now, root)
+        try_page(now, root, doc)
+        try_exports(now, root)
+        try_library(now, root, doc, environment, wanted)
+        try_cmake(now, root, doc, wanted)
+    try_vendor(now, made, wanted)
+    return now.end(CHECKS)
+
+
+def main(words: list[str]) -> int:
+    is_check = words == ["--check"]
+    if len(words) > 1 or any(it.startswith("-") for it in words) and not is_check:
+        return frame.usage(__doc__, words)
+    os.umask(0o022)
+    with tempfile.TemporaryDirectory(prefix="package-") as work:
+        if is_check:
+            return check(work)
+        lacking = [it for it in NEEDED if not shutil.which(it)]
+        if lacking:
+            fail(f"there is no {lacking[0]}")
+        folder = words[0] if words else "."
+        made = Package(work)
+        if made.changes:
+            fail("files have changes that are in no commit")
+        made.make()
+        os.makedirs(folder, exist_ok=True)
+        for it in made.files:
+            shutil.copy(f"{work}/{it}", folder)
+            print(f"package: {folder}/{it}")
+    return 0

@@ -1,0 +1,1 @@
+"""The comparison with gimli and a second reader, and measurements."""

@@ -1,0 +1,54 @@
+"""Keeps what the measuring commands print in compare/measured.md, and puts its rows into the page that shows some of
+them. A test compares the page with the file."""
+import argparse
+import re
+import time
+from collections.abc import Iterable
+
+from workshop import kit
+from workshop.compare.common import Failed
+
+# The version that the page compares with.
+GIMLI = "gimli 0.34."
+FILE = f"{kit.ROOT}/compare/measured.md"
+PAGE = f"{kit.ROOT}/docs/BENCHMARKS.md"
+TOP = """\
+# Measurements
+
+`tools/compare` writes this file, so edit nothing here: each section is what the command of its heading printed last,
+with `--write`, and begins with the day. [BENCHMARKS](../docs/BENCHMARKS.md) shows some of the rows.
+"""
+# A section: the heading, and what a command printed.
+SECTION = re.compile(r"^## `tools/compare (.*?)`\n(.*?)(?=^## |\Z)", re.M | re.S)
+# A table: its first line, and its rows.
+TABLE = re.compile(r"^(\|.*\|)\n\|[-|]+\|\n((?:\|.*\|\n)*)", re.M)
+
+
+def rows_of(text: str) -> dict[tuple[str, str], str]:
+    """The rows of the tables of a text, each by the first line of its table and by its first cell."""
+    return {(head, row.split("|")[1]): row for head, rows in TABLE.findall(text) for row in rows.splitlines()}
+
+
+def put_rows(page: str, new: dict[tuple[str, str], str]) -> str:
+    """A page whose rows are those that are new, where they have the same first line and first cell."""
+    for place, old in rows_of(page).items():
+        page = page.replace(f"\n{old}\n", f"\n{new.get(place, old)}\n")
+    return page
+
+
+def table(heads: Iterable[str], rows: Iterable[str]) -> str:
+    """A table with these words in the first line."""
+    return "".join(f"{it}\n" for it in (f"| {' | '.join(heads)} |", "|---" * len([*heads]) + "|", *rows))
+
+
+def tell(given: argparse.Namespace, name: str, what_ran: str, printed: str) -> int:
+    """Prints the table that a command has made, with what ran, and writes it if that was requested."""
+    print(f"{what_ran}\n\n{printed}", end="")
+    if given.write:
+        if given.files or not what_ran.startswith(GIMLI):
+            raise Failed(f"nothing is written, since the page compares with {GIMLI}0, and without a FILE")
+        sections = dict(SECTION.findall(kit.text_of(FILE)))
+        sections[f"{name} --elf" if given.elf else name] = f"\n{time.strftime('%Y-%m-%d')}; {what_ran}\n\n{printed}\n"
+        kit.put(FILE, TOP + "".join(f"\n## `tools/compare {it}`\n{sections[it].rstrip()}\n" for it in sorted(sections)))
+        kit.put(PAGE, put_rows(kit.text_of(PAGE), rows_of(printed)))
+    return 0

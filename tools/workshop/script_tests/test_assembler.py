@@ -1,0 +1,139 @@
+"""Tests of what tools/assembler says of the files in the repository."""
+import contextlib
+import io
+import os
+import tempfile
+import unittest
+from unittest import mock
+
+from workshop import frame, kit
+from workshop.code import assembler, products, systems
+
+CRATE = "dwarf_read_c"
+NAME = "aarch64"
+SOURCES = "0123  a source\n"
+# What says that a file of Windows may be linked with protected ones.
+FEATURE = '\t.def\t"@feat.00";\n\t.scl\t3;\n\t.type\t0;\n\t.endef\n\t.globl\t"@feat.00"\n"@feat.00" = 0\n'
+CODE = "\t.file\t\"rattle\"\n\tnop\n"
+
+
+class Judging(unittest.TestCase):
+    """A file is current if each byte is what is made of the sources, by this kit or by the one that it names."""
+
+    def judge(self, text: str, made: str, version: str) -> tuple[int, int, int]:
+        """What is counted of a file with this text where this kit makes this code: passed, failed and skipped."""
+        with tempfile.TemporaryDirectory() as folder, contextlib.redirect_stdout(io.StringIO()):
+            kept = f"{folder}/kept"
+            kit.put(kept, made)
+            if text:
+                kit.put(f"{folder}/{NAME}.s", text)
+            now = frame.Checks("assembler", folder)
+            with mock.patch.multiple(products, FILES={CRATE: folder}, place_of_copy=lambda *_: kept):
+                with mock.patch.object(kit, "version", lambda: version):
+                    assembler.judge(now, CRATE, NAME, SOURCES)
+        return now.passed, now.failed, now.skipped
+
+    def test_files(self) -> None:
+        this, another = kit.KITS
+        head = assembler.head(CRATE, NAME, SOURCES, this)
+        stale = assembler.head(CRATE, NAME, "4567  a source\n", this)
+        unknown = assembler.head(CRATE, NAME, SOURCES, "rattle-kit-99z")
+        other = CODE.replace("nop", "ret")
+        # What the file is, what this kit makes, what it is called, and what is counted.
+        rows = [
+            (head + CODE, CODE, this, (1, 0, 0)),
+            (head + other, CODE, this, (0, 1, 0)),
+            (head.replace("proved", "Proved") + CODE, CODE, this, (0, 1, 0)),
+            (head + CODE + "\n", CODE, this, (0, 1, 0)),
+            (stale + CODE, CODE, this, (0, 1, 0)),
+            ("", CODE, this, (0, 1, 0)),
+            (head + CODE, CODE, another, (1, 0, 0)),
+            (head + CODE, other, another, (0, 0, 1)),
+            (stale + CODE, other, another, (0, 1, 0)),
+            (unknown + CODE, CODE, this, (0, 1, 0)),
+            (unknown + CODE, other, this, (0, 1, 0)),
+            (CODE, CODE, this, (0, 1, 0)),
+        ]
+        for text, made, version, wanted in rows:
+            self.assertEqual(self.judge(text, made, version), wanted, (text, made, version))
+
+
+class Lines(unittest.TestCase):
+    """The lines of a file are those that each assembler takes, and labels of the compiler get a prefix."""
+
+    def test_linux(self) -> None:
+        rows = {
+            ".LBB2_3:\n": ".Ldwarf_read_BB2_3:\n",
+            "\tjne\t.LBB2_3\n": "\tjne\t.Ldwarf_read_BB2_3\n",
+            '\t.size\t"a::b", .Lfunc_end0-"a::b"\n': '\t.size\t"a::b", .Ldwarf_read_func_end0-"a::b"\n',
+            "\tleaq\t.LCPI4_0(%rip), %rax\n": "\tleaq\t.Ldwarf_read_CPI4_0(%rip), %rax\n",
+            "\tadd\tx8, x8, :lo12:.LJTI1_0\n": "\tadd\tx8, x8, :lo12:.Ldwarf_read_JTI1_0\n",
+            '\t.section\t.rodata..Lstatic.7,"a",@progbits\n': '\t.section\t.rodata..Lstatic.7,"a",@progbits\n',
+            '\t.asciz\t" .LBB2_3"\n': '\t.asciz\t" .LBB2_3"\n',
+            "\tcallq\trattle_alloc@PLT\n": "\tcallq\trattle_alloc@PLT\n",
+            '\t.section\t.note.gnu.property,"a",@note\n\t.long\t4\n\t.text\n': "",
+        }
+        self.assertEqual(systems.code_for("".join(rows), "x86_64"), "".join(rows.values()))
+
+    def test_systems(self) -> None:
+        # The system, lines of the compiler, and what stays of them.
+        rows = [
+            ("riscv64", '\t.attribute\t5, "rv64i2p1"\n', ""),
+            ("riscv64", '\tcall\t"a::b"\n', "\tcall\ta..b\n"),
+            ("riscv64", '\t.asciz\t"a::b"\n', '\t.asciz\t"a::b"\n'),
+            ("riscv64", "\tbeqz\ta0, .LBB0_2\n", "\tbeqz\ta0, .Ldwarf_read_BB0_2\n"),
+            ("x86_64_windows", "\t.seh_startepilogue\n\tretq\n\t.seh_endepilogue\n", "\tretq\n"),
+            ("aarch64_windows", "\t.seh_startepilogue\n", "\t.seh_startepilogue\n"),
+            ("aarch64_windows", FEATURE, ""),
+            ("x86_64_apple", "\t.build_version macos, 10, 12\n", ""),
+            ("x86_64_apple", "LBB0_2:\n\tjne\tLBB0_2\n", "Ldwarf_read_BB0_2:\n\tjne\tLdwarf_read_BB0_2\n"),
+            ("aarch64_apple", "Lloh0:\n\tbl\t_rattle_alloc\n", "Lloh0:\n\tbl\t_rattle_alloc\n"),
+        ]
+        for name, code, wanted in rows:
+            self.assertEqual(systems.code_for(code, name), wanted, code)
+
+
+class Modules(unittest.TestCase):
+    """A module says of its system what clang says, marks its functions, and follows the system's rules for C."""
+
+    MODULE = """\
+target datalayout = "e-m:e"
+target triple = "x86_64-unknown-linux-gnu"
+define noundef i32 @dwarf_string(i32 %a) #0 {
+  %tried = call { i64, i64 } @rattle_alloc(i64 8, i64 8)
+}
+define internal noundef i32 @"a::b"(i32 %a) #0 {
+}
+declare { i64, i64 } @rattle_alloc(i64, i64) #1
+declare i64 @read(i32 noundef, ptr, i64) #1
+declare void @llvm.trap() #1
+attributes #0 = { nounwind "probe-stack"="inline-asm" "target-cpu"="x86-64" }
+"""
+    # What the text for a system has, and what it hasn't.
+    ROWS = {
+        "riscv64": (
+            [
+                'target triple = "another"\ndefine noundef signext i32 @dwarf_string(i32 %a) #0 uwtable ',
+                'define internal noundef i32 @"a::b"(i32 %a) #0 uwtable "branch-target-enforcement" {\n',
+                "declare i64 @read(i32 signext noundef, ptr, i64) #1\ndeclare void @llvm.trap() #1\n",
+                'attributes #0 = { nounwind "probe-stack"="inline-asm" }\n',
+            ],
+            ["x86", "e-m:e"],
+        ),
+        "x86_64_windows": (
+            [
+                'call { i64, i64 } @"dwarf_read::alloc"(i64 8, i64 8)\n',
+                "declare void @rattle_alloc(ptr sret({ i64, i64 }) align 8, i64, i64)\n",
+                "define noundef i32 @dwarf_string(i32 %a) #0 uwtable ",
+            ],
+            ["declare { i64, i64 } @rattle_alloc", "signext", "probe-stack"],
+        ),
+    }
+
+    def test_modules(self) -> None:
+        for name, (wanted, others) in self.ROWS.items():
+            text = systems.module_for(systems.marked(self.MODULE), name, 'target triple = "another"\n')
+            for it in wanted:
+                self.assertIn(it, text)
+            for it in others:
+                self.assertNotIn(it, text)
